@@ -120,7 +120,6 @@ ALLOWED = {
     'how many slots or bytes a program has at most, in words: bq_complain/src/number_reason.rt': 'the least offset and distance of 16 bits, -32768',
     'how many slots a program has at most: bq_object/src/lines.rt': 'the crate reads objects and stands on no crate of instructions, so its own bound on lines says the number once more',
     'the weight of nice value 0: bq_object/src/lines.rt': 'the line of a line record is its number divided by 1024, which only happens to be that weight',
-    'the list of the helpers: bq_explain/src/summary.rt': 'the order in which a summary names helpers; a helper that it lacked would only not be named',
     'which helpers are of counters: bq_interp/src/counters.rt': 'asked at each call of a run, of the number alone, by a function that stands in its loop',
     'the word of a key of marks: bq_explain/src/measure.rt': 'what the limit of maps is called, as its option --max-maps is',
     'the word of a hook: bq_drawing/src/perfetto.rt': 'the category of a mark in a Perfetto file: the event, not the hook',
@@ -199,9 +198,9 @@ def texts(files):
     for name, text in files:
         for found in re.finditer(r'"((?:[^"\\\n]|\\.){28,})"', re.sub(r'(?m)^\s*//.*$', '', text)):
             seen[found[1]].add(name)
-    for said, names in seen.items():
+    for shared, names in seen.items():
         if len(names) > 1:
-            yield f'the same text: {", ".join(sorted(names))}: {said[:60]}'
+            yield f'the same text: {", ".join(sorted(names))}: {shared[:60]}'
 
 
 def main():

@@ -1,7 +1,7 @@
 #!/usr/bin/env python3
-"""Holds the man page and the completion for bash equal to the program's own help.
+"""Holds the man page and the completion for bash equal to the program's own help, and runs the examples of the help.
 
-    tests/pages.py BQSIM            compares docs/bqsim.1 and docs/bqsim.bash with what the help of BQSIM makes
+    tests/pages.py BQSIM            compares docs/bqsim.1 and docs/bqsim.bash with what the help of BQSIM makes; each example must end well
     tests/pages.py BQSIM --write    writes both
 
 BQSIM is the path of the program. Its commands are those that `bqsim --help` lists, and each command's words are those of
@@ -34,6 +34,9 @@ class Help:
         self.usage = " ".join(named.pop("Usage", "").split())
         self.lists = {heading: list(pairs(body)) for heading, body in named.items()}
 
+    def examples(self):
+        return [words for words, _ in self.lists.get("Examples", [])]
+
     def options(self):
         return [word for words, _ in self.lists.get("Options", []) for word in re.findall(r"--[a-z-]+", words)]
 
@@ -57,6 +60,15 @@ def helped(bqsim, *words):
     return Help(answer.stdout or answer.stderr)
 
 
+def run_examples(bqsim, told):
+    """Runs the examples of a help text in the folder of the repository."""
+    shell = f'bqsim() {{ "{Path(bqsim).resolve()}" "$@"; }}; set -o pipefail; '
+    for line in told.examples():
+        answer = subprocess.run(["bash", "-c", shell + line], cwd=TOP, stdin=subprocess.DEVNULL, capture_output=True)
+        if answer.returncode or not answer.stdout:
+            sys.exit(f"the example {line} ends with {answer.returncode}: {answer.stderr.decode()}")
+
+
 def roff(text):
     """Text that the formatter takes as it stands."""
     text = text.replace("\\", "\\e").replace("-", "\\-")
@@ -72,6 +84,7 @@ def page(program, commands):
         for heading in ("Arguments", "Options"):
             for words, what in told.lists.get(heading, []):
                 lines += [".TP", f".B {roff(words)}", roff(what)]
+        lines += [".PP", "Examples:", ".RS", ".nf", *map(roff, told.examples()), ".fi", ".RE"]
     lines += [".SH EXIT STATUS"]
     for status, what in STATUSES:
         lines += [".TP", f".B {status}", roff(what)]
@@ -114,6 +127,10 @@ def main():
     program = helped(bqsim)
     names = {words for words, _ in program.lists["Commands"]} - {"help"}
     commands = {name: helped(bqsim, name) for name in sorted(names)}
+    for told in (program, *commands.values()):
+        if not told.examples():
+            sys.exit(f"no examples: {told.usage}")
+        run_examples(bqsim, told)
     made = {PAGE: page(program, commands), COMPLETION: completion(commands)}
     for path, text in made.items():
         if sys.argv[2:]:

@@ -43,6 +43,7 @@ def all_jobs(runner, program):
     sources = [
         *each("sources", scripts.SOURCES, scripts.check_script, runner, program),
         *each("sources", scripts.COMPLETE, scripts.check_complete),
+        *each("sources", scripts.EXECUTABLE, scripts.check_executable),
         *each("examples", kept.stored(), kept.check_stored),
     ]
     return [

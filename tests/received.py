@@ -79,7 +79,9 @@ WORDS = [
     (["--max-bytes", "5"], 4, "reading", "bytes"),
     (["--max-steps", "x"], 2, "words", "--max-steps"),
     (["--hooks", "nowhere"], 2, "words", "--hooks"),
+    (["--helpers", "1,3"], 2, "words", "--helpers"),
     (["--image", "no/folder"], 4, "writing", "no such file"),
+    (["--image", "good.s"], 2, "words", "own file"),
     (["--json"], 2, None, None),
     (["--no-such-option"], 2, None, None),
 ]
@@ -170,6 +172,8 @@ def check(program, folder):
         received.case("standard input", (status, expected), (json.loads(line)["file"], None))
     for row in WORDS:
         received.words(*row)
+    with open(os.path.join(folder, b"good.s"), "rb") as file:
+        received.case("no image in place of the policy", (file.read(), GOOD))
     print(f"{received.passed} passed, {received.failed} failed")
     return 1 if received.failed else 0
 

@@ -1,8 +1,8 @@
 /* hook: preempt
  * maps: 32:1
- * The running task stays until it has run for four milliseconds by the clock, whatever the rule wants: fewer switches, and
- * longer waits. No ask says when a run began. It began at the ask that was answered 1, or before the first ask that shows
- * the task; a task that slept in between is told by its v, which has not risen by just the time between two asks. */
+ * Turns of four milliseconds by the clock, whatever the rule wants: fewer switches if the rule would switch sooner, more if it
+ * would let the task stay. No ask says when a run began. It began at the ask that was answered 1, or before the first ask that
+ * shows the task. If the task slept in between, its v has not risen by exactly the time between two asks. */
 #include "bqsim.h"
 
 #define TURN 4000000

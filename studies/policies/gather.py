@@ -2,10 +2,10 @@
 """Gathers the answers of the study into one table (CSV), a row a workload, discipline, hook and policy.
 
     studies/policies/gather.py FOLDER                      the table
-    studies/policies/gather.py FOLDER --best [--by FIGURE] where each policy gains most and loses most, beside no policy
+    studies/policies/gather.py FOLDER --best [--by FIGURE] where each policy gains most and loses most, in proportion, beside no policy
 
-Each figure stands with its mean and its standard deviation (that of a sample) over the seeds. studies/README.md says what the
-figures are. A figure by which policies are compared gains where it falls.
+Each figure has its mean and its standard deviation (that of a sample) over the seeds. studies/README.md says what the figures are.
+A policy gains if it lowers the figure by which policies are compared.
 """
 import argparse
 import collections
@@ -21,7 +21,7 @@ FIGURES = ["latency", "worst_latency", "unfair", "switches", "migrations", "over
 def figures(answer):
     """The figures of one run, of the object that `--as json` writes."""
     tasks, processors = answer["tasks"], answer["processors"]
-    # a task that never ran after a wake has no latency: `unfair` tells of it
+    # a task that never ran after a wake has no latency: `unfair` shows it
     latencies = [task["latency"] for task in tasks if task["latency"]["p99"] is not None]
     hooks = [processor[hook] for processor in processors for hook in ("place", "preempt", "pull") if processor.get(hook)]
     return {
@@ -69,10 +69,13 @@ def best(rows, figure):
         before, after = mean(rows[workload, discipline, "none", "none"], figure), mean(runs, figure)
         share = (after - before) / before if before else 0.0 if after == before else float("inf")
         changes[hook, policy].append((share, workload, discipline, before, after))
-    print(f"{'policy':<20} {figure + ':':<12} {'workload':<18} {'':<6} {'none':>12} {'policy':>12} {'change':>8}")
+    print(f"{'policy':<20} {figure + ':':<12} {'workload':<18} {'':<6} {'none':>12} {'policy':>12} {'difference':>12}")
     for (hook, policy), found in sorted(changes.items()):
         for word, (share, workload, discipline, before, after) in (("best", min(found)), ("worst", max(found))):
-            print(f"{policy:<20} {word:<12} {workload:<18} {discipline:<6} {before:>12.1f} {after:>12.1f} {share:>+8.1%}")
+            if share < 0 if word == "best" else share > 0:
+                print(f"{policy:<20} {word:<12} {workload:<18} {discipline:<6} {before:>12.1f} {after:>12.1f} {after - before:>+12.1f}")
+            else:
+                print(f"{policy:<20} {word:<12} nowhere")
 
 
 def main():

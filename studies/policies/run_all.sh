@@ -1,12 +1,10 @@
 #!/bin/sh
-# Runs the study by GNU parallel: run_all.sh BQSIM FOLDER [WORD OF PARALLEL..]
+# Makes the runs of the study, one at a time on each processor: run_all.sh BQSIM FOLDER
 # BQSIM is the built program, FOLDER takes the answers. SEEDS says how many seeds there are (10).
+# Exit status: 0 if all runs have an answer, 123 if one failed.
 set -eu
-[ $# -ge 2 ] || { echo "usage: $0 BQSIM FOLDER [WORD OF PARALLEL..]" >&2; exit 2; }
-command -v parallel > /dev/null || { echo "$0: GNU parallel is not installed (Debian: apt-get install parallel)" >&2; exit 2; }
-here=$(cd "$(dirname "$0")" && pwd)
+[ $# -eq 2 ] || { echo "usage: $0 BQSIM FOLDER" >&2; exit 2; }
 mkdir -p "$2"
 program=$(realpath "$1") folder=$(realpath "$2")
-shift 2
-cd "$here/../.."
-"$here/list.py" ${SEEDS:-} | parallel --will-cite --colsep ' ' "$@" studies/policies/one.sh "$program" "$folder" '{1} {2} {3} {4} {5}'
+cd "$(dirname "$0")/../.."
+studies/policies/list.py ${SEEDS:-} | xargs -P "$(nproc)" -L 1 studies/policies/one.sh "$program" "$folder"

@@ -23,9 +23,8 @@ SKIPPED = [
     (r"rt |\./test|\./bqsim --(prove|build)|tools/", "proves and builds all, or is this very test"),
     (r"clang-19 ", "needs clang 19"),
     (r"\./bqsim (import|asm|check|simulate) .*turns\.", "reads what clang compiles"),
-    (r"studies/policies/run_all\.sh ", "takes GNU parallel, for 1,600 runs"),
+    (r"studies/policies/run_all\.sh ", "makes 1,600 runs"),
     (r"studies/policies/gather\.py ", "reads the answers of those 1,600 runs"),
-    (r"sbatch ", "needs Slurm"),
 ]
 
 # What differs from one run to the next, and what stands in its place in both texts.

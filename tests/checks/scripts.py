@@ -69,11 +69,26 @@ def check_script(runner, program, line):
     yield Answer(line, failure, f"python3 {line.replace('BQSIM', program)}")
 
 
-COMPLETE = ["tests: each script is run, or stands in LEFT_OUT"]
+COMPLETE = ["tests: each script is run, or is in LEFT_OUT"]
 
 
 def check_complete(name):
     there = {path.name for path in Path(TOP, "tests").glob("*.py")}
     named = {os.path.basename(line.split()[0]) for line in (*MODELS, *SOURCES)} | set(LEFT_OUT)
     wrong = [f"{it} is not run" for it in sorted(there - named)] + [f"there is no {it}" for it in sorted(named - there)]
+    yield Answer(name, cut(wrong))
+
+
+EXECUTABLE = ["scripts: each file that begins with #! may be executed"]
+FOLDERS = ["bench", "examples", "policies", "studies", "tests", "tools"]
+
+
+def is_script(path):
+    with open(path, "rb") as file:
+        return file.read(2) == b"#!"
+
+
+def check_executable(name):
+    files = [path for folder in FOLDERS for path in sorted(Path(TOP, folder).rglob("*")) if path.is_file() and path.suffix != ".edit"]
+    wrong = [f"{path.relative_to(TOP)} may not be executed; chmod +x" for path in files if is_script(path) and not path.stat().st_mode & 0o111]
     yield Answer(name, cut(wrong))

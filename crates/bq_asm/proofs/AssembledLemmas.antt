@@ -18,7 +18,7 @@ use Rattle.bq_asm.specs.declared.fault.Cause.{Cause}
 use Rattle.bq_asm.specs.declared.fault.Cause.TheVariants.{Word, LabelTwice, Slots}
 use Rattle.bq_asm.specs.Lines.{Line, Blank, Label, Instruction, lines_of, last_word}
 use Rattle.bq_asm.specs.Operands.{is_label, instruction_of}
-use Rattle.bq_asm.specs.Assembly.{slots_read, slots_of_line, place_at, places_from, distance_to, Says, AreNewLabels, Assembles}
+use Rattle.bq_asm.specs.Assembly.{slots_read, slots_of_line, place_at, places_from, distance_to, AssemblesFrom, AreNewLabels, Assembles}
 use Rattle.bq_asm.specs.Faults.{slots_in, labels_in, cause_of_label, cause_of_insn, cause_at, IsClean}
 use Rattle.bq_asm.proofs.DraftLemmas.{places_from-append}
 use Rattle.bq_asm.proofs.CleanLemmas.{fault_at-is}
@@ -47,7 +47,8 @@ clean_from before (line ∷ lines) h =
 pub clean_after : (lines : List Line) → IsClean lines → IsCleanAfter [] lines
 clean_after lines h = clean_from [] lines h
 
-label_is : (before : List (List ℕ)) (name : List ℕ) → cause_of_label before name ≡ None → (is_label name ≡ true) × (list_any (bytes_eq name) before ≡ false)
+label_is : (before : List (List ℕ)) (name : List ℕ) → cause_of_label before name ≡ None
+    → (is_label name ≡ true) × (list_any (bytes_eq name) before ≡ false)
 label_is before name h = by (is_label name) (list_any (bytes_eq name) before) h
   where
     by : (a b : Bool) → (if a then (if b then Some LabelTwice else None) else Some Word) ≡ None → (a ≡ true) × (b ≡ false)
@@ -56,21 +57,30 @@ label_is before name h = by (is_label name) (list_any (bytes_eq name) before) h
     by false b k = absurd (let no : Some Word ≡ None = k in cc)
 
 -- the labels of one line more
-pub labels_in-more : (before : List Line) (line : Line) → labels_in (before ++ line ∷ []) ≡ labels_in before ++ keys_of (place_at (slots_in before) line)
+pub labels_in-more : (before : List Line) (line : Line)
+    → labels_in (before ++ line ∷ []) ≡ labels_in before ++ keys_of (place_at (slots_in before) line)
 labels_in-more before line =
-    ap keys_of (places_from-append 0 before (line ∷ []) ∙ ap (λ ps. places_from 0 before ++ ps) (append-nil (place_at (0 + slots_in before) line) ∙ ap (λ n. place_at n line) (omega arith)))
+    ap keys_of (places_from-append 0 before (line ∷ [])
+    ∙ ap (λ ps. places_from 0 before ++ ps) (append-nil (place_at (0 + slots_in before) line) ∙ ap (λ n. place_at n line) (omega arith)))
     ∙ map-append (λ e. e.0) (places_from 0 before) (place_at (slots_in before) line)
 
-new_labels : (before lines : List Line) (slot : ℕ) → IsCleanAfter before lines → AreNewLabels (labels_in before) (keys_of (places_from slot lines))
+new_labels : (before lines : List Line) (slot : ℕ) → IsCleanAfter before lines
+    → AreNewLabels (labels_in before) (keys_of (places_from slot lines))
 new_labels before [] slot h = tt
 new_labels before (Blank ∷ lines) slot h =
-    subst (λ ls. AreNewLabels ls (keys_of (places_from (slot + 0) lines))) (labels_in-more before Blank ∙ append-nil (labels_in before)) (new_labels (before ++ Blank ∷ []) lines (slot + 0) h.1)
+    subst (λ ls. AreNewLabels ls (keys_of (places_from (slot + 0) lines)))
+    (labels_in-more before Blank ∙ append-nil (labels_in before)) (new_labels (before ++ Blank ∷ []) lines (slot + 0) h.1)
 new_labels before (Label name ∷ lines) slot h =
-    let is = label_is (labels_in before) name h.0 in
-    (is.0, is.1, subst (λ ls. AreNewLabels ls (keys_of (places_from (slot + 0) lines))) (labels_in-more before (Label name)) (new_labels (before ++ Label name ∷ []) lines (slot + 0) h.1))
+    let is = label_is (labels_in before) name h.0 in (
+      is.0,
+      is.1,
+      subst (λ ls. AreNewLabels ls (keys_of (places_from (slot + 0) lines))) (labels_in-more before (Label name))
+          (new_labels (before ++ Label name ∷ []) lines (slot + 0) h.1),
+    )
 new_labels before (Instruction first operands ∷ lines) slot h =
     let line = Instruction first operands in
-    subst (λ ls. AreNewLabels ls (keys_of (places_from (slot + slots_of_line line) lines))) (labels_in-more before line ∙ append-nil (labels_in before))
+    subst (λ ls. AreNewLabels ls (keys_of (places_from (slot + slots_of_line line) lines)))
+    (labels_in-more before line ∙ append-nil (labels_in before))
     (new_labels (before ++ line ∷ []) lines (slot + slots_of_line line) h.1)
 
 -- lines without a fault set labels that are names, and none of them twice
@@ -78,18 +88,20 @@ pub clean_labels : (lines : List Line) → IsClean lines → AreNewLabels [] (ke
 clean_labels lines h = new_labels [] lines 0 (clean_after lines h)
 
 -- an instruction takes the slots of its line
-pub slots_same : (first : List ℕ) (operands : List (List ℕ)) (d : Option ℤ) (i : Insn) → instruction_of first operands d ≡ Ok i → slots_of_line (Instruction first operands) ≡ slots_of i
+pub slots_same : (first : List ℕ) (operands : List (List ℕ)) (d : Option ℤ) (i : Insn)
+    → instruction_of first operands d ≡ Ok i → slots_of_line (Instruction first operands) ≡ slots_of i
 slots_same first operands d i h = let again = read_again first operands d i h in ap slots_read again.read ∙ again.slots
 
 -- the instructions that lines say take as many slots as the lines
-pub says_count : (places : List (List ℕ × ℕ)) (slot : ℕ) (lines : List Line) (insns : List Insn) → Says places slot lines insns → slot_count insns ≡ slots_in lines
-says_count places slot [] [] h = refl
-says_count places slot [] (i ∷ insns) h = absurd h
-says_count places slot (Instruction first operands ∷ lines) [] h = absurd h
-says_count places slot (Blank ∷ lines) insns h = let rest = says_count places slot lines insns h in omega (arith, rest)
-says_count places slot (Label name ∷ lines) insns h = let rest = says_count places slot lines insns h in omega (arith, rest)
-says_count places slot (Instruction first operands ∷ lines) (i ∷ insns) h =
-    let rest = says_count places (slot + slots_of i) lines insns h.1 in
+pub assembles_count : (places : List (List ℕ × ℕ)) (slot : ℕ) (lines : List Line) (insns : List Insn)
+    → AssemblesFrom places slot lines insns → slot_count insns ≡ slots_in lines
+assembles_count places slot [] [] h = refl
+assembles_count places slot [] (i ∷ insns) h = absurd h
+assembles_count places slot (Instruction first operands ∷ lines) [] h = absurd h
+assembles_count places slot (Blank ∷ lines) insns h = let rest = assembles_count places slot lines insns h in omega (arith, rest)
+assembles_count places slot (Label name ∷ lines) insns h = let rest = assembles_count places slot lines insns h in omega (arith, rest)
+assembles_count places slot (Instruction first operands ∷ lines) (i ∷ insns) h =
+    let rest = assembles_count places (slot + slots_of i) lines insns h.1 in
     let here = slots_same first operands (distance_to places slot (last_word operands)) i h.0 in
     let sum = slot_count-cons i insns in
     omega (arith, rest, here, sum)
@@ -97,16 +109,19 @@ says_count places slot (Instruction first operands ∷ lines) (i ∷ insns) h =
 near_fits : (at from : ℕ) → at ≤ 4096 → from ≤ 4096 → FitsSigned w16 (pos at -ℤ pos from)
 near_fits at from h k = omega (arith, ints)
 
-lookup_near : (limit : ℕ) (name : List ℕ) (places : List (List ℕ × ℕ)) → AllByRecursion (λ p. p.1 ≤ limit) places → IfSome (lookup (bytes_eq name) places) (λ at. at ≤ limit)
+lookup_near : (limit : ℕ) (name : List ℕ) (places : List (List ℕ × ℕ))
+    → AllByRecursion (λ p. p.1 ≤ limit) places → IfSome (lookup (bytes_eq name) places) (λ at. at ≤ limit)
 lookup_near limit name [] h = tt
 lookup_near limit name (p ∷ places) h = by (bytes_eq name p.0) (lookup_near limit name places h.1)
   where
-    by : (b : Bool) → IfSome (lookup (bytes_eq name) places) (λ at. at ≤ limit) → IfSome (if b then Some p.1 else lookup (bytes_eq name) places) (λ at. at ≤ limit)
+    by : (b : Bool) → IfSome (lookup (bytes_eq name) places) (λ at. at ≤ limit)
+        → IfSome (if b then Some p.1 else lookup (bytes_eq name) places) (λ at. at ≤ limit)
     by true rest = h.0
     by false rest = rest
 
 -- where all labels and the slot behind a jump lie within 4096 slots, the distance to a label fits a near target
-pub label_distance_fits : (places : List (List ℕ × ℕ)) (slot : ℕ) (name : List ℕ) → AllByRecursion (λ p. p.1 ≤ 4096) places → slot + 1 ≤ 4096 → DistanceFits (distance_to places slot name)
+pub label_distance_fits : (places : List (List ℕ × ℕ)) (slot : ℕ) (name : List ℕ)
+    → AllByRecursion (λ p. p.1 ≤ 4096) places → slot + 1 ≤ 4096 → DistanceFits (distance_to places slot name)
 label_distance_fits places slot name h k = by (lookup (bytes_eq name) places) (lookup_near 4096 name places h)
   where
     by : (o : Option ℕ) → IfSome o (λ at. at ≤ 4096) → IfSome (option_map (λ at. pos at -ℤ pos (slot + 1)) o) (FitsSigned w16)
@@ -119,20 +134,25 @@ pub record AreFine (insns : List Insn) : Type 0 where
   pub fit : AllFit insns
 
 -- the instructions that lines say within 4096 slots are in range, and their numbers are of their fields' types
-pub says_fine : (places : List (List ℕ × ℕ)) (slot : ℕ) (lines : List Line) (insns : List Insn) → AllByRecursion (λ p. p.1 ≤ 4096) places → slot + slot_count insns ≤ 4096 → Says places slot lines insns → AreFine insns
-says_fine places slot [] [] near few h = record { in_range = refl; fit = tt }
-says_fine places slot [] (i ∷ insns) near few h = absurd h
-says_fine places slot (Instruction first operands ∷ lines) [] near few h = absurd h
-says_fine places slot (Blank ∷ lines) insns near few h = says_fine places slot lines insns near few h
-says_fine places slot (Label name ∷ lines) insns near few h = says_fine places slot lines insns near few h
-says_fine places slot (Instruction first operands ∷ lines) (i ∷ insns) near few h =
+pub assembles_fine : (places : List (List ℕ × ℕ)) (slot : ℕ) (lines : List Line) (insns : List Insn)
+    → AllByRecursion (λ p. p.1 ≤ 4096) places → slot + slot_count insns ≤ 4096 → AssemblesFrom places slot lines insns
+    → AreFine insns
+assembles_fine places slot [] [] near few h = record { in_range = refl; fit = tt }
+assembles_fine places slot [] (i ∷ insns) near few h = absurd h
+assembles_fine places slot (Instruction first operands ∷ lines) [] near few h = absurd h
+assembles_fine places slot (Blank ∷ lines) insns near few h = assembles_fine places slot lines insns near few h
+assembles_fine places slot (Label name ∷ lines) insns near few h = assembles_fine places slot lines insns near few h
+assembles_fine places slot (Instruction first operands ∷ lines) (i ∷ insns) near few h =
     let sum = slot_count-cons i insns in
     let one = slots_positive i in
-    let fine = instruction_fine first operands (distance_to places slot (last_word operands)) i (label_distance_fits places slot (last_word operands) near (omega (arith, sum, one))) h.0 in
-    let rest = says_fine places (slot + slots_of i) lines insns near (omega (arith, sum)) h.1 in
+    let fine =
+    instruction_fine first operands (distance_to places slot (last_word operands)) i
+    (label_distance_fits places slot (last_word operands) near (omega (arith, sum, one))) h.0 in
+    let rest = assembles_fine places (slot + slots_of i) lines insns near (omega (arith, sum)) h.1 in
     record { in_range = ap (λ b. b && list_all is_insn insns) fine.in_range ∙ rest.in_range; fit = (fine.fits, rest.fit) }
 
-well_formed : (insns : List Insn) → list_all is_insn insns ≡ true → 1 ≤ slot_count insns → slot_count insns ≤ 4096 → is_well_formed insns ≡ true
+well_formed : (insns : List Insn) → list_all is_insn insns ≡ true → 1 ≤ slot_count insns → slot_count insns ≤ 4096
+    → is_well_formed insns ≡ true
 well_formed insns all some few =
     let low : nat_le 1 (slot_count insns) ≡ true = grind (arith, nat_tests) in
     let high : nat_le (slot_count insns) 4096 ≡ true = grind (arith, nat_tests) in
@@ -141,17 +161,24 @@ well_formed insns all some few =
 -- what a text stands for is well formed, and its numbers are those of their fields' types
 pub assembles_well_formed : (text : List ℕ) (insns : List Insn) → Assembles text insns → (is_well_formed insns ≡ true) × AllFit insns
 assembles_well_formed text insns h =
-    let count = says_count (places_from 0 (lines_of text)) 0 (lines_of text) insns h.says in
+    let count = assembles_count (places_from 0 (lines_of text)) 0 (lines_of text) insns h.assembles in
     let few = h.few in
     let near = places_within 4096 0 (lines_of text) (omega (arith, count, few)) in
-    let fine = says_fine (places_from 0 (lines_of text)) 0 (lines_of text) insns near (omega (arith, few)) h.says in
+    let fine = assembles_fine (places_from 0 (lines_of text)) 0 (lines_of text) insns near (omega (arith, few)) h.assembles in
     (well_formed insns fine.in_range h.some h.few, fine.fit)
 
 -- lines without a fault, and what they say
-pub assembles_from : (text : List ℕ) (insns : List Insn) → IsClean (lines_of text) → 0 < slots_in (lines_of text) → slots_in (lines_of text) ≤ 4096 → Says (places_from 0 (lines_of text)) 0 (lines_of text) insns → Assembles text insns
-assembles_from text insns clean some few says =
-    let count = says_count (places_from 0 (lines_of text)) 0 (lines_of text) insns says in
-    record { labels = clean_labels (lines_of text) clean; says = says; some = omega (arith, count, some); few = omega (arith, count, few) }
+pub assembles_from : (text : List ℕ) (insns : List Insn) → IsClean (lines_of text) → 0 < slots_in (lines_of text)
+    → slots_in (lines_of text) ≤ 4096 → AssemblesFrom (places_from 0 (lines_of text)) 0 (lines_of text) insns
+    → Assembles text insns
+assembles_from text insns clean some few assembles =
+    let count = assembles_count (places_from 0 (lines_of text)) 0 (lines_of text) insns assembles in
+    record {
+      labels = clean_labels (lines_of text) clean;
+      assembles = assembles;
+      some = omega (arith, count, some);
+      few = omega (arith, count, few);
+    }
 
 insn_within : (slots : ℕ) (read : Result Insn Cause) → cause_of_insn slots read ≡ None → slots + slots_read read ≤ 4096
 insn_within slots (Err c) h = absurd (let no : Some c ≡ None = h in cc)
@@ -162,7 +189,8 @@ insn_within slots (Ok i) h = by (nat_le (slots + slots_of i) 4096) refl h
     by false e k = absurd (let no : Some Slots ≡ None = k in cc)
 
 -- a line without a fault ends within the slots
-pub fits_from_cause : (before : List Line) (line : Line) → slots_in before ≤ 4096 → cause_at before line ≡ None → slots_in before + slots_of_line line ≤ 4096
+pub fits_from_cause : (before : List Line) (line : Line) → slots_in before ≤ 4096 → cause_at before line ≡ None
+    → slots_in before + slots_of_line line ≤ 4096
 fits_from_cause before Blank few h = omega arith
 fits_from_cause before (Label name) few h = omega arith
 fits_from_cause before (Instruction first operands) few h = insn_within (slots_in before) (instruction_of first operands (Some (pos 0))) h

@@ -24,15 +24,19 @@ readable before (Label name) h = tt
 readable before (Instruction first operands) h = read_from_cause (slots_in before) (instruction_of first operands (Some (pos 0))) h
 
 -- a line's fault is its cause by the lines before it
-pub fault_at-is : (lines : List Line) (k : ℕ) (d : Line) → k < length lines → fault_at lines (suc k) ≡ cause_at (take k lines) (get_or lines k d)
+pub fault_at-is : (lines : List Line) (k : ℕ) (d : Line) → k < length lines
+    → fault_at lines (suc k) ≡ cause_at (take k lines) (get_or lines k d)
 fault_at-is lines k d h = ap (option_and_then (cause_at (take k lines))) (slice_get-get_or lines k d h)
 
 -- each of some lines without a fault can be read
 pub readable_from_clean : (lines : List Line) → IsClean lines → AllByRecursion IsReadable lines
-readable_from_clean lines clean = recursion_from_All IsReadable lines (λ k d h. readable (take k lines) (get_or lines k d) (sym (fault_at-is lines k d h) ∙ clean (suc k)))
+readable_from_clean lines clean =
+    recursion_from_All IsReadable lines
+    (λ k d h. readable (take k lines) (get_or lines k d) (sym (fault_at-is lines k d h) ∙ clean (suc k)))
 
 -- the first jump whose label is set nowhere, its line counted from 1, is the first cause of a missing label
-pub first_from_missing : (lines : List Line) (line : ℕ) → IsFirstMissing (labels_in lines) lines 1 line → IsFirst (missing_at lines) line LabelMissing
+pub first_from_missing : (lines : List Line) (line : ℕ) → IsFirstMissing (labels_in lines) lines 1 line
+    → IsFirst (missing_at lines) line LabelMissing
 first_from_missing lines line m =
     let here : line ≡ suc m.index = let at = m.at in omega arith in
     (ap (missing_at lines) here ∙ m.missing, before)
@@ -42,8 +46,11 @@ first_from_missing lines line m =
     before (suc k) h = let at = m.at in m.before k (omega arith)
 
 -- what the second pass answers, of the draft of lines without a fault
-pub passes_all : (lines : List Line) (places : List (List ℕ × ℕ)) (jumps : List Awaited) (insns : List Insn) (r : Result (List Insn) ℕ)
-    → IsClean lines → places ≡ places_from 0 lines → jumps ≡ jumps_from 0 0 1 lines → insns ≡ drafts_of lines → with_jumps places jumps insns ≡ r → Passes (places_from 0 lines) 0 1 [] lines r
+pub passes_all : (lines : List Line) (places : List (List ℕ × ℕ)) (jumps : List Awaited) (insns : List Insn)
+    (r : Result (List Insn) ℕ)
+    → IsClean lines → places ≡ places_from 0 lines → jumps ≡ jumps_from 0 0 1 lines → insns ≡ drafts_of lines
+    → with_jumps places jumps insns ≡ r
+    → Passes (places_from 0 lines) 0 1 [] lines r
 passes_all lines places jumps insns r clean a b c e =
     let all = readable_lines_pass (places_from 0 lines) 0 0 1 [] lines refl (readable_from_clean lines clean) in
     subst (Passes (places_from 0 lines) 0 1 [] lines) ((λ i. with_jumps (sym a i) (sym b i) (sym c i)) ∙ e) all

@@ -16,6 +16,9 @@ before_first-some p text at h = by (nat_lt (position_or_len p text) (length text
 pub before_first-none : (p : ℕ → Bool) (text : List ℕ) → position p text ≡ None → text ≡ before_first p text
 before_first-none p text h = by (nat_lt (position_or_len p text) (length text)) refl h
   where
-    by : (b : Bool) → nat_lt (position_or_len p text) (length text) ≡ b → cond b (Some (position_or_len p text)) None ≡ None → text ≡ before_first p text
+    by : (b : Bool) → nat_lt (position_or_len p text) (length text) ≡ b → cond b (Some (position_or_len p text)) None ≡ None
+        → text ≡ before_first p text
     by true t e = absurd (let no : Some (position_or_len p text) ≡ None = e in cc)
-    by false t e = let long : length text ≤ position_or_len p text = grind (arith, nat_tests, t) in sym (take_all (position_or_len p text) text long)
+    by false t e =
+        let long : length text ≤ position_or_len p text = grind (arith, nat_tests, t) in
+        sym (take_all (position_or_len p text) text long)

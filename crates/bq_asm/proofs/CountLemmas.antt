@@ -19,7 +19,8 @@ word_wins (Ok o) = refl
 word_wins (Err c) = ap (λ (x : Cause). Err x) (lesser_word c)
 
 -- more words or fewer than there are operands are refused for a word, whatever they write
-pub count_wrong : (ks : List OperandKind) (ws : List (List ℕ)) (d : Option ℤ) → (length ws ≡ length ks → ⊥) → each_operand ks ws d ≡ Err cause.Word
+pub count_wrong : (ks : List OperandKind) (ws : List (List ℕ)) (d : Option ℤ)
+    → (length ws ≡ length ks → ⊥) → each_operand ks ws d ≡ Err cause.Word
 count_wrong [] [] d h = absurd (h refl)
 count_wrong [] (w ∷ ws) d h = refl
 count_wrong (k ∷ ks) [] d h = refl

@@ -48,7 +48,9 @@ decimal_digits n h = decimal_by_steps (λ m ds. list_all is_digit ds ≡ true) o
 -- each digit of a decimal number is below ten
 pub all_below : (cs : List ℕ) → AllDigits 10 cs → list_all (λ c. nat_lt (digit_value c) 10) cs ≡ true
 all_below [] h = refl
-all_below (c ∷ cs) h = and_from (nat_lt (digit_value c) 10) (list_all (λ c. nat_lt (digit_value c) 10) cs) (lt-ltb (digit_value c) 10 h.0) (all_below cs h.1)
+all_below (c ∷ cs) h =
+    and_from (nat_lt (digit_value c) 10) (list_all (λ c. nat_lt (digit_value c) 10) cs)
+    (lt-ltb (digit_value c) 10 h.0) (all_below cs h.1)
 
 -- the decimal digits of a number below 2^64 are read as that number
 pub number_of-decimal : (n : ℕ) → n < 2 ^ 64 → number_of 10 (decimal n) ≡ Some n
@@ -74,10 +76,11 @@ no_prefix (b ∷ c ∷ bs) h =
     let high : c ≤ 57 = leb-true c 57 (and_parts (nat_le 48 c) (nat_le c 57) second).1 in
     and_right (nat_eq 48 b) (nat_eq 120 c && true) (and_left (nat_eq 120 c) true (ne_eqb 120 c (λ e. omega arith)))
 
--- so they are where a prefix of hex digits could stand
+-- decimal digits are read as their number also where a prefix of hex digits could stand
 pub value_of-decimal : (n : ℕ) → n < 2 ^ 64 → value_of (decimal n) ≡ Some n
 value_of-decimal n h =
-    ap (λ b. if b then number_of 16 (drop 2 (decimal n)) else number_of 10 (decimal n)) (no_prefix (decimal n) (decimal_digits n h)) ∙ number_of-decimal n h
+    ap (λ b. if b then number_of 16 (drop 2 (decimal n)) else number_of 10 (decimal n)) (no_prefix (decimal n) (decimal_digits n h))
+    ∙ number_of-decimal n h
 
 first_no_sign : (bs : List ℕ) (s : ℕ) → 0 < length bs → list_all is_digit bs ≡ true → s < 48 → starts_with nat_eq bs (s ∷ []) ≡ false
 first_no_sign [] s some h lt = absurd (omega arith)
@@ -92,7 +95,10 @@ pub imm_of-signed : (z : ℤ) → FitsSigned w32 z → imm_of (signed_decimal z)
 imm_of-signed (pos n) h =
     let lt : n < 2 ^ 31 = omega (arith, ints, h) in
     let word = decimal n in
-    ap (λ b. if b then option_map negative (below (2 ^ 31 + 1) (value_of (drop 1 word))) else option_map (λ n. pos n) (below (2 ^ 31) (value_of word))) (decimal_no_sign n 45 (omega arith) (omega arith))
+    ap (λ b.
+    if b
+    then option_map negative (below (2 ^ 31 + 1) (value_of (drop 1 word)))
+    else option_map (λ n. pos n) (below (2 ^ 31) (value_of word))) (decimal_no_sign n 45 (omega arith) (omega arith))
     ∙ ap (option_map (λ n. pos n)) (below-Some (2 ^ 31) n (value_of word) (value_of-decimal n (omega arith)) lt)
 imm_of-signed (negsuc n) h =
     let lt : suc n < 2 ^ 31 + 1 = omega (arith, ints, h) in
@@ -130,10 +136,11 @@ register_digit r h =
 
 -- the letter r and a number up to 10 in decimal are read as that register
 pub register_of-decimal : (r : ℕ) → r ≤ 10 → register_of (codes "r" ++ decimal r) ≡ Some r
-register_of-decimal r h = ⊎_elim
-    (λ lt. ap (λ ds. register_of (codes "r" ++ ds)) (decimal_digit r lt) ∙ register_digit r lt)
+register_of-decimal r h =
+    ⊎_elim (λ lt. ap (λ ds. register_of (codes "r" ++ ds)) (decimal_digit r lt) ∙ register_digit r lt)
     (λ ge.
     let ten : r ≡ 10 = omega arith in
-    let digits : decimal 10 ≡ 49 ∷ 48 ∷ [] = decimal_step 10 (omega arith) (omega arith) ∙ ap (λ ds. ds ++ (48 ∷ [])) (decimal_digit 1 (omega arith)) in
+    let digits : decimal 10 ≡ 49 ∷ 48 ∷ [] =
+    decimal_step 10 (omega arith) (omega arith) ∙ ap (λ ds. ds ++ (48 ∷ [])) (decimal_digit 1 (omega arith)) in
     ap (λ n. register_of (codes "r" ++ decimal n)) ten ∙ ap (λ ds. register_of (codes "r" ++ ds)) digits ∙ ap (λ n. Some n) (sym ten))
     (cases_lt r 10)

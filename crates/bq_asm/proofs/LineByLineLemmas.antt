@@ -12,69 +12,85 @@ use Rattle.std.proofs.lemmas.Option.{slice_get_past}
 use Rattle.bq_asm.specs.declared.fault.AsmFault.{AsmFault}
 use Rattle.bq_asm.specs.declared.fault.AsmFault.TheVariants.{At, OutOfMemory}
 use Rattle.bq_asm.specs.declared.draft.Draft.{Draft}
-use Rattle.bq_asm.specs.Lines.{Line, Blank, line_said, lines_of}
+use Rattle.bq_asm.specs.Lines.{Line, Blank, parsed_line, lines_of}
 use Rattle.bq_asm.specs.Faults.{slots_in, cause_at, fault_at, IsClean, IsFault}
-use Rattle.bq_asm.specs.Draft.{Describes, RefusesLine, Finishes, Fails}
+use Rattle.bq_asm.specs.Draft.{IsDraftOf, RefusesLine, Finishes, Fails}
 use Rattle.bq_asm.specs.Assembly.{Assembles}
 use Rattle.bq_asm.proofs.AssembledLemmas.{assembles_from}
 use Rattle.bq_asm.proofs.CleanLemmas.{fault_at-is}
 
 -- what the lines so far say
-abbrev pub said_so_far : List (Bor (List ℕ)) → List Line
-said_so_far yielded = map (λ line. line_said line.now) yielded
+abbrev pub parsed_so_far : List (Bor (List ℕ)) → List Line
+parsed_so_far yielded = map (λ line. parsed_line line.now) yielded
 
 -- the bytes of the lines so far say what these lines say
-pub said_by_bytes : (yielded : List (Bor (List ℕ))) → map line_said (map (λ line. line.now) yielded) ≡ said_so_far yielded
-said_by_bytes [] = refl
-said_by_bytes (line ∷ yielded) = ap (λ ls. line_said line.now ∷ ls) (said_by_bytes yielded)
+pub parsed_by_bytes : (yielded : List (Bor (List ℕ))) → map parsed_line (map (λ line. line.now) yielded) ≡ parsed_so_far yielded
+parsed_by_bytes [] = refl
+parsed_by_bytes (line ∷ yielded) = ap (λ ls. parsed_line line.now ∷ ls) (parsed_by_bytes yielded)
 
 -- the fault of the next line is its cause after the lines so far
-pub next_fault : (text : List ℕ) (yielded : List (Bor (List ℕ))) (line : List ℕ) → map (λ l. l.now) yielded ≡ take (length yielded) (lines text) → length yielded < length (lines text)
-    → line ≡ get_or (lines text) (length yielded) line → fault_at (lines_of text) (suc (length yielded)) ≡ cause_at (said_so_far yielded) (line_said line)
+pub next_fault : (text : List ℕ) (yielded : List (Bor (List ℕ))) (line : List ℕ)
+    → map (λ l. l.now) yielded ≡ take (length yielded) (lines text) → length yielded < length (lines text)
+    → line ≡ get_or (lines text) (length yielded) line
+    → fault_at (lines_of text) (suc (length yielded)) ≡ cause_at (parsed_so_far yielded) (parsed_line line)
 next_fault text yielded line so_far more here =
     let n = length yielded in
-    let long : n < length (lines_of text) = omega (arith, length-map (lines text) line_said) in
-    let first : take n (lines_of text) ≡ said_so_far yielded = take-map line_said n (lines text) ∙ ap (map line_said) (sym so_far) ∙ said_by_bytes yielded in
-    let this : get_or (lines_of text) n Blank ≡ line_said line = get_or-map line_said (lines text) n line Blank more ∙ ap line_said (sym here) in
+    let long : n < length (lines_of text) = omega (arith, length-map (lines text) parsed_line) in
+    let first : take n (lines_of text) ≡ parsed_so_far yielded =
+    take-map parsed_line n (lines text) ∙ ap (map parsed_line) (sym so_far) ∙ parsed_by_bytes yielded in
+    let this : get_or (lines_of text) n Blank ≡ parsed_line line =
+    get_or-map parsed_line (lines text) n line Blank more ∙ ap parsed_line (sym here) in
     fault_at-is (lines_of text) n Blank long ∙ (λ i. cause_at (first i) (this i))
 
 -- lines without a fault, and one more
-pub more_clean : (all : List Line) (n : ℕ) → ((k : ℕ) → k ≤ n → fault_at all k ≡ None) → fault_at all (suc n) ≡ None → (k : ℕ) → k ≤ n + 1 → fault_at all k ≡ None
-more_clean all n h here k le = ⊎_elim (λ lt. h k (omega arith)) (λ ge. let e : suc n ≡ k = omega arith in subst (λ m. fault_at all m ≡ None) e here) (cases_lt k (n + 1))
+pub more_clean : (all : List Line) (n : ℕ) → ((k : ℕ) → k ≤ n → fault_at all k ≡ None) → fault_at all (suc n) ≡ None
+    → (k : ℕ) → k ≤ n + 1
+    → fault_at all k ≡ None
+more_clean all n h here k le =
+    ⊎_elim (λ lt. h k (omega arith)) (λ ge. let e : suc n ≡ k = omega arith in subst (λ m. fault_at all m ≡ None) e here)
+    (cases_lt k (n + 1))
 
 -- the fault at the next line is the first
 pub first_fault : (text : List ℕ) (draft : Draft) (yielded : List (Bor (List ℕ))) (n : ℕ) (line : List ℕ) (e : AsmFault)
-    → n ≡ length yielded → Describes (said_so_far yielded) draft → ((k : ℕ) → k ≤ n → fault_at (lines_of text) k ≡ None)
-    → fault_at (lines_of text) (suc (length yielded)) ≡ cause_at (said_so_far yielded) (line_said line) → RefusesLine draft (n + 1) (line_said line) e → IsFault text e
+    → n ≡ length yielded → IsDraftOf (parsed_so_far yielded) draft → ((k : ℕ) → k ≤ n → fault_at (lines_of text) k ≡ None)
+    → fault_at (lines_of text) (suc (length yielded)) ≡ cause_at (parsed_so_far yielded) (parsed_line line)
+    → RefusesLine draft (n + 1) (parsed_line line) e
+    → IsFault text e
 first_fault text draft yielded n line OutOfMemory count described clean here h = tt
 first_fault text draft yielded n line (At k c) count described clean here h =
     let is : k ≡ n + 1 = h.0 in
     let same : k ≡ suc (length yielded) = omega (arith, count, is) in
-    inl (ap (fault_at (lines_of text)) same ∙ here ∙ h.1 (said_so_far yielded) described, λ j lt. clean j (omega arith))
+    inl (ap (fault_at (lines_of text)) same ∙ here ∙ h.1 (parsed_so_far yielded) described, λ j lt. clean j (omega arith))
 
 -- lines that were all taken have no fault
 pub all_clean : (lines : List Line) (n : ℕ) → length lines ≡ n → ((k : ℕ) → k ≤ n → fault_at lines k ≡ None) → IsClean lines
 all_clean lines n whole h zero = refl
-all_clean lines n whole h (suc k) = ⊎_elim (λ lt. h (suc k) (omega arith)) (λ ge. ap (option_and_then (cause_at (take k lines))) (slice_get_past lines k ge)) (cases_lt k (length lines))
+all_clean lines n whole h (suc k) =
+    ⊎_elim (λ lt. h (suc k) (omega arith)) (λ ge. ap (option_and_then (cause_at (take k lines))) (slice_get_past lines k ge))
+    (cases_lt k (length lines))
 
 -- what is wrong with all lines, where none has a fault by itself
-pub whole_fault : (text : List ℕ) (draft : Draft) (e : AsmFault) → Describes (lines_of text) draft → IsClean (lines_of text) → Fails draft e → IsFault text e
+pub whole_fault : (text : List ℕ) (draft : Draft) (e : AsmFault)
+    → IsDraftOf (lines_of text) draft → IsClean (lines_of text) → Fails draft e → IsFault text e
 whole_fault text draft OutOfMemory described clean h = absurd h
 whole_fault text draft (At line c) described clean h =
-    ⊎_elim (λ none. inr (inl (clean, none.0, none.1, none.2))) (λ missing. inr (inr (clean, missing.0, missing.1))) (h (lines_of text) described clean)
+    ⊎_elim (λ none. inr (inl (clean, none.0, none.1, none.2))) (λ missing. inr (inr (clean, missing.0, missing.1)))
+    (h (lines_of text) described clean)
 
 -- a text whose lines were all taken
-module _ (text : List ℕ) (draft : Draft) (yielded : List (Bor (List ℕ))) (number : ℕ) (r : Result (Vec Insn) AsmFault)
-    (all : map (λ l. l.now) yielded ≡ lines text) (count : number ≡ length yielded) (described : Describes (said_so_far yielded) draft) (clean : (k : ℕ) → k ≤ number → fault_at (lines_of text) k ≡ None) where
-  whole : said_so_far yielded ≡ lines_of text
-  whole = sym (said_by_bytes yielded) ∙ ap (map line_said) all
+module _ (text : List ℕ) (draft : Draft) (yielded : List (Bor (List ℕ))) (number : ℕ)
+    (r : Result (Vec Insn) AsmFault) (all : map (λ l. l.now) yielded ≡ lines text)
+    (count : number ≡ length yielded) (described : IsDraftOf (parsed_so_far yielded) draft)
+    (clean : (k : ℕ) → k ≤ number → fault_at (lines_of text) k ≡ None) where
+  whole : parsed_so_far yielded ≡ lines_of text
+  whole = sym (parsed_by_bytes yielded) ∙ ap (map parsed_line) all
 
-  described_all : Describes (lines_of text) draft
-  described_all = subst (λ ls. Describes ls draft) whole described
+  described_all : IsDraftOf (lines_of text) draft
+  described_all = subst (λ ls. IsDraftOf ls draft) whole described
 
   clean_all : IsClean (lines_of text)
   clean_all =
-      let long = ap length (sym whole) ∙ length-map yielded (λ line. line_said line.now) ∙ sym count in
+      let long = ap length (sym whole) ∙ length-map yielded (λ line. parsed_line line.now) ∙ sym count in
       all_clean (lines_of text) number long clean
 
   few_slots : slots_in (lines_of text) ≤ 4096

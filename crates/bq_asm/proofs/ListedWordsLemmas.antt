@@ -59,7 +59,8 @@ again kind.Near (operand.Near z) d h g = near_again z d g
 again kind.Far (operand.Far z) d h g = far_again z d g
 again k o d h g = absurd (false≢true h)
 
-each_again : (ks : List OperandKind) (os : List Operand) (d : Option ℤ) → have_kinds ks os ≡ true → AllByRecursion IsInRange os → each_operand ks (map operand_text os) d ≡ Ok os
+each_again : (ks : List OperandKind) (os : List Operand) (d : Option ℤ)
+    → have_kinds ks os ≡ true → AllByRecursion IsInRange os → each_operand ks (map operand_text os) d ≡ Ok os
 unfolding have_kinds
 each_again [] [] d h g = refl
 each_again [] (o ∷ os) d h g = absurd (false≢true h)
@@ -118,7 +119,8 @@ source_good (Reg r) h k = in_range r h
 
 -- the operands of an instruction in range are in range
 pub operands_good : (i : Insn) → is_insn i ≡ true → Fits i → AllByRecursion IsInRange (operands_of i)
-operands_good (insn.Alu w o d src) h k = let parts = and_parts (is_register d) (is_source src) h in (in_range d parts.0, (source_good src parts.1 k, tt))
+operands_good (insn.Alu w o d src) h k =
+    let parts = and_parts (is_register d) (is_source src) h in (in_range d parts.0, (source_good src parts.1 k, tt))
 operands_good (insn.MovSx w b d s) h k = let two = extended w b d s h in (two.first, (two.second, tt))
 operands_good (insn.Neg w d) h k = (in_range d h, tt)
 operands_good (insn.End order b d) h k = (ordered order b d h, tt)
@@ -129,12 +131,14 @@ operands_good (insn.Imm64 d v) h k = (in_range d h, (k, tt))
 operands_good (insn.MapRef d n) h k = (in_range d h, (k, tt))
 operands_good (insn.Goto off) h k = (k, tt)
 operands_good (insn.Goto32 n) h k = (k, tt)
-operands_good (insn.Branch w c d src off) h k = let parts = and_parts (is_register d) (is_source src) h in (in_range d parts.0, (source_good src parts.1 k.0, (k.1, tt)))
+operands_good (insn.Branch w c d src off) h k =
+    let parts = and_parts (is_register d) (is_source src) h in (in_range d parts.0, (source_good src parts.1 k.0, (k.1, tt)))
 operands_good (insn.Call n) h k = (k, tt)
 operands_good insn.Exit h k = tt
 
 -- what an instruction is listed as says that instruction, whatever labels there are
-pub listed_again : (i : Insn) (d : Option ℤ) → is_insn i ≡ true → Fits i → instruction_of (name_of (mnemonic_of i)) (map operand_text (operands_of i)) d ≡ Ok i
+pub listed_again : (i : Insn) (d : Option ℤ) → is_insn i ≡ true → Fits i
+    → instruction_of (name_of (mnemonic_of i)) (map operand_text (operands_of i)) d ≡ Ok i
 listed_again i d h k =
     ap (λ m. instruction_from m (map operand_text (operands_of i)) d) (named-again i h)
     ∙ ap (made (mnemonic_of i)) (each_again (kind_list (kinds_of (mnemonic_of i))) (operands_of i) d (of_kinds i) (operands_good i h k))

@@ -36,8 +36,8 @@ use Rattle.bq_asm.specs.declared.operand.Operand.{Operand}
 use Rattle.bq_asm.specs.declared.operand.Operand.TheVariants as operand
 use Rattle.bq_asm.specs.Names.{op_name, cond_name, width_name, size_name, order_name, bits_name, name_of}
 use Rattle.bq_asm.specs.Text.{signed_text, operand_text, mnemonic_of, operands_of, after_first, operands_text, line_text, listing_text, line_body}
-use Rattle.bq_asm.specs.Lines.{Line, Instruction, is_comment, is_blank, words, line_of, line_said, lines_of, last_word}
-use Rattle.bq_asm.specs.Assembly.{slots_of_line, places_from, distance_to, Says, AreNewLabels}
+use Rattle.bq_asm.specs.Lines.{Line, Instruction, is_comment, is_blank, words, line_of, parsed_line, lines_of, last_word}
+use Rattle.bq_asm.specs.Assembly.{slots_of_line, places_from, distance_to, AssemblesFrom, AreNewLabels}
 use Rattle.bq_asm.specs.Laws.{ListingAssembles}
 use Rattle.bq_asm.proofs.DigitLemmas.{is_digit, list_all-append, list_all-weaker, decimal_digits}
 use Rattle.bq_asm.proofs.ListedWordsLemmas.{operands_good, listed_again}
@@ -138,7 +138,9 @@ register_word r h = record { some = omega arith; plain = decimal_plain r (omega 
 memory_word : (r : ℕ) (z : ℤ) → r ≤ 10 → FitsSigned w16 z → IsWord (operand_text (operand.Memory r z))
 memory_word r z h k = record {
   some = omega arith;
-  plain = list_all-append is_plain (decimal r) (signed_text z ++ codes "]") (decimal_plain r (omega arith)) (list_all-append is_plain (signed_text z) (codes "]") (near_word z k).plain refl);
+  plain =
+      list_all-append is_plain (decimal r) (signed_text z ++ codes "]") (decimal_plain r (omega arith))
+      (list_all-append is_plain (signed_text z) (codes "]") (near_word z k).plain refl);
 }
 
 operand_word : (o : Operand) → IsInRange o → IsWord (operand_text o)
@@ -165,13 +167,17 @@ after_ends (o ∷ os) = refl
 words_after : (os : List Operand) → AllByRecursion IsInRange os → words (after_first os) ≡ map operand_text os
 words_after [] h = refl
 words_after (o ∷ os) h =
-    words-blank is_blank 44 (32 ∷ (operand_text o ++ after_first os)) refl ∙ words-blank is_blank 32 (operand_text o ++ after_first os) refl
-    ∙ first_word (operand_text o) (after_first os) (operand_word o h.0) (after_ends os) ∙ ap (λ ws. operand_text o ∷ ws) (words_after os h.1)
+    words-blank is_blank 44 (32 ∷ (operand_text o ++ after_first os)) refl
+    ∙ words-blank is_blank 32 (operand_text o ++ after_first os) refl
+    ∙ first_word (operand_text o) (after_first os) (operand_word o h.0) (after_ends os)
+    ∙ ap (λ ws. operand_text o ∷ ws) (words_after os h.1)
 
 words_operands : (os : List Operand) → AllByRecursion IsInRange os → words (operands_text os) ≡ map operand_text os
 words_operands [] h = refl
 words_operands (o ∷ os) h =
-    words-blank is_blank 32 (operand_text o ++ after_first os) refl ∙ first_word (operand_text o) (after_first os) (operand_word o h.0) (after_ends os) ∙ ap (λ ws. operand_text o ∷ ws) (words_after os h.1)
+    words-blank is_blank 32 (operand_text o ++ after_first os) refl
+    ∙ first_word (operand_text o) (after_first os) (operand_word o h.0) (after_ends os)
+    ∙ ap (λ ws. operand_text o ∷ ws) (words_after os h.1)
 
 operands_end : (os : List Operand) → EndsWord is_blank (operands_text os)
 operands_end [] = tt
@@ -189,10 +195,13 @@ name_some (name.StoreReg size) = omega arith
 name_some (name.Branch w c) = let sum = length-append (cond_name c) (width_name w) in let two = width_some w in omega (arith, sum, two)
 name_some m = omega arith
 
-words_of-body : (i : Insn) → AllByRecursion IsInRange (operands_of i) → words (line_body i) ≡ name_of (mnemonic_of i) ∷ map operand_text (operands_of i)
+words_of-body : (i : Insn) → AllByRecursion IsInRange (operands_of i)
+    → words (line_body i) ≡ name_of (mnemonic_of i) ∷ map operand_text (operands_of i)
 words_of-body i h =
     let m = mnemonic_of i in
-    first_word (name_of m) (operands_text (operands_of i)) (record { some = name_some m; plain = name_plain m }) (operands_end (operands_of i)) ∙ ap (λ ws. name_of m ∷ ws) (words_operands (operands_of i) h)
+    first_word (name_of m) (operands_text (operands_of i)) (record { some = name_some m; plain = name_plain m })
+    (operands_end (operands_of i))
+    ∙ ap (λ ws. name_of m ∷ ws) (words_operands (operands_of i) h)
 
 -- a line of a listing has no comment, and no line ends in it
 plain_inner : (w : List ℕ) → list_all is_plain w ≡ true → list_all is_inner w ≡ true
@@ -200,14 +209,20 @@ plain_inner w h = list_all-weaker is_plain is_inner inner_from_plain w h
 
 after_inner : (os : List Operand) → AllByRecursion IsInRange os → list_all is_inner (after_first os) ≡ true
 after_inner [] h = refl
-after_inner (o ∷ os) h = list_all-append is_inner (operand_text o) (after_first os) (plain_inner (operand_text o) (operand_word o h.0).plain) (after_inner os h.1)
+after_inner (o ∷ os) h =
+    list_all-append is_inner (operand_text o) (after_first os) (plain_inner (operand_text o) (operand_word o h.0).plain)
+    (after_inner os h.1)
 
 operands_inner : (os : List Operand) → AllByRecursion IsInRange os → list_all is_inner (operands_text os) ≡ true
 operands_inner [] h = refl
-operands_inner (o ∷ os) h = list_all-append is_inner (operand_text o) (after_first os) (plain_inner (operand_text o) (operand_word o h.0).plain) (after_inner os h.1)
+operands_inner (o ∷ os) h =
+    list_all-append is_inner (operand_text o) (after_first os) (plain_inner (operand_text o) (operand_word o h.0).plain)
+    (after_inner os h.1)
 
 body_inner : (i : Insn) → AllByRecursion IsInRange (operands_of i) → list_all is_inner (line_body i) ≡ true
-body_inner i h = list_all-append is_inner (name_of (mnemonic_of i)) (operands_text (operands_of i)) (plain_inner (name_of (mnemonic_of i)) (name_plain (mnemonic_of i))) (operands_inner (operands_of i) h)
+body_inner i h =
+    list_all-append is_inner (name_of (mnemonic_of i)) (operands_text (operands_of i))
+    (plain_inner (name_of (mnemonic_of i)) (name_plain (mnemonic_of i))) (operands_inner (operands_of i) h)
 
 no_comment : (bs : List ℕ) → list_all is_inner bs ≡ true → position_or_len is_comment bs ≡ length bs
 no_comment [] h = refl
@@ -221,10 +236,14 @@ without_comment : (bs : List ℕ) → list_all is_inner bs ≡ true → before_f
 without_comment bs h = ap (λ n. take n bs) (no_comment bs h) ∙ take_all (length bs) bs (omega arith)
 
 -- the instruction that a line says, by its words
-line_said-body : (i : Insn) → AllByRecursion IsInRange (operands_of i) → line_said (line_body i) ≡ Instruction (name_of (mnemonic_of i)) (map operand_text (operands_of i))
-line_said-body i h = ap (λ bs. line_of (words bs)) (without_comment (line_body i) (body_inner i h)) ∙ ap line_of (words_of-body i h) ∙ lone i
+parsed_line-body : (i : Insn) → AllByRecursion IsInRange (operands_of i)
+    → parsed_line (line_body i) ≡ Instruction (name_of (mnemonic_of i)) (map operand_text (operands_of i))
+parsed_line-body i h =
+    ap (λ bs. line_of (words bs)) (without_comment (line_body i) (body_inner i h)) ∙ ap line_of (words_of-body i h) ∙ lone i
   where
-    lone : (i : Insn) → line_of (name_of (mnemonic_of i) ∷ map operand_text (operands_of i)) ≡ Instruction (name_of (mnemonic_of i)) (map operand_text (operands_of i))
+    lone : (i : Insn)
+        → line_of (name_of (mnemonic_of i) ∷ map operand_text (operands_of i))
+        ≡ Instruction (name_of (mnemonic_of i)) (map operand_text (operands_of i))
     lone (insn.Alu w o d src) = refl
     lone (insn.MovSx w b d s) = refl
     lone (insn.Neg w d) = refl
@@ -256,7 +275,8 @@ no_return (b ∷ bs) zero h e =
 no_return (b ∷ bs) (suc k) h e = no_return bs k (and_parts (is_inner b) (list_all is_inner bs) h).1 e
 
 -- the first of some parts is a line, and the others are the lines after it
-pub parts_more : (line : List ℕ) (parts : List (List ℕ)) → 0 < length parts → lines_of_parts (line ∷ parts) ≡ strip_carriage_return line ∷ lines_of_parts parts
+pub parts_more : (line : List ℕ) (parts : List (List ℕ)) → 0 < length parts
+    → lines_of_parts (line ∷ parts) ≡ strip_carriage_return line ∷ lines_of_parts parts
 parts_more line [] h = absurd (omega arith)
 parts_more line (p ∷ parts) h = refl
 
@@ -265,7 +285,9 @@ lines-body : (body rest : List ℕ) → list_all is_inner body ≡ true → line
 lines-body body rest h =
     let feed = λ (b : ℕ). b == 10 in
     let more : 0 < length (slice_split feed rest) = omega (arith, length-slice_split feed rest) in
-    let kept : strip_carriage_return body ≡ body = ap (λ t. cond t (take (length body - 1) body) body) (ne_eqb (slice_index body (length body - 1)) 13 (no_return body (length body - 1) h)) in
+    let kept : strip_carriage_return body ≡ body =
+    ap (λ t. cond t (take (length body - 1) body) body)
+    (ne_eqb (slice_index body (length body - 1)) 13 (no_return body (length body - 1) h)) in
     ap lines_of_parts (slice_split_at feed body 10 rest (All-from_recursion (λ b. (b == 10) ≡ false) body (no_feed body h)) refl)
     ∙ parts_more body (slice_split feed rest) more ∙ ap (λ b. b ∷ lines rest) kept
 
@@ -280,20 +302,25 @@ lines_of-listing (i ∷ insns) h k =
     let m = name_of (mnemonic_of i) in
     let os = operands_text (operands_of i) in
     let rest = listing_text insns in
-    let regrouped : line_text i ++ rest ≡ line_body i ++ 10 ∷ rest = append_assoc m (os ++ codes "\n") rest ∙ ap (λ bs. m ++ bs) (append_assoc os (codes "\n") rest) ∙ sym (append_assoc m os (10 ∷ rest)) in
-    ap (λ bs. map line_said (lines bs)) regrouped ∙ ap (map line_said) (lines-body (line_body i) rest (body_inner i good))
-    ∙ (λ n. line_said-body i good n ∷ lines_of-listing insns parts.1 k.1 n)
+    let regrouped : line_text i ++ rest ≡ line_body i ++ 10 ∷ rest =
+    append_assoc m (os ++ codes "\n") rest ∙ ap (λ bs. m ++ bs) (append_assoc os (codes "\n") rest)
+    ∙ sym (append_assoc m os (10 ∷ rest)) in
+    ap (λ bs. map parsed_line (lines bs)) regrouped ∙ ap (map parsed_line) (lines-body (line_body i) rest (body_inner i good))
+    ∙ (λ n. parsed_line-body i good n ∷ lines_of-listing insns parts.1 k.1 n)
 
 -- a listing sets no label
 no_places : (slot : ℕ) (insns : List Insn) → places_from slot (map listed insns) ≡ []
 no_places slot [] = refl
 no_places slot (i ∷ insns) = no_places (slot + slots_of_line (listed i)) insns
 
-listing_says : (places : List (List ℕ × ℕ)) (slot : ℕ) (insns : List Insn) → list_all is_insn insns ≡ true → AllFit insns → Says places slot (map listed insns) insns
-listing_says places slot [] h k = tt
-listing_says places slot (i ∷ insns) h k =
-    let parts = and_parts (is_insn i) (list_all is_insn insns) h in
-    (listed_again i (distance_to places slot (last_word (map operand_text (operands_of i)))) parts.0 k.0, listing_says places (slot + slots_of i) insns parts.1 k.1)
+listing_assembles_from : (places : List (List ℕ × ℕ)) (slot : ℕ) (insns : List Insn)
+    → list_all is_insn insns ≡ true → AllFit insns → AssemblesFrom places slot (map listed insns) insns
+listing_assembles_from places slot [] h k = tt
+listing_assembles_from places slot (i ∷ insns) h k =
+    let parts = and_parts (is_insn i) (list_all is_insn insns) h in (
+      listed_again i (distance_to places slot (last_word (map operand_text (operands_of i)))) parts.0 k.0,
+      listing_assembles_from places (slot + slots_of i) insns parts.1 k.1,
+    )
 
 -- the listing of a program assembles to that program
 pub listing_assembles : ListingAssembles
@@ -302,8 +329,12 @@ listing_assembles insns h k =
     let bounds = and_parts (nat_le 1 (slot_count insns)) (nat_le (slot_count insns) 4096) parts.1 in
     let same = lines_of-listing insns parts.0 k in
     record {
-      labels = subst (λ ls. AreNewLabels [] (keys_of (places_from 0 ls))) (sym same) (subst (λ ps. AreNewLabels [] (keys_of ps)) (sym (no_places 0 insns)) tt);
-      says = subst (λ ls. Says (places_from 0 ls) 0 ls insns) (sym same) (listing_says (places_from 0 (map listed insns)) 0 insns parts.0 k);
+      labels =
+          subst (λ ls. AreNewLabels [] (keys_of (places_from 0 ls))) (sym same)
+          (subst (λ ps. AreNewLabels [] (keys_of ps)) (sym (no_places 0 insns)) tt);
+      assembles =
+          subst (λ ls. AssemblesFrom (places_from 0 ls) 0 ls insns) (sym same)
+          (listing_assembles_from (places_from 0 (map listed insns)) 0 insns parts.0 k);
       some = leb-true 1 (slot_count insns) bounds.0;
       few = leb-true (slot_count insns) 4096 bounds.1;
     }

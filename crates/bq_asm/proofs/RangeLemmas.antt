@@ -57,7 +57,8 @@ distance_fits w =
     let signed = if starts_with nat_eq w (codes "+") then option_map (λ n. pos n) plus else None in
     either (FitsSigned w32) (starts_with nat_eq w (codes "-")) (option_map negative minus) signed
     (mapped (λ n. n < 2 ^ 31 + 1) (FitsSigned w32) negative negative_fits minus (below_limit (2 ^ 31 + 1) size))
-    (either (FitsSigned w32) (starts_with nat_eq w (codes "+")) (option_map (λ n. pos n) plus) None (mapped (λ n. n < 2 ^ 31) (FitsSigned w32) (λ n. pos n) positive_fits plus (below_limit (2 ^ 31) size)) tt)
+    (either (FitsSigned w32) (starts_with nat_eq w (codes "+")) (option_map (λ n. pos n) plus) None
+    (mapped (λ n. n < 2 ^ 31) (FitsSigned w32) (λ n. pos n) positive_fits plus (below_limit (2 ^ 31) size)) tt)
 
 -- what is read as an offset fits 16 bits with a sign
 pub offset_fits : (w : List ℕ) → IfSome (offset_of w) (FitsSigned w16)
@@ -68,19 +69,24 @@ offset_fits w =
     let signed = if starts_with nat_eq w (codes "+") then option_map (λ n. pos n) plus else None in
     either (FitsSigned w16) (starts_with nat_eq w (codes "-")) (option_map negative minus) signed
     (mapped (λ n. n < 2 ^ 15 + 1) (FitsSigned w16) negative near_negative_fits minus (below_limit (2 ^ 15 + 1) size))
-    (either (FitsSigned w16) (starts_with nat_eq w (codes "+")) (option_map (λ n. pos n) plus) None (mapped (λ n. n < 2 ^ 15) (FitsSigned w16) (λ n. pos n) near_positive_fits plus (below_limit (2 ^ 15) size)) tt)
+    (either (FitsSigned w16) (starts_with nat_eq w (codes "+")) (option_map (λ n. pos n) plus) None
+    (mapped (λ n. n < 2 ^ 15) (FitsSigned w16) (λ n. pos n) near_positive_fits plus (below_limit (2 ^ 15) size)) tt)
 
 number_fits : (radix : ℕ) (w : List ℕ) → IfSome (number_of radix w) (λ n. n < 2 ^ 64)
-number_fits radix w = by (nat_lt 0 (length w)) (list_all (λ c. nat_lt (digit_value c) radix) w) (nat_lt (digits_value radix w) (2 ^ 64)) refl
+number_fits radix w =
+    by (nat_lt 0 (length w)) (list_all (λ c. nat_lt (digit_value c) radix) w) (nat_lt (digits_value radix w) (2 ^ 64)) refl
   where
-    by : (a b c : Bool) → nat_lt (digits_value radix w) (2 ^ 64) ≡ c → IfSome (if a && (b && c) then Some (digits_value radix w) else None) (λ n. n < 2 ^ 64)
+    by : (a b c : Bool) → nat_lt (digits_value radix w) (2 ^ 64) ≡ c
+        → IfSome (if a && (b && c) then Some (digits_value radix w) else None) (λ n. n < 2 ^ 64)
     by true true true e = grind (arith, nat_tests, e)
     by true true false e = tt
     by true false c e = tt
     by false b c e = tt
 
 value_fits : (w : List ℕ) → IfSome (value_of w) (λ n. n < 2 ^ 64)
-value_fits w = either (λ n. n < 2 ^ 64) (starts_with nat_eq w (codes "0x")) (number_of 16 (drop 2 w)) (number_of 10 w) (number_fits 16 (drop 2 w)) (number_fits 10 w)
+value_fits w =
+    either (λ n. n < 2 ^ 64) (starts_with nat_eq w (codes "0x")) (number_of 16 (drop 2 w)) (number_of 10 w)
+    (number_fits 16 (drop 2 w)) (number_fits 10 w)
 
 at_most : (o : Option ℕ) → IfSome (below 1 o) (λ n. n < 1) → IfSome (below 1 o) (λ n. n < 2 ^ 64)
 at_most o h = by (below 1 o) h
@@ -91,7 +97,9 @@ at_most o h = by (below 1 o) h
 
 -- what is read as a wide number fits 64 bits
 pub wide_fits : (w : List ℕ) → IfSome (wide_of w) (λ n. n < 2 ^ 64)
-wide_fits w = either (λ n. n < 2 ^ 64) (starts_with nat_eq w (codes "-")) (below 1 (value_of (drop 1 w))) (value_of w) (at_most (value_of (drop 1 w)) (below_limit 1 (value_of (drop 1 w)))) (value_fits w)
+wide_fits w =
+    either (λ n. n < 2 ^ 64) (starts_with nat_eq w (codes "-")) (below 1 (value_of (drop 1 w))) (value_of w)
+    (at_most (value_of (drop 1 w)) (below_limit 1 (value_of (drop 1 w)))) (value_fits w)
 
 one_digit : (r d : ℕ) → IfSome (register_of (r ∷ d ∷ [])) (λ n. n ≤ 10)
 one_digit r d = by (r == 114) (nat_le 48 d) (nat_le d 57) refl

@@ -76,7 +76,8 @@ some_from_ok None i h = absurd (let e : Err cause.Word ≡ Ok i = h in cc)
 some_from_ok (Some j) i h = let e : Ok j ≡ Ok i = h in cc
 
 -- an instruction is made of operands
-pub made_from : (m : Mnemonic) (r : Result (List Operand) Cause) (i : Insn) → made m r ≡ Ok i → (os : List Operand) × (r ≡ Ok os) × (insn_from m os ≡ Some i)
+pub made_from : (m : Mnemonic) (r : Result (List Operand) Cause) (i : Insn)
+    → made m r ≡ Ok i → (os : List Operand) × (r ≡ Ok os) × (insn_from m os ≡ Some i)
 made_from m (Err c) i h = absurd (let e : Err c ≡ Ok i = h in cc)
 made_from m (Ok os) i h = (os, refl, some_from_ok (insn_from m os) i h)
 
@@ -93,7 +94,8 @@ is_steady kind.Near = false
 is_steady kind.Far = false
 is_steady k = true
 
-steady_operands : (ks : List OperandKind) (ws : List (List ℕ)) (d e : Option ℤ) → list_all is_steady ks ≡ true → each_operand ks ws d ≡ each_operand ks ws e
+steady_operands : (ks : List OperandKind) (ws : List (List ℕ)) (d e : Option ℤ)
+    → list_all is_steady ks ≡ true → each_operand ks ws d ≡ each_operand ks ws e
 unfolding is_steady
 steady_operands [] [] d e h = refl
 steady_operands [] (w ∷ ws) d e h = refl
@@ -134,7 +136,9 @@ no_label i operands h = ap (λ b. if is_jump i then (if b then Some (last_word o
 no_jump : (i : Insn) (operands : List (List ℕ)) → is_jump i ≡ false → target_of i operands ≡ None
 no_jump i operands h = ap (λ b. if b then (if is_label (last_word operands) then Some (last_word operands) else None) else None) h
 
-steady_name : (m : Mnemonic) (operands : List (List ℕ)) → is_jump_name m ≡ false → list_all is_steady (kind_list (kinds_of m)) ≡ true → IsSteady m operands
+steady_name : (m : Mnemonic) (operands : List (List ℕ)) → is_jump_name m ≡ false
+    → list_all is_steady (kind_list (kinds_of m)) ≡ true
+    → IsSteady m operands
 steady_name m operands plain ks = record {
   same = λ d e. ap (made m) (steady_operands (kind_list (kinds_of m)) operands d e ks);
   none = λ i h. no_jump i operands ((made_shape m (each_operand (kind_list (kinds_of m)) operands (Some (pos 0))) i h).jump ∙ plain);
@@ -151,11 +155,17 @@ miscounted m operands wrong =
 -- a word in a near or far target's place
 near : (w : List ℕ) (d : Option ℤ) (b : Bool) → is_label w ≡ b → operand_of kind.Near w d
     ≡ (if b then label_place (option_map (λ z. operand.Near z) d) else number_place (option_map (λ z. operand.Near z) (offset_of w)) w)
-near w d b e = ap (λ b. if b then label_place (option_map (λ z. operand.Near z) d) else number_place (option_map (λ z. operand.Near z) (offset_of w)) w) e
+near w d b e =
+    ap
+    (λ b. if b then label_place (option_map (λ z. operand.Near z) d) else number_place (option_map (λ z. operand.Near z) (offset_of w)) w)
+    e
 
 far : (w : List ℕ) (d : Option ℤ) (b : Bool) → is_label w ≡ b → operand_of kind.Far w d
     ≡ (if b then label_place (option_map (λ z. operand.Far z) d) else number_place (option_map (λ z. operand.Far z) (distance_of w)) w)
-far w d b e = ap (λ b. if b then label_place (option_map (λ z. operand.Far z) d) else number_place (option_map (λ z. operand.Far z) (distance_of w)) w) e
+far w d b e =
+    ap
+    (λ b. if b then label_place (option_map (λ z. operand.Far z) d) else number_place (option_map (λ z. operand.Far z) (distance_of w)) w)
+    e
 
 goto : (w : List ℕ) (b : Bool) → is_label w ≡ b → IsSteady name.Goto (w ∷ []) ⊎ IsAimed name.Goto (w ∷ [])
 goto w false e =
@@ -199,7 +209,9 @@ module _ (width : Width) (cond : Condition) where
   branch_set (Err c) (Ok p) y z = refl
   branch_set (Err c) (Err d) y z = refl
 
-  branch_unset : (a b : Result Operand Cause) (y : ℤ) (i : Insn) → branch a b (Ok (operand.Near y)) ≡ Ok i → branch a b (Err cause.LabelMissing) ≡ Err cause.LabelMissing
+  branch_unset : (a b : Result Operand Cause) (y : ℤ) (i : Insn)
+      → branch a b (Ok (operand.Near y)) ≡ Ok i
+      → branch a b (Err cause.LabelMissing) ≡ Err cause.LabelMissing
   unfolding branch
   branch_unset (Ok o) (Ok p) y i h = refl
   branch_unset (Ok o) (Err c) y i h = absurd (let no : Err c ≡ Ok i = h in cc)
@@ -213,7 +225,8 @@ module _ (width : Width) (cond : Condition) where
   branch_never (Err d) (Ok p) c i h = let no : Err (lesser d c) ≡ Ok i = h in cc
   branch_never (Err d) (Err e) c i h = let no : Err (lesser d (lesser e c)) ≡ Ok i = h in cc
 
-  branch_depends : (a b w : List ℕ) (label : Bool) → is_label w ≡ label → IsSteady (name.Branch width cond) (a ∷ b ∷ w ∷ []) ⊎ IsAimed (name.Branch width cond) (a ∷ b ∷ w ∷ [])
+  branch_depends : (a b w : List ℕ) (label : Bool) → is_label w ≡ label
+      → IsSteady (name.Branch width cond) (a ∷ b ∷ w ∷ []) ⊎ IsAimed (name.Branch width cond) (a ∷ b ∷ w ∷ [])
   unfolding branch
   branch_depends a b w false e =
       let first = register_place (register_of a) in
@@ -261,22 +274,27 @@ pub record IsAwaiting (first : List ℕ) (operands : List (List ℕ)) (i : Insn)
   pub set : (z : ℤ) → instruction_of first operands (Some z) ≡ Ok (aimed i z)
 
 -- an instruction that is read is one or the other
-pub plain_or_awaiting : (first : List ℕ) (operands : List (List ℕ)) (i : Insn) → instruction_of first operands (Some (pos 0)) ≡ Ok i → IsPlain first operands i ⊎ IsAwaiting first operands i
+pub plain_or_awaiting : (first : List ℕ) (operands : List (List ℕ)) (i : Insn)
+    → instruction_of first operands (Some (pos 0)) ≡ Ok i
+    → IsPlain first operands i ⊎ IsAwaiting first operands i
 plain_or_awaiting first operands i h = by (named first) refl h
   where
-    by : (m : Option Mnemonic) → named first ≡ m → instruction_from m operands (Some (pos 0)) ≡ Ok i → IsPlain first operands i ⊎ IsAwaiting first operands i
+    by : (m : Option Mnemonic) → named first ≡ m → instruction_from m operands (Some (pos 0)) ≡ Ok i
+        → IsPlain first operands i ⊎ IsAwaiting first operands i
     by None n k = absurd (let bad : Err cause.Word ≡ Ok i = k in cc)
-    by (Some m) n k = ⊎_elim
+    by (Some m) n k =
+        ⊎_elim
         (λ s. inl (record { target = s.none i k; same = λ d. ap (λ x. instruction_from x operands d) n ∙ s.same d (Some (pos 0)) ∙ k }))
         (λ a.
         let jump = (made_shape m (each_operand (kind_list (kinds_of m)) operands (Some (pos 0))) i k).jump ∙ a.jump in
         inr (record {
           jump = jump;
-          target = ap (λ b. if b then (if is_label (last_word operands) then Some (last_word operands) else None) else None) jump ∙ ap (λ b. if b then Some (last_word operands) else None) a.label;
+          target =
+              ap (λ b. if b then (if is_label (last_word operands) then Some (last_word operands) else None) else None) jump
+              ∙ ap (λ b. if b then Some (last_word operands) else None) a.label;
           unset = ap (λ x. instruction_from x operands None) n ∙ a.unset i k;
           set = λ z. ap (λ x. instruction_from x operands (Some z)) n ∙ a.set z ∙ ap (aimed_by z) k;
-        }))
-        (steady_or_aimed m operands)
+        })) (steady_or_aimed m operands)
 
 abbrev what_is_read : Mnemonic → List (List ℕ) → Option ℤ → Result Insn Cause
 what_is_read m operands d = read m operands d
@@ -292,17 +310,23 @@ aimed_from z (Ok j) i h = (j, refl)
 aimed_from z (Err c) i h = absurd (let bad : Err c ≡ Ok i = h in cc)
 
 -- what is read with some distance is read with the distance 0 too, and has that size
-pub read_again : (first : List ℕ) (operands : List (List ℕ)) (d : Option ℤ) (i : Insn) → instruction_of first operands d ≡ Ok i → IsRead first operands (slots_of i)
+pub read_again : (first : List ℕ) (operands : List (List ℕ)) (d : Option ℤ) (i : Insn)
+    → instruction_of first operands d ≡ Ok i → IsRead first operands (slots_of i)
 read_again first operands d i h = by (named first) refl h
   where
-    sized : (m : Mnemonic) (j : Insn) → named first ≡ Some m → what_is_read m operands d ≡ Ok i → what_is_read m operands (Some (pos 0)) ≡ Ok j → IsRead first operands (slots_of i)
+    sized : (m : Mnemonic) (j : Insn) → named first ≡ Some m → what_is_read m operands d ≡ Ok i
+        → what_is_read m operands (Some (pos 0)) ≡ Ok j
+        → IsRead first operands (slots_of i)
     sized m j n k l = record {
       insn = j;
       read = ap (λ x. instruction_from x operands (Some (pos 0))) n ∙ l;
-      slots = (made_shape m (each_operand (kind_list (kinds_of m)) operands (Some (pos 0))) j l).size ∙ sym (made_shape m (each_operand (kind_list (kinds_of m)) operands d) i k).size;
+      slots =
+          (made_shape m (each_operand (kind_list (kinds_of m)) operands (Some (pos 0))) j l).size
+          ∙ sym (made_shape m (each_operand (kind_list (kinds_of m)) operands d) i k).size;
     }
 
-    awaited : (m : Mnemonic) (a : IsAimed m operands) (e : Option ℤ) → what_is_read m operands e ≡ Ok i → (j : Insn) × (what_is_read m operands (Some (pos 0)) ≡ Ok j)
+    awaited : (m : Mnemonic) (a : IsAimed m operands) (e : Option ℤ)
+        → what_is_read m operands e ≡ Ok i → (j : Insn) × (what_is_read m operands (Some (pos 0)) ≡ Ok j)
     awaited m a None k = absurd (a.never i k)
     awaited m a (Some z) k = aimed_from z (what_is_read m operands (Some (pos 0))) i (sym (a.set z) ∙ k)
 

@@ -74,9 +74,13 @@ based_good : (o : Option ℕ) (rest : List ℕ) → IfSome o (λ r. r ≤ 10) �
 based_good None rest h = tt
 based_good (Some r) rest h = by (length rest == 0)
   where
-    by : (b : Bool) → IfOk (if b then Ok (operand.Memory r (pos 0)) else number_place (option_map (λ z. operand.Memory r z) (offset_of rest)) rest) IsInRange
+    by : (b : Bool)
+        → IfOk (if b then Ok (operand.Memory r (pos 0)) else number_place (option_map (λ z. operand.Memory r z) (offset_of rest)) rest)
+        IsInRange
     by true = (h, zero_fits)
-    by false = number_good (option_map (λ z. operand.Memory r z) (offset_of rest)) rest (mapped (FitsSigned w16) (λ z. operand.Memory r z) (λ z k. (h, k)) (offset_of rest) (offset_fits rest))
+    by false =
+        number_good (option_map (λ z. operand.Memory r z) (offset_of rest)) rest
+        (mapped (FitsSigned w16) (λ z. operand.Memory r z) (λ z k. (h, k)) (offset_of rest) (offset_fits rest))
 
 cut_good : (at : Option ℕ) (inner : List ℕ) → IfOk (cut_at at inner) IsInRange
 cut_good None inner = based_good (register_of inner) [] (register_fits inner)
@@ -96,33 +100,47 @@ wider z h = omega (arith, ints, h)
 near_good : (w : List ℕ) (d : Option ℤ) → DistanceFits d → IfOk (operand_of kind.Near w d) IsInRange
 near_good w d h = by (is_label w)
   where
-    by : (b : Bool) → IfOk (if b then label_place (option_map (λ z. operand.Near z) d) else number_place (option_map (λ z. operand.Near z) (offset_of w)) w) IsInRange
+    by : (b : Bool)
+        → IfOk
+        (if b then label_place (option_map (λ z. operand.Near z) d) else number_place (option_map (λ z. operand.Near z) (offset_of w)) w)
+        IsInRange
     by true = label_good (option_map (λ z. operand.Near z) d) (mapped (FitsSigned w16) (λ z. operand.Near z) (λ z k. k) d h)
-    by false = number_good (option_map (λ z. operand.Near z) (offset_of w)) w (mapped (FitsSigned w16) (λ z. operand.Near z) (λ z k. k) (offset_of w) (offset_fits w))
+    by false =
+        number_good (option_map (λ z. operand.Near z) (offset_of w)) w
+        (mapped (FitsSigned w16) (λ z. operand.Near z) (λ z k. k) (offset_of w) (offset_fits w))
 
 far_good : (w : List ℕ) (d : Option ℤ) → DistanceFits d → IfOk (operand_of kind.Far w d) IsInRange
 far_good w d h = by (is_label w)
   where
-    by : (b : Bool) → IfOk (if b then label_place (option_map (λ z. operand.Far z) d) else number_place (option_map (λ z. operand.Far z) (distance_of w)) w) IsInRange
+    by : (b : Bool)
+        → IfOk
+        (if b then label_place (option_map (λ z. operand.Far z) d) else number_place (option_map (λ z. operand.Far z) (distance_of w)) w)
+        IsInRange
     by true = label_good (option_map (λ z. operand.Far z) d) (mapped (FitsSigned w16) (λ z. operand.Far z) (λ z k. wider z k) d h)
-    by false = number_good (option_map (λ z. operand.Far z) (distance_of w)) w (mapped (FitsSigned w32) (λ z. operand.Far z) (λ z k. k) (distance_of w) (distance_fits w))
+    by false =
+        number_good (option_map (λ z. operand.Far z) (distance_of w)) w
+        (mapped (FitsSigned w32) (λ z. operand.Far z) (λ z k. k) (distance_of w) (distance_fits w))
 
 operand_good : (k : OperandKind) (w : List ℕ) (d : Option ℤ) → DistanceFits d → IfOk (operand_of k w d) IsInRange
 operand_good kind.Register w d h = register_good (register_of w) (register_fits w)
 operand_good kind.Source w d h = source_good (register_of w) w (register_fits w)
 operand_good kind.Number w d h = number_good (option_map (λ z. operand.Number z) (imm_of w)) w (imm_good w)
-operand_good kind.Wide w d h = number_good (option_map (λ n. operand.Wide n) (wide_of w)) w (mapped (λ n. n < 2 ^ 64) (λ n. operand.Wide n) (λ n k. k) (wide_of w) (wide_fits w))
+operand_good kind.Wide w d h =
+    number_good (option_map (λ n. operand.Wide n) (wide_of w)) w
+    (mapped (λ n. n < 2 ^ 64) (λ n. operand.Wide n) (λ n k. k) (wide_of w) (wide_fits w))
 operand_good kind.Memory w d h = memory_good (inside w)
 operand_good kind.Near w d h = near_good w d h
 operand_good kind.Far w d h = far_good w d h
 
-next_good : (a : Result Operand Cause) (b : Result (List Operand) Cause) → IfOk a IsInRange → IfOk b (AllByRecursion IsInRange) → IfOk (with_next a b) (AllByRecursion IsInRange)
+next_good : (a : Result Operand Cause) (b : Result (List Operand) Cause)
+    → IfOk a IsInRange → IfOk b (AllByRecursion IsInRange) → IfOk (with_next a b) (AllByRecursion IsInRange)
 next_good (Ok o) (Ok os) h k = (h, k)
 next_good (Ok o) (Err c) h k = tt
 next_good (Err c) (Ok os) h k = tt
 next_good (Err c) (Err d) h k = tt
 
-operands_good : (ks : List OperandKind) (ws : List (List ℕ)) (d : Option ℤ) → DistanceFits d → IfOk (each_operand ks ws d) (AllByRecursion IsInRange)
+operands_good : (ks : List OperandKind) (ws : List (List ℕ)) (d : Option ℤ)
+    → DistanceFits d → IfOk (each_operand ks ws d) (AllByRecursion IsInRange)
 operands_good [] [] d h = tt
 operands_good [] (w ∷ ws) d h = tt
 operands_good (k ∷ ks) [] d h = tt
@@ -158,9 +176,12 @@ insn_fine : (m : Mnemonic) (os : List Operand) → is_name m ≡ true → AllByR
 unfolding is_name IfFine
 insn_fine (name.Alu w o) (operand.Register d ∷ operand.Number n ∷ []) h g = record { in_range = one_register d g.0; fits = g.1.0 }
 insn_fine (name.Alu w o) (operand.Register d ∷ operand.Register s ∷ []) h g = record { in_range = two_registers d s g.0 g.1.0; fits = tt }
-insn_fine (name.MovSx w B8) (operand.Register d ∷ operand.Register s ∷ []) h g = record { in_range = two_registers d s g.0 g.1.0; fits = tt }
-insn_fine (name.MovSx w B16) (operand.Register d ∷ operand.Register s ∷ []) h g = record { in_range = two_registers d s g.0 g.1.0; fits = tt }
-insn_fine (name.MovSx W64 B32) (operand.Register d ∷ operand.Register s ∷ []) h g = record { in_range = two_registers d s g.0 g.1.0; fits = tt }
+insn_fine (name.MovSx w B8) (operand.Register d ∷ operand.Register s ∷ []) h g =
+    record { in_range = two_registers d s g.0 g.1.0; fits = tt }
+insn_fine (name.MovSx w B16) (operand.Register d ∷ operand.Register s ∷ []) h g =
+    record { in_range = two_registers d s g.0 g.1.0; fits = tt }
+insn_fine (name.MovSx W64 B32) (operand.Register d ∷ operand.Register s ∷ []) h g =
+    record { in_range = two_registers d s g.0 g.1.0; fits = tt }
 insn_fine (name.MovSx W32 B32) (operand.Register d ∷ operand.Register s ∷ []) h g = absurd (false≢true h)
 insn_fine (name.MovSx w B64) (operand.Register d ∷ operand.Register s ∷ []) h g = absurd (false≢true h)
 insn_fine (name.Neg w) (operand.Register d ∷ []) h g = record { in_range = register_is d g.0; fits = tt }
@@ -168,32 +189,45 @@ insn_fine (name.End order B8) (operand.Register d ∷ []) h g = absurd (false≢
 insn_fine (name.End order B16) (operand.Register d ∷ []) h g = record { in_range = register_is d g.0; fits = tt }
 insn_fine (name.End order B32) (operand.Register d ∷ []) h g = record { in_range = register_is d g.0; fits = tt }
 insn_fine (name.End order B64) (operand.Register d ∷ []) h g = record { in_range = register_is d g.0; fits = tt }
-insn_fine (name.Load Byte) (operand.Register d ∷ operand.Memory s off ∷ []) h g = record { in_range = two_registers d s g.0 g.1.0.0; fits = g.1.0.1 }
-insn_fine (name.Load Half) (operand.Register d ∷ operand.Memory s off ∷ []) h g = record { in_range = two_registers d s g.0 g.1.0.0; fits = g.1.0.1 }
-insn_fine (name.Load Word) (operand.Register d ∷ operand.Memory s off ∷ []) h g = record { in_range = two_registers d s g.0 g.1.0.0; fits = g.1.0.1 }
-insn_fine (name.Load Double) (operand.Register d ∷ operand.Memory s off ∷ []) h g = record { in_range = two_registers d s g.0 g.1.0.0; fits = g.1.0.1 }
+insn_fine (name.Load Byte) (operand.Register d ∷ operand.Memory s off ∷ []) h g =
+    record { in_range = two_registers d s g.0 g.1.0.0; fits = g.1.0.1 }
+insn_fine (name.Load Half) (operand.Register d ∷ operand.Memory s off ∷ []) h g =
+    record { in_range = two_registers d s g.0 g.1.0.0; fits = g.1.0.1 }
+insn_fine (name.Load Word) (operand.Register d ∷ operand.Memory s off ∷ []) h g =
+    record { in_range = two_registers d s g.0 g.1.0.0; fits = g.1.0.1 }
+insn_fine (name.Load Double) (operand.Register d ∷ operand.Memory s off ∷ []) h g =
+    record { in_range = two_registers d s g.0 g.1.0.0; fits = g.1.0.1 }
 insn_fine (name.LoadSigned Double) (operand.Register d ∷ operand.Memory s off ∷ []) h g = absurd (false≢true h)
-insn_fine (name.LoadSigned Byte) (operand.Register d ∷ operand.Memory s off ∷ []) h g = record { in_range = two_registers d s g.0 g.1.0.0; fits = g.1.0.1 }
-insn_fine (name.LoadSigned Half) (operand.Register d ∷ operand.Memory s off ∷ []) h g = record { in_range = two_registers d s g.0 g.1.0.0; fits = g.1.0.1 }
-insn_fine (name.LoadSigned Word) (operand.Register d ∷ operand.Memory s off ∷ []) h g = record { in_range = two_registers d s g.0 g.1.0.0; fits = g.1.0.1 }
-insn_fine (name.StoreImm size) (operand.Memory d off ∷ operand.Number n ∷ []) h g = record { in_range = register_is d g.0.0; fits = (g.0.1, g.1.0) }
-insn_fine (name.StoreReg size) (operand.Memory d off ∷ operand.Register s ∷ []) h g = record { in_range = two_registers d s g.0.0 g.1.0; fits = g.0.1 }
+insn_fine (name.LoadSigned Byte) (operand.Register d ∷ operand.Memory s off ∷ []) h g =
+    record { in_range = two_registers d s g.0 g.1.0.0; fits = g.1.0.1 }
+insn_fine (name.LoadSigned Half) (operand.Register d ∷ operand.Memory s off ∷ []) h g =
+    record { in_range = two_registers d s g.0 g.1.0.0; fits = g.1.0.1 }
+insn_fine (name.LoadSigned Word) (operand.Register d ∷ operand.Memory s off ∷ []) h g =
+    record { in_range = two_registers d s g.0 g.1.0.0; fits = g.1.0.1 }
+insn_fine (name.StoreImm size) (operand.Memory d off ∷ operand.Number n ∷ []) h g =
+    record { in_range = register_is d g.0.0; fits = (g.0.1, g.1.0) }
+insn_fine (name.StoreReg size) (operand.Memory d off ∷ operand.Register s ∷ []) h g =
+    record { in_range = two_registers d s g.0.0 g.1.0; fits = g.0.1 }
 insn_fine name.Imm64 (operand.Register d ∷ operand.Wide v ∷ []) h g = record { in_range = register_is d g.0; fits = g.1.0 }
 insn_fine name.MapRef (operand.Register d ∷ operand.Number n ∷ []) h g = record { in_range = register_is d g.0; fits = g.1.0 }
 insn_fine name.Goto (operand.Near z ∷ []) h g = record { in_range = refl; fits = g.0 }
 insn_fine name.Goto32 (operand.Far z ∷ []) h g = record { in_range = refl; fits = g.0 }
-insn_fine (name.Branch w c) (operand.Register d ∷ operand.Number n ∷ operand.Near z ∷ []) h g = record { in_range = one_register d g.0; fits = (g.1.0, g.1.1.0) }
-insn_fine (name.Branch w c) (operand.Register d ∷ operand.Register s ∷ operand.Near z ∷ []) h g = record { in_range = two_registers d s g.0 g.1.0; fits = (tt, g.1.1.0) }
+insn_fine (name.Branch w c) (operand.Register d ∷ operand.Number n ∷ operand.Near z ∷ []) h g =
+    record { in_range = one_register d g.0; fits = (g.1.0, g.1.1.0) }
+insn_fine (name.Branch w c) (operand.Register d ∷ operand.Register s ∷ operand.Near z ∷ []) h g =
+    record { in_range = two_registers d s g.0 g.1.0; fits = (tt, g.1.1.0) }
 insn_fine name.Call (operand.Number n ∷ []) h g = record { in_range = refl; fits = g.0 }
 insn_fine name.Exit [] h g = record { in_range = refl; fits = tt }
 insn_fine m os h g = tt
 
 -- what the table has, has widths in range
-entries_named : (word : List ℕ) (es : List (List ℕ × Mnemonic)) → list_all (λ e. is_name e.1) es ≡ true → IfSome (entry_with word es) (λ m. is_name m ≡ true)
+entries_named : (word : List ℕ) (es : List (List ℕ × Mnemonic))
+    → list_all (λ e. is_name e.1) es ≡ true → IfSome (entry_with word es) (λ m. is_name m ≡ true)
 entries_named word [] h = tt
 entries_named word (e ∷ es) h = by (bytes_eq e.0 word) (is_name e.1) refl h (λ l. entries_named word es l)
   where
-    by : (b c : Bool) → is_name e.1 ≡ c → (c && list_all (λ e. is_name e.1) es) ≡ true → (list_all (λ e. is_name e.1) es ≡ true → IfSome (entry_with word es) (λ m. is_name m ≡ true))
+    by : (b c : Bool) → is_name e.1 ≡ c → (c && list_all (λ e. is_name e.1) es) ≡ true
+        → (list_all (λ e. is_name e.1) es ≡ true → IfSome (entry_with word es) (λ m. is_name m ≡ true))
         → IfSome (if b then Some e.1 else entry_with word es) (λ m. is_name m ≡ true)
     by true true k l more = k
     by false true k l more = more l
@@ -203,16 +237,20 @@ is_named : (word : List ℕ) → IfSome (named word) (λ m. is_name m ≡ true)
 unfolding is_name
 is_named word = entries_named word table refl
 
-made_fine : (m : Mnemonic) (r : Result (List Operand) Cause) (i : Insn) → is_name m ≡ true → IfOk r (AllByRecursion IsInRange) → made m r ≡ Ok i → IsFine i
+made_fine : (m : Mnemonic) (r : Result (List Operand) Cause) (i : Insn)
+    → is_name m ≡ true → IfOk r (AllByRecursion IsInRange) → made m r ≡ Ok i → IsFine i
 unfolding IfFine
 made_fine m r i h g e =
     let from = made_from m r i e in
     subst IfFine from.2 (insn_fine m from.0 h (subst (λ x. IfOk x (AllByRecursion IsInRange)) from.1 g))
 
 -- what words say is in range
-pub instruction_fine : (first : List ℕ) (operands : List (List ℕ)) (d : Option ℤ) (i : Insn) → DistanceFits d → instruction_of first operands d ≡ Ok i → IsFine i
+pub instruction_fine : (first : List ℕ) (operands : List (List ℕ)) (d : Option ℤ) (i : Insn)
+    → DistanceFits d → instruction_of first operands d ≡ Ok i → IsFine i
 instruction_fine first operands d i h e = by (named first) (is_named first) e
   where
     by : (m : Option Mnemonic) → IfSome m (λ m. is_name m ≡ true) → instruction_from m operands d ≡ Ok i → IsFine i
     by None n k = absurd (let bad : Err cause.Word ≡ Ok i = k in cc)
-    by (Some m) n k = made_fine m (each_operand (kind_list (kinds_of m)) operands d) i n (operands_good (kind_list (kinds_of m)) operands d h) k
+    by (Some m) n k =
+        made_fine m (each_operand (kind_list (kinds_of m)) operands d) i n
+        (operands_good (kind_list (kinds_of m)) operands d h) k

@@ -10,40 +10,41 @@ use Rattle.bq_asm.specs.declared.fault.Cause.{Cause}
 use Rattle.bq_asm.specs.Lines.{Line, Blank, Label, Instruction, lines_of, last_word}
 use Rattle.bq_asm.specs.Operands.{is_label, instruction_of}
 
--- how many slots an instruction takes, whatever the distance to its label
+-- how many slots the instruction that was read takes; none if none was read
 abbrev pub slots_read : Result Insn Cause → ℕ
 slots_read (Ok insn) = slots_of insn
 slots_read (Err c) = 0
 
+-- how many slots a line takes; its label, if it has one, does not matter
 abbrev pub slots_of_line : Line → ℕ
 slots_of_line (Instruction first operands) = slots_read (instruction_of first operands (Some (pos 0)))
 slots_of_line line = 0
 
--- the label that a line sets, with the slot at which the line stands
+-- the label that a line sets, with the slot that the next instruction takes
 abbrev pub place_at : ℕ → Line → List (List ℕ × ℕ)
 place_at slot (Label name) = (name, slot) ∷ []
 place_at slot line = []
 
--- the labels that lines set, each with its slot, where the lines begin at this slot
+-- the labels that lines set, each with its slot, if the lines begin at this slot
 abbrev pub places_from : ℕ → List Line → List (List ℕ × ℕ)
 places_from slot [] = []
 places_from slot (line ∷ lines) = place_at slot line ++ places_from (slot + slots_of_line line) lines
 
--- how far a label is from the slot after an instruction, where it is set
+-- how far a label is from the slot after this one; none if the label is set nowhere
 abbrev pub distance_to : List (List ℕ × ℕ) → ℕ → List ℕ → Option ℤ
 distance_to places slot name = option_map (λ at. pos at -ℤ pos (slot + 1)) (lookup (bytes_eq name) places)
 
--- the lines say these instructions from this slot on, where the labels have these places
-abbrev pub Says : List (List ℕ × ℕ) → ℕ → List Line → List Insn → Type 0
-Says places slot [] [] = Unit {0}
-Says places slot [] (insn ∷ insns) = ⊥
-Says places slot (Blank ∷ lines) insns = Says places slot lines insns
-Says places slot (Label name ∷ lines) insns = Says places slot lines insns
-Says places slot (Instruction first operands ∷ lines) [] = ⊥
-Says places slot (Instruction first operands ∷ lines) (insn ∷ insns) =
-    (instruction_of first operands (distance_to places slot (last_word operands)) ≡ Ok insn) × Says places (slot + slots_of insn) lines insns
+-- the lines say these instructions from this slot on, if the labels have these places
+abbrev pub AssemblesFrom : List (List ℕ × ℕ) → ℕ → List Line → List Insn → Type 0
+AssemblesFrom places slot [] [] = Unit {0}
+AssemblesFrom places slot [] (insn ∷ insns) = ⊥
+AssemblesFrom places slot (Blank ∷ lines) insns = AssemblesFrom places slot lines insns
+AssemblesFrom places slot (Label name ∷ lines) insns = AssemblesFrom places slot lines insns
+AssemblesFrom places slot (Instruction first operands ∷ lines) [] = ⊥
+AssemblesFrom places slot (Instruction first operands ∷ lines) (insn ∷ insns) =
+    (instruction_of first operands (distance_to places slot (last_word operands)) ≡ Ok insn) × AssemblesFrom places (slot + slots_of insn) lines insns
 
--- each label is a name, and none of those before it
+-- each label is a valid name, and no label before it has the same name
 abbrev pub AreNewLabels : List (List ℕ) → List (List ℕ) → Type 0
 AreNewLabels before [] = Unit {0}
 AreNewLabels before (name ∷ names) = (is_label name ≡ true) × (list_any (bytes_eq name) before ≡ false) × AreNewLabels (before ++ name ∷ []) names
@@ -51,6 +52,6 @@ AreNewLabels before (name ∷ names) = (is_label name ≡ true) × (list_any (by
 -- the text stands for these instructions, of 1 to 4096 slots
 pub record Assembles (text : List ℕ) (insns : List Insn) : Type 0 where
   pub labels : AreNewLabels [] (keys_of (places_from 0 (lines_of text)))
-  pub says : Says (places_from 0 (lines_of text)) 0 (lines_of text) insns
+  pub assembles : AssemblesFrom (places_from 0 (lines_of text)) 0 (lines_of text) insns
   pub some : 1 ≤ slot_count insns
   pub few : slot_count insns ≤ 4096

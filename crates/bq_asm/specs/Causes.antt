@@ -14,7 +14,7 @@ cause_number LabelTwice = 3
 cause_number LabelMissing = 4
 cause_number Slots = 5
 
--- a fault by its cause and the line; lack of memory is no fault of the text
+-- the text of a fault: its cause and its line; lack of memory is no fault of the text and has a text of its own
 abbrev pub fault_text : AsmFault → List ℕ
 fault_text (At line cause) = cause_and_place (codes "A") (cause_number cause) line
 fault_text OutOfMemory = codes "out of memory"

@@ -22,16 +22,16 @@ abbrev pub slots_in : List Line → ℕ
 slots_in [] = 0
 slots_in (line ∷ lines) = slots_of_line line + slots_in lines
 
--- what is wrong with a label
+-- what is wrong with a label after these labels: it is no name, or it was set before
 abbrev pub cause_of_label : List (List ℕ) → List ℕ → Option Cause
 cause_of_label before name = if is_label name then (if list_any (bytes_eq name) before then Some LabelTwice else None) else Some Word
 
--- what is wrong with an instruction, this many slots after the first
+-- what is wrong with an instruction that begins after this many slots
 abbrev pub cause_of_insn : ℕ → Result Insn Cause → Option Cause
 cause_of_insn slots (Err c) = Some c
 cause_of_insn slots (Ok insn) = if nat_le (slots + slots_of insn) 4096 then None else Some Slots
 
--- the least cause at a line, by the lines before it. Whether the label of a jump is set is not asked here
+-- the least cause at a line, after the lines before it; whether the label of a jump is set does not matter yet
 abbrev pub cause_at : List Line → Line → Option Cause
 cause_at before Blank = None
 cause_at before (Label name) = cause_of_label (labels_in before) name
@@ -42,37 +42,39 @@ abbrev pub fault_at : List Line → ℕ → Option Cause
 fault_at lines zero = None
 fault_at lines (suc k) = option_and_then (cause_at (take k lines)) (slice_get lines k)
 
--- a label stands in the target's place, if none is set
+-- with no label set, the instruction is refused only because it names one as its target
 abbrev pub awaits_label : Result Insn Cause → Bool
 awaits_label (Err LabelMissing) = true
 awaits_label read = false
 
--- the label of a jump is not one of these
+-- the cause LabelMissing, if the line jumps to a label that is not one of these
 abbrev pub cause_of_jump : List (List ℕ) → Line → Option Cause
 cause_of_jump labels (Instruction first operands) =
     if awaits_label (instruction_of first operands None) && not (list_any (bytes_eq (last_word operands)) labels) then Some LabelMissing else None
 cause_of_jump labels line = None
 
--- the label of the jump at the line of this number is set nowhere
+-- the cause LabelMissing, if the line of this number, counted from 1, jumps to a label that is set nowhere
 abbrev pub missing_at : List Line → ℕ → Option Cause
 missing_at lines zero = None
 missing_at lines (suc k) = option_and_then (cause_of_jump (labels_in lines)) (slice_get lines k)
 
--- the first line with a cause is this, and has this one
+-- this is the first line with a cause, and this is its cause
 abbrev pub IsFirst : (ℕ → Option Cause) → ℕ → Cause → Type 0
 IsFirst cause_of line cause = (cause_of line ≡ Some cause) × ((k : ℕ) → k < line → cause_of k ≡ None)
 
+-- no line has a fault by itself
 abbrev pub IsClean : List Line → Type 0
 IsClean lines = (k : ℕ) → fault_at lines k ≡ None
 
--- the first line with a fault is named; without one a program with no instruction, at line 0; else the first jump whose label is set nowhere
+-- the fault of a text: the first line with a fault by itself; else line 0, if there is no instruction; else the first
+-- jump whose label is set nowhere
 abbrev pub Faulty : List Line → ℕ → Cause → Type 0
 Faulty lines line cause =
     IsFirst (fault_at lines) line cause
     ⊎ (IsClean lines × (slots_in lines ≡ 0) × (line ≡ 0) × (cause ≡ Slots))
     ⊎ (IsClean lines × (0 < slots_in lines) × IsFirst (missing_at lines) line cause)
 
--- what a fault says of the text
+-- the text has this fault; if memory ran out, nothing is said about it
 abbrev pub IsFault : List ℕ → AsmFault → Type 0
 IsFault text OutOfMemory = Unit {0}
 IsFault text (At line cause) = Faulty (lines_of text) line cause

@@ -1,4 +1,5 @@
--- Laws of assembly: what is listed assembles again, a text stands for one program or has one fault, and first words have one name.
+-- Laws of assembly: the listing of a program assembles to the program, a text stands for one program or has one fault,
+-- and each mnemonic has one word.
 use Rattle.std.specs.Prelude.{◌≡◌, ℕ, true, List, ◌⊎◌, Some}
 use Rattle.bq_insn.specs.declared.Insn.{Insn}
 use Rattle.bq_insn.specs.Spelling.{is_well_formed}
@@ -20,7 +21,7 @@ ListingAssembles = (insns : List Insn) → is_well_formed insns ≡ true → All
 abbrev pub OneProgram : Type 0
 OneProgram = (text : List ℕ) (a b : List Insn) → Assembles text a → Assembles text b → a ≡ b
 
--- a text has at most one fault: one line, and there one cause
+-- a text has at most one fault, with one line and one cause
 abbrev pub OneFault : Type 0
 OneFault = (text : List ℕ) (m n : ℕ) (c d : Cause) → Faulty (lines_of text) m c → Faulty (lines_of text) n d → (m ≡ n) × (c ≡ d)
 
@@ -32,10 +33,10 @@ NoProgramIsFaulty = (text : List ℕ) (insns : List Insn) (line : ℕ) (c : Caus
 abbrev pub EachTextIsJudged : Type 0
 EachTextIsJudged = (text : List ℕ) → ((insns : List Insn) × Assembles text insns) ⊎ ((line : ℕ) × (c : Cause) × Faulty (lines_of text) line c)
 
--- what a text stands for is well formed, with numbers of its fields' types
+-- if a text stands for instructions, they are well formed, and their numbers fit the types of their fields
 abbrev pub ProgramsAreWellFormed : Type 0
 ProgramsAreWellFormed = (text : List ℕ) (insns : List Insn) → Assembles text insns → (is_well_formed insns ≡ true) × AllFit insns
 
--- a first word that says something is its name
+-- a first word that says a mnemonic is the name of the mnemonic
 abbrev pub OneName : Type 0
 OneName = (word : List ℕ) (m : Mnemonic) → named word ≡ Some m → word ≡ name_of m

@@ -1,11 +1,12 @@
--- What the lines of a program's text say. A line ends at a line feed or at the text's end, and loses one carriage return
--- before the line feed. A semicolon begins a comment, and spaces, tabs and commas stand between words.
+-- What the lines of a program's text say. A line ends at a line feed or at the text's end, and loses one carriage
+-- return before the line feed. A semicolon begins a comment, and spaces, tabs and commas separate words.
 use Rattle.std.specs.Prelude.{ℕ, ◌-◌, Bool, true, false, ◌||◌, ◌==◌, List, [], ◌∷◌, length, take, drop, slice_get, unwrap_or, map, Option, Some, None, if◌then◌else◌, codes}
 use Rattle.std.specs.List.{before_first}
 use Rattle.std.specs.Str.{bytes_eq}
 use Rattle.std.specs.Str.Lines.{lines}
 use Rattle.bq_words.specs.Words.{words_by}
 
+-- a semicolon, which begins a comment
 abbrev pub is_comment : ℕ → Bool
 is_comment b = b == 59
 
@@ -13,7 +14,7 @@ is_comment b = b == 59
 abbrev pub is_blank : ℕ → Bool
 is_blank b = (b == 32) || ((b == 9) || (b == 44))
 
--- what stands between blanks
+-- the words of a text: what is between blanks
 abbrev pub words : List ℕ → List (List ℕ)
 words text = words_by is_blank text
 
@@ -23,34 +24,38 @@ pub data Line : Type 0 where
   Label : List ℕ → Line
   Instruction : List ℕ → List (List ℕ) → Line
 
--- what stands before a colon at the end of a word
+-- what a word has before the colon at its end; none if it ends with no colon
 abbrev pub before_colon : List ℕ → Option (List ℕ)
 before_colon word = if bytes_eq (drop (length word - 1) word) (codes ":") then Some (take (length word - 1) word) else None
 
--- the label that a line sets: its one word up to a colon
+-- the label that a line sets: its only word, without the colon at its end; none if the line has more words or no colon
 abbrev pub label_set : List ℕ → List (List ℕ) → Option (List ℕ)
 label_set first [] = before_colon first
 label_set first (second ∷ operands) = None
 
-abbrev pub said : List ℕ → List (List ℕ) → Option (List ℕ) → Line
-said first operands None = Instruction first operands
-said first operands (Some name) = Label name
+-- what a line says: the label that it sets, or else an instruction
+abbrev pub parsed : List ℕ → List (List ℕ) → Option (List ℕ) → Line
+parsed first operands None = Instruction first operands
+parsed first operands (Some name) = Label name
 
+-- what the words of a line say
 abbrev pub line_of : List (List ℕ) → Line
 line_of [] = Blank
-line_of (first ∷ operands) = said first operands (label_set first operands)
+line_of (first ∷ operands) = parsed first operands (label_set first operands)
 
 -- what one line of the text says
-abbrev pub line_said : List ℕ → Line
-line_said line = line_of (words (before_first is_comment line))
+abbrev pub parsed_line : List ℕ → Line
+parsed_line line = line_of (words (before_first is_comment line))
 
+-- whether a line says an instruction
 abbrev pub is_instruction : Line → Bool
 is_instruction (Instruction first operands) = true
 is_instruction line = false
 
 -- what the lines of a text say
 abbrev pub lines_of : List ℕ → List Line
-lines_of text = map line_said (lines text)
+lines_of text = map parsed_line (lines text)
 
+-- the last of these words; empty if there are none
 abbrev pub last_word : List (List ℕ) → List ℕ
 last_word operands = unwrap_or (slice_get operands (length operands - 1)) []

@@ -15,6 +15,7 @@ use Rattle.bq_insn.specs.declared.Size.TheVariants.{Byte, Half, Word, Double}
 use Rattle.bq_asm.specs.declared.mnemonic.Mnemonic.{Mnemonic}
 use Rattle.bq_asm.specs.declared.mnemonic.Mnemonic.TheVariants as name
 
+-- the name of an operation
 abbrev pub op_name : Operation → List ℕ
 op_name op.Add = codes "add"
 op_name op.Sub = codes "sub"
@@ -31,6 +32,7 @@ op_name op.Xor = codes "xor"
 op_name op.Mov = codes "mov"
 op_name op.Arsh = codes "arsh"
 
+-- the name of a branch with this condition
 abbrev pub cond_name : Condition → List ℕ
 cond_name cond.Equal = codes "jeq"
 cond_name cond.Greater = codes "jgt"
@@ -44,28 +46,32 @@ cond_name cond.LessEqual = codes "jle"
 cond_name cond.SignedLess = codes "jslt"
 cond_name cond.SignedLessEqual = codes "jsle"
 
+-- the name of a width, as it ends a first word
 abbrev pub width_name : Width → List ℕ
 width_name W32 = codes "32"
 width_name W64 = codes "64"
 
+-- the name of a size, as it ends a first word
 abbrev pub size_name : Size → List ℕ
 size_name Byte = codes "b"
 size_name Half = codes "h"
 size_name Word = codes "w"
 size_name Double = codes "dw"
 
+-- the name of a byte order
 abbrev pub order_name : Order → List ℕ
 order_name Little = codes "le"
 order_name Big = codes "be"
 order_name Swapped = codes "swap"
 
+-- the name of a number of bits, as it ends a first word
 abbrev pub bits_name : Bits → List ℕ
 bits_name B8 = codes "8"
 bits_name B16 = codes "16"
 bits_name B32 = codes "32"
 bits_name B64 = codes "64"
 
--- the first word of an instruction
+-- the word that a mnemonic is written as
 abbrev pub name_of : Mnemonic → List ℕ
 name_of (name.Alu w o) = op_name o ++ width_name w
 name_of (name.MovSx w b) = codes "movsx" ++ (width_name w ++ (codes "_" ++ bits_name b))

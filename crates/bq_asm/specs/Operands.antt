@@ -21,58 +21,64 @@ use Rattle.bq_asm.specs.Named.{named}
 use Rattle.std.specs.Option.{ok_or}
 use Rattle.bq_asm.specs.Numbers.{imm_of, offset_of, distance_of, wide_of, register_of, begins_number}
 
--- what stands in a number's place
+-- the operand in a number's place, or a cause: Number if the word begins as a number, else Word
 abbrev pub number_place : Option Operand → List ℕ → Result Operand Cause
 number_place (Some o) word = Ok o
 number_place None word = if begins_number word then Err cause.Number else Err cause.Word
 
+-- the operand in a register's place, or Word if the word names no register
 abbrev pub register_place : Option ℕ → Result Operand Cause
 register_place (Some r) = Ok (operand.Register r)
 register_place None = Err cause.Word
 
+-- the operand in a second operand's place: a register or a number, or why the word is neither
 abbrev pub source_place : Option ℕ → List ℕ → Result Operand Cause
 source_place (Some r) word = Ok (operand.Register r)
 source_place None word = number_place (option_map (λ z. operand.Number z) (imm_of word)) word
 
+-- a `+` or a `-`
 abbrev pub is_sign : ℕ → Bool
 is_sign b = (b == 43) || (b == 45)
 
--- what stands in brackets
+-- what a word has between its brackets; none if it is not in brackets
 abbrev pub inside : List ℕ → Option (List ℕ)
 inside word =
     if nat_le 2 (length word) && ((slice_index word 0 == 91) && (slice_index word (length word - 1) == 93)) then Some (take (length word - 2) (drop 1 word)) else None
 
--- a register and what follows it
+-- the place in memory of a register and the offset that follows it; without an offset it is 0
 abbrev pub based : Option ℕ → List ℕ → Result Operand Cause
 based None rest = Err cause.Word
 based (Some r) rest =
     if length rest == 0 then Ok (operand.Memory r (pos 0)) else number_place (option_map (λ z. operand.Memory r z) (offset_of rest)) rest
 
--- cut at the first sign
+-- the place in memory that is written inside the brackets, cut into register and offset at the first sign
 abbrev pub cut_at : Option ℕ → List ℕ → Result Operand Cause
 cut_at None inner = based (register_of inner) []
 cut_at (Some i) inner = based (register_of (take i inner)) (drop i inner)
 
+-- the operand in a memory place: a register and an offset in brackets
 abbrev pub memory_place : Option (List ℕ) → Result Operand Cause
 memory_place None = Err cause.Word
 memory_place (Some inner) = cut_at (position is_sign inner) inner
 
+-- a letter or `_`
 abbrev pub is_letter : ℕ → Bool
 is_letter b = (nat_le 65 b && nat_le b 90) || ((nat_le 97 b && nat_le b 122) || (b == 95))
 
+-- a letter, a digit or `_`
 abbrev pub is_label_byte : ℕ → Bool
 is_label_byte b = is_letter b || (nat_le 48 b && nat_le b 57)
 
--- a letter or `_`, then up to 31 letters, digits or `_`
+-- whether a word is the name of a label: a letter or `_`, then up to 31 letters, digits or `_`
 abbrev pub is_label : List ℕ → Bool
 is_label word = nat_le 1 (length word) && (nat_le (length word) 32 && (is_letter (slice_index word 0) && list_all is_label_byte word))
 
--- the distance to a label, where it is set
+-- the distance to a label, or LabelMissing if it is not known
 abbrev pub label_place : Option Operand → Result Operand Cause
 label_place None = Err cause.LabelMissing
 label_place (Some o) = Ok o
 
--- the operand of this kind that a word writes; a label in a target's place stands for the distance
+-- the operand of this kind that a word writes; a label in the place of a target stands for `distance`
 abbrev pub operand_of : OperandKind → List ℕ → Option ℤ → Result Operand Cause
 operand_of kind.Register word distance = register_place (register_of word)
 operand_of kind.Source word distance = source_place (register_of word) word
@@ -102,7 +108,7 @@ kinds_of (name.Branch w c) = kinds.Three kind.Register kind.Source kind.Near
 kinds_of name.Call = kinds.One kind.Number
 kinds_of name.Exit = kinds.Zero
 
--- the lesser of two causes of operands
+-- the lesser of two causes: Word before Number before any other
 abbrev pub lesser : Cause → Cause → Cause
 lesser cause.Word c = cause.Word
 lesser c cause.Word = cause.Word
@@ -110,6 +116,7 @@ lesser cause.Number c = cause.Number
 lesser c cause.Number = cause.Number
 lesser c d = c
 
+-- an operand and those after it as one list, or the least cause among them
 abbrev pub with_next : Result Operand Cause → Result (List Operand) Cause → Result (List Operand) Cause
 with_next (Ok o) (Ok rest) = Ok (o ∷ rest)
 with_next (Ok o) (Err c) = Err c
@@ -127,6 +134,7 @@ each_operand [] [] distance = Ok []
 each_operand (k ∷ ks) (w ∷ ws) distance = with_next (operand_of k w distance) (each_operand ks ws distance)
 each_operand ks ws distance = Err cause.Word
 
+-- the kinds of operands as a list
 abbrev pub kind_list : Kinds → List OperandKind
 kind_list kinds.Zero = []
 kind_list (kinds.One a) = a ∷ []
@@ -141,7 +149,7 @@ listed (Ok (One a)) = Ok (a ∷ [])
 listed (Ok (Two a b)) = Ok (a ∷ b ∷ [])
 listed (Ok (Three a b c)) = Ok (a ∷ b ∷ c ∷ [])
 
--- the instruction of a first word and operands, where they fit
+-- the instruction of a first word and operands; none if they do not fit
 abbrev pub insn_from : Mnemonic → List Operand → Option Insn
 insn_from (name.Alu w o) (operand.Register d ∷ operand.Number n ∷ []) = Some (insn.Alu w o d (Imm n))
 insn_from (name.Alu w o) (operand.Register d ∷ operand.Register s ∷ []) = Some (insn.Alu w o d (Reg s))
@@ -162,18 +170,20 @@ insn_from name.Call (operand.Number n ∷ []) = Some (insn.Call n)
 insn_from name.Exit [] = Some insn.Exit
 insn_from m operands = None
 
+-- the instruction of a mnemonic and the operands that were read, or the cause why they make no instruction
 abbrev pub made : Mnemonic → Result (List Operand) Cause → Result Insn Cause
 made m (Err c) = Err c
 made m (Ok operands) = ok_or (insn_from m operands) cause.Word
 
+-- what an optional mnemonic and the words after it say, or the least cause; without a mnemonic the cause is Word
 abbrev pub instruction_from : Option Mnemonic → List (List ℕ) → Option ℤ → Result Insn Cause
 instruction_from None words distance = Err cause.Word
 instruction_from (Some m) words distance = made m (each_operand (kind_list (kinds_of m)) words distance)
 
--- what a first word and the words after it say, or the least cause
+-- the instruction that a first word and the words after it say, or the least cause why they say none
 abbrev pub instruction_of : List ℕ → List (List ℕ) → Option ℤ → Result Insn Cause
 instruction_of first words distance = instruction_from (named first) words distance
 
--- words by their bytes
+-- the bytes of each word
 abbrev pub texts : List (Bor (List ℕ)) → List (List ℕ)
 texts words = map (λ w. w.now) words

@@ -14,11 +14,12 @@ use Rattle.bq_asm.specs.declared.operand.Operands.TheVariants.{Zero, One, Two, T
 use Rattle.bq_asm.specs.declared.operand.Operand.TheVariants.{Register, Number, Wide, Memory, Near, Far}
 use Rattle.bq_asm.specs.Names.{name_of}
 
--- a number with its sign
+-- a number that always has its sign, a `+` or a `-`
 abbrev pub signed_text : ℤ → List ℕ
 signed_text (pos n) = codes "+" ++ decimal n
 signed_text (negsuc n) = signed_decimal (negsuc n)
 
+-- the text of an operand
 abbrev pub operand_text : Operand → List ℕ
 operand_text (Register r) = codes "r" ++ decimal r
 operand_text (Number z) = signed_decimal z
@@ -27,11 +28,12 @@ operand_text (Memory base offset) = codes "[r" ++ (decimal base ++ (signed_text 
 operand_text (Near z) = signed_text z
 operand_text (Far z) = signed_text z
 
+-- the operand that writes a second operand: a number or a register
 abbrev pub source_operand : Source → Operand
 source_operand (Imm n) = Number n
 source_operand (Reg r) = Register r
 
--- the first word of an instruction, and the words after it
+-- the mnemonic of an instruction
 abbrev pub mnemonic_of : Insn → Mnemonic
 mnemonic_of (Alu w o d src) = name.Alu w o
 mnemonic_of (MovSx w b d s) = name.MovSx w b
@@ -49,6 +51,7 @@ mnemonic_of (Branch w c d src off) = name.Branch w c
 mnemonic_of (Call helper) = name.Call
 mnemonic_of Exit = name.Exit
 
+-- the operands of an instruction, as its line lists them
 abbrev pub operands_of : Insn → List Operand
 operands_of (Alu w o d src) = Register d ∷ source_operand src ∷ []
 operands_of (MovSx w b d s) = Register d ∷ Register s ∷ []
@@ -65,11 +68,12 @@ operands_of (Branch w c d src off) = Register d ∷ source_operand src ∷ Near 
 operands_of (Call helper) = Number helper ∷ []
 operands_of Exit = []
 
--- a blank before the first operand, a comma and a blank before each other
+-- the operands after the first, each with a comma and a space before it
 abbrev pub after_first : List Operand → List ℕ
 after_first [] = []
 after_first (o ∷ rest) = codes ", " ++ (operand_text o ++ after_first rest)
 
+-- the operands of a line: a space before the first, a comma and a space before each other
 abbrev pub operands_text : List Operand → List ℕ
 operands_text [] = []
 operands_text (o ∷ rest) = codes " " ++ (operand_text o ++ after_first rest)
@@ -78,7 +82,7 @@ operands_text (o ∷ rest) = codes " " ++ (operand_text o ++ after_first rest)
 abbrev pub line_body : Insn → List ℕ
 line_body insn = name_of (mnemonic_of insn) ++ operands_text (operands_of insn)
 
--- and with its end
+-- the line of an instruction, with its line feed
 abbrev pub line_text : Insn → List ℕ
 line_text insn = name_of (mnemonic_of insn) ++ (operands_text (operands_of insn) ++ codes "\n")
 
@@ -86,6 +90,7 @@ line_text insn = name_of (mnemonic_of insn) ++ (operands_text (operands_of insn)
 abbrev pub listing_text : List Insn → List ℕ
 listing_text insns = flat_map line_text insns
 
+-- the operands as a list
 abbrev pub list_of : Operands → List Operand
 list_of Zero = []
 list_of (One a) = a ∷ []

@@ -1,4 +1,4 @@
-//! From a text to the instructions that it stands for.
+//! Assembles a text.
 ghost use Rattle.std.specs.Prelude.{◌≡◌, true, IfOk, IfErr};
 ghost use Rattle.bq_insn.specs.Spelling.{is_well_formed};
 ghost use Rattle.bq_insn.specs.Laws.{AllFit};
@@ -10,11 +10,12 @@ use crate::fault::AsmFault;
 use bq_insn::Insn;
 use std::alloc::Global;
 
-/// The instructions that a text stands for, or its first fault. They are well formed: registers and widths are in
-/// range, and they take 1 to 4096 slots.
+/// Answers the instructions that a text stands for, or its first fault. The instructions are well formed: registers and
+/// widths are in range, and they take 1 to 4096 slots.
 ///
-/// An instruction stands on a line of its own: a first word, and operands between spaces, tabs or commas. A `;`
-/// begins a comment. One word that ends with `:` sets a label, which a jump's target may name before or after it.
+/// Each instruction has a line of its own: a first word, then operands, with spaces, tabs or commas between them. A `;`
+/// begins a comment. A line of one word that ends with `:` sets a label. A jump on any line, earlier or later, may name
+/// the label.
 ///
 /// # Example
 ///

@@ -9,9 +9,9 @@ use bq_insn::{Insn, Source};
 use std::alloc::{AllocError, Global};
 use std::fmt;
 
-/// The canonical text of a program: an instruction a line, one space after its first word, a comma and a space
-/// between operands, numbers in decimal, offsets and jumps as numbers with a sign. The text of instructions that
-/// are well formed assembles to them again.
+/// Writes the canonical text of a program: one line for each instruction, a space after its first word, a comma and a
+/// space between operands, numbers in decimal, offsets and jump distances with a sign. If the instructions are well
+/// formed, the text assembles to them again.
 pub fn listing(alloc: Global, insns: &[Insn]) -> Result<String, AllocError>
     ensures { IfOk result (λ text. string_bytes text ≡ listing_text insns.now) }
 {
@@ -23,7 +23,7 @@ pub fn listing(alloc: Global, insns: &[Insn]) -> Result<String, AllocError>
     Ok(text)
 }
 
-/// An instruction as the line that it is written as.
+/// An instruction that is displayed as its line.
 #[derive(Clone, Copy)]
 struct Written(Insn);
 
@@ -39,7 +39,7 @@ impl fmt::Display for Written {
     }
 }
 
-/// The first word of an instruction.
+/// The mnemonic of an instruction.
 pub fn mnemonic_of(insn: Insn) -> Mnemonic
     ensures { result ≡ mnemonic_of insn }
 {
@@ -70,7 +70,7 @@ pub fn mnemonic_of(insn: Insn) -> Mnemonic
     }
 }
 
-/// The words after the first.
+/// The operands of an instruction, as its line lists them.
 pub fn operands_of(insn: Insn) -> Operands
     ensures { list_of result ≡ operands_of insn }
 {

@@ -1,6 +1,6 @@
-//! What is known of the lines that have been read: labels, instructions, and the jumps that wait for labels.
+//! What is known of the lines that have been read: labels, instructions, and jumps that wait for their labels.
 ghost use Rattle.std.specs.Prelude.{◌≡◌, ◌≤◌, ◌<◌, ◌+◌, [], Some, option_map, IfOk, IfErr, OnOk, List};
-ghost use Rattle.bq_asm.specs.Lines.{Line, label_set, line_of, line_said, Instruction, Label};
+ghost use Rattle.bq_asm.specs.Lines.{Line, label_set, line_of, parsed_line, Instruction, Label};
 ghost use Rattle.bq_asm.specs.Operands.{texts};
 
 use crate::fault::{AsmFault, Cause, refusal};
@@ -18,7 +18,7 @@ pub struct Draft<'a> {
     pub labels: IndexMap<&'a [u8], usize>,
     /// The instructions. A jump to a label has the distance 0.
     pub insns: Vec<Insn>,
-    /// The slots that they take.
+    /// How many slots the instructions take.
     pub slots: usize,
     /// The jumps to labels.
     pub jumps: Vec<Jump<'a>>,
@@ -26,11 +26,11 @@ pub struct Draft<'a> {
 }
 
 impl<'a> Draft<'a> {
-    ghost use Rattle.bq_asm.specs.Draft.{Describes, TakesLine, RefusesLine, Finishes, Fails};
+    ghost use Rattle.bq_asm.specs.Draft.{IsDraftOf, TakesLine, RefusesLine, Finishes, Fails};
 
     /// The draft of no lines.
     pub fn new(alloc: Global) -> Self
-        ensures { Describes [] result }
+        ensures { IsDraftOf [] result }
     {
         Draft {
             labels: IndexMap::new(alloc),
@@ -40,10 +40,10 @@ impl<'a> Draft<'a> {
         }
     }
 
-    /// Takes the line of this number, or answers its least cause.
+    /// Takes the line of this number, or answers the least cause of its fault.
     pub fn take_line(&mut self, number: usize, line: &'a [u8]) -> Result<(), AsmFault>
-        ensures ok { OnOk result (TakesLine self.old self.new number (line_said line.entry.now)) }
-        ensures fault { IfErr result (RefusesLine self.old number (line_said line.entry.now)) }
+        ensures ok { OnOk result (TakesLine self.old self.new number (parsed_line line.entry.now)) }
+        ensures fault { IfErr result (RefusesLine self.old number (parsed_line line.entry.now)) }
     {
         let Some(words) = words(without_comment(line)) else {
             return Err(refusal(number, Cause::Word));
@@ -51,10 +51,10 @@ impl<'a> Draft<'a> {
         self.take_words(number, words.as_slice())
     }
 
-    /// The instructions, each jump to a label with its distance, or what is wrong with lines that have no fault by
-    /// themselves.
+    /// Answers the instructions, with the distance of each jump to a label set. The error names a fault of the text as
+    /// a whole: no instruction, or a jump to a label that is set nowhere.
     pub fn finish(self) -> Result<Vec<Insn>, AsmFault>
-        requires { (lines : List Line) × Describes lines self }
+        requires { (lines : List Line) × IsDraftOf lines self }
         ensures ok { IfOk result (λ insns. Finishes self.entry insns.items) }
         ensures fault { IfErr result (Fails self.entry) }
     {
@@ -130,7 +130,7 @@ impl<'a> Draft<'a> {
     }
 }
 
-/// The label that a line sets, if it sets one.
+/// The label that a line of these words sets, if it sets one.
 pub fn label_set<'a>(first: &'a [u8], operands: &[&'a [u8]]) -> Option<&'a [u8]>
     ensures { option_map (λ name. name.now) result ≡ label_set first.entry.now (texts operands.entry.now) }
 {

@@ -6,13 +6,13 @@ use std::alloc::{AllocError, AllocFailed};
 use std::error::Error;
 use std::fmt;
 
-/// What is wrong with a line. Of several causes at a line the first in this order counts.
+/// What is wrong with a line. If a line has several causes, the first in this order counts.
 #[derive(Clone, Copy, Debug, PartialEq, Eq)]
 pub enum Cause {
-    /// A1: the first word is unknown, there are too few or too many operands, an operand has another form than
-    /// is wanted in its place, or a label is no name.
+    /// A1: the first word is unknown, there are too few or too many operands, an operand has not the form that its
+    /// place wants, or a label is no valid name.
     Word,
-    /// A2: what stands in a number's place begins as a number, and is no number of the range.
+    /// A2: the operand in the place of a number begins like a number, but is no number in the range.
     Number,
     /// A3: the label was set before.
     LabelTwice,
@@ -23,7 +23,7 @@ pub enum Cause {
 }
 
 impl Cause {
-    /// The number by which it is named, after the letter A.
+    /// The number of the cause, as texts name it after the letter A.
     pub fn number(self) -> u8
         ensures { result ≡ cause_number self }
     {
@@ -40,15 +40,15 @@ impl Cause {
 /// Why a text is refused.
 #[derive(Clone, Copy, Debug)]
 pub enum AsmFault {
-    /// The first line with a fault, counted from 1, and the least of its causes. Only where no line has one of
-    /// the others, a text with no instruction is `Slots` at line 0, and else the first jump whose label is set
-    /// nowhere is `LabelMissing`.
+    /// The first line with a fault, counted from 1, and the least of its causes. Two faults come only if no line has a
+    /// fault by itself: a text with no instruction is `Slots` at line 0; else the first jump whose label is set nowhere
+    /// is `LabelMissing`.
     At { line: usize, cause: Cause },
     /// Memory ran out.
     OutOfMemory,
 }
 
-/// The text that an input is answered: `A1 3`, the number of the cause and the line.
+/// The text of a fault, such as `A1 3`: the number of the cause, then the line.
 impl fmt::Display for AsmFault {
     ghost use Rattle.std.specs.Prelude.{Some};
     ghost use Rattle.bq_asm.specs.Causes.{fault_text};
@@ -68,7 +68,7 @@ impl fmt::Display for AsmFault {
 
 impl Error for AsmFault {}
 
-/// The refusal of a line.
+/// The fault with this line and cause.
 pub fn refusal(line: usize, cause: Cause) -> AsmFault
     ensures { result ≡ AsmFault.At line cause }
 {

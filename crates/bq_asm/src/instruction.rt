@@ -19,8 +19,8 @@ pub enum Kinds {
     Three(OperandKind, OperandKind, OperandKind),
 }
 
-/// What a first word and its operands say, or the least cause why they say nothing. A label in the target's
-/// place stands for the distance 0.
+/// The instruction that a first word and its operands say, or the least cause why they say none. A label in the place
+/// of a target stands for the distance 0.
 pub fn instruction_of(first: &[u8], words: &[&[u8]]) -> Result<Insn, Cause>
     ensures { result ≡ instruction_of first.now (texts words.now) (Some (pos 0)) }
 {
@@ -116,7 +116,7 @@ fn two_of(pair: Result<(Operand, Operand), Cause>) -> Result<Operands, Cause>
     Ok(Operands::Two(a, b))
 }
 
-/// Two operands, or the lesser of their causes.
+/// The operands that two words write, or the lesser of their causes.
 fn pair_of(
     first: OperandKind,
     second: OperandKind,
@@ -206,7 +206,7 @@ fn insn_of_two(mnemonic: Mnemonic, first: Operand, second: Operand) -> Option<In
     }
 }
 
-/// A register, and a number after it.
+/// The instruction whose operands are a register and a number, if the mnemonic has one.
 fn insn_of_number(mnemonic: Mnemonic, dst: u8, number: i32) -> Option<Insn>
     ensures { result ≡ insn_from mnemonic (Operand.Register dst ∷ Operand.Number number ∷ []) }
 {
@@ -222,7 +222,7 @@ fn insn_of_number(mnemonic: Mnemonic, dst: u8, number: i32) -> Option<Insn>
     }
 }
 
-/// A register, and another after it.
+/// The instruction whose operands are two registers, if the mnemonic has one.
 fn insn_of_register(mnemonic: Mnemonic, dst: u8, src: u8) -> Option<Insn>
     ensures { result ≡ insn_from mnemonic (Operand.Register dst ∷ Operand.Register src ∷ []) }
 {
@@ -243,7 +243,7 @@ fn insn_of_register(mnemonic: Mnemonic, dst: u8, src: u8) -> Option<Insn>
     }
 }
 
-/// A register, and a place in memory after it.
+/// The instruction whose operands are a register and a place in memory, if the mnemonic has one.
 fn insn_of_load(mnemonic: Mnemonic, dst: u8, src: u8, off: i16) -> Option<Insn>
     ensures { result ≡ insn_from mnemonic (Operand.Register dst ∷ Operand.Memory src off ∷ []) }
 {
@@ -261,7 +261,7 @@ fn insn_of_load(mnemonic: Mnemonic, dst: u8, src: u8, off: i16) -> Option<Insn>
     })
 }
 
-/// A place in memory, and what is stored there after it.
+/// The instruction whose operands are a place in memory and what is stored there, if the mnemonic has one.
 fn insn_of_store(mnemonic: Mnemonic, dst: u8, off: i16, stored: Operand) -> Option<Insn>
     ensures { result ≡ insn_from mnemonic (Operand.Memory dst off ∷ stored ∷ []) }
 {

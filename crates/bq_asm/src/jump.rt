@@ -1,4 +1,4 @@
-//! Jumps to labels: which they are, and how they are set once all labels are known.
+//! Jumps to labels: which instructions they are, and how their distances are set once all labels are known.
 ghost use Rattle.std.specs.Prelude.{◌≡◌, ◌≤◌, ◌<◌, ◌+◌, pos, length, map, option_map, OnOk, IfErr, ◌++◌, Ok, Err, All, IfSome, ◌-ℤ◌};
 ghost use Rattle.std.specs.Map.{lookup};
 ghost use Rattle.std.specs.Str.{bytes_eq};
@@ -10,19 +10,19 @@ use crate::line::is_label;
 use bq_insn::{Insn, SLOTS};
 use indexmap::IndexMap;
 
-/// A jump whose label may be set by a later line.
+/// A jump to a label, which a later line may set.
 #[derive(Clone, Copy)]
 pub struct Jump<'a> {
-    /// Its place among the instructions.
+    /// The place of the jump among the instructions.
     pub index: usize,
-    /// The slot after it.
+    /// The slot after the jump.
     pub next: usize,
-    /// Its line, counted from 1.
+    /// The line of the jump, counted from 1.
     pub line: usize,
     pub label: &'a [u8],
 }
 
-/// The label that stands in the place of a jump's target, if one does.
+/// The label that a jump names as its target, if it names one.
 pub fn target_of<'a>(insn: Insn, operands: &[&'a [u8]]) -> Option<&'a [u8]>
     ensures { option_map (λ word. word.now) result ≡ target_of insn (texts operands.entry.now) }
 {
@@ -33,7 +33,7 @@ pub fn target_of<'a>(insn: Insn, operands: &[&'a [u8]]) -> Option<&'a [u8]>
     if is_label(word) { Some(word) } else { None }
 }
 
-/// Puts the jump with this label at the end, if there is a label.
+/// If there is a label, appends the jump to it.
 pub fn push_jump<'a>(
     jumps: &mut Vec<Jump<'a>>,
     index: usize,
@@ -56,7 +56,7 @@ pub fn push_jump<'a>(
     Ok(())
 }
 
-/// Sets each of the jumps, or answers the line of the first whose label is set nowhere.
+/// Sets the distance of each jump, or answers the line of the first jump whose label is set nowhere.
 pub fn set_jumps<'a>(
     labels: &IndexMap<&'a [u8], usize>,
     jumps: &[Jump<'a>],
@@ -77,7 +77,7 @@ pub fn set_jumps<'a>(
     Ok(())
 }
 
-/// The slot at which a label is set.
+/// The slot at which a label is set; `None` if it is set nowhere.
 fn slot_of<'a>(labels: &IndexMap<&'a [u8], usize>, label: &'a [u8]) -> Option<usize>
     requires { All (λ e. e.1 ≤ 4096) labels.now.entries }
     ensures found { result ≡ lookup (bytes_eq label.entry.now) (places_of labels.now) }
@@ -86,7 +86,7 @@ fn slot_of<'a>(labels: &IndexMap<&'a [u8], usize>, label: &'a [u8]) -> Option<us
     labels.get(&label).copied()
 }
 
-/// How far it is from one slot to another.
+/// The distance from one slot to another.
 fn distance_between(from: usize, to: usize) -> i16
     requires from { from ≤ 4096 }
     requires to { to ≤ 4096 }
@@ -104,7 +104,7 @@ fn is_jump(insn: Insn) -> bool
     }
 }
 
-/// A jump with this distance from the slot after it to its target.
+/// The jump with this distance, from the slot after the jump to its target.
 fn aimed(insn: Insn, distance: i16) -> Insn
     ensures { result ≡ aimed insn distance }
 {

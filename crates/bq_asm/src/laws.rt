@@ -1,4 +1,4 @@
-//! Laws of assembly. Each is a theorem over its definitions, and its function does nothing.
+//! Laws of assembly. Each law is a theorem over its definitions; the function of a law does nothing.
 ghost use Rattle.bq_asm.specs.Laws.{ListingAssembles, OneProgram, OneFault, NoProgramIsFaulty, EachTextIsJudged, ProgramsAreWellFormed, OneName};
 
 /// The listing of a program assembles to that program.
@@ -11,7 +11,7 @@ pub fn one_program()
     ensures { OneProgram }
 {}
 
-/// A text has at most one fault: one line, and there one cause.
+/// A text has at most one fault, with one line and one cause.
 pub fn one_fault()
     ensures { OneFault }
 {}
@@ -26,12 +26,12 @@ pub fn each_text_is_judged()
     ensures { EachTextIsJudged }
 {}
 
-/// What a text stands for is well formed, with numbers of its fields' types.
+/// If a text stands for instructions, they are well formed, and their numbers fit the types of their fields.
 pub fn programs_are_well_formed()
     ensures { ProgramsAreWellFormed }
 {}
 
-/// A first word that says something is its name, so no two words say the same.
+/// A first word that says a mnemonic is the name of the mnemonic, so no two words say the same mnemonic.
 pub fn one_name()
     ensures { OneName }
 {}

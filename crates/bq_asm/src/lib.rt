@@ -1,6 +1,6 @@
-//! Programs as text: the assembler and the listing of the instructions of RFC 9669.
-//! `assemble` gives exactly the instructions that a text stands for, or its first fault, and `listing` gives
-//! the text of instructions that assembles back to them. Stands on `bq_insn`.
+//! Programs as text: the assembler and the listing of the instructions of RFC 9669. `assemble` gives exactly the
+//! instructions that a text stands for, or its first fault, and `listing` gives the text of instructions, which
+//! assembles to them again. The crate uses `bq_insn`.
 #![tactic(auto)]
 
 mod assembler;
@@ -8,6 +8,7 @@ mod canonical;
 mod draft;
 mod fault;
 mod instruction;
+mod instruction_line;
 mod jump;
 pub mod laws;
 mod line;
@@ -16,11 +17,10 @@ mod number;
 mod operand;
 mod place;
 mod table;
-mod told;
 
 pub use assembler::assemble;
 pub use canonical::listing;
 pub use fault::{AsmFault, Cause};
+pub use instruction_line::is_instruction_line;
 pub use mnemonic::Mnemonic;
 pub use table::{mnemonics, named};
-pub use told::says_instruction;

@@ -10,7 +10,7 @@ use bq_words::{Blank, next_word_by};
 /// The most words of a line that says something: a first word and three operands.
 const WORDS: usize = 4;
 
-/// Spaces, tabs and commas stand between words.
+/// Spaces, tabs and commas separate words.
 struct Separators;
 
 impl Blank for Separators {
@@ -21,7 +21,7 @@ impl Blank for Separators {
     }
 }
 
-/// The line up to its comment.
+/// The line up to its comment, which a `;` begins.
 pub fn without_comment(line: &[u8]) -> &[u8]
     ensures { result.now ≡ before_first is_comment line.now }
 {
@@ -37,7 +37,7 @@ fn comment_at(line: &[u8]) -> Option<usize>
     line.iter().position(|b| is_comment(*b))
 }
 
-/// The words of a text without comments, or `None` where they are more than a line may have.
+/// The words of a text without comments, or `None` if there are more than four.
 pub fn words(text: &[u8]) -> Option<ArrayVec<&[u8], WORDS>>
     ensures { MatchOption result (4 < length (words text.now)) (λ found. texts found.items ≡ words text.now) }
 {
@@ -77,7 +77,7 @@ fn are_label_bytes(word: &[u8]) -> bool
     word.iter().all(|b| is_label_byte(*b))
 }
 
-/// A letter or `_`, then up to 31 letters, digits or `_`.
+/// Whether a word is the name of a label: a letter or `_`, then up to 31 letters, digits or `_`.
 pub fn is_label(word: &[u8]) -> bool
     ensures { result ≡ is_label word.now }
 {

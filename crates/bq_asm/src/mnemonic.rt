@@ -105,7 +105,7 @@ fn bits_name(bits: Bits) -> &'static str
     }
 }
 
-/// The two halves of a first word: what the instruction does, and how much it does it to.
+/// The two halves of a first word: what the instruction does, and the width or size on which it works.
 fn halves(mnemonic: Mnemonic) -> (&'static str, &'static str)
     ensures { result.0.now ++ result.1.now ≡ name_of mnemonic }
 {

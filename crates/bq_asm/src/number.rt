@@ -5,7 +5,7 @@ ghost use Rattle.bq_asm.specs.Numbers.{negative, imm_of, offset_of, distance_of,
 
 use bq_words::value;
 
-/// A number from -2^31 to 2^31 - 1.
+/// The number that a word writes, from -2^31 to 2^31 - 1; `None` if it writes none.
 pub fn imm_of(word: &[u8]) -> Option<i32>
     ensures { result ≡ imm_of word.now }
 {
@@ -33,7 +33,7 @@ fn from_zero(digits: &[u8]) -> Option<i32>
     i32::try_from(value(digits)?).ok()
 }
 
-/// A number with a sign, from -2^15 to 2^15 - 1.
+/// The number that a word writes with a sign, from -2^15 to 2^15 - 1; `None` if it writes none.
 pub fn offset_of(word: &[u8]) -> Option<i16>
     ensures { result ≡ offset_of word.now }
 {
@@ -48,7 +48,7 @@ pub fn offset_of(word: &[u8]) -> Option<i16>
     i16::try_from(value(digits)?).ok()
 }
 
-/// A number with a sign, from -2^31 to 2^31 - 1.
+/// The number that a word writes with a sign, from -2^31 to 2^31 - 1; `None` if it writes none.
 pub fn distance_of(word: &[u8]) -> Option<i32>
     ensures { result ≡ distance_of word.now }
 {
@@ -58,7 +58,7 @@ pub fn distance_of(word: &[u8]) -> Option<i32>
     }
 }
 
-/// A number from 0 to 2^64 - 1.
+/// The number that a word writes, from 0 to 2^64 - 1; `None` if it writes none.
 pub fn wide_of(word: &[u8]) -> Option<u64>
     ensures { result ≡ wide_of word.now }
 {
@@ -74,7 +74,7 @@ pub fn wide_of(word: &[u8]) -> Option<u64>
     }
 }
 
-/// The register that the word names.
+/// The register that a word names, `r0` to `r10`; `None` if it names none.
 pub fn register_of(word: &[u8]) -> Option<u8>
     ensures { result ≡ register_of word.now }
 {
@@ -95,7 +95,7 @@ pub fn register_of(word: &[u8]) -> Option<u8>
     }
 }
 
-/// It begins with a digit or a sign.
+/// The word begins with a digit, a `+` or a `-`.
 pub fn begins_number(word: &[u8]) -> bool
     ensures { result ≡ begins_number word.now }
 {

@@ -1,4 +1,4 @@
-//! The operand that a word writes, by what stands in its place.
+//! The operand that a word writes, by the kind of operand that its place wants.
 ghost use Rattle.std.specs.Prelude.{◌≡◌, option_map, position, Some, pos};
 ghost use Rattle.bq_asm.specs.Operands.{number_place, is_sign, inside, based, operand_of};
 
@@ -7,7 +7,7 @@ use crate::line::is_label;
 use crate::number::{begins_number, distance_of, imm_of, offset_of, register_of, wide_of};
 use crate::operand::Operand;
 
-/// What an operand is to be.
+/// The kind of operand that a place wants.
 #[derive(Clone, Copy)]
 pub enum OperandKind {
     /// A register.
@@ -26,7 +26,7 @@ pub enum OperandKind {
     Far,
 }
 
-/// The operand of this kind that a word writes. A label stands for the distance 0 until all labels are known.
+/// The operand of this kind that a word writes. Until all labels are known, a label stands for the distance 0.
 pub fn operand_of(kind: OperandKind, word: &[u8]) -> Result<Operand, Cause>
     ensures { result ≡ operand_of kind word.now (Some (pos 0)) }
 {

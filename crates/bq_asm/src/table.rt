@@ -1,4 +1,4 @@
-//! Every first word with what it says.
+//! Every first word with the mnemonic that it says.
 ghost use Rattle.std.specs.Prelude.{◌≡◌};
 ghost use Rattle.bq_asm.specs.Named.{named, entry_with, by_bytes, table};
 
@@ -17,7 +17,7 @@ use bq_insn::Order::{Big, Little, Swapped};
 use bq_insn::Size::{Byte, Double, Half, Word};
 use bq_insn::Width::{W32, W64};
 
-/// The first words and what they say, those of 64 bits before those of 32. No word stands here twice.
+/// The first words and the mnemonics that they say, words of 64 bits before words of 32. No word is listed twice.
 static MNEMONICS: [(&str, Mnemonic); 87] = [
     ("mov64", Alu(W64, Mov)),
     ("add64", Alu(W64, Add)),
@@ -108,7 +108,7 @@ static MNEMONICS: [(&str, Mnemonic); 87] = [
     ("exit", Exit),
 ];
 
-/// What the first entry with this word says.
+/// The mnemonic of the first entry with this word; `None` if no entry has it.
 fn look_up(entries: &[(&str, Mnemonic)], word: &[u8]) -> Option<Mnemonic>
     ensures { result ≡ entry_with word.now (by_bytes entries.now) }
 {
@@ -120,14 +120,15 @@ fn look_up(entries: &[(&str, Mnemonic)], word: &[u8]) -> Option<Mnemonic>
     None
 }
 
-/// All first words with what they say. Of two that are equally near to an unknown word, the first is the likelier one.
+/// All first words with the mnemonics that they say. If two words are equally near to an unknown word, the first one is
+/// likelier.
 pub fn mnemonics() -> &'static [(&'static str, Mnemonic)]
     ensures { by_bytes result.now ≡ table }
 {
     &MNEMONICS
 }
 
-/// What a first word says, if it is one.
+/// The mnemonic that a first word says; `None` if the table has no such word.
 pub fn named(word: &[u8]) -> Option<Mnemonic>
     ensures { result ≡ named word.now }
 {

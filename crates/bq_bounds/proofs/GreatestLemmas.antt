@@ -17,7 +17,8 @@ later c d cs h = (suc h.0, let k = h.1 in omega arith, h.2)
 abbrev IsGreatestOf : List Charge → Charge → Type 0
 IsGreatestOf cs g = Contains cs g × AllByRecursion (λ d. d.difference ≤ g.difference) cs
 
-one_more : (c g : Charge) (past : List Charge) (b : Bool) → leb c.difference g.difference ≡ b → IsGreatestOf past g → IsGreatestOf (c ∷ past) (cond b g c)
+one_more : (c g : Charge) (past : List Charge) (b : Bool) → leb c.difference g.difference ≡ b → IsGreatestOf past g
+    → IsGreatestOf (c ∷ past) (cond b g c)
 one_more c g past true e h = (later c g past h.0, (grind (arith, nat_tests), h.1))
 one_more c g past false e h =
     let lt : g.difference ≤ c.difference = grind (arith, nat_tests) in
@@ -26,4 +27,6 @@ one_more c g past false e h =
 -- what is kept of some charges is one of them, and none has a greater difference
 pub keeps_the_greatest : KeepsTheGreatest
 keeps_the_greatest c [] = ((0, omega arith, refl), (omega arith, tt))
-keeps_the_greatest c (d ∷ past) = let g = greater (greatest_of past) d in one_more c g (d ∷ past) (leb c.difference g.difference) refl (keeps_the_greatest d past)
+keeps_the_greatest c (d ∷ past) =
+    let g = greater (greatest_of past) d in
+    one_more c g (d ∷ past) (leb c.difference g.difference) refl (keeps_the_greatest d past)

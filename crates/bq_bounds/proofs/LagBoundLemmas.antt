@@ -51,10 +51,13 @@ most_grows p (x ∷ ss) s = omega (arith, most_by p x s, most_grows (stepped eev
 
 -- The most of it bounds how far the clock rises between two decisions
 
-room_left : (n last now : ℕ) → n + (2 ^ 48 - 1 - last) ≤ 2 ^ 48 - 1 → (n + (reading last now - last)) + (2 ^ 48 - 1 - reading last now) ≤ 2 ^ 48 - 1
+room_left : (n last now : ℕ) → n + (2 ^ 48 - 1 - last) ≤ 2 ^ 48 - 1
+    → (n + (reading last now - last)) + (2 ^ 48 - 1 - reading last now) ≤ 2 ^ 48 - 1
 room_left n last now h = omega arith
 
-decides_within : (p : Running) (ss : List Step) (s : Stretch) (n r : ℕ) → s.since ≡ n → n ≤ s.most → n + (2 ^ 48 - 1 - p.last) ≤ 2 ^ 48 - 1 → KeepsAll ss → (stretch_after p ss s).most ≤ r → DecidesWithin r eevdf n p ss
+decides_within : (p : Running) (ss : List Step) (s : Stretch) (n r : ℕ)
+    → s.since ≡ n → n ≤ s.most → n + (2 ^ 48 - 1 - p.last) ≤ 2 ^ 48 - 1 → KeepsAll ss → (stretch_after p ss s).most ≤ r
+    → DecidesWithin r eevdf n p ss
 decides_within p [] s n r e le room k h = tt
 decides_within p (Pass now ∷ ss) s n r e le room k h =
     let m = charge eevdf p now in
@@ -89,18 +92,22 @@ joined : (c : Charge) (o : Option Charge) → KeepsItsBound c → IfSome o Keeps
 joined c None h k = h
 joined c (Some d) h k = greater_within (Some c) d h k
 
-most_within : (f : Task → Charge) (xs : List Task) → ((t : Task) → Contains xs t → KeepsItsBound (f t)) → IfSome (most_owed_by f xs) KeepsItsBound
+most_within : (f : Task → Charge) (xs : List Task) → ((t : Task) → Contains xs t → KeepsItsBound (f t))
+    → IfSome (most_owed_by f xs) KeepsItsBound
 most_within f [] h = tt
-most_within f (t ∷ xs) h = joined (f t) (most_owed_by f xs) (h t (0, omega arith, refl)) (most_within f xs (λ u c. h u (Contains-later t u xs c)))
+most_within f (t ∷ xs) h =
+    joined (f t) (most_owed_by f xs) (h t (0, omega arith, refl)) (most_within f xs (λ u c. h u (Contains-later t u xs c)))
 
 held : (x y z : ℕ) → x ≤ y → z ≡ y → min x (2 ^ 64 - 1) ≤ min z (2 ^ 64 - 1)
 held x y z h e = omega arith
 
-lag_bound : (s : Stretch) (a mean n W : ℕ) (t : Task) → s.ahead ≡ a → owed mean t ≤ allowed a s.most n W t.weight → KeepsItsBound (lag_by s mean n W t)
+lag_bound : (s : Stretch) (a mean n W : ℕ) (t : Task) → s.ahead ≡ a → owed mean t ≤ allowed a s.most n W t.weight
+    → KeepsItsBound (lag_by s mean n W t)
 lag_bound s a mean n W t e h =
     held (owed mean t) (allowed a s.most n W t.weight) (allowed s.ahead s.most n W t.weight) h (ap (λ x. allowed x s.most n W t.weight) e)
 
-most_keeps : (p : Running) (ss : List Step) → IsSound p → KeepsAll ss → IfSome (most_owed (stretch_after p ss (beginning (present_at p))) (present_at (after eevdf p ss))) KeepsItsBound
+most_keeps : (p : Running) (ss : List Step) → IsSound p → KeepsAll ss
+    → IfSome (most_owed (stretch_after p ss (beginning (present_at p))) (present_at (after eevdf p ss))) KeepsItsBound
 most_keeps p ss sound k =
     let start = beginning (present_at p) in
     let s = stretch_after p ss start in
@@ -109,7 +116,8 @@ most_keeps p ss sound k =
     let within = decides_within p ss start 0 s.most refl (omega arith) (omega arith) k (omega arith) in
     most_within (lag_by s (mean_at xs) (length xs) (total_weight xs)) xs (λ t c.
     let there = with_id-Contains xs t c.0 formed.distinct c.1 c.2 in
-    lag_bound s start.ahead (mean_at xs) (length xs) (total_weight xs) t (ahead_stays p ss start) (eevdf_owes_within s.most p ss t.id t sound k within there))
+    lag_bound s start.ahead (mean_at xs) (length xs) (total_weight xs) t (ahead_stays p ss start)
+    (eevdf_owes_within s.most p ss t.id t sound k within there))
 
 -- More steps
 
@@ -117,7 +125,8 @@ after_more : (p : Running) (ss more : List Step) → after eevdf p (ss ++ more) 
 after_more p [] more = refl
 after_more p (x ∷ ss) more = after_more (stepped eevdf p x) ss more
 
-stretch_more : (p : Running) (ss more : List Step) (s : Stretch) → stretch_after p (ss ++ more) s ≡ stretch_after (after eevdf p ss) more (stretch_after p ss s)
+stretch_more : (p : Running) (ss more : List Step) (s : Stretch)
+    → stretch_after p (ss ++ more) s ≡ stretch_after (after eevdf p ss) more (stretch_after p ss s)
 stretch_more p [] more s = refl
 stretch_more p (x ∷ ss) more s = stretch_more (stepped eevdf p x) ss more (stretch_by p x s)
 
@@ -126,22 +135,31 @@ keeps_more [] more k h = h
 keeps_more (x ∷ ss) more k h = (k.0, keeps_more ss more k.1 h)
 
 -- what is owed most after some more steps
-most_keeps_more : (p : Running) (ss more : List Step) → IsSound p → KeepsAll ss → KeepsAll more → (let q = after eevdf p ss in IfSome (most_owed (stretch_after q more (stretch_after p ss (beginning (present_at p)))) (present_at (after eevdf q more))) KeepsItsBound)
+most_keeps_more : (p : Running) (ss more : List Step) → IsSound p → KeepsAll ss → KeepsAll more
+    → (let q = after eevdf p ss in
+    IfSome (most_owed (stretch_after q more (stretch_after p ss (beginning (present_at p)))) (present_at (after eevdf q more)))
+    KeepsItsBound)
 most_keeps_more p ss more sound k h =
     let start = beginning (present_at p) in
     rw (← stretch_more p ss more start, ← after_more p ss more) (most_keeps p (ss ++ more) sound (keeps_more ss more k h))
 
 -- The lags
 
-owing_within : (o : Option Charge) (l : Lags) → IfSome l.greatest KeepsItsBound → IfSome o KeepsItsBound → IfSome (owing o l).greatest KeepsItsBound
+owing_within : (o : Option Charge) (l : Lags) → IfSome l.greatest KeepsItsBound → IfSome o KeepsItsBound
+    → IfSome (owing o l).greatest KeepsItsBound
 owing_within None l h k = h
 owing_within (Some c) l h k = greater_within l.greatest c h k
 
-gone_within : (c : Effect) (rise : ℕ) (xs : List Task) (s : Stretch) (p : Running) (ss : List Step) (l : Lags) → stretch_after p ss (beginning (present_at p)) ≡ decided_in c (stretched rise s) → IfSome l.greatest KeepsItsBound → IfSome (most_owed (stretched rise s) xs) KeepsItsBound → AreLagsOf p ss (gone_on c rise xs s l)
-gone_within c rise xs s p ss l e h k = record { stretch = ap (λ (z : Stretch). Some z) (sym e); greatest = owing_within (most_owed (stretched rise s) xs) l h k }
+gone_within : (c : Effect) (rise : ℕ) (xs : List Task) (s : Stretch) (p : Running) (ss : List Step) (l : Lags)
+    → stretch_after p ss (beginning (present_at p)) ≡ decided_in c (stretched rise s) → IfSome l.greatest KeepsItsBound
+    → IfSome (most_owed (stretched rise s) xs) KeepsItsBound
+    → AreLagsOf p ss (gone_on c rise xs s l)
+gone_within c rise xs s p ss l e h k =
+    record { stretch = ap (λ (z : Stretch). Some z) (sym e); greatest = owing_within (most_owed (stretched rise s) xs) l h k }
 
-passes : (p : Running) (ss : List Step) (now : ℕ) (l : Lags) → IsSound p → KeepsAll ss → AreLagsOf p ss l →
-    (let q = after eevdf p ss in AreLagsOf p (ss ++ Pass now ∷ []) (lags_after Passes (rise q now) (present_at (stepped eevdf q (Pass now))) l))
+passes : (p : Running) (ss : List Step) (now : ℕ) (l : Lags) → IsSound p → KeepsAll ss → AreLagsOf p ss l
+    → (let q = after eevdf p ss in
+    AreLagsOf p (ss ++ Pass now ∷ []) (lags_after Passes (rise q now) (present_at (stepped eevdf q (Pass now))) l))
 passes p ss now l sound k are =
     let q = after eevdf p ss in
     let more : List Step = Pass now ∷ [] in
@@ -149,10 +167,14 @@ passes p ss now l sound k are =
     let s = stretch_after p ss start in
     let xs = present_at (after eevdf q more) in
     let P : Option Stretch → Type 0 = λ o. AreLagsOf p (ss ++ more) (lags_by Passes o (rise q now) xs l) in
-    subst P (sym are.stretch) (gone_within Passes (rise q now) xs s p (ss ++ more) l (stretch_more p ss more start) are.greatest (most_keeps_more p ss more sound k (tt, tt)))
+    subst P (sym are.stretch) (gone_within Passes (rise q now) xs s p (ss ++ more) l (stretch_more p ss more start)
+    are.greatest (most_keeps_more p ss more sound k (tt, tt)))
 
-decides : (p : Running) (ss : List Step) (now : ℕ) (l : Lags) → IsSound p → KeepsAll ss → AreLagsOf p ss l →
-    (let q = after eevdf p ss in AreLagsOf p (ss ++ Pass now ∷ Decide ∷ []) (lags_after Decides (rise q now) (present_at (after eevdf q (Pass now ∷ Decide ∷ []))) l))
+decides : (p : Running) (ss : List Step) (now : ℕ) (l : Lags)
+    → IsSound p → KeepsAll ss → AreLagsOf p ss l
+    → (let q = after eevdf p ss in
+    AreLagsOf p (ss ++ Pass now ∷ Decide ∷ [])
+    (lags_after Decides (rise q now) (present_at (after eevdf q (Pass now ∷ Decide ∷ []))) l))
 decides p ss now l sound k are =
     let q = after eevdf p ss in
     let more : List Step = Pass now ∷ Decide ∷ [] in
@@ -160,7 +182,8 @@ decides p ss now l sound k are =
     let s = stretch_after p ss start in
     let xs = present_at (after eevdf q more) in
     let P : Option Stretch → Type 0 = λ o. AreLagsOf p (ss ++ more) (lags_by Decides o (rise q now) xs l) in
-    subst P (sym are.stretch) (gone_within Decides (rise q now) xs s p (ss ++ more) l (stretch_more p ss more start) are.greatest (most_keeps_more p ss more sound k (tt, (tt, tt))))
+    subst P (sym are.stretch) (gone_within Decides (rise q now) xs s p (ss ++ more) l (stretch_more p ss more start)
+    are.greatest (most_keeps_more p ss more sound k (tt, (tt, tt))))
 
 -- under EEVDF, from the beginning of a stretch on, as long as none comes or goes, what is owed most does not pass its bound
 pub lags_within : LagsWithin

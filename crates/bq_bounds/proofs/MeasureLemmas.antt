@@ -35,7 +35,8 @@ use Rattle.bq_bounds.proofs.NearnessLemmas.{cfs_stays_near, eevdf_stays_near}
 -- Readings of the clock
 
 -- a reading more is a charge
-after_read : (d : Discipline) (p : Running) (nows : List ℕ) (now : ℕ) → after d p (map Pass (nows ++ now ∷ [])) ≡ charge d (after d p (map Pass nows)) now
+after_read : (d : Discipline) (p : Running) (nows : List ℕ) (now : ℕ)
+    → after d p (map Pass (nows ++ now ∷ [])) ≡ charge d (after d p (map Pass nows)) now
 after_read d p [] now = refl
 after_read d p (n ∷ nows) now = after_read d (charge d p n) nows now
 
@@ -45,7 +46,8 @@ queue_stays d p [] = refl
 queue_stays d p (n ∷ nows) = queue_stays d (charge d p n) nows
 
 -- the clock does not fall, nor does it come further than it goes
-clock_goes : (d : Discipline) (p : Running) (nows : List ℕ) → (p.last ≤ (after d p (map Pass nows)).last) × ((after d p (map Pass nows)).last ≤ max p.last (2 ^ 48 - 1))
+clock_goes : (d : Discipline) (p : Running) (nows : List ℕ)
+    → (p.last ≤ (after d p (map Pass nows)).last) × ((after d p (map Pass nows)).last ≤ max p.last (2 ^ 48 - 1))
 clock_goes d p [] = (omega arith, omega arith)
 clock_goes d p (n ∷ nows) = let rest = clock_goes d (charge d p n) nows in (omega (arith, rest.0), omega (arith, rest.1))
 
@@ -57,7 +59,8 @@ none_runs d p (n ∷ nows) e = none_runs d (charge d p n) nows (ap (option_map (
 none_ran : (d : Discipline) (p : Running) (nows : List ℕ) (u : Task) → p.current ≡ None → (after d p (map Pass nows)).current ≡ Some u → ⊥
 none_ran d p nows u e f = let none = none_runs d p nows e in cc
 
-ran_by : (d : Discipline) (p : Running) (nows : List ℕ) (u : Task) (o : Option Task) → p.current ≡ o → (after d p (map Pass nows)).current ≡ Some u → (a : Task) × (p.current ≡ Some a)
+ran_by : (d : Discipline) (p : Running) (nows : List ℕ) (u : Task) (o : Option Task)
+    → p.current ≡ o → (after d p (map Pass nows)).current ≡ Some u → (a : Task) × (p.current ≡ Some a)
 ran_by d p nows u None e f = absurd (none_ran d p nows u e f)
 ran_by d p nows u (Some a) e f = (a, e)
 
@@ -68,7 +71,8 @@ record Stands (queue : List Task) (t : Task) (s : RunningTask) : Type 0 where
   weight : s.weight ≡ t.weight
   least : s.least ≡ least_waiting queue
 
-stands_by : (o : Option Task) (queue : List Task) (s : RunningTask) → IsRunningTask o queue (Some s) → (t : Task) × (o ≡ Some t) × Stands queue t s
+stands_by : (o : Option Task) (queue : List Task) (s : RunningTask)
+    → IsRunningTask o queue (Some s) → (t : Task) × (o ≡ Some t) × Stands queue t s
 stands_by None queue s h = absurd h
 stands_by (Some t) queue s h = (t, refl, record { v = h.0; weight = h.1; least = h.2 })
 
@@ -87,7 +91,9 @@ record Runs (d : Discipline) (p : Running) (nows : List ℕ) (now : ℕ) (s : Ru
   runs : (runs_on d p (nows ++ now ∷ [])).current ≡ Some (charged d task (rise (runs_on d p nows) now))
   waiting : (b : Task) → Contains (runs_on d p nows).queue b → task_at b.id p ≡ Some b
 
-runs_by : (d : Discipline) (p : Running) (nows : List ℕ) (now : ℕ) (s : RunningTask) → IsSound p → IsRunningTask (runs_on d p nows).current (runs_on d p nows).queue (Some s) → Runs d p nows now s
+runs_by : (d : Discipline) (p : Running) (nows : List ℕ) (now : ℕ) (s : RunningTask)
+    → IsSound p → IsRunningTask (runs_on d p nows).current (runs_on d p nows).queue (Some s)
+    → Runs d p nows now s
 runs_by d p nows now s sound h =
     let start = stepped d p Decide in
     let q = runs_on d p nows in
@@ -112,13 +118,17 @@ runs_by d p nows now s sound h =
 
 -- The measure
 
-near_bound : (base allowance v r w W since : ℕ) → w ≡ W → advance_of v r w ≤ base + (allowance + vdelta_of since W) → KeepsItsBound (charge_from base allowance v w r since)
+near_bound : (base allowance v r w W since : ℕ) → w ≡ W → advance_of v r w ≤ base + (allowance + vdelta_of since W)
+    → KeepsItsBound (charge_from base allowance v w r since)
 near_bound base allowance v r w W since e h = let same = ap (λ n. vdelta_of since n) e in omega (arith, h, same)
 
-standing_bound : (queue : List Task) (base allowance r W since : ℕ) (s : RunningTask) (u : Task) → Stands queue u s → u.weight ≡ W → advance_of u.v r u.weight ≤ base + (allowance + vdelta_of since W) → KeepsItsBound (charge_from base allowance s.v s.weight r since)
+standing_bound : (queue : List Task) (base allowance r W since : ℕ) (s : RunningTask) (u : Task)
+    → Stands queue u s → u.weight ≡ W → advance_of u.v r u.weight ≤ base + (allowance + vdelta_of since W)
+    → KeepsItsBound (charge_from base allowance s.v s.weight r since)
 standing_bound queue base allowance r W since s u st e h = rw (st.v, st.weight) (near_bound base allowance u.v r u.weight W since e h)
 
-least_by : (f : ℕ → Charge) (queue : List Task) → ((b : Task) → Contains queue b → KeepsItsBound (f b.v)) → IfSome (option_map f (least_waiting queue)) KeepsItsBound
+least_by : (f : ℕ → Charge) (queue : List Task) → ((b : Task) → Contains queue b → KeepsItsBound (f b.v))
+    → IfSome (option_map f (least_waiting queue)) KeepsItsBound
 least_by f [] h = tt
 least_by f (b ∷ queue) h = h b (0, omega arith, refl)
 
@@ -133,14 +143,20 @@ cfs_measures p nows now s sound h =
     let f : ℕ → Charge = λ least. charge_from least 1000000 s.v s.weight r since in
     let each : (b : Task) → Contains q.queue b → KeepsItsBound (f b.v) =
     λ b c.
-    let near = cfs_stays_near p (nows ++ now ∷ []) b.id a b (charged cfs u r) sound.distinct known.weight known.began (known.waiting b c) known.runs in
-    standing_bound q.queue b.v 1000000 r a.weight since s u known.stands near.0 near.1
-    in
+    let near =
+    cfs_stays_near p (nows ++ now ∷ []) b.id a b (charged cfs u r) sound.distinct known.weight known.began
+    (known.waiting b c) known.runs in
+    standing_bound q.queue b.v 1000000 r a.weight since s u known.stands near.0 near.1 in
     subst (λ o. IfSome (option_map f o) KeepsItsBound) (sym known.stands.least) (least_by f q.queue each)
 
-eevdf_near : (p : Running) (nows : List ℕ) (now : ℕ) (a u : Task) → HasDistinctIds (present_at p) → IsWeight a.weight → a.v ≤ 2 ^ 62 → (stepped eevdf p Decide).current ≡ Some a → (runs_on eevdf p (nows ++ now ∷ [])).current ≡ Some u → (u.weight ≡ a.weight) × (u.v ≤ (runs_on eevdf p (nows ++ now ∷ [])).kept + vdelta_of (risen_since eevdf p (nows ++ now ∷ [])) a.weight)
+eevdf_near : (p : Running) (nows : List ℕ) (now : ℕ) (a u : Task)
+    → HasDistinctIds (present_at p) → IsWeight a.weight → a.v ≤ 2 ^ 62 → (stepped eevdf p Decide).current ≡ Some a
+    → (runs_on eevdf p (nows ++ now ∷ [])).current ≡ Some u
+    → (u.weight ≡ a.weight)
+    × (u.v ≤ (runs_on eevdf p (nows ++ now ∷ [])).kept + vdelta_of (risen_since eevdf p (nows ++ now ∷ [])) a.weight)
 eevdf_near p [] now a u distinct weight ends began runs = eevdf_stays_near p now [] a u distinct weight ends began runs
-eevdf_near p (n ∷ nows) now a u distinct weight ends began runs = eevdf_stays_near p n (nows ++ now ∷ []) a u distinct weight ends began runs
+eevdf_near p (n ∷ nows) now a u distinct weight ends began runs =
+    eevdf_stays_near p n (nows ++ now ∷ []) a u distinct weight ends began runs
 
 eevdf_measures : MeasureWithin Eevdf eevdf
 eevdf_measures p nows now s sound h =
@@ -170,15 +186,18 @@ pub greater_within : (o : Option Charge) (c : Charge) → IfSome o KeepsItsBound
 greater_within None c h k = k
 greater_within (Some g) c h k = greater_by c g (leb c.difference g.difference) h k
 
-measured_by : (d : Discipline) (p : Running) (nows : List ℕ) (o : Option Charge) (w : Watch) → IfSome o KeepsItsBound → IsWatchOf d p nows w → IsWatchOf d p nows (measured_if o w)
+measured_by : (d : Discipline) (p : Running) (nows : List ℕ) (o : Option Charge) (w : Watch)
+    → IfSome o KeepsItsBound → IsWatchOf d p nows w → IsWatchOf d p nows (measured_if o w)
 measured_by d p nows None w h is = is
 measured_by d p nows (Some c) w h is = record { since = is.since; greatest = greater_within w.greatest c is.greatest h }
 
-counted : (start last now : ℕ) → start ≤ last → last ≤ max start (2 ^ 48 - 1) → min ((last - start) + (reading last now - last)) (2 ^ 64 - 1) ≡ reading last now - start
+counted : (start last now : ℕ) → start ≤ last → last ≤ max start (2 ^ 48 - 1)
+    → min ((last - start) + (reading last now - last)) (2 ^ 64 - 1) ≡ reading last now - start
 counted start last now low high = omega arith
 
 -- a watch counts how far the clock has risen
-counts : (d : Discipline) (p : Running) (nows : List ℕ) (now : ℕ) (w : Watch) → IsWatchOf d p nows w → IsWatchOf d p (nows ++ now ∷ []) (risen (rise (runs_on d p nows) now) w)
+counts : (d : Discipline) (p : Running) (nows : List ℕ) (now : ℕ) (w : Watch)
+    → IsWatchOf d p nows w → IsWatchOf d p (nows ++ now ∷ []) (risen (rise (runs_on d p nows) now) w)
 counts d p nows now w is =
     let start = stepped d p Decide in
     let q = runs_on d p nows in
@@ -199,7 +218,8 @@ watch_within rule d law p nows now (Some s) w sound is h =
     let next = risen r w in
     let counted = counts d p nows now w is in
     let P : Option ℕ → Type 0 = λ o. IsWatchOf d p (nows ++ now ∷ []) (charged_by rule s r mean o next) in
-    subst P (sym counted.since) (measured_by d p (nows ++ now ∷ []) (charge_of rule s r (risen_since d p (nows ++ now ∷ [])) mean) next (law p nows now s sound h) counted)
+    subst P (sym counted.since) (measured_by d p (nows ++ now ∷ [])
+    (charge_of rule s r (risen_since d p (nows ++ now ∷ [])) mean) next (law p nows now s sound h) counted)
 
 -- who decides changes nothing of what is kept
 

@@ -36,7 +36,9 @@ cfs_stays_near p nows j a b u distinct weight decides there runs =
 more : (w x y s W v M : ℕ) → W ≡ w + s → W * v ≤ w * x + M → x ≤ y → W * v ≤ w * y + M
 more w x y s W v M e h le = omega (arith, mul-le-mul_left w le)
 
-mean : (q : List Task) (kept : ℕ) (a : Task) (last v now : ℕ) (nows : List ℕ) → 15 ≤ a.weight → a.v ≤ 2 ^ 62 → total_weight (a ∷ q) * v ≤ weighted_sum (a ∷ q) → v ≤ (after eevdf (busy_processor q kept a last) (map Pass (now ∷ nows))).kept
+mean : (q : List Task) (kept : ℕ) (a : Task) (last v now : ℕ) (nows : List ℕ)
+    → 15 ≤ a.weight → a.v ≤ 2 ^ 62 → total_weight (a ∷ q) * v ≤ weighted_sum (a ∷ q)
+    → v ≤ (after eevdf (busy_processor q kept a last) (map Pass (now ∷ nows))).kept
 mean q kept a last v now [] low ends h =
     let b = charged eevdf a (reading last now - last) in
     let up : a.v ≤ b.v = omega arith in
@@ -49,9 +51,13 @@ mean q kept a last v now (next ∷ nows) low ends h =
     let still = more a.weight a.v b.v (total_weight q) (total_weight (a ∷ q)) v (weighted_sum q) refl h up in
     mean q (eevdf.mark kept (b ∷ q)) b at v next nows low (omega arith) still
 
-mean_at : (p : Running) (a : Task) (v now : ℕ) (nows : List ℕ) → p.current ≡ Some a → 15 ≤ a.weight → a.v ≤ 2 ^ 62 → total_weight (present_at p) * v ≤ weighted_sum (present_at p) → v ≤ (after eevdf p (map Pass (now ∷ nows))).kept
+mean_at : (p : Running) (a : Task) (v now : ℕ) (nows : List ℕ)
+    → p.current ≡ Some a → 15 ≤ a.weight → a.v ≤ 2 ^ 62 → total_weight (present_at p) * v ≤ weighted_sum (present_at p)
+    → v ≤ (after eevdf p (map Pass (now ∷ nows))).kept
 mean_at p a v now nows e low ends =
-    let P : Option Task → Type 0 = λ o. total_weight (present o p.queue) * v ≤ weighted_sum (present o p.queue) → v ≤ (after eevdf (record p { current = o }) (map Pass (now ∷ nows))).kept in
+    let P : Option Task → Type 0 = λ o.
+    total_weight (present o p.queue) * v ≤ weighted_sum (present o p.queue) →
+    v ≤ (after eevdf (record p { current = o }) (map Pass (now ∷ nows))).kept in
     subst P (sym e) (mean p.queue p.kept a p.last v now nows low ends)
 
 -- a task that is eligible is at most at the mean
@@ -70,7 +76,9 @@ eevdf_stays_near p now nows a u distinct weight ends decides runs =
     let same : u ≡ rest.task = same_Some u rest.task (sym runs ∙ rest.runs) in
     let first = of_some (IsEarliestOf (present_at p)) q.current a (runs_earliest p distinct) decides in
     let eligible = eligible_at_most_mean (present_at p) a (earliest_is_eligible (present_at p) a distinct first) in
-    let kept = at_most_of_same (total_weight (present_at p)) (total_weight (present_at q)) (weighted_sum (present_at p)) (weighted_sum (present_at q)) a.v (total_weight-decided eevdf p) (weighted_sum-decided eevdf p) eligible in
+    let kept =
+    at_most_of_same (total_weight (present_at p)) (total_weight (present_at q)) (weighted_sum (present_at p))
+    (weighted_sum (present_at q)) a.v (total_weight-decided eevdf p) (weighted_sum-decided eevdf p) eligible in
     let le = mean_at q a a.v now nows decides weight.0 ends kept in
     let up = rest.v in
     (ap (λ (t : Task). t.weight) same ∙ rest.weight, omega (arith, ap (λ (t : Task). t.v) same))

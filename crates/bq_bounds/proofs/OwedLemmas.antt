@@ -44,7 +44,9 @@ weight_charged p now = sym (total_weight-decided eevdf (charge eevdf p now)) ∙
 moment_charged : (p : Running) (now : ℕ) → weighted_v_at (ticked eevdf p now) ≡ weighted_v_at (charge eevdf p now)
 moment_charged p now = weighted_sum-decided eevdf (charge eevdf p now)
 
-further : (W w o M N E x y g s most both : ℕ) → W ≡ w + o → y ≡ x + g → g ≤ most → s + most ≤ both → W * x ≤ M + (E + o * s) → N + w * x ≡ M + w * y → W * y ≤ N + (E + o * both)
+further : (W w o M N E x y g s most both : ℕ) → W ≡ w + o → y ≡ x + g → g ≤ most → s + most ≤ both
+    → W * x ≤ M + (E + o * s) → N + w * x ≡ M + w * y
+    → W * y ≤ N + (E + o * both)
 further W w o M N E x y g s most both split up le sum start moves =
     let a = ap (λ n. W * n) up in
     let b = ap (λ n. w * n) up in
@@ -54,7 +56,9 @@ further W w o M N E x y g s most both split up le sum start moves =
     omega arith
 
 -- the task that runs
-ran_further : (E r s : ℕ) (p : Running) (now : ℕ) (t : Task) → IsWellFormed p → IsLevel E r s p → p.current ≡ Some t → (let u = charged eevdf t (rise p now) in weight_at p * u.v ≤ weighted_v_at (charge eevdf p now) + most_ahead E (s + rise p now) (weight_at p) t.weight)
+ran_further : (E r s : ℕ) (p : Running) (now : ℕ) (t : Task) → IsWellFormed p → IsLevel E r s p → p.current ≡ Some t
+    → (let u = charged eevdf t (rise p now) in
+    weight_at p * u.v ≤ weighted_v_at (charge eevdf p now) + most_ahead E (s + rise p now) (weight_at p) t.weight)
 ran_further E r s p now t w l c =
     let f = current_present p.queue p.kept p.current p.last t c in
     let ends = w.ends t.id t f in
@@ -66,12 +70,18 @@ ran_further E r s p now t w l c =
     let few : u.v - t.v ≤ vdelta_of (rise p now) t.weight = omega arith in
     let add = vdelta_of-add s (rise p now) t.weight (w.weights t.id t f).0 in
     let moves = weighted_sum-busy eevdf p now t c in
-    let sum : weighted_v_at (charge eevdf p now) + t.weight * t.v ≡ weighted_v_at p + t.weight * u.v = omega (arith, moment_charged p now) in
+    let sum : weighted_v_at (charge eevdf p now) + t.weight * t.v ≡ weighted_v_at p + t.weight * u.v =
+    omega (arith, moment_charged p now) in
     let start : weight_at p * t.v ≤ weighted_v_at p + (E + rest * vdelta_of s t.weight) = rw (← less) (l.runs t c) in
-    let law = further (weight_at p) t.weight rest (weighted_v_at p) (weighted_v_at (charge eevdf p now)) E t.v u.v (u.v - t.v) (vdelta_of s t.weight) (vdelta_of (rise p now) t.weight) (vdelta_of (s + rise p now) t.weight) split up few add start sum in
+    let law =
+    further (weight_at p) t.weight rest (weighted_v_at p) (weighted_v_at (charge eevdf p now)) E t.v u.v (u.v - t.v)
+    (vdelta_of s t.weight) (vdelta_of (rise p now) t.weight) (vdelta_of (s + rise p now) t.weight) split up
+    few add start sum in
     rw less law
 
-ahead_by : (E r s : ℕ) (p : Running) (now i : ℕ) (t u : Task) → IsWellFormed p → IsLevel E r s p → s + rise p now ≤ r → task_at i p ≡ Some t → Change eevdf p now i t u → weight_at p * u.v ≤ weighted_v_at (charge eevdf p now) + most_ahead E r (weight_at p) u.weight
+ahead_by : (E r s : ℕ) (p : Running) (now i : ℕ) (t u : Task)
+    → IsWellFormed p → IsLevel E r s p → s + rise p now ≤ r → task_at i p ≡ Some t → Change eevdf p now i t u
+    → weight_at p * u.v ≤ weighted_v_at (charge eevdf p now) + most_ahead E r (weight_at p) u.weight
 ahead_by E r s p now i t u w l le f (Stays e z) =
     let h = l.each i t f in
     let up = moment_up eevdf p now w in
@@ -81,14 +91,18 @@ ahead_by E r s p now i t u w l le f (Runs c e z) =
     let more = mul-le-mul_left (weight_at p - t.weight) (vdelta_of-le (s + rise p now) r t.weight (w.weights i t f).0 le) in
     rw e (omega arith)
 
-charged_runs_by : (q : List Task) (kept : ℕ) (o : Option Task) (last now : ℕ) (u : Task) → (let p : Running = record { queue = q; kept = kept; current = o; last = last } in (charge eevdf p now).current ≡ Some u → (t : Task) × (o ≡ Some t) × (u ≡ charged eevdf t (rise p now)))
+charged_runs_by : (q : List Task) (kept : ℕ) (o : Option Task) (last now : ℕ) (u : Task)
+    → (let p : Running = record { queue = q; kept = kept; current = o; last = last } in
+    (charge eevdf p now).current ≡ Some u → (t : Task) × (o ≡ Some t) × (u ≡ charged eevdf t (rise p now)))
 charged_runs_by q kept None last now u e = cc
 charged_runs_by q kept (Some t) last now u e = (t, refl, sym (same_Some (charged eevdf t (reading last now - last)) u e))
 
-charged_runs : (p : Running) (now : ℕ) (u : Task) → (charge eevdf p now).current ≡ Some u → (t : Task) × (p.current ≡ Some t) × (u ≡ charged eevdf t (rise p now))
+charged_runs : (p : Running) (now : ℕ) (u : Task) → (charge eevdf p now).current ≡ Some u
+    → (t : Task) × (p.current ≡ Some t) × (u ≡ charged eevdf t (rise p now))
 charged_runs p now u e = charged_runs_by p.queue p.kept p.current p.last now u e
 
-pass : (E r s : ℕ) (p : Running) (now : ℕ) → IsWellFormed p → IsLevel E r s p → s + rise p now ≤ r → IsLevel E r (s + rise p now) (charge eevdf p now)
+pass : (E r s : ℕ) (p : Running) (now : ℕ) → IsWellFormed p → IsLevel E r s p → s + rise p now ≤ r
+    → IsLevel E r (s + rise p now) (charge eevdf p now)
 pass E r s p now w l le = record {
   runs = λ u e.
       let b = charged_runs p now u e in
@@ -109,7 +123,9 @@ decide E r s p w l =
       runs = λ t e.
           let first = of_some (IsEarliestOf (present_at p)) q.current t (runs_earliest p w.distinct) e in
           let eligible = eligible_at_most_mean (present_at p) t (earliest_is_eligible (present_at p) t w.distinct first) in
-          let kept = at_most_of_same (weight_at p) (weight_at q) (weighted_v_at p) (weighted_v_at q) t.v (total_weight-decided eevdf p) (weighted_sum-decided eevdf p) eligible in
+          let kept =
+          at_most_of_same (weight_at p) (weight_at q) (weighted_v_at p) (weighted_v_at q) t.v (total_weight-decided eevdf p)
+          (weighted_sum-decided eevdf p) eligible in
           omega arith;
       each = λ i u f.
           let h = l.each i u (sym ((keeps_present eevdf p (own_preempt eevdf p.queue p.current) w.distinct).same i) ∙ f) in
@@ -127,17 +143,22 @@ record Left (E r : ℕ) (p q : Running) : Type 0 where
 via : (E r : ℕ) (p m q : Running) → weight_at m ≡ weight_at p → Left E r m q → Left E r p q
 via E r p m q e l = record { formed = l.formed; weight = l.weight ∙ e; each = l.each }
 
-left : (E r s : ℕ) (p : Running) (ss : List Step) → IsWellFormed p → KeepsAll ss → IsLevel E r s p → DecidesWithin r eevdf s p ss → Left E r p (after eevdf p ss)
+left : (E r s : ℕ) (p : Running) (ss : List Step) → IsWellFormed p → KeepsAll ss → IsLevel E r s p
+    → DecidesWithin r eevdf s p ss
+    → Left E r p (after eevdf p ss)
 left E r s p [] w k l d = record { formed = w; weight = refl; each = l.each }
 left E r s p (Pass now ∷ ss) w k l d =
     let m = charge eevdf p now in
-    via E r p m (after eevdf m ss) (weight_charged p now) (left E r (s + rise p now) m ss (well_formed_stepped eevdf p (Pass now) w tt) k.1 (pass E r s p now w l d.0) d.1)
+    via E r p m (after eevdf m ss) (weight_charged p now)
+    (left E r (s + rise p now) m ss (well_formed_stepped eevdf p (Pass now) w tt) k.1 (pass E r s p now w l d.0) d.1)
 left E r s p (Decide ∷ ss) w k l d =
     let m = stepped eevdf p Decide in
-    via E r p m (after eevdf m ss) (total_weight-decided eevdf p) (left E r 0 m ss (well_formed_stepped eevdf p Decide w tt) k.1 (decide E r s p w l) d.1)
+    via E r p m (after eevdf m ss) (total_weight-decided eevdf p)
+    (left E r 0 m ss (well_formed_stepped eevdf p Decide w tt) k.1 (decide E r s p w l) d.1)
 left E r s p (Mark ∷ ss) w k l d =
     let m = stepped eevdf p Mark in
-    via E r p m (after eevdf m ss) refl (left E r s m ss (well_formed_stepped eevdf p Mark w tt) k.1 (record { runs = l.runs; each = l.each }) d.1)
+    via E r p m (after eevdf m ss) refl
+    (left E r s m ss (well_formed_stepped eevdf p Mark w tt) k.1 (record { runs = l.runs; each = l.each }) d.1)
 left E r s p (Enter t ∷ ss) w k l d = absurd k.0
 left E r s p (Leave i ∷ ss) w k l d = absurd k.0
 
@@ -161,13 +182,19 @@ begins r p w =
     let a = furthest mean xs in
     let all = All-from_recursion (λ (t : Task). t.v ≤ mean + a) xs (none_further mean a xs (omega arith)) in
     record {
-      runs = λ t e. begins_by (weight_at p) (weighted_v_at p) mean a t.v (weight_at p - t.weight) (vdelta_of 0 t.weight) (mean_below xs) (of_each (λ (x : Task). x.v ≤ mean + a) p t.id t all (current_present p.queue p.kept p.current p.last t e));
-      each = λ i t f. begins_by (weight_at p) (weighted_v_at p) mean a t.v (weight_at p - t.weight) (vdelta_of r t.weight) (mean_below xs) (of_each (λ (x : Task). x.v ≤ mean + a) p i t all f);
+      runs = λ t e.
+          begins_by (weight_at p) (weighted_v_at p) mean a t.v (weight_at p - t.weight) (vdelta_of 0 t.weight) (mean_below xs)
+          (of_each (λ (x : Task). x.v ≤ mean + a) p t.id t all (current_present p.queue p.kept p.current p.last t e));
+      each = λ i t f.
+          begins_by (weight_at p) (weighted_v_at p) mean a t.v (weight_at p - t.weight) (vdelta_of r t.weight) (mean_below xs)
+          (of_each (λ (x : Task). x.v ≤ mean + a) p i t all f);
     }
 
 -- The bound in time
 
-numbers : (W M w v V g a r m o x : ℕ) → W ≡ w + o → W * V ≤ M → V ≡ v + g → 1024 * x ≤ w * g → w * M ≤ w * (W * v) + (o * (W * a) + 1024 * r * (m * W + w)) → x * (1024 * W) ≤ (o * a * W + 1024 * r * w) + m * r * (1024 * W)
+numbers : (W M w v V g a r m o x : ℕ) → W ≡ w + o → W * V ≤ M → V ≡ v + g → 1024 * x ≤ w * g
+    → w * M ≤ w * (W * v) + (o * (W * a) + 1024 * r * (m * W + w))
+    → x * (1024 * W) ≤ (o * a * W + 1024 * r * w) + m * r * (1024 * W)
 numbers W M w v V g a r m o x split mean up lag law =
     let b = mul-le-mul_left w mean in
     let c = ap (λ n. w * (W * n)) up in
@@ -184,7 +211,9 @@ within_by : (x k D num : ℕ) (b : Bool) → leb x k ≡ b → 1 ≤ D → x * D
 within_by x k D num true e pos h = let le : x ≤ k = grind (arith, nat_tests) in omega arith
 within_by x k D num false e pos h = let le : k ≤ x = grind (arith, nat_tests) in part x k (x - k) D num (omega arith) pos h
 
-behind_by : (W M w v a r m o : ℕ) (b : Bool) → leb (M / W) v ≡ b → 1 ≤ W → W ≡ w + o → w * M ≤ w * (W * v) + (o * (W * a) + 1024 * r * (m * W + w)) → w * (M / W - v) / 1024 ≤ m * r + (o * a * W + 1024 * r * w) / (1024 * W)
+behind_by : (W M w v a r m o : ℕ) (b : Bool) → leb (M / W) v ≡ b → 1 ≤ W → W ≡ w + o
+    → w * M ≤ w * (W * v) + (o * (W * a) + 1024 * r * (m * W + w))
+    → w * (M / W - v) / 1024 ≤ m * r + (o * a * W + 1024 * r * w) / (1024 * W)
 behind_by W M w v a r m o true e pos split law =
     let le : M / W ≤ v = grind (arith, nat_tests) in
     let none : M / W - v ≡ 0 = omega arith in
@@ -202,13 +231,18 @@ mean_is : (j : ℕ) (xs : List Task) (b : Task) → with_id j xs ≡ Some b → 
 mean_is j [] b f = cc
 mean_is j (t ∷ xs) b f = refl
 
-finish : (r a W : ℕ) (q : Running) (j : ℕ) (b : Task) → task_at j q ≡ Some b → 15 ≤ b.weight → weight_at q ≡ W → b.weight * weighted_v_at q ≤ b.weight * (weight_at q * b.v) + ((weight_at q - b.weight) * (W * a) + 1024 * r * ((length (present_at q) - 2) * weight_at q + b.weight)) → owed (mean_at (present_at q)) b ≤ allowed a r (length (present_at q)) (weight_at q) b.weight
+finish : (r a W : ℕ) (q : Running) (j : ℕ) (b : Task) → task_at j q ≡ Some b → 15 ≤ b.weight → weight_at q ≡ W
+    → b.weight * weighted_v_at q
+    ≤ b.weight * (weight_at q * b.v)
+    + ((weight_at q - b.weight) * (W * a) + 1024 * r * ((length (present_at q) - 2) * weight_at q + b.weight))
+    → owed (mean_at (present_at q)) b ≤ allowed a r (length (present_at q)) (weight_at q) b.weight
 finish r a W q j b f low same law =
     let xs = present_at q in
     let split = weights_split j xs b f in
     let o = weight_at q - b.weight in
     let all : W * a ≡ weight_at q * a = ap (λ n. n * a) (sym same) in
-    rw (mean_is j xs b f) (behind_by (weight_at q) (weighted_v_at q) b.weight b.v a r (length xs - 2) o (leb (weighted_v_at q / weight_at q) b.v) refl (omega arith) (omega arith) (rw all at law))
+    rw (mean_is j xs b f) (behind_by (weight_at q) (weighted_v_at q) b.weight b.v a r (length xs - 2) o
+    (leb (weighted_v_at q / weight_at q) b.v) refl (omega arith) (omega arith) (rw all at law))
 
 -- under EEVDF, while none comes and none goes, no task is owed more than is allowed
 pub eevdf_owes_within : EevdfOwesWithin

@@ -16,13 +16,16 @@ pub record Ran (d : Discipline) (p : Running) (a : Task) (nows : List ℕ) : Typ
   pub v : task.v ≤ a.v + vdelta_of ((after d p (map Pass nows)).last - p.last) a.weight
   pub later : p.last ≤ (after d p (map Pass nows)).last
 
-split : (last at end w v x u : ℕ) → 15 ≤ w → last ≤ at → at ≤ end → x ≤ v + vdelta_of (at - last) w → u ≤ x + vdelta_of (end - at) w → u ≤ v + vdelta_of (end - last) w
+split : (last at end w v x u : ℕ) → 15 ≤ w → last ≤ at → at ≤ end → x ≤ v + vdelta_of (at - last) w
+    → u ≤ x + vdelta_of (end - at) w
+    → u ≤ v + vdelta_of (end - last) w
 split last at end w v x u low le le' h k =
     let add = vdelta_of-add (at - last) (end - at) w low in
     let whole = vdelta_of-le ((at - last) + (end - at)) (end - last) w low (omega arith) in
     omega arith
 
-ran : (d : Discipline) (q : List Task) (kept : ℕ) (a : Task) (last : ℕ) (nows : List ℕ) → 15 ≤ a.weight → Ran d (busy_processor q kept a last) a nows
+ran : (d : Discipline) (q : List Task) (kept : ℕ) (a : Task) (last : ℕ) (nows : List ℕ)
+    → 15 ≤ a.weight → Ran d (busy_processor q kept a last) a nows
 ran d q kept a last [] low = record { task = a; runs = refl; weight = refl; v = omega arith; later = omega arith }
 ran d q kept a last (now ∷ nows) low =
     let at = reading last now in

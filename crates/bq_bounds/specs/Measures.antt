@@ -25,12 +25,12 @@ use Rattle.bq_bounds.specs.LagWatches.{decided_in, begun_anew, lags_after}
 use Rattle.bq_bounds.specs.Nearness.{runs_on, risen_since}
 use Rattle.bq_bounds.specs.Owing.{KeepsAll}
 
--- what is measured does not pass its bound
+-- a measure does not pass its bound
 abbrev pub KeepsItsBound : Charge → Type 0
 KeepsItsBound c = c.difference ≤ c.bound
 
--- So it is of the task that is charged at a reading of the clock, where the discipline has decided and the clock was read a few
--- times since; measured by how far the clock rises, how far since the decision, and the mean that the charge computes
+-- The charge of the running task at a reading of the clock keeps its bound, if the discipline has decided and the clock was read a few
+-- times since. The charge is measured by the clock's rise, its rise since the decision, and the mean that the charge computes
 abbrev pub MeasureWithin : Rule → Discipline → Type 0
 MeasureWithin rule d =
     (p : Running) (nows : List ℕ) (now : ℕ) (s : RunningTask) → IsSound p →
@@ -38,18 +38,18 @@ MeasureWithin rule d =
     IsRunningTask q.current q.queue (Some s) →
     IfSome (charge_of rule s (rise q now) (risen_since d p (nows ++ now ∷ [])) (charge d q now).kept) KeepsItsBound)
 
--- under each rule
+-- `MeasureWithin` holds under each rule
 pub record MeasuresWithin : Type 0 where
   pub cfs : MeasureWithin Cfs cfs
   pub eevdf : MeasureWithin Eevdf eevdf
 
--- a watch of a processor where the discipline has decided, and whose clock was read a few times since: it counts the rise since
--- the decision, and the greatest that it keeps does not pass its bound
+-- a watch of a processor whose clock was read a few times since the discipline decided: it counts the rise since the decision, and the
+-- greatest charge that it keeps does not pass its bound
 pub record IsWatchOf (d : Discipline) (p : Running) (nows : List ℕ) (w : Watch) : Type 0 where
   pub since : w.since ≡ Some (risen_since d p nows)
   pub greatest : IfSome w.greatest KeepsItsBound
 
--- it is so after one more reading
+-- `IsWatchOf` still holds after one more reading
 abbrev pub WatchWithin : Rule → Discipline → Type 0
 WatchWithin rule d =
     (p : Running) (nows : List ℕ) (now : ℕ) (s : Option RunningTask) (w : Watch) → IsSound p → IsWatchOf d p nows w →
@@ -57,14 +57,14 @@ WatchWithin rule d =
     IsRunningTask q.current q.queue s →
     IsWatchOf d p (nows ++ now ∷ []) (read_by rule s (rise q now) (charge d q now).kept w))
 
--- from a decision of the discipline on, under each rule; and whatever comes of an event after its reading, the greatest stays
+-- `IsWatchOf` begins at a decision and holds under each rule; and whatever an event does after its reading, the greatest charge stays
 pub record WatchesWithin : Type 0 where
   pub begins : (d : Discipline) (p : Running) (w : Watch) → IfSome w.greatest KeepsItsBound → IsWatchOf d p [] (decided who.Discipline w)
   pub cfs : WatchWithin Cfs cfs
   pub eevdf : WatchWithin Eevdf eevdf
   pub leaves : (e : Event) (r : Reply) (busy : Bool) (w : Watch) → (decided_by_event e r busy w).greatest ≡ w.greatest
 
--- a stretch goes on by a step: a reading stretches it by how far the clock rises, and from a decision on that is counted again
+-- a stretch after one step: a reading adds the clock's rise, and a decision restarts the count of `since`
 abbrev pub stretch_by : Running → Step → Stretch → Stretch
 stretch_by p (Pass now) s = stretched (rise p now) s
 stretch_by p Decide s = decided_in Decides s
@@ -72,18 +72,18 @@ stretch_by p (Enter t) s = s
 stretch_by p (Leave id) s = s
 stretch_by p Mark s = s
 
--- and by steps, one after another
+-- a stretch after steps, one after another
 abbrev pub stretch_after : Running → List Step → Stretch → Stretch
 stretch_after p [] s = s
 stretch_after p (x ∷ xs) s = stretch_after (stepped eevdf p x) xs (stretch_by p x s)
 
--- the lags of a processor from the moment on at which a stretch began, where none came or went since: its stretch has gone on by
--- those steps, and the greatest that they keep does not pass its bound
+-- the lags of a processor since a stretch began, while no task came or went: the stretch has gone on by these steps, and the greatest
+-- lag that is kept does not pass its bound
 pub record AreLagsOf (p : Running) (ss : List Step) (l : Lags) : Type 0 where
   pub stretch : l.stretch ≡ Some (stretch_after p ss (beginning (present_at p)))
   pub greatest : IfSome l.greatest KeepsItsBound
 
--- EEVDF: they are so where a stretch begins, and then after each reading of the clock, with a decision or without
+-- EEVDF: `AreLagsOf` holds when a stretch begins, and after each reading of the clock, with a decision or without
 pub record LagsWithin : Type 0 where
   pub begins : (p : Running) (l : Lags) → IfSome l.greatest KeepsItsBound → AreLagsOf p [] (begun_anew (present_at p) l)
   pub passes : (p : Running) (ss : List Step) (now : ℕ) (l : Lags) → IsSound p → KeepsAll ss → AreLagsOf p ss l →

@@ -14,29 +14,29 @@ use Rattle.bq_fairness.specs.Steps.{Decide, Pass, stepped, after}
 use Rattle.bq_bounds.specs.declared.charge.Charge.{Charge}
 use Rattle.bq_bounds.specs.Watches.{greatest_of}
 
--- a processor at which the discipline has decided, and whose clock was read a few times since, with nothing that came or went
+-- a processor at which the discipline has decided and whose clock was read a few times since, while no task came or went
 abbrev pub runs_on : Discipline → Running → List ℕ → Running
 runs_on d p nows = after d (stepped d p Decide) (map Pass nows)
 
--- how far the clock has risen since
+-- how far the clock has risen since that decision
 abbrev pub risen_since : Discipline → Running → List ℕ → ℕ
 risen_since d p nows = (runs_on d p nows).last - (stepped d p Decide).last
 
--- CFS: the task that runs is beyond none that waits by more than 1,000,000 and what the rise since the decision takes at its weight
+-- CFS: the running task is beyond no other by more than 1,000,000 and the virtual time of the rise since the decision at its weight
 abbrev pub CfsStaysNear : Type 0
 CfsStaysNear =
     (p : Running) (nows : List ℕ) (j : ℕ) (a b u : Task) → HasDistinctIds (present_at p) → IsWeight a.weight →
     (stepped cfs p Decide).current ≡ Some a → task_at j p ≡ Some b → (runs_on cfs p nows).current ≡ Some u →
     (u.weight ≡ a.weight) × (u.v ≤ b.v + (GRANULARITY + vdelta_of (risen_since cfs p nows) a.weight))
 
--- EEVDF: the task that runs is ahead of the mean, which the last reading has computed, by no more than what that rise takes
+-- EEVDF: the running task is ahead of the mean of the last reading by no more than the virtual time of that rise at its weight
 abbrev pub EevdfStaysNear : Type 0
 EevdfStaysNear =
     (p : Running) (now : ℕ) (nows : List ℕ) (a u : Task) → HasDistinctIds (present_at p) → IsWeight a.weight → a.v ≤ 2 ^ 62 →
     (stepped eevdf p Decide).current ≡ Some a → (runs_on eevdf p (now ∷ nows)).current ≡ Some u →
     (u.weight ≡ a.weight) × (u.v ≤ (runs_on eevdf p (now ∷ nows)).kept + vdelta_of (risen_since eevdf p (now ∷ nows)) a.weight)
 
--- the greatest is one of those that were measured, and none has a greater difference; so where none passes its bound it does not
+-- the greatest is one of the measured charges, and none has a greater difference; so if no charge passes its bound the greatest does not
 abbrev pub KeepsTheGreatest : Type 0
 KeepsTheGreatest =
     (c : Charge) (past : List Charge) →

@@ -9,7 +9,7 @@ use Rattle.bq_fairness.specs.Steps.{Step, Pass, Decide, Enter, Leave, Mark, afte
 use Rattle.bq_fairness.specs.Work.{weight_at}
 use Rattle.bq_bounds.specs.Lags.{mean_at, furthest, owed, allowed}
 
--- no task comes and none goes
+-- in this step no task comes or goes
 abbrev pub Keeps : Step → Type 0
 Keeps (Pass now) = Unit {0}
 Keeps Decide = Unit {0}
@@ -17,12 +17,14 @@ Keeps (Enter t) = ⊥
 Keeps (Leave id) = ⊥
 Keeps Mark = Unit {0}
 
+-- in these steps no task comes or goes
 abbrev pub KeepsAll : List Step → Type 0
 KeepsAll [] = Unit {0}
 KeepsAll (s ∷ ss) = Keeps s × KeepsAll ss
 
--- From some moment on none comes or goes, and the clock rises by at most r between two decisions, which are the discipline's: then
--- no task is owed more than what the furthest was ahead at that moment, n - 2 rises and its own share of one allow
+-- From some moment on no task comes or goes, and the clock rises by at most r between two decisions of the discipline. Then no task is
+-- owed more than this bound: n - 2 rises, its own share of one rise, and the time that the furthest task's lead at that moment takes at
+-- the weight of the other tasks
 abbrev pub EevdfOwesWithin : Type 0
 EevdfOwesWithin =
     (r : ℕ) (p : Running) (ss : List Step) (j : ℕ) (b : Task) → IsSound p → KeepsAll ss → DecidesWithin r eevdf 0 p ss →

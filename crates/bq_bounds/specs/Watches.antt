@@ -8,84 +8,90 @@ use Rattle.bq_words.specs.declared.rule.Rule.TheVariants.{Eevdf}
 use Rattle.bq_parts.specs.declared.event.Event.{Event}
 use Rattle.bq_parts.specs.declared.event.Event.TheVariants.{Drain, Tick, Block, Pull}
 use Rattle.bq_parts.specs.declared.reply.Reply.{Reply}
-use Rattle.bq_parts.specs.declared.reply.Reply.TheVariants.{Drained, Ticked, Blocked as Went, Pulled}
-use Rattle.bq_parts.specs.Counts.{counted}
+use Rattle.bq_parts.specs.declared.reply.Reply.TheVariants.{Drained, Ticked, Blocked, Pulled}
+use Rattle.bq_parts.specs.Counts.{saturating_sum}
 use Rattle.bq_bounds.specs.declared.running_task.RunningTask.{RunningTask}
 use Rattle.bq_bounds.specs.declared.charge.Charge.{Charge}
 use Rattle.bq_bounds.specs.declared.watch.Watch.{Watch}
 use Rattle.bq_bounds.specs.Charges.{charge_of}
 
+-- a watch before the first event
 abbrev pub unwatched : Watch
 unwatched = record { since = None; measured = 0; left_out = 0; greatest = None }
 
--- the clock has risen
+-- the watch after a rise of the clock
 abbrev pub risen : ℕ → Watch → Watch
-risen rise w = record w { since = option_map (λ (n : ℕ). counted n rise) w.since }
+risen rise w = record w { since = option_map (λ (n : ℕ). saturating_sum n rise) w.since }
 
--- the one of greater difference; of equal ones the first
+-- the charge of greater difference, the first of two equal ones
 abbrev pub greater : Option Charge → Charge → Charge
 greater None c = c
 greater (Some d) c = if nat_le c.difference d.difference then d else c
 
--- a charge is measured
+-- the watch after a charge was measured
 abbrev pub measured : Charge → Watch → Watch
-measured c w = record w { measured = counted w.measured 1; greatest = Some (greater w.greatest c) }
+measured c w = record w { measured = saturating_sum w.measured 1; greatest = Some (greater w.greatest c) }
 
+-- the watch after a charge, if there was one to measure
 abbrev pub measured_if : Option Charge → Watch → Watch
 measured_if None w = w
 measured_if (Some c) w = measured c w
 
--- the task that ran is charged: it is measured as far as the discipline decided last, and nothing has disturbed that since
+-- the running task is charged: the charge is measured if the discipline decided last and nothing has disturbed that since
 abbrev pub charged : Rule → RunningTask → ℕ → ℕ → Option ℕ → Watch → Watch
-charged rule s rise mean None w = record w { left_out = counted w.left_out 1 }
+charged rule s rise mean None w = record w { left_out = saturating_sum w.left_out 1 }
 charged rule s rise mean (Some since) w = measured_if (charge_of rule s rise since mean) w
 
+-- the watch after the running task was charged, if one ran
 abbrev pub charged_if : Rule → Option RunningTask → ℕ → ℕ → Watch → Watch
 charged_if rule None rise mean w = w
 charged_if rule (Some s) rise mean w = charged rule s rise mean w.since w
 
+-- the watch after a decision: the discipline's starts the count, a policy's ends it
 abbrev pub decided : By → Watch → Watch
 decided who.Discipline w = record w { since = Some 0 }
 decided who.Policy w = record w { since = None }
 
+-- the watch after a task came or went that the discipline did not see
 abbrev pub disturbed : Watch → Watch
 disturbed w = record w { since = None }
 
--- a pull decides where nothing ran before, and disturbs where a task comes
+-- a pull decides if nothing ran before, and disturbs if something ran and a task comes
 abbrev pub pulled : Option ℕ → Bool → Watch → Watch
 pulled task false w = decided who.Discipline w
 pulled None true w = w
 pulled (Some id) true w = disturbed w
 
--- who decided, if anyone did
+-- the watch after an event, by who decided at it, if anyone did
 abbrev pub decided_by_event : Event → Reply → Bool → Watch → Watch
 decided_by_event (Tick processor now) (Ticked run by steps) busy w = decided by w
 decided_by_event (Drain processor now) (Drained count run by steps) busy w = decided by w
-decided_by_event (Block processor now) (Went task run) busy w = decided who.Discipline w
+decided_by_event (Block processor now) (Blocked task run) busy w = decided who.Discipline w
 decided_by_event (Pull processor from now) (Pulled task run by steps) busy w = pulled task busy w
 decided_by_event e r busy w = w
 
--- a reading of the clock: it has risen, and what ran is charged
+-- a reading of the clock: the clock has risen, and the running task is charged
 abbrev pub read_by : Rule → Option RunningTask → ℕ → ℕ → Watch → Watch
 read_by rule s rise mean w = charged_if rule s rise mean (risen rise w)
 
--- an event of the processor: its clock is read, and someone may decide
+-- an event of the processor: its clock is read, and a decision may be made
 abbrev pub watch_after : Rule → Event → Reply → Option RunningTask → ℕ → ℕ → Watch → Watch
 watch_after rule e r s rise mean w = decided_by_event e r (is_some s) (read_by rule s rise mean w)
 
+-- the watch of a processor
 abbrev pub watch_of : List Watch → ℕ → Watch
 watch_of ws processor = slice_index_or ws processor unwatched
 
--- under EEVDF a task that is pulled is missed where it is taken from: the mean moves
+-- under EEVDF a pull disturbs the processor that it takes a task from: the mean moves there
 abbrev pub source_disturbed : Rule → Event → Reply → List Watch → List Watch
 source_disturbed Eevdf (Pull processor from now) (Pulled (Some id) run by steps) ws = slice_set ws from (disturbed (watch_of ws from))
 source_disturbed rule e r ws = ws
 
--- all processors after an event of one of them
+-- the watches of all processors after an event of one of them
 abbrev pub watches_after : Rule → ℕ → Event → Reply → Option RunningTask → ℕ → ℕ → List Watch → List Watch
 watches_after rule processor e r s rise mean ws = source_disturbed rule e r (slice_set ws processor (watch_after rule e r s rise mean (watch_of ws processor)))
 
--- the greatest of some charges, the one that came last standing first
+-- the greatest of some charges, of which the last one comes first in the list
 abbrev pub greatest_of : List Charge → Option Charge
 greatest_of [] = None
 greatest_of (c ∷ past) = Some (greater (greatest_of past) c)

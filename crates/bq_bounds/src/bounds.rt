@@ -14,9 +14,9 @@ use bq_parts::{Event, Reply};
 use bq_words::Rule;
 use std::alloc::{AllocError, Global};
 
-/// How near each processor of a machine comes to the bounds of its rule. It takes one answer at a time: what was charged in a time
-/// that does not grow with anything, and what tasks are owed in one that grows with how many are there, where
-/// some task may be owed more than one was before.
+/// How near each processor of a machine comes to the bounds of its rule. It takes one answer at a time.
+/// Measuring what was charged takes constant time. Measuring what tasks are owed takes a time that grows with the number of tasks, but only
+/// if some task may be owed more than any was before.
 #[derive(Drop)]
 pub struct Bounds {
     pub rule: Rule,
@@ -25,7 +25,7 @@ pub struct Bounds {
 }
 
 impl Bounds {
-    /// Nothing has happened at this many processors.
+    /// Bounds of this many processors, before the first event.
     pub fn new(alloc: Global, rule: Rule, processors: usize) -> Result<Bounds, AllocError>
         ensures rule { IfOk result (λ b. b.rule ≡ rule) }
         ensures watches { IfOk result (λ b. b.watches.items ≡ replicate processors unwatched) }
@@ -40,7 +40,8 @@ impl Bounds {
         })
     }
 
-    /// An event of a processor was answered, whose clock rose by so much. Before it the processor stood so; this is its mean now.
+    /// An event of a processor was answered, and its clock rose by `rise` ns. `running` is its running task before the event, `mean` its mean
+    /// now.
     pub fn take(
         &mut self,
         processor: u8,
@@ -60,7 +61,7 @@ impl Bounds {
         self.disturb_source(event, reply);
     }
 
-    /// Under EEVDF a task that is pulled is missed where it is taken from.
+    /// Under EEVDF a pull takes a task away from another processor, and disturbs what is measured there.
     fn disturb_source(&mut self, event: &Event, reply: &Reply)
         ensures rule { self.new.rule ≡ self.old.rule }
         ensures watches { self.new.watches.items ≡ source_disturbed self.old.rule event.now reply.now self.old.watches.items }
@@ -89,7 +90,7 @@ impl Bounds {
         }
     }
 
-    /// Under EEVDF: an event of a processor was answered, whose clock rose by so much; these are its tasks now.
+    /// Under EEVDF: an event of a processor was answered, and its clock rose by `rise` ns. `tasks` are its tasks now.
     pub fn owe(&mut self, processor: u8, event: &Event, reply: &Reply, rise: u64, tasks: &[Entity])
         requires { length tasks.now ≤ TASKS }
         ensures rule { self.new.rule ≡ self.old.rule }
@@ -102,8 +103,8 @@ impl Bounds {
         self.forget_source(event, reply);
     }
 
-    /// Does what `owe` does by what is known of the tasks, without a look at each, if that shows that none is owed more than one was
-    /// before. Answers whether it was done; if not, nothing has changed, and you call `owe`. It takes constant time.
+    /// Does what `owe` does without looking at each task, if the glance shows that none is owed more than one was before.
+    /// Answers whether it did; if not, nothing has changed, and you call `owe`. It takes constant time.
     pub fn owe_unseen(
         &mut self,
         processor: u8,
@@ -128,7 +129,7 @@ impl Bounds {
         true
     }
 
-    /// A task that is pulled is missed where it is taken from.
+    /// A pull takes a task away from another processor, whose stretch ends there.
     fn forget_source(&mut self, event: &Event, reply: &Reply)
         ensures rule { self.new.rule ≡ self.old.rule }
         ensures watches { self.new.watches ≡ self.old.watches }
@@ -154,14 +155,14 @@ impl Bounds {
         }
     }
 
-    /// What was watched at a processor; `None` where it is not there.
+    /// What was watched at a processor. `None` if the machine does not have it.
     pub fn watch(&self, number: u8) -> Option<Watch>
         ensures { result ≡ slice_get self.now.watches.items number }
     {
         self.watches.get(usize::from(number)).copied()
     }
 
-    /// What the tasks of a processor were owed; `None` where it is not there.
+    /// What the tasks of a processor were owed. `None` if the machine does not have it.
     pub fn lags(&self, number: u8) -> Option<Lags>
         ensures { result ≡ slice_get self.now.lags.items number }
     {

@@ -1,4 +1,4 @@
-//! One charge, as the laws of fairness see it.
+//! One charge, as the laws of fairness measure it.
 ghost use Rattle.std.specs.Prelude.{◌≡◌, ◌-◌, ◌^◌, min};
 ghost use Rattle.bq_weights.specs.VirtualTime.{IsWeight, vdelta_of};
 ghost use Rattle.bq_bounds.specs.Charges.{charge_of, charge_from};
@@ -8,7 +8,7 @@ use bq_cfs::GRANULARITY;
 use bq_weights::{GREATEST, NICE_0_WEIGHT};
 use bq_words::Rule;
 
-/// How far the task that ran was beyond where its rule measures from when its time was charged, and how far it may be: virtual
+/// How far the running task was beyond the base of its rule when its time was charged, and how far it may be. Both in virtual
 /// nanoseconds.
 #[derive(Clone, Copy)]
 pub struct Charge {
@@ -17,9 +17,8 @@ pub struct Charge {
 }
 
 impl RunningTask {
-    /// The charge of a rise of the clock, which has risen so far since the discipline decided who runs. Under CFS it measures
-    /// from the least of those that wait, and if none waits there is no least; under EEVDF from the mean, as it is after the
-    /// charge.
+    /// The charge for a rise of the clock. `since` is how far the clock has risen since the discipline decided who runs. CFS measures
+    /// from the least virtual runtime that waits, and answers `None` if no task waits. EEVDF measures from the mean after the charge.
     pub fn charge(&self, rule: Rule, rise: u64, since: u64, mean: u64) -> Option<Charge>
         ensures { result ≡ charge_of rule self.now rise since mean }
     {
@@ -32,7 +31,7 @@ impl RunningTask {
         }
     }
 
-    /// The charge, measured from there, where so much is allowed beside what the rise since the decision takes.
+    /// The charge, measured from `base`. It may be `allowance` and the virtual time of the rise since the decision.
     fn charge_from(&self, base: u64, allowance: u64, rise: u64, since: u64) -> Charge
         ensures { result ≡ charge_from base allowance self.now.v self.now.weight rise since }
     {
@@ -46,7 +45,7 @@ impl RunningTask {
     }
 }
 
-/// The virtual time that a time takes at a weight. It stops at its type's greatest number.
+/// The virtual time of a time at a weight, at most the type's greatest number.
 fn virtual_time(time: u64, weight: u32) -> u64
     requires { IsWeight weight }
     ensures { result ≡ min (vdelta_of time weight) (2 ^ 64 - 1) }

@@ -3,8 +3,8 @@
 /// What is known of a processor's tasks without a look at each.
 #[derive(Clone, Copy)]
 pub struct Glance {
-    /// No task that is there has a lesser virtual runtime.
+    /// No task of the processor has a lesser virtual runtime.
     pub least: u64,
-    /// The mean of their virtual runtimes is no greater.
+    /// The mean of the tasks' virtual runtimes is no greater.
     pub mean: u64,
 }

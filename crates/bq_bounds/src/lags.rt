@@ -1,7 +1,7 @@
-//! What the tasks of one processor are owed under EEVDF, as far as no task comes or goes.
+//! What the tasks of one processor are owed under EEVDF, while no task comes or goes.
 ghost use Rattle.std.specs.Prelude.{◌≡◌, ◌≤◌, length, List, IsTrue, false, Some};
 ghost use Rattle.bq_disc.specs.Tasks.{Task};
-ghost use Rattle.bq_parts.specs.Counts.{counted};
+ghost use Rattle.bq_parts.specs.Counts.{saturating_sum};
 ghost use Rattle.bq_bounds.specs.Glances.{IsGlance};
 ghost use Rattle.bq_bounds.specs.Lags.{stretched};
 ghost use Rattle.bq_bounds.specs.LagWatches.{effect_by, effect_of, decided_in, forgotten, gone_on, lags_after, needs_no_look, unasked};
@@ -18,7 +18,7 @@ use bq_parts::{Event, Reply};
 /// What an event does to the tasks that are there.
 #[derive(Clone, Copy)]
 pub enum Effect {
-    /// Time is charged, and nobody decides.
+    /// Time is charged, and no decision is made.
     Passes,
     /// Time is charged, and the discipline decides who runs.
     Decides,
@@ -29,18 +29,18 @@ pub enum Effect {
 /// The lags of a processor's tasks. Counts stop at their type's greatest number.
 #[derive(Clone, Copy)]
 pub struct Lags {
-    /// The stretch that goes on; `None` where none has begun, or a task was pulled from here since.
+    /// The current stretch. `None` if none has begun, or if a task was pulled from this processor since.
     pub stretch: Option<Stretch>,
-    /// At how many readings of the clock they were measured.
+    /// At how many readings of the clock the lags were measured.
     pub measured: u64,
-    /// At how many a new stretch began.
+    /// At how many readings a new stretch began instead.
     pub left_out: u64,
-    /// The first of the greatest of what any task was owed, and what it might be.
+    /// The first of the greatest measures: what a task was owed, and what it may be owed.
     pub greatest: Option<Charge>,
 }
 
 impl Lags {
-    /// Nothing was asked yet.
+    /// Lags before the first event.
     pub fn new() -> Lags
         ensures { result ≡ unasked }
     {
@@ -52,7 +52,7 @@ impl Lags {
         }
     }
 
-    /// An event of the processor was answered, whose clock rose by so much; these are its tasks now.
+    /// An event of the processor was answered, and its clock rose by `rise` ns. `tasks` are its tasks now.
     pub fn take(&mut self, event: &Event, reply: &Reply, rise: u64, tasks: &[Entity])
         requires { length tasks.now ≤ TASKS }
         ensures { self.new ≡ lags_after (effect_of event.now reply.now) rise tasks.now self.old }
@@ -67,8 +67,8 @@ impl Lags {
         }
     }
 
-    /// Does what `take` does by what is known of the tasks, without a look at each, if that shows that none is owed more than one was
-    /// before. Answers whether it was done; if not, nothing has changed.
+    /// Does what `take` does without looking at each task, if the glance shows that none is owed more than one was before.
+    /// Answers whether it did; if not, nothing has changed.
     pub fn take_unseen(&mut self, event: &Event, reply: &Reply, rise: u64, glance: Glance) -> bool
         ensures done { (xs : List Task) → IsTrue result → IsGlance glance self.old.stretch xs → self.new ≡ lags_after (effect_of event.now reply.now) rise xs self.old }
         ensures left { result ≡ false → self.new ≡ self.old }
@@ -106,7 +106,7 @@ impl Lags {
 
     /// The stretch goes on, and no task is owed more than one was before.
     fn go_on_unseen(&mut self, stretch: Stretch, effect: Effect, rise: u64)
-        ensures { self.new ≡ record self.old { stretch = Some (decided_in effect (stretched rise stretch)); measured = counted self.old.measured 1 } }
+        ensures { self.new ≡ record self.old { stretch = Some (decided_in effect (stretched rise stretch)); measured = saturating_sum self.old.measured 1 } }
     {
         let mut stretch = stretch;
         stretch.rise(rise);
@@ -117,7 +117,7 @@ impl Lags {
         self.stretch = Some(stretch);
     }
 
-    /// A task was pulled from here.
+    /// A task was pulled from this processor, so its stretch ends.
     pub fn forget(&mut self)
         ensures { self.new ≡ forgotten self.old }
     {
@@ -152,7 +152,7 @@ fn effect_of(event: &Event, reply: &Reply) -> Effect
     }
 }
 
-/// A decision, by who made it.
+/// The effect of a decision, by who made it.
 fn effect_by(by: By) -> Effect
     ensures { result ≡ effect_by by }
 {

@@ -1,6 +1,6 @@
 //! How near a processor comes to the bounds of fairness, charge by charge.
 //! Promises that what is measured is exact, that the greatest is kept, and that no measure passes its bound (laws).
-//! Stands on bq_fairness for what fairness is, and on the definitions of one processor.
+//! Builds on bq_fairness for what fairness is, and on the definitions of one processor.
 #![tactic(auto)]
 
 pub mod bounds;

@@ -1,14 +1,14 @@
-//! Who runs at a processor, and how far behind the first of those stands that wait.
+//! The running task of a processor, and the first of the tasks that wait.
 ghost use Rattle.bq_weights.specs.VirtualTime.{IsWeight};
 
 /// The task that runs at a processor, before its time is charged.
 #[derive(Clone, Copy)]
 pub struct RunningTask {
-    /// Its virtual runtime.
+    /// The task's virtual runtime.
     pub v: u64,
-    /// Its weight.
+    /// The task's weight.
     pub weight: u32,
-    /// The least virtual runtime of those that wait in the queue; `None` where none does.
+    /// The least virtual runtime of the tasks that wait in the queue. `None` if none waits.
     pub least: Option<u64>,
     ghost weighs: { IsWeight weight },
 }

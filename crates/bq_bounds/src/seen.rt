@@ -1,4 +1,4 @@
-//! How a processor stands, as it is seen before an event.
+//! What is seen of a processor before an event.
 ghost use Rattle.std.specs.Prelude.{◌≡◌};
 ghost use Rattle.bq_bounds.specs.Charges.{least_waiting};
 ghost use Rattle.bq_bounds.specs.RunningTasks.{IsRunningTask};
@@ -7,7 +7,7 @@ use crate::running_task::RunningTask;
 use bq_disc::RunQueue;
 use bq_parts::Cpu;
 
-/// How a processor stands; `None` where nothing runs. It takes a time in the logarithm of the tasks that wait.
+/// The running task of a processor, and the first that waits. `None` if nothing runs. It takes a time in the logarithm of the waiting tasks.
 pub fn how_it_stands<Q: RunQueue>(cpu: &Cpu<Q>) -> Option<RunningTask>
     ensures { IsRunningTask cpu.now.running.current cpu.now.running.queue result }
 {
@@ -22,7 +22,7 @@ pub fn how_it_stands<Q: RunQueue>(cpu: &Cpu<Q>) -> Option<RunningTask>
     }
 }
 
-/// The least virtual runtime of those that wait.
+/// The least virtual runtime of the tasks that wait. `None` if none waits.
 fn least_waiting<Q: RunQueue>(cpu: &Cpu<Q>) -> Option<u64>
     ensures { result ≡ least_waiting cpu.now.running.queue }
 {

@@ -12,21 +12,21 @@ use bq_disc::Entity;
 use bq_disc::limits::TASKS;
 use bq_weights::{NICE_0_WEIGHT, time_of};
 
-/// A stretch as it goes on. Under EEVDF no task gets further ahead of the mean in it than one was at its beginning, except for one
-/// rise of the clock between two decisions; so none is owed more than the others can be ahead by together.
+/// The current stretch. Under EEVDF no task gets further ahead of the mean in it than one was at its beginning, except by one rise of the
+/// clock between two decisions. So no task is owed more than the others can be ahead together.
 #[derive(Clone, Copy)]
 pub struct Stretch {
     /// How far the furthest task was ahead of the mean at the beginning, in virtual nanoseconds.
     pub ahead: u64,
-    /// The greatest weight of its tasks.
+    /// The greatest weight of the stretch's tasks.
     pub heaviest: u32,
     /// How far the clock has risen since the discipline decided, or since the beginning.
     pub since: u64,
-    /// The most that this has come to.
+    /// The greatest value that `since` has had.
     pub most: u64,
 }
 
-/// What some tasks have together, when what each is owed is asked.
+/// The totals of some tasks, from which each task's lag is computed.
 #[derive(Clone, Copy)]
 struct Group {
     count: u32,
@@ -35,7 +35,7 @@ struct Group {
 }
 
 impl Stretch {
-    /// A stretch begins with these tasks.
+    /// A stretch that begins with these tasks.
     pub fn begin(tasks: &[Entity]) -> Stretch
         requires { length tasks.now ≤ TASKS }
         ensures { result ≡ beginning tasks.now }
@@ -64,7 +64,7 @@ impl Stretch {
         self.since = 0;
     }
 
-    /// What the task is owed that is owed most, of those that are there, and what it may be owed; of equal ones the first.
+    /// The greatest of what these tasks are owed, and what that task may be owed. Of equal ones it is the first. `None` if there is no task.
     pub fn most_owed(&self, tasks: &[Entity]) -> Option<Charge>
         requires { length tasks.now ≤ TASKS }
         ensures { result ≡ most_owed self.now tasks.now }
@@ -88,7 +88,7 @@ impl Stretch {
         best
     }
 
-    /// The most that any of its tasks can be owed, by what is known of them.
+    /// A bound on what any task of the stretch is owed, from a glance.
     pub fn at_most_owed(&self, glance: Glance) -> u64
         ensures { result ≡ min (at_most_owed glance self.now) (2 ^ 64 - 1) }
     {
@@ -96,7 +96,7 @@ impl Stretch {
         u64::try_from(time_of(behind, self.heaviest)).unwrap_or(u64::MAX)
     }
 
-    /// What one of some tasks is owed, and what it may be.
+    /// What a task of the group is owed, and what it may be owed.
     fn lag(&self, group: &Group, task: &Entity) -> Charge
         requires count { group.now.count ≤ TASKS }
         requires least { 1 ≤ group.now.weight }
@@ -130,7 +130,7 @@ impl Stretch {
     }
 }
 
-/// The most that any of some tasks is ahead of a mean.
+/// How far the furthest of some tasks is ahead of a mean. 0 if none is ahead.
 fn furthest(mean: u64, tasks: &[Entity]) -> u64
     ensures { result ≡ furthest mean tasks.now }
 {

@@ -1,4 +1,4 @@
-//! What some tasks have together.
+//! The totals of some tasks.
 ghost use Rattle.std.specs.Prelude.{◌≡◌, ◌≤◌, length};
 ghost use Rattle.bq_disc.specs.Totals.{sums_of, HasBounds};
 

@@ -1,4 +1,4 @@
-//! The charges of one processor, as far as only its discipline decides who runs there.
+//! The charges of one processor, while only its discipline decides who runs there.
 ghost use Rattle.std.specs.Prelude.{◌≡◌};
 ghost use Rattle.bq_bounds.specs.Watches.{unwatched, risen, measured, decided, disturbed, charged, greater, watch_after, decided_by_event};
 
@@ -8,22 +8,22 @@ use bq_hooks::By;
 use bq_parts::{Event, Reply};
 use bq_words::Rule;
 
-/// A processor as its charges come. Counts stop at their type's greatest number.
+/// The charges of one processor so far. Counts stop at their type's greatest number.
 #[derive(Clone, Copy)]
 pub struct Watch {
-    /// How far its clock has risen since its discipline decided who runs; `None` where a policy decided last, or a pull has
+    /// How far the clock has risen since the discipline decided who runs. `None` if a policy decided last, or if a pull has
     /// disturbed what the discipline saw.
     pub since: Option<u64>,
     /// How many charges were measured.
     pub measured: u64,
-    /// How many were not.
+    /// How many charges were not measured.
     pub left_out: u64,
-    /// Of those that were measured the first of greatest difference.
+    /// The first of the measured charges with the greatest difference.
     pub greatest: Option<Charge>,
 }
 
 impl Watch {
-    /// Nothing was decided yet.
+    /// A watch before the first event.
     pub fn new() -> Watch
         ensures { result ≡ unwatched }
     {
@@ -35,8 +35,8 @@ impl Watch {
         }
     }
 
-    /// An event of the processor was answered, whose clock rose by so much; it stood so before, and this is its mean since
-    /// the charge.
+    /// An event of the processor was answered, and its clock rose by `rise` ns. `running` is its running task before the event, `mean`
+    /// its mean after the charge.
     pub fn take(
         &mut self,
         rule: Rule,
@@ -78,7 +78,7 @@ impl Watch {
         }
     }
 
-    /// One charge more.
+    /// Measures one more charge.
     pub fn measure(&mut self, charge: Charge)
         ensures { self.new ≡ measured charge self.old }
     {
@@ -86,7 +86,7 @@ impl Watch {
         self.greatest = Some(greater(self.greatest, charge));
     }
 
-    /// Who decided now, if anyone did; `was_busy` where a task ran before.
+    /// Notes who decided at this event, if anyone did. `was_busy` is whether a task ran before.
     fn decide_by_event(&mut self, event: &Event, reply: &Reply, was_busy: bool)
         ensures { self.new ≡ decided_by_event event.now reply.now was_busy self.old }
     {
@@ -120,7 +120,7 @@ impl Watch {
         }
     }
 
-    /// It is decided who runs.
+    /// Notes who decided which task runs.
     fn decide(&mut self, by: By)
         ensures { self.new ≡ decided by self.old }
     {
@@ -138,7 +138,7 @@ impl Watch {
     }
 }
 
-/// The one of greater difference; of equal ones the first.
+/// The charge of greater difference, the first of two equal ones.
 pub(crate) fn greater(first: Option<Charge>, second: Charge) -> Charge
     ensures { result ≡ greater first second }
 {

@@ -3,6 +3,7 @@ use Rattle.std.specs.Prelude.{ℤ, pos}
 use Rattle.bq_bpf.specs.declared.helper.Helper.{Helper}
 use Rattle.bq_bpf.specs.declared.helper.Helper.TheVariants.{Lookup, Update, Now, Processor, AddCounter, ReadCounter}
 
+-- the number by which a program calls a helper
 abbrev pub number_of_helper : Helper → ℤ
 number_of_helper Lookup = pos 1
 number_of_helper Update = pos 2

@@ -1,7 +1,7 @@
 -- The limits of a map.
 use Rattle.std.specs.Prelude.{◌≡◌, ℕ, ◌%◌, ◌≤◌}
 
--- a value of 8 to 256 bytes in eights, and 1 to 256 entries
+-- a value has 8 to 256 bytes, a multiple of 8, and a map has 1 to 256 entries
 pub record IsShape (value_size entries : ℕ) : Type 0 where
   pub least_size : 8 ≤ value_size
   pub greatest_size : value_size ≤ 256

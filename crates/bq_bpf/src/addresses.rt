@@ -6,7 +6,7 @@ pub const CONTEXT_BASE: u64 = 0x1_0000_0000;
 /// The first address of the stack.
 pub const STACK_BASE: u64 = 0x2_0000_0000;
 
-/// How many bytes the stack has.
+/// The number of bytes of the stack.
 pub const STACK_SIZE: u64 = 512;
 
 /// A text with the size of the stack, in bytes, in it.
@@ -20,8 +20,8 @@ macro_rules! with_stack_size {
 /// The first address of the values of map 0.
 pub const VALUES_BASE: u64 = 0x10_0000_0000;
 
-/// How many addresses a page has: the context, the stack and each map's values have one.
+/// The number of addresses in a page. The context, the stack and the values of each map have a page each.
 pub const PAGE: u64 = 0x1_0000_0000;
 
-/// The reference of map 0; that of the next is one more.
+/// The reference of map 0; each next map has a reference one greater.
 pub const REFERENCE: u64 = 0x4000_0000_0000;

@@ -13,7 +13,7 @@ pub const ADD_COUNTER: i32 = 100;
 /// The number of `Helper::ReadCounter`.
 pub const READ_COUNTER: i32 = 101;
 
-/// A text with the number of a helper in it, which is named as its constant.
+/// A text with the number of a helper in it. The first argument names the helper by its constant.
 #[macro_export]
 macro_rules! with_helper {
     (LOOKUP, $before:literal, $behind:literal) => {
@@ -46,21 +46,21 @@ macro_rules! with_helpers {
     };
 }
 
-/// What a call asks of the machine (RFC 9669 section 4.3.1): the arguments are in registers 1 to 5, the answer comes in
-/// register 0.
+/// What a call asks of the machine (RFC 9669 section 4.3.1). The arguments are in registers 1 to 5, and register 0 gets
+/// the answer.
 #[derive(Clone, Copy)]
 pub enum Helper {
-    /// The address of an entry of a map, or 0.
+    /// Answers the address of an entry of a map, or 0 if there is no such entry.
     Lookup,
-    /// Writes a value into an entry; the answer is 0, or 2^64 - 1 where there is no such entry.
+    /// Writes a value into an entry; the answer is 0, or 2^64 - 1 if there is no such entry.
     Update,
-    /// The time, in nanoseconds.
+    /// Answers the time, in nanoseconds.
     Now,
-    /// The number of the processor.
+    /// Answers the number of the processor.
     Processor,
-    /// Adds to a counter that all processors share, and answers what it was.
+    /// Adds to a counter that all processors share, and answers what the counter was before.
     AddCounter,
-    /// What such a counter is.
+    /// Answers the value of a counter that all processors share.
     ReadCounter,
 }
 
@@ -84,7 +84,7 @@ impl Helper {
         }
     }
 
-    /// The number by which a program calls it.
+    /// The number by which a program calls the helper.
     pub fn number(self) -> i32
         ensures { result ≡ number_of_helper self }
     {

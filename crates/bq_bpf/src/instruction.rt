@@ -6,7 +6,7 @@ ghost use Rattle.bq_bpf.specs.Steps.{IsCounterCall};
 use crate::helper::{ADD_COUNTER, READ_COUNTER};
 use bq_insn::Insn;
 
-/// How far a jump goes, in slots from the one after it (RFC 9669 section 4.3); `None` where the instruction is no jump.
+/// How far a jump goes, in slots from the one after it (RFC 9669 section 4.3); `None` if the instruction is no jump.
 pub fn distance(insn: Insn) -> Option<i64>
     ensures { result ≡ distance_of insn }
 {
@@ -18,7 +18,7 @@ pub fn distance(insn: Insn) -> Option<i64>
     }
 }
 
-/// Whether control may go on to the next instruction: not from an EXIT or a jump without a condition.
+/// Whether control may go on to the next instruction: not from an EXIT or an unconditional jump.
 pub fn may_go_on(insn: Insn) -> bool
     ensures { result ≡ goes_on insn }
 {

@@ -16,7 +16,7 @@ pub mod shape;
 pub mod slots;
 pub mod words;
 
-pub use board::{Board, Call, Plain};
+pub use board::{Board, CounterCall, Plain};
 pub use code::{Code, IMMEDIATE, Packed};
 pub use helper::Helper;
 pub use list::pack_all;

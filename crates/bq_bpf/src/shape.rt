@@ -4,13 +4,13 @@ ghost use Rattle.std.specs.Prelude.{◌≡◌, ◌≤◌, ◌%◌, ◌↔◌, Is
 /// How many maps a program has at most.
 pub const MAPS: usize = 8;
 
-/// How many bytes the value of a map has at least, and of how many it has a multiple.
+/// The least number of bytes of a value. The number of bytes of each value is a multiple of it.
 pub const LEAST_SIZE: u16 = 8;
 
-/// How many bytes the value of a map has at most.
+/// The greatest number of bytes of a value.
 pub const GREATEST_SIZE: u16 = 256;
 
-/// How many entries a map has at most.
+/// The greatest number of entries of a map.
 pub const ENTRIES: u16 = 256;
 
 /// Which sizes a value may have, in words.
@@ -19,7 +19,7 @@ pub const SIZE_WORDS: &str = "8 to 256, a multiple of 8";
 /// How many entries there may be, in words.
 pub const ENTRIES_WORDS: &str = "1 to 256";
 
-/// A text with the same words in it, and how many maps a program has at most.
+/// A text with the limits of sizes, entries and maps in it.
 #[macro_export]
 macro_rules! with_map_limits {
     ($size:literal, $entries:literal, $maps:literal, $behind:literal) => {
@@ -35,7 +35,7 @@ macro_rules! with_map_limits {
     };
 }
 
-/// How many bytes a value has, and how many entries there are.
+/// The shape of a map: how many bytes a value has, and how many entries there are.
 ///
 /// A value has 8 to 256 bytes, in eights, and there are 1 to 256 entries.
 #[derive(Clone, Copy, PartialEq, Eq)]
@@ -55,7 +55,7 @@ impl MapShape {
     ghost use Rattle.std.specs.Prelude.{IfSome, IfNone};
     ghost use Rattle.bq_bpf.specs.Limits.{IsShape};
 
-    /// The shape of these numbers; `None` where one is not within its limits.
+    /// The shape with these numbers; `None` if one of them is not within its limits.
     pub fn new(value_size: u16, entries: u16) -> Option<MapShape>
         ensures size { IfSome result (λ s. s.value_size ≡ value_size) }
         ensures entries { IfSome result (λ s. s.entries ≡ entries) }

@@ -26,7 +26,9 @@ least_of_two x m xs false e h =
 -- no v is below that of the least task
 pub none_below_least : (x : Task) (xs : List Task) → NoneBelow (former runs_before x (least xs)).v (x ∷ xs)
 none_below_least x [] = (omega arith, tt)
-none_below_least x (y ∷ ys) = least_of_two x (former runs_before y (least ys)) (y ∷ ys) (runs_before (former runs_before y (least ys)) x) refl (none_below_least y ys)
+none_below_least x (y ∷ ys) =
+    least_of_two x (former runs_before y (least ys)) (y ∷ ys) (runs_before (former runs_before y (least ys)) x) refl
+    (none_below_least y ys)
 
 -- The bound
 

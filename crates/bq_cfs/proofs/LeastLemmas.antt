@@ -14,4 +14,5 @@ both (Some t) P Q h k = (h, k)
 -- it is a member, and no member comes before it
 pub choice_is_least : ChoiceIsLeast
 choice_is_least xs =
-    both (least xs) (Contains xs) (λ t. (u : Task) → Contains xs u → runs_before u t ≡ false) (first_by-member runs_before xs) (first_by-least runs_before runs_before-IsOrder xs)
+    both (least xs) (Contains xs) (λ t. (u : Task) → Contains xs u → runs_before u t ≡ false) (first_by-member runs_before xs)
+    (first_by-least runs_before runs_before-IsOrder xs)

@@ -34,7 +34,9 @@ IsLevel-charged V d n time t h under le =
     record { near = omega arith; reach = omega arith; weight = h.weight; ends = omega arith }
 
 -- what is known of each of some tasks, joined
-level_of : (V d n : ℕ) (xs : List Task) → AllByRecursion (IsNear V n) xs → AllByRecursion (λ t. t.v ≤ n + vdelta_of d 15) xs → AllByRecursion (λ t. IsWeight t.weight) xs → AllByRecursion (λ t. t.v ≤ 2 ^ 62) xs → AllByRecursion (IsLevel V d n) xs
+level_of : (V d n : ℕ) (xs : List Task) → AllByRecursion (IsNear V n) xs → AllByRecursion (λ t. t.v ≤ n + vdelta_of d 15) xs
+    → AllByRecursion (λ t. IsWeight t.weight) xs → AllByRecursion (λ t. t.v ≤ 2 ^ 62) xs
+    → AllByRecursion (IsLevel V d n) xs
 level_of V d n [] near reach weight ends = tt
 level_of V d n (x ∷ xs) near reach weight ends = (
   record { near = near.0; reach = reach.0; weight = weight.0; ends = ends.0 },
@@ -42,7 +44,8 @@ level_of V d n (x ∷ xs) near reach weight ends = (
 )
 
 -- the tasks of a processor that is within its bound
-pub within_bound_is_level : (V d : ℕ) (p : Running) → IsSound p → IsWithin V d p → AllByRecursion (IsLevel V d (bound V (present_at p))) (present_at p)
+pub within_bound_is_level : (V d : ℕ) (p : Running) → IsSound p → IsWithin V d p
+    → AllByRecursion (IsLevel V d (bound V (present_at p))) (present_at p)
 within_bound_is_level V d p s w =
     let xs = present_at p in
     let n = bound V xs in

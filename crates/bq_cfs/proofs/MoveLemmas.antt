@@ -38,7 +38,8 @@ each-with_id P i (x ∷ xs) h = found_by_test P (eqb x.id i) x (with_id i xs) h.
 pub distinct-started : (m : Task) (q : List Task) → HasDistinctIds q → HasDistinctIds (m ∷ without m.id q)
 distinct-started m q d = (with_id-without_same m.id q d, HasDistinctIds-without m.id q d)
 
-another : (u m : Task) (q : List Task) (b : Bool) → eqb u.id m.id ≡ b → with_id u.id q ≡ None → with_id m.id q ≡ Some m → eqb u.id m.id ≡ false
+another : (u m : Task) (q : List Task) (b : Bool) → eqb u.id m.id ≡ b → with_id u.id q ≡ None → with_id m.id q ≡ Some m
+    → eqb u.id m.id ≡ false
 another u m q true e n s =
     let same : u.id ≡ m.id = grind (arith, nat_tests) in
     let found = ap (λ i. with_id i q) same in
@@ -46,7 +47,8 @@ another u m q true e n s =
 another u m q false e n s = e
 
 -- a task of the queue and the current one change places
-pub distinct-exchanged : (u m : Task) (q : List Task) → with_id m.id q ≡ Some m → HasDistinctIds (u ∷ q) → HasDistinctIds (m ∷ place u (without m.id q))
+pub distinct-exchanged : (u m : Task) (q : List Task) → with_id m.id q ≡ Some m → HasDistinctIds (u ∷ q)
+    → HasDistinctIds (m ∷ place u (without m.id q))
 distinct-exchanged u m q s d =
     let rest = without m.id q in
     let apart = another u m q (eqb u.id m.id) refl d.0 s in (

@@ -16,5 +16,7 @@ current_begins V (Some t) q h = omega (arith, All-head (λ (s : Task). s.v ≤ V
 pub begins_within : BeginsWithin
 begins_within V d p h = record {
   current = current_begins V p.current p.queue h;
-  each = All-weaker (λ (t : Task). t.v ≤ V) (λ (t : Task). t.v ≤ bound V (present_at p) + vdelta_of d 15) (λ t k. omega (arith, bound-least V (present_at p))) (present_at p) h;
+  each =
+      All-weaker (λ (t : Task). t.v ≤ V) (λ (t : Task). t.v ≤ bound V (present_at p) + vdelta_of d 15)
+      (λ t k. omega (arith, bound-least V (present_at p))) (present_at p) h;
 }

@@ -25,13 +25,14 @@ use Rattle.bq_cfs.proofs.LevelLemmas.{IsLevel, IsLevel-charged, within_bound_is_
 abbrev RunsNear : Option Task → List Task → Type 0
 RunsNear o q = IfSome o (λ m. AllByRecursion (λ t. m.v ≤ t.v + 1000000) (present o q))
 
--- so it is within the bound
+-- the task that runs is within the bound
 current_within : (V : ℕ) (o : Option Task) (q : List Task) → RunsNear o q → IfSome o (λ t. t.v ≤ bound V (present o q))
 current_within V None q h = tt
 current_within V (Some m) q h =
-    at_most_bound V m.v m q (All-from_recursion (IsNear V m.v) (m ∷ q) (weaker_of_each (λ (t : Task). m.v ≤ t.v + 1000000) (IsNear V m.v) (λ t k. omega arith) (m ∷ q) h))
+    at_most_bound V m.v m q (All-from_recursion (IsNear V m.v) (m ∷ q)
+    (weaker_of_each (λ (t : Task). m.v ≤ t.v + 1000000) (IsNear V m.v) (λ t k. omega arith) (m ∷ q) h))
 
--- and each task is within it and the time that d takes
+-- each task is within the bound and the time that d takes
 each_within : (V d n : ℕ) (xs : List Task) → AllByRecursion (IsLevel V d n) xs → All (λ t. t.v ≤ bound V xs + vdelta_of d 15) xs
 each_within V d n [] h = All-from_recursion (λ (t : Task). t.v ≤ bound V [] + vdelta_of d 15) [] tt
 each_within V d n (x ∷ xs) h =
@@ -45,13 +46,19 @@ abbrev Stays : ℕ → ℕ → Running → Type 0
 Stays V d p = IsSound p × IsWithin V d p
 
 -- it does so where what was known of each task holds of those that are left, and the task that runs is near them
-stays : (V d n : ℕ) (p : Running) → HasDistinctIds (present_at p) → AllByRecursion (IsLevel V d n) (present_at p) → RunsNear p.current p.queue → Stays V d p
+stays : (V d n : ℕ) (p : Running) → HasDistinctIds (present_at p) → AllByRecursion (IsLevel V d n) (present_at p)
+    → RunsNear p.current p.queue
+    → Stays V d p
 stays V d n p distinct h runs =
     let xs = present_at p in (
       record {
         distinct = distinct;
-        weights = All-from_recursion (λ (t : Task). IsWeight t.weight) xs (weaker_of_each (IsLevel V d n) (λ (t : Task). IsWeight t.weight) (λ t l. l.weight) xs h);
-        ends = All-from_recursion (λ (t : Task). t.v ≤ 2 ^ 62) xs (weaker_of_each (IsLevel V d n) (λ (t : Task). t.v ≤ 2 ^ 62) (λ t l. l.ends) xs h);
+        weights =
+            All-from_recursion (λ (t : Task). IsWeight t.weight) xs
+            (weaker_of_each (IsLevel V d n) (λ (t : Task). IsWeight t.weight) (λ t l. l.weight) xs h);
+        ends =
+            All-from_recursion (λ (t : Task). t.v ≤ 2 ^ 62) xs
+            (weaker_of_each (IsLevel V d n) (λ (t : Task). t.v ≤ 2 ^ 62) (λ t l. l.ends) xs h);
       },
       record { current = current_within V p.current p.queue runs; each = each_within V d n xs h },
     )
@@ -59,7 +66,8 @@ stays V d n p distinct h runs =
 -- Nothing runs, and the queue's choice starts
 
 -- with distinct ids, the least task is the one of its id
-pub least_is_found : (x : Task) (xs : List Task) → HasDistinctIds (x ∷ xs) → (let m = former runs_before x (least xs) in with_id m.id (x ∷ xs) ≡ Some m)
+pub least_is_found : (x : Task) (xs : List Task) → HasDistinctIds (x ∷ xs)
+    → (let m = former runs_before x (least xs) in with_id m.id (x ∷ xs) ≡ Some m)
 least_is_found x xs d =
     let m = former runs_before x (least xs) in
     let c = first_by-member runs_before (x ∷ xs) in
@@ -69,16 +77,23 @@ least_is_found x xs d =
 abbrev pub idle_processor : List Task → ℕ → ℕ → Running
 idle_processor q kept last = record { queue = q; kept = kept; current = None; last = last }
 
-started_stays : (V d n kept last : ℕ) (q : List Task) (m : Task) → with_id m.id q ≡ Some m → HasDistinctIds q → AllByRecursion (IsLevel V d n) q → NoneBelow m.v q → Stays V d (run_id (idle_processor q kept last) (Some m.id))
+started_stays : (V d n kept last : ℕ) (q : List Task) (m : Task)
+    → with_id m.id q ≡ Some m → HasDistinctIds q → AllByRecursion (IsLevel V d n) q → NoneBelow m.v q
+    → Stays V d (run_id (idle_processor q kept last) (Some m.id))
 started_stays V d n kept last q m found distinct h none =
-    rw found (stays V d n (record { queue = without m.id q; kept = kept; current = Some m; last = last }) (distinct-started m q distinct)
-    (rw found at (each-with_id (IsLevel V d n) m.id q h), each-without (IsLevel V d n) m.id q h)
-    (omega arith, each-without (λ (t : Task). m.v ≤ t.v + 1000000) m.id q (weaker_of_each (λ (t : Task). m.v ≤ t.v) (λ (t : Task). m.v ≤ t.v + 1000000) (λ t k. omega arith) q none)))
+    rw found (stays V d n (record { queue = without m.id q; kept = kept; current = Some m; last = last })
+    (distinct-started m q distinct) (rw found at (each-with_id (IsLevel V d n) m.id q h), each-without (IsLevel V d n) m.id q h) (
+      omega arith,
+      each-without (λ (t : Task). m.v ≤ t.v + 1000000) m.id q
+          (weaker_of_each (λ (t : Task). m.v ≤ t.v) (λ (t : Task). m.v ≤ t.v + 1000000) (λ t k. omega arith) q none),
+    ))
 
-start_stays : (V d n kept last : ℕ) (q : List Task) → HasDistinctIds q → AllByRecursion (IsLevel V d n) q → Stays V d (start cfs (idle_processor q kept last))
+start_stays : (V d n kept last : ℕ) (q : List Task) → HasDistinctIds q → AllByRecursion (IsLevel V d n) q
+    → Stays V d (start cfs (idle_processor q kept last))
 start_stays V d n kept last [] distinct h = stays V d n (idle_processor [] kept last) tt tt tt
 start_stays V d n kept last (x ∷ xs) distinct h =
-    started_stays V d n kept last (x ∷ xs) (former runs_before x (least xs)) (least_is_found x xs distinct) distinct h (none_below_least x xs)
+    started_stays V d n kept last (x ∷ xs) (former runs_before x (least xs)) (least_is_found x xs distinct) distinct h
+    (none_below_least x xs)
 
 -- The current task keeps running, or gives way
 
@@ -87,14 +102,17 @@ abbrev pub busy_processor : List Task → ℕ → Task → ℕ → Running
 busy_processor q kept u last = record { queue = q; kept = kept; current = Some u; last = last }
 
 -- a task that is at most 1,000,000 beyond the least is so beyond each
-pub near_each : (n : ℕ) (q : List Task) → option_map_or (λ (t : Task). nat_lt (t.v + 1000000) n) (least q) false ≡ false → AllByRecursion (λ t. n ≤ t.v + 1000000) q
+pub near_each : (n : ℕ) (q : List Task) → option_map_or (λ (t : Task). nat_lt (t.v + 1000000) n) (least q) false ≡ false
+    → AllByRecursion (λ t. n ≤ t.v + 1000000) q
 near_each n [] e = tt
 near_each n (x ∷ xs) e =
     let m = former runs_before x (least xs) in
     let le : n ≤ m.v + 1000000 = grind (arith, nat_tests) in
     weaker_of_each (λ (t : Task). m.v ≤ t.v) (λ (t : Task). n ≤ t.v + 1000000) (λ t k. omega arith) (x ∷ xs) (none_below_least x xs)
 
-kept_stays : (V d n kept last : ℕ) (q : List Task) (u : Task) → HasDistinctIds (u ∷ q) → AllByRecursion (IsLevel V d n) (u ∷ q) → own_preempt cfs q (Some u) ≡ false → Stays V d (busy_processor q kept u last)
+kept_stays : (V d n kept last : ℕ) (q : List Task) (u : Task)
+    → HasDistinctIds (u ∷ q) → AllByRecursion (IsLevel V d n) (u ∷ q) → own_preempt cfs q (Some u) ≡ false
+    → Stays V d (busy_processor q kept u last)
 kept_stays V d n kept last q u distinct h e = stays V d n (busy_processor q kept u last) distinct h (omega arith, near_each u.v q e)
 
 next_by_test : (a u : Task) (b c : Bool) → b ≡ true → cond c a.id (cond b a u).id ≡ a.id
@@ -109,29 +127,45 @@ next_is_least u x xs lt =
     let before : runs_before m u ≡ true = grind (arith, nat_tests) in
     next_by_test m u (runs_before m u) (eqb (cond (runs_before m u) m u).id u.id) before
 
-exchanged_stays : (V d n kept last next : ℕ) (q : List Task) (u m : Task) → next ≡ m.id → with_id m.id q ≡ Some m → HasDistinctIds (u ∷ q) → AllByRecursion (IsLevel V d n) (u ∷ q) → NoneBelow m.v q → m.v ≤ u.v → Stays V d (exchanged (busy_processor q kept u last) u (with_id next q))
+exchanged_stays : (V d n kept last next : ℕ) (q : List Task) (u m : Task)
+    → next ≡ m.id → with_id m.id q ≡ Some m → HasDistinctIds (u ∷ q) → AllByRecursion (IsLevel V d n) (u ∷ q)
+    → NoneBelow m.v q → m.v ≤ u.v
+    → Stays V d (exchanged (busy_processor q kept u last) u (with_id next q))
 exchanged_stays V d n kept last next q u m chosen found distinct h none le =
     let near : Task → Type 0 = λ t. m.v ≤ t.v + 1000000 in
-    rw (chosen, found) (stays V d n (exchanged (busy_processor q kept u last) u (Some m)) (distinct-exchanged u m q found distinct)
-    (rw found at (each-with_id (IsLevel V d n) m.id q h.1), each-place (IsLevel V d n) u (without m.id q) h.0 (each-without (IsLevel V d n) m.id q h.1))
-    (omega arith, each-place near u (without m.id q) (omega arith) (each-without near m.id q (weaker_of_each (λ (t : Task). m.v ≤ t.v) near (λ t k. omega arith) q none))))
+    rw (chosen, found) (stays V d n (exchanged (busy_processor q kept u last) u (Some m))
+    (distinct-exchanged u m q found distinct) (
+      rw found at (each-with_id (IsLevel V d n) m.id q h.1),
+      each-place (IsLevel V d n) u (without m.id q) h.0 (each-without (IsLevel V d n) m.id q h.1),
+    ) (
+      omega arith,
+      each-place near u (without m.id q) (omega arith)
+          (each-without near m.id q (weaker_of_each (λ (t : Task). m.v ≤ t.v) near (λ t k. omega arith) q none)),
+    ))
 
-switched_stays : (V d n kept last : ℕ) (q : List Task) (u : Task) → HasDistinctIds (u ∷ q) → AllByRecursion (IsLevel V d n) (u ∷ q) → own_preempt cfs q (Some u) ≡ true → Stays V d (switched cfs (busy_processor q kept u last) (Some u))
+switched_stays : (V d n kept last : ℕ) (q : List Task) (u : Task)
+    → HasDistinctIds (u ∷ q) → AllByRecursion (IsLevel V d n) (u ∷ q) → own_preempt cfs q (Some u) ≡ true
+    → Stays V d (switched cfs (busy_processor q kept u last) (Some u))
 switched_stays V d n kept last [] u distinct h e = cc
 switched_stays V d n kept last (x ∷ xs) u distinct h e =
     let m = former runs_before x (least xs) in
     let lt : m.v + 1000000 < u.v = grind (arith, nat_tests) in
     let found = least_is_found x xs distinct.1 in
-    exchanged_stays V d n kept last (next_of cfs u (x ∷ xs)) (x ∷ xs) u m (next_is_least u x xs (omega arith)) found distinct h (none_below_least x xs) (omega arith)
+    exchanged_stays V d n kept last (next_of cfs u (x ∷ xs)) (x ∷ xs) u m (next_is_least u x xs (omega arith)) found
+    distinct h (none_below_least x xs) (omega arith)
 
-decided_stays : (V d n kept last : ℕ) (q : List Task) (u : Task) (b : Bool) → own_preempt cfs q (Some u) ≡ b → HasDistinctIds (u ∷ q) → AllByRecursion (IsLevel V d n) (u ∷ q) → Stays V d (decided cfs (busy_processor q kept u last) (Some u) b)
+decided_stays : (V d n kept last : ℕ) (q : List Task) (u : Task) (b : Bool)
+    → own_preempt cfs q (Some u) ≡ b → HasDistinctIds (u ∷ q) → AllByRecursion (IsLevel V d n) (u ∷ q)
+    → Stays V d (decided cfs (busy_processor q kept u last) (Some u) b)
 decided_stays V d n kept last q u true e distinct h = switched_stays V d n kept last q u distinct h e
 decided_stays V d n kept last q u false e distinct h = kept_stays V d n kept last q u distinct h e
 
 -- Events
 
--- the same of a processor by its parts
-event_stays : (V d : ℕ) (q : List Task) (kept : ℕ) (o : Option Task) (last : ℕ) (e : Event) → (let p : Running = record { queue = q; kept = kept; current = o; last = last } in IsSound p → IsWithin V d p → rise p (read_at e) ≤ d → Stays V d (passed p e))
+-- an event keeps a processor, given by its parts, within its bound
+event_stays : (V d : ℕ) (q : List Task) (kept : ℕ) (o : Option Task) (last : ℕ) (e : Event)
+    → (let p : Running = record { queue = q; kept = kept; current = o; last = last } in
+    IsSound p → IsWithin V d p → rise p (read_at e) ≤ d → Stays V d (passed p e))
 event_stays V d q kept None last (Tick now) s w le =
     let p = idle_processor q kept last in
     let c = charge cfs p now in
@@ -154,7 +188,7 @@ event_stays V d q kept (Some t) last (Block now) s w le =
 pub stays_within : StaysWithin
 stays_within V d p e = event_stays V d p.queue p.kept p.current p.last e
 
--- and so does any number of them
+-- any number of events keep a processor within its bound
 pub history_stays_within : HistoryStaysWithin
 history_stays_within V d p [] s w rises = (s, w)
 history_stays_within V d p (e ∷ es) s w rises =

@@ -6,14 +6,16 @@ use Rattle.bq_weights.specs.VirtualTime.{shift_of}
 use Rattle.bq_disc.specs.Tasks.{Task, first_by, runs_before}
 use Rattle.bq_disc.specs.Discipline.{Discipline}
 
--- rel, but not below -3,000,000
+-- rel, but no less than -3,000,000
 abbrev pub held_above : ℤ → ℤ
 held_above (pos n) = pos n
 held_above (negsuc n) = negsuc (min n 2999999)
 
+-- the task of least (v, id)
 abbrev pub least : List Task → Option Task
 least xs = first_by runs_before xs
 
+-- CFS as a discipline
 abbrev pub cfs : Discipline
 cfs = record {
   choice = λ xs. least xs;

@@ -9,52 +9,53 @@ use Rattle.bq_disc.specs.Queues.{HasDistinctIds}
 use Rattle.bq_disc.specs.OneProcessor.{Running, present_at, charge, start, rise, ticked}
 use Rattle.bq_cfs.specs.Cfs.{cfs, least}
 
--- what every processor keeps of the tasks that are present: their ids differ, their weights are of the table's range,
--- and their virtual times end at 2^62
+-- what every processor keeps true of the tasks that are present: their ids differ, their weights are in the table's range,
+-- and their virtual times are at most 2^62
 pub record IsSound (p : Running) : Type 0 where
   pub distinct : HasDistinctIds (present_at p)
   pub weights : All (λ t. IsWeight t.weight) (present_at p)
   pub ends : All (λ t. t.v ≤ 2 ^ 62) (present_at p)
 
--- the greater of V and 1,000,000 beyond the least v of some tasks
+-- the greater of V and 1,000,000 beyond the least v of some tasks; V if there is no task
 abbrev pub bound : ℕ → List Task → ℕ
 bound V xs = option_map_or (λ (t : Task). max V (t.v + GRANULARITY)) (least xs) V
 
--- the task that runs is not beyond the bound, and no task present is beyond it by more than time d takes at the least weight
+-- the running task is not beyond the bound, and no task present is beyond it by more than time d takes at the least weight
 pub record IsWithin (V d : ℕ) (p : Running) : Type 0 where
   pub current : IfSome p.current (λ t. t.v ≤ bound V (present_at p))
   pub each : All (λ t. t.v ≤ bound V (present_at p) + vdelta_of d 15) (present_at p)
 
--- an event at a reading of the clock
+-- an event, with the reading of the clock at which it comes
 pub data Event : Type 0 where
   Tick : ℕ → Event
   Block : ℕ → Event
 
+-- the reading at which an event comes
 abbrev pub read_at : Event → ℕ
 read_at (Tick now) = now
 read_at (Block now) = now
 
--- the current task goes, and the queue's choice runs; where nothing runs a Block is refused
+-- Block: the current task goes, and the queue's choice runs; if nothing runs, the Block is refused and nothing changes
 abbrev pub departed : Running → ℕ → Option Task → Running
 departed p now None = p
 departed p now (Some t) = start cfs (record (charge cfs p now) { current = None })
 
--- the processor that an event leaves, where only the rule says whether the current task gives way
+-- the processor after an event, if only the rule decides whether the current task gives way
 abbrev pub passed : Running → Event → Running
 passed p (Tick now) = ticked cfs p now
 passed p (Block now) = departed p now p.current
 
--- the processor that some events leave, one after another
+-- the processor after some events, one after another
 abbrev pub passed_all : Running → List Event → Running
 passed_all p [] = p
 passed_all p (e ∷ es) = passed_all (passed p e) es
 
--- the clock rises by at most d at each of some events
+-- the clock rises by at most d at each of the events
 abbrev pub RisesByAtMost : ℕ → Running → List Event → Type 0
 RisesByAtMost d p [] = Unit {0}
 RisesByAtMost d p (e ∷ es) = (rise p (read_at e) ≤ d) × RisesByAtMost d (passed p e) es
 
--- where no v present is beyond V, the processor is within it
+-- if no v present is beyond V, the processor is within V and d
 abbrev pub BeginsWithin : Type 0
 BeginsWithin = (V d : ℕ) (p : Running) → All (λ t. t.v ≤ V) (present_at p) → IsWithin V d p
 
@@ -63,7 +64,7 @@ abbrev pub StaysWithin : Type 0
 StaysWithin =
     (V d : ℕ) (p : Running) (e : Event) → IsSound p → IsWithin V d p → rise p (read_at e) ≤ d → IsSound (passed p e) × IsWithin V d (passed p e)
 
--- and so do any number of them
+-- any number of such events keep the processor within V and d
 abbrev pub HistoryStaysWithin : Type 0
 HistoryStaysWithin =
     (V d : ℕ) (p : Running) (es : List Event) → IsSound p → IsWithin V d p → RisesByAtMost d p es → IsSound (passed_all p es) × IsWithin V d (passed_all p es)

@@ -26,7 +26,7 @@ pub struct Cfs;
 /// The run queue under CFS, on a balanced tree.
 pub type CfsQueue = RuledQueue<Tree<NoSums>, Cfs>;
 
-/// The (v, id) of the first of a queue and of one more task, by that of the queue's first.
+/// The least (v, id) of the queue and the current task; `queue` is the queue's least.
 fn first(current: Option<&Node>, queue: Option<(u64, u16)>) -> Option<(u64, u16)>
     ensures key { (xs : List Task) → queue ≡ option_map key_of (least xs) → result ≡ option_map key_of (least (present (option_map (λ n. task_of n.now) current.entry) xs)) }
     ensures high { IfSome queue (λ key. key.0 ≤ 2 ^ 62) → IfSome result (λ key. key.0 ≤ 2 ^ 62) }

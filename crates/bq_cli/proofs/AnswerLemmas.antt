@@ -13,8 +13,9 @@ module _ (Writes : List ℕ → Bool → List ℕ → Type 0) (from to old : Opt
   broken_before gave = inl (gave, Keeps-refl old)
 
   -- all was read, and its answer is the whole of what was written
-  pub answered : (new : Option (List ℕ)) (items input output : List ℕ) (accepted ended : Bool) → GivesAll from to items → input ≡ items → Writes input accepted output
-      → (ended ≡ accepted) × Appends old new output → AnswersAll Writes from to old new ended
+  pub answered : (new : Option (List ℕ)) (items input output : List ℕ) (accepted ended : Bool)
+      → GivesAll from to items → input ≡ items → Writes input accepted output → (ended ≡ accepted) × Appends old new output
+      → AnswersAll Writes from to old new ended
   answered new items input output accepted ended gave same answers wrote = record {
     input = input;
     output = output;
@@ -24,8 +25,9 @@ module _ (Writes : List ℕ → Bool → List ℕ → Type 0) (from to old : Opt
   }
 
   -- all was read, and a beginning of its answer was written
-  pub broken_in : (new : Option (List ℕ)) (items input output : List ℕ) (accepted : Bool) → GivesAll from to items → input ≡ items → Writes input accepted output
-      → AppendsPart old new output → BreaksOff Writes from to old new
+  pub broken_in : (new : Option (List ℕ)) (items input output : List ℕ) (accepted : Bool)
+      → GivesAll from to items → input ≡ items → Writes input accepted output → AppendsPart old new output
+      → BreaksOff Writes from to old new
   broken_in new items input output accepted gave same answers wrote = inr record {
     input = input;
     output = output;

@@ -14,7 +14,12 @@ abbrev first : Text → ℕ
 first text = slice_index_or text 0 0
 
 -- a name and its rows, of an entry that is there
-pub name_and_rows_of_entry : {B : Type 0} (o : Option B) (f : B → Text) (g : B → List Row) (word name : Text) (rows rows' : List Row) → option_map f o ≡ Some word → option_map (λ (p : Text × List Row). p.1) (option_map {U = Text × List Row} (λ b. (f b, g b)) o) ≡ Some rows' → option_map {U = Text × List Row} (λ b. (f b, g b)) o ≡ Some (name, rows) → (name ≡ word) × (rows ≡ rows')
+pub name_and_rows_of_entry : {B : Type 0} (o : Option B) (f : B → Text) (g : B → List Row) (word name : Text)
+    (rows rows' : List Row)
+    → option_map f o ≡ Some word
+    → option_map (λ (p : Text × List Row). p.1) (option_map {U = Text × List Row} (λ b. (f b, g b)) o) ≡ Some rows'
+    → option_map {U = Text × List Row} (λ b. (f b, g b)) o ≡ Some (name, rows)
+    → (name ≡ word) × (rows ≡ rows')
 name_and_rows_of_entry None f g word name rows rows' a b e = absurd (cc)
 name_and_rows_of_entry (Some x) f g word name rows rows' a b e =
     let pair = same_Some {A = Text × List Row} (f x, g x) (name, rows) e in
@@ -23,7 +28,9 @@ name_and_rows_of_entry (Some x) f g word name rows rows' a b e =
     (sym names ∙ same_Some (f x) word a, sym same ∙ same_Some (g x) rows' b)
 
 -- only `par` has its name
-pub only_par_has_its_name : (rows rows' : List Row) (c : Command) (Out : Type 0) → name_of c ≡ codes "par" → rows ≡ rows' → HasValues rows c → ((p : Parallel) → IsParallel rows' p → Out) → Out
+pub only_par_has_its_name : (rows rows' : List Row) (c : Command) (Out : Type 0)
+    → name_of c ≡ codes "par" → rows ≡ rows' → HasValues rows c → ((p : Parallel) → IsParallel rows' p → Out)
+    → Out
 only_par_has_its_name rows rows' (Asm w) Out is same given k = let letters : 97 ≡ 112 = ap first is in absurd (omega (arith, letters))
 only_par_has_its_name rows rows' (Check w) Out is same given k = let letters : 99 ≡ 112 = ap first is in absurd (omega (arith, letters))
 only_par_has_its_name rows rows' (Dis w) Out is same given k = let letters : 100 ≡ 112 = ap first is in absurd (omega (arith, letters))

@@ -3,7 +3,7 @@ use Rattle.std.specs.Prelude.{List, [], ◌∷◌, ◌++◌, codes}
 use Rattle.clap.specs.Words.{App, Rule, Shape}
 use Rattle.bq_console.specs.Tables.{command, empty_program, flag_rule, needed_rule, often_rule, option_rule, with_commands, word_rule, words_rule}
 
--- what is said of a file beside it: its hook, its maps and its format, and how much of it is read
+-- the options that describe a file: its hook, its maps and its format, and how much of it is read
 abbrev pub head_rules : List Rule
 head_rules = option_rule (codes "hook") ∷ option_rule (codes "maps") ∷ option_rule (codes "format") ∷ option_rule (codes "max-bytes") ∷ []
 
@@ -28,6 +28,7 @@ run_rules =
     option_rule (codes "ctx") ∷ often_rule (codes "set") ∷ often_rule (codes "map") ∷ option_rule (codes "time") ∷ option_rule (codes "processor")
     ∷ often_rule (codes "counter") ∷ flag_rule (codes "trace") ∷ option_rule (codes "repeat") ∷ []
 
+-- the words of `par`
 abbrev pub par_rules : List Rule
 par_rules = needed_rule (codes "rule") ∷ needed_rule (codes "processors") ∷ needed_rule (codes "ticks") ∷ []
 
@@ -36,7 +37,7 @@ abbrev pub part_rules : List Rule
 part_rules = option_rule (codes "from") ∷ option_rule (codes "to") ∷ option_rule (codes "cpus") ∷ option_rule (codes "tasks") ∷ option_rule (codes "width")
     ∷ option_rule (codes "theme") ∷ option_rule (codes "title") ∷ []
 
--- a workload's file, and what stands in the place of its machine and its seed
+-- the words of `simulate` on a workload: its file, and what replaces its machine and its seed
 abbrev pub workload_rules : List Rule
 workload_rules =
     word_rule (codes "file") ∷ option_rule (codes "discipline") ∷ option_rule (codes "processors") ∷ option_rule (codes "duration") ∷ option_rule (codes "seed")

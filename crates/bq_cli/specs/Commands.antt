@@ -6,6 +6,7 @@ use Rattle.bq_cli.specs.Words.{AreAsmWords, AreCheckWords, AreListWords, ArePoli
 use Rattle.bq_cli.specs.declared.command.Command.{Command}
 use Rattle.bq_cli.specs.declared.command.Command.TheVariants.{Asm, Check, Dis, Import, Par, Replay, Run, Simulate, Timeline}
 
+-- the name of a command
 abbrev pub name_of : Command → Text
 name_of (Asm w) = codes "asm"
 name_of (Check w) = codes "check"

@@ -12,7 +12,7 @@ use Rattle.bq_policy_file.specs.declared.options.Options.{Options}
 use Rattle.bq_cli.specs.declared.filter.Filter.{Filter}
 use Rattle.bq_cli.specs.declared.filter.Filter.TheVariants.{Asm, Check, Dis}
 
--- What a filter may write for an input, and whether it accepts it then.
+-- What a filter may write for an input, and whether it accepts the input then.
 abbrev pub FilterWrites : Filter → List ℕ → Bool → List ℕ → Type 0
 FilterWrites (Asm form) = AsmWrites form
 FilterWrites Check = CheckWrites
@@ -35,7 +35,7 @@ pub record AnswersPart (Writes : List ℕ → Bool → List ℕ → Type 0) (fro
   pub added : AppendsPart old new output
   pub answers : Writes input accepted output
 
--- The writer got nothing so far, or a beginning of the answer to all that the reader had.
+-- The writer got nothing until now, or a beginning of the answer to all that the reader had.
 abbrev pub BreaksOff : (List ℕ → Bool → List ℕ → Type 0) → Option (List ℕ) → Option (List ℕ) → Option (List ℕ) → Option (List ℕ) → Type 0
 BreaksOff Writes from to old new = (GivesSome from to × Keeps old new) ⊎ AnswersPart Writes from to old new
 
@@ -53,7 +53,7 @@ pub record RefusesUnread (o : Options) (from to old new : Option (List ℕ)) (ac
   pub unread : to ≡ from
   pub added : Appends old new line
 
--- The options ask for a form, and the writer got nothing so far, or a beginning of the answer in it.
+-- The options ask for a form, and the writer got nothing until now, or a beginning of the answer in that form.
 pub record BreaksOffInForm (o : Options) (from to old new : Option (List ℕ)) : Type 0 where
   pub form : ProgramForm
   pub asks : AsksFor o form
@@ -70,8 +70,10 @@ pub record RefusesInPart (o : Options) (from to old new : Option (List ℕ)) : T
 abbrev pub DoesNothing : Option (List ℕ) → Option (List ℕ) → Option (List ℕ) → Option (List ℕ) → Type 0
 DoesNothing from to old new = (to ≡ from) × Keeps old new
 
+-- `asm` came to its end: it answered the text in the form, or refused the options and read nothing
 abbrev pub AsmFilters : Options → Option (List ℕ) → Option (List ℕ) → Option (List ℕ) → Option (List ℕ) → Bool → Type 0
 AsmFilters o from to old new accepted = AnswersInForm o from to old new accepted ⊎ RefusesUnread o from to old new accepted
 
+-- `asm` broke off: in its answer, in the line that refuses the options, or before it did anything
 abbrev pub AsmFiltersInPart : Options → Option (List ℕ) → Option (List ℕ) → Option (List ℕ) → Option (List ℕ) → Type 0
 AsmFiltersInPart o from to old new = BreaksOffInForm o from to old new ⊎ (RefusesInPart o from to old new ⊎ DoesNothing from to old new)

@@ -5,7 +5,7 @@ use Rattle.std.specs.declared.vec.Vec.{Vec}
 use Rattle.bq_hooks.specs.declared.hook.Version.TheVariants.{First}
 use Rattle.bq_bpf.specs.declared.shape.MapShape.{MapShape}
 use Rattle.bq_import.specs.declared.text.ImportSettings.{ImportSettings}
-use Rattle.bq_policy_check.specs.Saying.{SaysHead, option_bytes}
+use Rattle.bq_policy_check.specs.Given.{GivesHead, option_bytes}
 use Rattle.bq_policy_check.specs.declared.words.PolicyWords.{PolicyWords}
 use Rattle.bq_policy_file.specs.declared.head.Head.{Head}
 
@@ -17,7 +17,7 @@ shapes_in (Some shapes) = shapes.items
 -- the words say a hook, and maybe maps and a version; without them there are no maps, and the version is the first
 pub record AskFor (w : PolicyWords) (s : ImportSettings) : Type 0 where
   pub head : Head
-  pub says : SaysHead w head
+  pub gives : GivesHead w head
   pub hook : head.hook ≡ Some s.form.hook
   pub maps : shapes_in head.maps ≡ s.form.shapes.items
   pub version : unwrap_or head.format First ≡ s.form.version

@@ -32,12 +32,13 @@ abbrev pub PerformsIf : Bool → (List ℕ → Bool → List ℕ → Type 0) →
 PerformsIf true Writes from to old new accepted = AnswersAll Writes from to old new accepted
 PerformsIf false Writes from to old new accepted = (accepted ≡ false) × DoesNothing from to old new
 
--- It ended by a fault: there were neither file nor options, and the writer got nothing, or a beginning of the answer.
+-- A command ended by a fault: there were neither file nor options, and the writer got a beginning of the answer, or nothing.
 abbrev pub PerformsInPartIf : Bool → (List ℕ → Bool → List ℕ → Type 0) → Option (List ℕ) → Option (List ℕ) → Option (List ℕ) → Option (List ℕ) → Type 0
 PerformsInPartIf true Writes from to old new = BreaksOff Writes from to old new
 PerformsInPartIf false Writes from to old new = ⊥
 
--- What was read and written if a command has ended, with whether its input was accepted, or no line of it was bad.
+-- What was read and written if a command has ended, with whether its input was accepted, or no line of it was bad. Some commands do nothing
+-- here and answer false: `run`, `import`, `timeline` and `simulate`, and `check` and `dis` with a file or an option. `do_command` does those.
 abbrev pub Performs : Command → Option (List ℕ) → Option (List ℕ) → Option (List ℕ) → Option (List ℕ) → Bool → Type 0
 Performs (Asm w) from to old new accepted = AsmFilters w.options from to old new accepted
 Performs (Check w) from to old new accepted = PerformsIf (is_plain_check w) CheckWrites from to old new accepted

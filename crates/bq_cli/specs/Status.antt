@@ -4,12 +4,13 @@ use Rattle.std.specs.declared.alloc.AllocError.{AllocError}
 use Rattle.bq_policy_check.specs.declared.answered.Answered.{Answered}
 use Rattle.bq_policy_check.specs.declared.answered.Answered.TheVariants.{Done, Refused, Words}
 
+-- the exit status of an answer
 abbrev pub status_of : Result Answered AllocError → ℕ
 status_of (Ok (Done text)) = 0
 status_of (Ok (Refused text)) = 1
 status_of (Ok (Words text)) = 2
 status_of (Err e) = 3
 
--- it ends so, unless that can't be written: then by 3 where memory was wanted, and else by 4
+-- a command ends with this status, unless its answer can't be written: then with 3 if memory ran out, and with 4 otherwise
 abbrev pub EndsBy : ℕ → ℕ → Type 0
 EndsBy status ended = (ended ≡ status) ⊎ ((ended ≡ 3) ⊎ (ended ≡ 4))

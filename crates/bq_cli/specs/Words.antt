@@ -1,19 +1,21 @@
 -- The words of each command: the values that clap found for its options.
-use Rattle.std.specs.Prelude.{◌≡◌, ◌↔◌, ◌+◌, ◌&&◌, ℕ, Bool, IsTrue, List, [], Option, Some, String, codes, is_some, map, not, option_and_then, string_bytes, unwrap_or}
+use Rattle.std.specs.Prelude.{◌≡◌, ◌↔◌, ◌+◌, ◌&&◌, ℕ, Bool, false, IsTrue, List, [], Option, Some, String, codes, is_some, map, not, option_and_then, option_map, string_bytes, unwrap_or}
+use Rattle.std.specs.List.{list_any}
+use Rattle.std.specs.Str.{bytes_eq}
 use Rattle.std.specs.declared.alloc.Global.{Global}
 use Rattle.clap.specs.Words.{Row, Text, all_of, first_of}
 use Rattle.bq_hooks.specs.Hooks.{hook_of, version_of}
 use Rattle.bq_hooks.specs.declared.hook.Hook.{Hook}
 use Rattle.bq_hooks.specs.declared.hook.Version.{Version}
-use Rattle.bq_console.specs.Words.{SaysWord}
+use Rattle.bq_console.specs.Words.{GivesWord}
 use Rattle.bq_words.specs.Quantities.{size_of, decimal_of}
-use Rattle.bq_policy_check.specs.Saying.{option_bytes}
+use Rattle.bq_policy_check.specs.Given.{option_bytes}
 use Rattle.bq_policy_check.specs.declared.words.CheckWords.{CheckWords}
 use Rattle.bq_policy_check.specs.declared.words.LimitWords.{LimitWords}
 use Rattle.bq_policy_check.specs.declared.words.ListWords.{ListWords}
 use Rattle.bq_policy_check.specs.declared.words.PolicyWords.{PolicyWords}
 use Rattle.bq_policy_check.specs.declared.words.RunWords.{RunWords}
-use Rattle.bq_policy_check.specs.declared.words.TellingWords.{TellingWords}
+use Rattle.bq_policy_check.specs.declared.words.ReportWords.{ReportWords}
 use Rattle.bq_policy_file.specs.Forms.{maps_text}
 use Rattle.bq_experiment.specs.declared.words.HookWords.{HookWords}
 use Rattle.bq_experiment.specs.declared.words.MachineWords.{MachineWords}
@@ -41,20 +43,20 @@ abbrev pub AreAll : Text → List Row → List (String Global) → Type 0
 AreAll option rows words = map (λ w. string_bytes w) words ≡ unwrap_or (all_of option rows) []
 
 -- the word names the hook, or there is neither
-abbrev pub SaysHook : Option (List ℕ) → Option Hook → Type 0
-SaysHook = SaysWord (λ word hook. hook_of word ≡ Some hook)
+abbrev pub GivesHook : Option (List ℕ) → Option Hook → Type 0
+GivesHook = GivesWord (λ word hook. hook_of word ≡ Some hook)
 
 -- the word names the version, or there is neither
-abbrev pub SaysVersion : Option (List ℕ) → Option Version → Type 0
-SaysVersion = SaysWord (λ word version. version_of word ≡ Some version)
+abbrev pub GivesVersion : Option (List ℕ) → Option Version → Type 0
+GivesVersion = GivesWord (λ word version. version_of word ≡ Some version)
 
 -- the values of `asm`: the hook and the version that the words name, and the text of the maps as it is
 pub record AreAsmWords (rows : List Row) (w : AsmWords) : Type 0 where
   pub file : IsFirst (codes "file") rows w.file
   pub max_bytes : IsFirst (codes "max-bytes") rows w.max_bytes
-  pub hook : SaysHook (first_of (codes "hook") rows) w.options.hook
+  pub hook : GivesHook (first_of (codes "hook") rows) w.options.hook
   pub maps : maps_text w.options ≡ first_of (codes "maps") rows
-  pub format : SaysVersion (first_of (codes "format") rows) w.options.format
+  pub format : GivesVersion (first_of (codes "format") rows) w.options.format
 
 -- a policy's file, and what is said beside it; also the values of `import`
 pub record ArePolicyWords (rows : List Row) (w : PolicyWords) : Type 0 where
@@ -88,14 +90,14 @@ pub record AreListWords (rows : List Row) (w : ListWords) : Type 0 where
   pub slots : IsSet (codes "slots") rows w.has_slots
 
 -- how a run is reported
-pub record AreTellingWords (rows : List Row) (w : TellingWords) : Type 0 where
+pub record AreReportWords (rows : List Row) (w : ReportWords) : Type 0 where
   pub traced : IsSet (codes "trace") rows w.is_traced
   pub repeat : IsFirst (codes "repeat") rows w.repeat
 
 -- the values of `run`
 pub record AreRunWords (rows : List Row) (w : RunWords) : Type 0 where
   pub policy : ArePolicyWords rows w.policy
-  pub telling : AreTellingWords rows w.telling
+  pub report : AreReportWords rows w.report
   pub context : IsFirst (codes "ctx") rows w.context
   pub fields : AreAll (codes "set") rows w.fields.items
   pub entries : AreAll (codes "map") rows w.entries.items
@@ -135,7 +137,7 @@ pub record AreTimelineWords (rows : List Row) (w : TimelineWords) : Type 0 where
   pub shown : AreShownWords rows w.shown
   pub max_bytes : IsFirst (codes "max-bytes") rows w.max_bytes
 
--- what stands in the place of a workload's own machine
+-- the words that replace parts of a workload's own machine
 pub record AreMachineWords (rows : List Row) (w : MachineWords) : Type 0 where
   pub discipline : IsFirst (codes "discipline") rows w.discipline
   pub processors : IsFirst (codes "processors") rows w.processors
@@ -174,6 +176,14 @@ limit_nothing w = not (is_some w.steps) && (not (is_some w.helpers) && (not (is_
 -- `check` without file and options
 abbrev pub is_plain_check : CheckWords → Bool
 is_plain_check w = name_nothing w.policy && (not w.is_explained && (not w.is_json && (limit_nothing w.limits && not (is_some w.image))))
+
+-- a word is one of some words
+abbrev pub is_among : List ℕ → List (String Global) → Bool
+is_among word others = list_any (λ other. bytes_eq (string_bytes other) word) others
+
+-- the image of `check` would go to a file of a policy
+abbrev pub replaces_policy : CheckWords → Bool
+replaces_policy w = unwrap_or (option_map (λ path. is_among path w.files.items) (option_bytes w.image)) false
 
 -- `dis` without file and options
 abbrev pub is_plain_dis : ListWords → Bool

@@ -5,7 +5,7 @@ ghost use Rattle.bq_console.specs.Status.{EndsFailed};
 ghost use Rattle.bq_cli.specs.Status.{status_of};
 
 use bq_console::status::{BAD_INPUT, BAD_WORDS};
-use bq_console::{Lines, OUT_OF_MEMORY, say_out_of_memory, written};
+use bq_console::{Lines, OUT_OF_MEMORY, report_out_of_memory, written};
 use bq_policy_check::Answered;
 use std::alloc::AllocError;
 use std::process::ExitCode;
@@ -36,6 +36,6 @@ pub fn written_answer(rt: &HostRuntime, answer: &Result<Answered, AllocError>) -
             let _ = eprintln!(rt; "error: {why}");
             ExitCode::from(exit_status_of(answer))
         }
-        Err(_) => say_out_of_memory(rt),
+        Err(_) => report_out_of_memory(rt),
     }
 }

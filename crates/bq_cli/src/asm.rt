@@ -9,7 +9,7 @@ use crate::dispatch::perform_from;
 use crate::policy_words::{format_in, hook_in, most_bytes, policy_words};
 use bq_complain::complaint;
 use bq_console::status::BAD_INPUT;
-use bq_console::{Lines, WordsFault, say_out_of_memory, whole_input, written};
+use bq_console::{Lines, WordsFault, report_out_of_memory, whole_input, written};
 use bq_policy_check::{AsmRefusal, PolicyWords, asm_note, asm_refusal, options_complaint};
 use bq_policy_file::Options;
 use clap::ArgMatches;
@@ -77,7 +77,7 @@ fn assemble_form<T: Threads + Wait + Sync>(
             let _ = eprintln!(rt; "bqsim: {why}");
             code
         }
-        Err(_) => say_out_of_memory(rt),
+        Err(_) => report_out_of_memory(rt),
     }
 }
 
@@ -96,11 +96,11 @@ fn assemble_input<T: Threads + Wait + Sync>(
     match asm_refusal(rt.alloc(), &words.options, text.as_slice()) {
         Ok(None) => {
             let code = perform_from(rt, threads, command, None, text.as_slice());
-            say_beside(rt, &words.options, text.as_slice());
+            report_beside(rt, &words.options, text.as_slice());
             code
         }
         Ok(Some(refusal)) => refuse(rt, &refusal),
-        Err(_) => say_out_of_memory(rt),
+        Err(_) => report_out_of_memory(rt),
     }
 }
 
@@ -112,7 +112,7 @@ fn refuse(rt: &HostRuntime, refusal: &AsmRefusal) -> ExitCode {
 }
 
 /// Says on standard error what is wrong with a text, and which of its marks the answer leaves out.
-fn say_beside(rt: &HostRuntime, options: &Options, text: &[u8]) {
+fn report_beside(rt: &HostRuntime, options: &Options, text: &[u8]) {
     if let Ok(Some(why)) = complaint(rt.alloc(), text) {
         let why = Lines(why.as_str());
         let _ = eprint!(rt; "bqsim: {why}");

@@ -1,15 +1,15 @@
 //! `check`: whether policies are accepted, and why not.
-ghost use Rattle.std.specs.Prelude.{◌≡◌, IfOk};
+ghost use Rattle.std.specs.Prelude.{◌≡◌, IfOk, false};
 ghost use Rattle.clap.specs.Words.{found_of, rows_of};
 ghost use Rattle.bq_cli.specs.Status.{EndsBy, status_of};
-ghost use Rattle.bq_cli.specs.Words.{AreCheckWords, AreLimitWords, is_plain_check, limit_nothing};
+ghost use Rattle.bq_cli.specs.Words.{AreCheckWords, AreLimitWords, is_among, is_plain_check, limit_nothing, replaces_policy};
 
 use crate::answer::exit_status_of;
 use crate::policy_words::{most_bytes, name_nothing, policy_words};
 use bq_console::status::{BAD_INPUT, BAD_WORDS, IO_FAILED, OUT_OF_MEMORY};
 use bq_console::{
-    Lines, Name, WordsFault, all_words, is_set, read_input, reason, refused_words, say_unread,
-    say_unwritten, word,
+    Lines, Name, WordsFault, all_words, is_set, read_input, reason, refused_value, refused_words,
+    report_unread, report_unwritten, word,
 };
 use bq_policy_check::{Answered, CheckWords, LimitWords, accepted_image, check, unanswered_json};
 use clap::ArgMatches;
@@ -18,7 +18,7 @@ use std::fs;
 use std::io::{Error, ErrorKind, IsTerminal, Write};
 use std::process::ExitCode;
 
-/// The line of JSON where memory is wanted for another.
+/// The line of JSON if memory runs out for another.
 const NO_MEMORY: &str =
     "{\"accepted\":false,\"answer\":null,\"explanation\":[],\"file\":null,\"need\":\"out of memory\",\"schema\":1,\"stage\":\"memory\"}\n";
 
@@ -60,7 +60,7 @@ fn limit_words(alloc: Global, matches: &ArgMatches<'_>) -> Result<LimitWords, Al
     })
 }
 
-/// Whether there is no file and no option: then the hex of an image is read from standard input.
+/// Answers whether there is no file and no option: then the hex of an image is read from standard input.
 pub(crate) fn is_plain_check(words: &CheckWords) -> bool
     ensures { result ≡ is_plain_check words.now }
 {
@@ -71,7 +71,7 @@ pub(crate) fn is_plain_check(words: &CheckWords) -> bool
         && words.image.is_none()
 }
 
-/// Whether no word sets a limit.
+/// Answers whether no word sets a limit.
 fn limit_nothing(words: &LimitWords) -> bool
     ensures { result ≡ limit_nothing words.now }
 {
@@ -83,7 +83,7 @@ fn limit_nothing(words: &LimitWords) -> bool
         && words.counters.is_none()
 }
 
-/// Checks the policies in the files that are named, or on standard input. The exit status is the greatest of those of the files.
+/// Checks the policies in the files that are named, or on standard input. The exit status is the greatest among the files.
 pub(crate) fn do_check(rt: &HostRuntime, words: &CheckWords) -> Result<ExitCode, WordsFault> {
     let most = match most_read(rt.alloc(), words) {
         Ok(most) => most,
@@ -104,30 +104,64 @@ pub(crate) fn do_check(rt: &HostRuntime, words: &CheckWords) -> Result<ExitCode,
         worst = worst.max(check_one(rt, words, named, most));
     }
     if worst == BAD_INPUT {
-        say_how_explained(rt, words);
+        report_how_explained(rt, words);
     }
     Ok(ExitCode::from(worst))
 }
 
 /// Says on a terminal how to learn why a policy is refused, unless the answer has that already.
-fn say_how_explained(rt: &HostRuntime, words: &CheckWords) {
+fn report_how_explained(rt: &HostRuntime, words: &CheckWords) {
     if !words.is_explained && !words.is_json && rt.stderr().is_terminal() {
         let _ = rt.eprintln("bqsim: give --explain too, to see why");
     }
 }
 
-/// What is said of `--image` with several files, or as `-`.
+/// What is said of `--image` with several files.
 const NO_IMAGE: &str =
     "--image names the file for the image of one policy: check one file at a time";
 
-/// The most bytes that are read of a file. Words that want one image of several policies are refused.
-fn most_read(alloc: Global, words: &CheckWords) -> Result<u64, WordsFault> {
+/// What is said of `--image -`.
+const NO_FILE: &str =
+    "the image goes to a file, since standard output has the answer; bqsim asm writes the hex of an image";
+
+/// What is said of `--image` if it names the policy's own file.
+const OWN_FILE: &str =
+    "--image names the policy's own file, which the image would replace: name another file";
+
+/// The most bytes that are read of a file. Words that want one image of several policies, or an image in place of a policy, are
+/// refused.
+fn most_read(alloc: Global, words: &CheckWords) -> Result<u64, WordsFault>
+    ensures { IfOk result (λ most. replaces_policy words.now ≡ false) }
+{
     if let Some(path) = &words.image {
-        if words.files.len() > 1 || path.as_str() == "-" {
+        if path.as_str() == "-" {
+            return Err(refused_value(alloc, "image", path, NO_FILE, ""));
+        }
+        if words.files.len() > 1 {
             return Err(refused_words(alloc, &NO_IMAGE));
         }
     }
+    if replaces_policy(words) {
+        return Err(refused_words(alloc, &OWN_FILE));
+    }
     most_bytes(alloc, &words.policy.max_bytes)
+}
+
+/// Answers whether the image would go to a file of a policy.
+fn replaces_policy(words: &CheckWords) -> bool
+    ensures { result ≡ replaces_policy words.now }
+{
+    match &words.image {
+        Some(path) => is_among(path.as_str(), words.files.as_slice()),
+        None => false,
+    }
+}
+
+/// Answers whether a word is one of some words.
+fn is_among(word: &str, others: &[String]) -> bool
+    ensures { result ≡ is_among word.now others.now }
+{
+    others.iter().any(|other| other.as_str() == word)
 }
 
 /// Checks the policy in the file of that name, or on standard input, and answers its exit status.
@@ -157,7 +191,7 @@ fn answer_of(
     let status = exit_status_of(answer);
     match answer {
         Ok(Answered::Done(text) | Answered::Refused(text)) => {
-            say_answer(rt, words, name, text.as_str(), status)
+            report_answer(rt, words, name, text.as_str(), status)
         }
         Ok(Answered::Words(why)) => {
             let shown = Lines(why.as_str());
@@ -173,7 +207,7 @@ fn answer_of(
 
 /// Says why a file can't be read, and answers the exit status.
 fn unread(rt: &HostRuntime, words: &CheckWords, name: Option<&str>, error: &Error) -> u8 {
-    let _ = say_unread(rt, name, error);
+    let _ = report_unread(rt, name, error);
     failed(rt, words, name, "reading", error)
 }
 
@@ -193,13 +227,13 @@ fn write_image(
     match fs::write(rt, path.as_str(), image.as_slice()) {
         Ok(()) => Ok(()),
         Err(error) => {
-            let _ = say_unread(rt, Some(path.as_str()), &error);
+            let _ = report_unread(rt, Some(path.as_str()), &error);
             Err(failed(rt, words, name, "writing", &error))
         }
     }
 }
 
-/// The exit status where a call on a file failed; as JSON there is a line.
+/// Answers the exit status if a call on a file failed; as JSON it writes a line.
 fn failed(
     rt: &HostRuntime,
     words: &CheckWords,
@@ -238,13 +272,13 @@ fn unanswered(
         return status;
     }
     match unanswered_json(rt.alloc(), name, stage, why) {
-        Ok(line) => say_line(rt, line.as_str(), status),
-        Err(_) => say_line(rt, NO_MEMORY, status),
+        Ok(line) => report_line(rt, line.as_str(), status),
+        Err(_) => report_line(rt, NO_MEMORY, status),
     }
 }
 
-/// Writes an answer, in prose behind the file's name where there are several, and answers the exit status.
-fn say_answer(
+/// Writes an answer, in prose after the file's name if there are several files, and answers the exit status.
+fn report_answer(
     rt: &HostRuntime,
     words: &CheckWords,
     name: Option<&str>,
@@ -254,11 +288,11 @@ fn say_answer(
     ensures { EndsBy status result }
 {
     if words.is_json || words.files.len() < 2 {
-        return say_line(rt, text, status);
+        return report_line(rt, text, status);
     }
     let name = Name(name.unwrap_or("-"));
     match format!(in rt.alloc(); "{name}: {text}") {
-        Ok(named) => say_line(rt, named.as_str(), status),
+        Ok(named) => report_line(rt, named.as_str(), status),
         Err(_) => {
             let _ = rt.eprintln("bqsim: out of memory");
             OUT_OF_MEMORY
@@ -266,15 +300,15 @@ fn say_answer(
     }
 }
 
-/// Writes to standard output, and answers the exit status, which is another where that fails.
-fn say_line(rt: &HostRuntime, text: &str, status: u8) -> u8
+/// Writes to standard output, and answers the exit status, which is another if the write fails.
+fn report_line(rt: &HostRuntime, text: &str, status: u8) -> u8
     ensures { EndsBy status result }
 {
     let mut output = rt.stdout();
     match output.write_all(text.as_bytes()) {
         Ok(()) => status,
         Err(error) => {
-            let _ = say_unwritten(rt, &error);
+            let _ = report_unwritten(rt, &error);
             if error.kind() == ErrorKind::OutOfMemory {
                 OUT_OF_MEMORY
             } else {

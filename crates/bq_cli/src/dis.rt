@@ -22,7 +22,7 @@ pub(crate) fn dis_words(alloc: Global, matches: &ArgMatches<'_>) -> Result<ListW
     })
 }
 
-/// Whether there is no file and no option: then the hex of a program is read from standard input.
+/// Answers whether there is no file and no option: then the hex of a program is read from standard input.
 pub(crate) fn is_plain_dis(words: &ListWords) -> bool
     ensures { result ≡ is_plain_dis words.now }
 {

@@ -13,7 +13,7 @@ use crate::tables::VERSION;
 use crate::timeline::do_timeline;
 use bq_console::{
     Bounded, ErasingWriter, MOST_BYTES, Progress, ShowingReader, WordsFault, as_texts, ended,
-    given_words, say_out_of_memory, waiting_input, written,
+    given_words, joined_words, report_out_of_memory, waiting_input, written,
 };
 use bq_lines::with_first_line;
 use bq_streams::{Counted, Kept};
@@ -32,7 +32,8 @@ pub fn do_command<T: Threads + Wait + Sync>(
     threads: &T,
 ) -> Result<ExitCode, WordsFault> {
     let given = given_words(rt)?;
-    let words = as_texts(rt.alloc(), &given)?;
+    let joined = joined_words(rt.alloc(), given.as_slice())?;
+    let words = as_texts(rt.alloc(), &joined)?;
     do_words(rt, threads, words.as_slice())
 }
 
@@ -89,13 +90,13 @@ pub(crate) fn perform_from<T: Threads + Wait + Sync, R: Read + Drop>(
         let _ = rt.eprintln(EMPTY);
     }
     if matches!(&outcome, Ok(false)) {
-        say_other_form(rt, command);
+        report_other_form(rt, command);
     }
     ended(rt, name, &outcome, input, output)
 }
 
-/// Says on a terminal which form of `check` or `dis` reads more than hex, where the hex was refused.
-fn say_other_form(rt: &HostRuntime, command: &Command) {
+/// Says on a terminal which form of `check` or `dis` reads more than hex, if the hex was refused.
+fn report_other_form(rt: &HostRuntime, command: &Command) {
     let form = match command {
         Command::Check(_) => "check --explain -",
         Command::Dis(_) => "dis -",
@@ -112,6 +113,6 @@ fn say_other_form(rt: &HostRuntime, command: &Command) {
 fn write_version(rt: &HostRuntime) -> ExitCode {
     match format!(in rt.alloc(); "bqsim {VERSION}\n") {
         Ok(line) => written(rt, line.as_str(), ExitCode::SUCCESS),
-        Err(_) => say_out_of_memory(rt),
+        Err(_) => report_out_of_memory(rt),
     }
 }

@@ -1,20 +1,21 @@
 //! `import`: a compiled program, written as an assembler text.
 ghost use Rattle.std.specs.Prelude.{IfErr, IfOk};
 ghost use Rattle.clap.specs.Words.{found_of, rows_of};
-ghost use Rattle.bq_console.specs.Words.{SaysNone};
+ghost use Rattle.bq_console.specs.Words.{GivesNone};
 ghost use Rattle.bq_cli.specs.Words.{ArePolicyWords};
 ghost use Rattle.bq_cli.specs.Importing.{AskFor};
 
 use crate::policy_words::{most_bytes, policy_words};
+use bq_complain::{TextKind, kind_of_text};
 use bq_console::status::BAD_INPUT;
 use bq_console::{
-    Lines, Name, WordsFault, name_of, refused_words, say_out_of_memory, whole_input, written,
+    Lines, Name, WordsFault, name_of, refused_words, report_out_of_memory, whole_input, written,
 };
 use bq_explain::{Limits, explain, explanation_text};
 use bq_hooks::Version;
 use bq_import::{ImportRefusal, ImportSettings, ImportedText, imported_text};
 use bq_object::{SourceLine, is_object, others, source_lines};
-use bq_policy_check::{PolicyWords, said_by};
+use bq_policy_check::{PolicyWords, given_head};
 use bq_policy_file::{Head, read_policy};
 use bq_verify::PolicyForm;
 use clap::ArgMatches;
@@ -34,9 +35,9 @@ pub(crate) fn import_words(
 /// What the words ask for. They are refused only if they say no hook, no maps or no format.
 pub fn import_settings(alloc: Global, words: &PolicyWords) -> Result<ImportSettings, WordsFault>
     ensures asked { IfOk result (AskFor words.now) }
-    ensures none { IfErr result (SaysNone (AskFor words.now)) }
+    ensures none { IfErr result (GivesNone (AskFor words.now)) }
 {
-    let Head { hook, maps, format } = match said_by(alloc, words) {
+    let Head { hook, maps, format } = match given_head(alloc, words) {
         Ok(head) => head,
         Err(WordsFault::Words(why)) => return Err(refused_words(alloc, &why)),
         Err(WordsFault::OutOfMemory) => return Err(WordsFault::OutOfMemory),
@@ -75,10 +76,17 @@ pub(crate) fn do_import(rt: &HostRuntime, words: &PolicyWords) -> Result<ExitCod
 fn import_bytes(rt: &HostRuntime, name: &str, settings: &ImportSettings, bytes: &[u8]) -> ExitCode {
     match imported_text(rt.alloc(), settings, bytes) {
         Ok(made) => {
-            say_beside(rt, name, bytes, &made);
+            report_beside(rt, name, bytes, &made);
             written(rt, made.text.as_str(), ExitCode::SUCCESS)
         }
-        Err(ImportRefusal::OutOfMemory) => say_out_of_memory(rt),
+        Err(ImportRefusal::OutOfMemory) => report_out_of_memory(rt),
+        Err(_) if matches!(kind_of_text(bytes), TextKind::Policy) => {
+            let name = Name(name);
+            let _ = eprintln!(rt;
+                "{name}: this is a policy in assembler text, and no compiled program; bqsim check reads it"
+            );
+            ExitCode::from(BAD_INPUT)
+        }
         Err(refusal) => {
             let name = Name(name);
             let _ = match source_of(rt.alloc(), &refusal, bytes) {
@@ -92,7 +100,7 @@ fn import_bytes(rt: &HostRuntime, name: &str, settings: &ImportSettings, bytes: 
     }
 }
 
-/// The line of C that a refusal is of, where an object says it.
+/// Answers the line of C that a refusal is of, if an object says it.
 fn source_of<'a>(
     alloc: Global,
     refusal: &ImportRefusal,
@@ -106,11 +114,11 @@ fn source_of<'a>(
     lines.as_slice().get(slot as usize).copied().flatten()
 }
 
-/// How many functions that are left out are named.
+/// The most functions that are named among those that are left out.
 const NAMED: usize = 20;
 
 /// Says what of an object is left out, and why `check` refuses what is imported, if it does.
-fn say_beside(rt: &HostRuntime, name: &str, bytes: &[u8], made: &ImportedText<'_>) {
+fn report_beside(rt: &HostRuntime, name: &str, bytes: &[u8], made: &ImportedText<'_>) {
     let name = Name(name);
     name_others(rt, name, bytes);
     if let Ok(Some(why)) = refused_by_check(rt.alloc(), made) {
@@ -135,7 +143,7 @@ fn name_others(rt: &HostRuntime, name: Name<'_>, bytes: &[u8]) {
     }
 }
 
-/// Why `check` refuses what is imported, if it does: by lines of C where all instructions come from one file of it.
+/// Says why `check` refuses what is imported, if it does: by lines of C if all instructions come from one file of C.
 fn refused_by_check(alloc: Global, made: &ImportedText<'_>) -> Result<Option<String>, AllocError> {
     let Ok(mut policy) = read_policy(alloc, made.text.as_bytes(), &Head::nothing()) else {
         return Ok(None);

@@ -1,7 +1,7 @@
 //! The commands of bqsim, one file each, from the words after the program's name to the exit status.
 //! Promises that words ask for what clap finds in them by the one table of commands (`job`), and what is read and written for an
 //! assembler text, a program's hex, threads of processors and a trace (`perform`). `do_command` does any command on its files.
-//! Stands on the crates that answer: bq_policy_check, bq_policy_run, bq_import, bq_par, bq_trace, bq_timeline, bq_comparison.
+//! Builds on the crates that answer: bq_policy_check, bq_policy_run, bq_import, bq_par, bq_trace, bq_timeline, bq_comparison.
 #![tactic(auto)]
 
 mod answer;
@@ -15,6 +15,7 @@ pub mod import;
 pub mod par;
 mod performing;
 mod policy_words;
+mod refusing;
 pub mod replaying;
 mod run;
 pub mod simulate;

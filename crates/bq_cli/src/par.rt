@@ -27,7 +27,7 @@ use std::io::Write;
 use std::sync::Wait;
 use std::thread::Threads;
 
-/// How often a processor may tick.
+/// The most ticks of a processor.
 pub const MOST_TICKS: u32 = 1_000_000;
 
 /// A text with the numbers of ticks in it that may be asked for.
@@ -49,12 +49,14 @@ pub struct Parallel {
     pub ticks: u32,
 }
 
-/// The values of `--rule`, as its refusal lists them.
-const RULES: &str = with_rules!("");
-/// The values of `--processors`, as its refusal lists them.
-const SIZES: &str = with_sizes!("");
-/// The values of `--ticks`, as its refusal lists them.
-const TICKS: &str = with_ticks!("");
+/// What the value of `--rule` is.
+const RULE: &str = with_rules!("a rule is ");
+/// The words of rules as a list.
+const RULE_WORDS: &str = with_rules!("");
+/// What the value of `--processors` is.
+const SIZE: &str = with_sizes!("a number of processors is ");
+/// What the value of `--ticks` is.
+const TICKS: &str = with_ticks!("a number of ticks is ");
 
 /// The words that were found. A value that names nothing is refused.
 pub(crate) fn par_words(alloc: Global, matches: &ArgMatches<'_>) -> Result<Parallel, WordsFault>
@@ -73,11 +75,11 @@ fn rule_in(alloc: Global, word: Option<&str>) -> Result<Rule, WordsFault>
     ensures taken { IfErr result (λ e. (r : Way) → option_and_then rule_of (option_map (λ (w : Bor (List ℕ)). w.now) word.entry) ≡ Some r → e ≡ WordsFault.OutOfMemory) }
 {
     let Some(word) = word else {
-        return Err(refused_value(alloc, "rule", "", RULES));
+        return Err(refused_value(alloc, "rule", "", RULE, RULE_WORDS));
     };
     match Rule::of_word(word.as_bytes()) {
         Some(rule) => Ok(rule),
-        None => Err(refused_value(alloc, "rule", word, RULES)),
+        None => Err(refused_value(alloc, "rule", word, RULE, RULE_WORDS)),
     }
 }
 
@@ -87,11 +89,11 @@ fn size_in(alloc: Global, word: Option<&str>) -> Result<ProcessorCount, WordsFau
     ensures taken { IfErr result (λ e. (s : Many) → option_and_then size_of (option_map (λ (w : Bor (List ℕ)). w.now) word.entry) ≡ Some s → e ≡ WordsFault.OutOfMemory) }
 {
     let Some(word) = word else {
-        return Err(refused_value(alloc, "processors", "", SIZES));
+        return Err(refused_value(alloc, "processors", "", SIZE, ""));
     };
     match quantities::size(word.as_bytes()) {
         Some(size) => Ok(size),
-        None => Err(refused_value(alloc, "processors", word, SIZES)),
+        None => Err(refused_value(alloc, "processors", word, SIZE, "")),
     }
 }
 
@@ -101,11 +103,11 @@ fn ticks_in(alloc: Global, word: Option<&str>) -> Result<u32, WordsFault>
     ensures taken { IfErr result (λ e. (n : ℕ) → option_and_then ticks_of (option_map (λ (w : Bor (List ℕ)). w.now) word.entry) ≡ Some n → e ≡ WordsFault.OutOfMemory) }
 {
     let Some(word) = word else {
-        return Err(refused_value(alloc, "ticks", "", TICKS));
+        return Err(refused_value(alloc, "ticks", "", TICKS, ""));
     };
     match ticks_named(word.as_bytes()) {
         Some(ticks) => Ok(ticks),
-        None => Err(refused_value(alloc, "ticks", word, TICKS)),
+        None => Err(refused_value(alloc, "ticks", word, TICKS, "")),
     }
 }
 

@@ -16,9 +16,9 @@ use std::io::{Read, Write};
 use std::sync::Wait;
 use std::thread::Threads;
 
-/// Performs `asm`, `par` and `replay`, and `check` and `dis` without file and options. False if something was refused, or a line was
-/// bad. The files that words name are the caller's to open: `input` stands for them. Any other command reads nothing, writes nothing
-/// and answers false; `do_command` does those.
+/// Performs `asm`, `par` and `replay`, and `check` and `dis` without file and options. Answers false if something was refused,
+/// or a line was bad. The caller opens the files that words name, and `input` is what it opened. Any other command reads
+/// nothing, writes nothing and answers false; `do_command` does those.
 ///
 /// Only `par` starts threads and waits for locks: of it the promise holds if it returns.
 pub fn perform<T: Threads + Wait + Sync, R: Read, W: Write>(

@@ -3,12 +3,12 @@ ghost use Rattle.std.specs.Prelude.{◌≡◌, Option, IfOk, IfErr};
 ghost use Rattle.clap.specs.Words.{found_of, rows_of};
 ghost use Rattle.bq_hooks.specs.declared.hook.Hook.{Hook as Place};
 ghost use Rattle.bq_hooks.specs.declared.hook.Version.{Version as Number};
-ghost use Rattle.bq_policy_check.specs.Saying.{option_bytes};
-ghost use Rattle.bq_cli.specs.Words.{ArePolicyWords, SaysHook, SaysVersion, name_nothing};
+ghost use Rattle.bq_policy_check.specs.Given.{option_bytes};
+ghost use Rattle.bq_cli.specs.Words.{ArePolicyWords, GivesHook, GivesVersion, name_nothing};
 
 use bq_console::{MOST_BYTES, WordsFault, refused_value, word};
-use bq_hooks::{Hook, Version, with_hooks, with_versions};
-use bq_policy_check::PolicyWords;
+use bq_hooks::{Hook, Version};
+use bq_policy_check::{FORMAT, HOOK, HOOK_WORDS, PolicyWords};
 use bq_words::number;
 use clap::ArgMatches;
 use std::alloc::{AllocError, Global};
@@ -34,7 +34,7 @@ pub(crate) fn policy_words(
     })
 }
 
-/// Whether no word names a file, a hook, maps, a format or a number of bytes.
+/// Answers whether no word names a file, a hook, maps, a format or a number of bytes.
 pub(crate) fn name_nothing(words: &PolicyWords) -> bool
     ensures { result ≡ name_nothing words.now }
 {
@@ -45,38 +45,38 @@ pub(crate) fn name_nothing(words: &PolicyWords) -> bool
         && words.max_bytes.is_none()
 }
 
-/// The values of `--hook`, as its refusal lists them.
-const HOOKS: &str = with_hooks!("");
-/// The values of `--format`, as its refusal lists them.
-const FORMATS: &str = with_versions!("");
-
 /// The hook that a word names, if there is a word.
 pub(crate) fn hook_in(alloc: Global, word: &Option<String>) -> Result<Option<Hook>, WordsFault>
-    ensures ok { IfOk result (SaysHook (option_bytes word.now)) }
-    ensures taken { IfErr result (λ e. (named : Option Place) → SaysHook (option_bytes word.now) named → e ≡ WordsFault.OutOfMemory) }
+    ensures ok { IfOk result (GivesHook (option_bytes word.now)) }
+    ensures taken { IfErr result (λ e. (named : Option Place) → GivesHook (option_bytes word.now) named → e ≡ WordsFault.OutOfMemory) }
 {
     let Some(word) = word else {
         return Ok(None);
     };
     match Hook::of_word(word.as_bytes()) {
         Some(hook) => Ok(Some(hook)),
-        None => Err(refused_value(alloc, "hook", word, HOOKS)),
+        None => Err(refused_value(alloc, "hook", word, HOOK, HOOK_WORDS)),
     }
 }
 
 /// The version that a word names, if there is a word.
 pub(crate) fn format_in(alloc: Global, word: &Option<String>) -> Result<Option<Version>, WordsFault>
-    ensures ok { IfOk result (SaysVersion (option_bytes word.now)) }
-    ensures taken { IfErr result (λ e. (named : Option Number) → SaysVersion (option_bytes word.now) named → e ≡ WordsFault.OutOfMemory) }
+    ensures ok { IfOk result (GivesVersion (option_bytes word.now)) }
+    ensures taken { IfErr result (λ e. (named : Option Number) → GivesVersion (option_bytes word.now) named → e ≡ WordsFault.OutOfMemory) }
 {
     let Some(word) = word else {
         return Ok(None);
     };
     match Version::of_word(word.as_bytes()) {
         Some(version) => Ok(Some(version)),
-        None => Err(refused_value(alloc, "format", word, FORMATS)),
+        None => Err(refused_value(alloc, "format", word, FORMAT, "")),
     }
 }
+
+/// What a number of bytes is.
+const BYTES: &str = "a number of bytes is a whole number below 2^64, as 1048576";
+/// What a number of events is.
+const EVENTS: &str = "a number of events is a whole number below 2^64, as 1000000";
 
 /// The most bytes that are read, by the word of `--max-bytes` if there is one.
 pub(crate) fn most_bytes(alloc: Global, word: &Option<String>) -> Result<u64, WordsFault> {
@@ -91,12 +91,12 @@ pub(crate) fn limit_of_bytes(
     alloc: Global,
     word: &Option<String>,
 ) -> Result<Option<u64>, WordsFault> {
-    limit_in(alloc, word, "max-bytes", "a number of bytes")
+    limit_in(alloc, word, "max-bytes", BYTES)
 }
 
 /// The most events of a run, by the word of `--max-events` if there is one.
 pub(crate) fn most_events(alloc: Global, word: &Option<String>) -> Result<u64, WordsFault> {
-    match limit_in(alloc, word, "max-events", "a number of events")? {
+    match limit_in(alloc, word, "max-events", EVENTS)? {
         Some(most) => Ok(most),
         None => Ok(u64::MAX),
     }
@@ -107,13 +107,13 @@ fn limit_in(
     alloc: Global,
     word: &Option<String>,
     option: &str,
-    taken: &str,
+    right: &str,
 ) -> Result<Option<u64>, WordsFault> {
     let Some(word) = word else {
         return Ok(None);
     };
     match number(word.as_bytes(), 10) {
         Some(most) => Ok(Some(most)),
-        None => Err(refused_value(alloc, option, word, taken)),
+        None => Err(refused_value(alloc, option, word, right, "")),
     }
 }

@@ -6,7 +6,7 @@ ghost use Rattle.bq_cli.specs.Words.{AreReplayWords};
 use crate::command::Command;
 use crate::dispatch::perform_from;
 use crate::policy_words::limit_of_bytes;
-use bq_console::{Bounded, WordsFault, file_named, opened, say_unread, waiting_input, word};
+use bq_console::{Bounded, WordsFault, file_named, opened, report_unread, waiting_input, word};
 use clap::ArgMatches;
 use std::alloc::{AllocError, Global};
 use std::process::ExitCode;
@@ -51,6 +51,6 @@ pub(crate) fn do_replay<T: Threads + Wait + Sync>(
             let input = Bounded::new(trace, most);
             Ok(perform_from(rt, threads, command, Some(path), input))
         }
-        Err(error) => Ok(say_unread(rt, Some(path), &error)),
+        Err(error) => Ok(report_unread(rt, Some(path), &error)),
     }
 }

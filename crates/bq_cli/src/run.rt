@@ -1,13 +1,13 @@
 //! `run`: one run of a policy, or several.
 ghost use Rattle.std.specs.Prelude.{◌≡◌, IfOk, codes};
 ghost use Rattle.clap.specs.Words.{first_of, found_of, rows_of};
-ghost use Rattle.bq_policy_check.specs.Saying.{option_bytes};
-ghost use Rattle.bq_cli.specs.Words.{AreAll, AreRunWords, AreTellingWords, IsFirst};
+ghost use Rattle.bq_policy_check.specs.Given.{option_bytes};
+ghost use Rattle.bq_cli.specs.Words.{AreAll, AreRunWords, AreReportWords, IsFirst};
 
 use crate::answer::written_answer;
 use crate::policy_words::{most_bytes, policy_words};
 use bq_console::{WordsFault, all_words, is_set, whole_input, word};
-use bq_policy_check::{RunWords, TellingWords};
+use bq_policy_check::{ReportWords, RunWords};
 use bq_policy_run::run;
 use clap::ArgMatches;
 use std::alloc::{AllocError, Global};
@@ -18,13 +18,13 @@ pub(crate) fn run_words(alloc: Global, matches: &ArgMatches<'_>) -> Result<RunWo
     ensures { IfOk result (AreRunWords (rows_of (found_of matches.now))) }
 {
     let policy = policy_words(alloc, matches)?;
-    let telling = telling_words(alloc, matches)?;
+    let report = report_words(alloc, matches)?;
     let context = word(alloc, matches, "ctx")?;
     let (time, processor) = moment_words(alloc, matches)?;
     let (fields, entries, counters) = begun_with(alloc, matches)?;
     Ok(RunWords {
         policy,
-        telling,
+        report,
         context,
         fields,
         entries,
@@ -62,12 +62,12 @@ fn begun_with(
     Ok((fields, entries, counters))
 }
 
-/// How a run is reported.
-fn telling_words(alloc: Global, matches: &ArgMatches<'_>) -> Result<TellingWords, AllocError>
-    ensures { IfOk result (AreTellingWords (rows_of (found_of matches.now))) }
+/// Answers the words on how a run is reported.
+fn report_words(alloc: Global, matches: &ArgMatches<'_>) -> Result<ReportWords, AllocError>
+    ensures { IfOk result (AreReportWords (rows_of (found_of matches.now))) }
 {
     let repeat = word(alloc, matches, "repeat")?;
-    Ok(TellingWords {
+    Ok(ReportWords {
         is_traced: is_set(matches, "trace"),
         repeat,
     })

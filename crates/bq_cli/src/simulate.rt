@@ -5,6 +5,7 @@ ghost use Rattle.bq_cli.specs.Simulating.{AskToSimulate, IsShown};
 ghost use Rattle.bq_cli.specs.Words.{AreHookWords, AreMachineWords, AreSimulateWords, AreStudyWords};
 
 use crate::policy_words::{most_bytes, most_events};
+use crate::refusing::refusal;
 use crate::simulate_files::{others, policies, workload};
 use crate::timeline::shown_words;
 use bq_comparison::{
@@ -13,8 +14,8 @@ use bq_comparison::{
 };
 use bq_console::status::{BAD_INPUT, IO_FAILED};
 use bq_console::{
-    ErasingWriter, Lines, Progress, WordsFault, all_words, refused_words, say_out_of_memory,
-    say_unwritten, word, written,
+    ErasingWriter, Lines, Progress, WordsFault, all_words, report_out_of_memory, report_unwritten,
+    word, written,
 };
 use bq_experiment::{
     AskedFault, HookWords, MachineWords, Policies, Ran, RunFault, ShownAs, Streams, StudyWords,
@@ -118,20 +119,20 @@ enum Shown {
 
 /// What `simulate` is asked for.
 #[derive(Drop)]
-struct Simulation {
+struct AskedSimulation {
     shown: Shown,
-    /// What stands in the place of the workload's own machine.
+    /// The changes of the workload's own machine.
     changes: Changes,
 }
 
 /// What the words ask for.
-fn simulation_of(alloc: Global, words: &StudyWords) -> Result<Simulation, WordsFault>
+fn simulation_of(alloc: Global, words: &StudyWords) -> Result<AskedSimulation, WordsFault>
     ensures { IfOk result (AskToSimulate words.now) }
 {
     let shown = shown_of(alloc, words)?;
     match asked_changes(words) {
-        Ok(changes) => Ok(Simulation { shown, changes }),
-        Err(fault) => Err(asked_fault(alloc, fault)),
+        Ok(changes) => Ok(AskedSimulation { shown, changes }),
+        Err(fault) => Err(asked_fault(alloc, words, fault)),
     }
 }
 
@@ -145,25 +146,25 @@ fn shown_of(alloc: Global, words: &StudyWords) -> Result<Shown, WordsFault>
         Err(ComparingFault::Settings(SettingsFault::OutOfMemory)) => {
             return Err(WordsFault::OutOfMemory);
         }
-        Err(fault) => return Err(refused_words(alloc, &fault)),
+        Err(fault) => return Err(refusal(alloc, &fault, fault.refused(words))),
     }
     match ShownAs::of(alloc, words) {
         Ok(shown) => Ok(Shown::Run(shown)),
-        Err(fault) => Err(asked_fault(alloc, fault)),
+        Err(fault) => Err(asked_fault(alloc, words, fault)),
     }
 }
 
 /// The fault of words that ask for no simulation.
-fn asked_fault(alloc: Global, fault: AskedFault) -> WordsFault {
+fn asked_fault(alloc: Global, words: &StudyWords, fault: AskedFault) -> WordsFault {
     match fault {
         AskedFault::Settings(SettingsFault::OutOfMemory) => WordsFault::OutOfMemory,
-        fault => refused_words(alloc, &fault),
+        fault => refusal(alloc, &fault, fault.refused(words)),
     }
 }
 
-/// How much is read, and run.
+/// The most that is read, and that is run.
 #[derive(Clone, Copy)]
-struct Limits {
+struct ReadLimits {
     /// The most bytes of a file.
     bytes: u64,
     /// The most events of a run.
@@ -177,26 +178,25 @@ pub(crate) fn do_simulate<T: Threads + Sync>(
     words: &SimulateWords,
 ) -> Result<ExitCode, WordsFault> {
     let simulation = simulation_of(rt.alloc(), &words.study)?;
-    let limits = Limits {
+    let limits = ReadLimits {
         bytes: most_bytes(rt.alloc(), &words.max_bytes)?,
         events: most_events(rt.alloc(), &words.max_events)?,
     };
     match simulated(rt, threads, &words.study, limits, simulation) {
-        Ok(code) => Ok(code),
-        Err(code) => Ok(code),
+        Ok(code) | Err(code) => Ok(code),
     }
 }
 
-/// Runs the workload within these limits, and shows it. An error is the exit status: of a refusal, a failed write or
-/// a lack of memory.
+/// Runs the workload within these limits, and shows it. An error is the exit status: of a refusal, of a failed write, or of
+/// memory that ran out.
 fn simulated<T: Threads + Sync>(
     rt: &HostRuntime,
     threads: &T,
     words: &StudyWords,
-    limits: Limits,
-    simulation: Simulation,
+    limits: ReadLimits,
+    simulation: AskedSimulation,
 ) -> Result<ExitCode, ExitCode> {
-    let Limits { bytes, events } = limits;
+    let ReadLimits { bytes, events } = limits;
     let workload = workload(rt, words, bytes, simulation.changes)?;
     let policies = policies(rt, words, bytes)?;
     match simulation.shown {
@@ -231,15 +231,15 @@ fn show_run(
             let _ = eprint!(rt; "{notes}");
             Ok(ExitCode::SUCCESS)
         }
-        Err(RunFault::Simulation(SimulateFault::OutOfMemory)) => Err(say_out_of_memory(rt)),
-        Err(fault) => Err(say_stopped(rt, &fault, output.into_inner().failure())),
+        Err(RunFault::Simulation(SimulateFault::OutOfMemory)) => Err(report_out_of_memory(rt)),
+        Err(fault) => Err(report_stopped(rt, &fault, output.into_inner().failure())),
     }
 }
 
-/// Says why a run did not come to its end, where this is the last error of the output.
-fn say_stopped(rt: &HostRuntime, fault: &RunFault, failure: Option<Error>) -> ExitCode {
+/// Says why a run did not come to its end; `failure` is the last error of the output.
+fn report_stopped(rt: &HostRuntime, fault: &RunFault, failure: Option<Error>) -> ExitCode {
     if let (RunFault::Write, Some(error)) = (fault, failure) {
-        return say_unwritten(rt, &error);
+        return report_unwritten(rt, &error);
     }
     let _ = eprintln!(rt; "bqsim: {fault}");
     match fault {
@@ -259,16 +259,16 @@ fn show_figures<T: Threads + Sync>(
     most: u64,
 ) -> Result<ExitCode, ExitCode> {
     let Ok(notes) = asked.add_called(rt.alloc(), workload) else {
-        return Err(say_out_of_memory(rt));
+        return Err(report_out_of_memory(rt));
     };
     match tabled(rt, threads, workload, ours, others, &asked, most) {
         Ok(text) => {
             let notes = Lines(notes.as_str());
             let _ = eprint!(rt; "{notes}");
-            say_absent(rt, workload, &asked);
+            report_absent(rt, workload, &asked);
             Ok(written(rt, text.as_str(), ExitCode::SUCCESS))
         }
-        Err(SeedsFault::OutOfMemory) => Err(say_out_of_memory(rt)),
+        Err(SeedsFault::OutOfMemory) => Err(report_out_of_memory(rt)),
         Err(fault) => {
             let _ = eprintln!(rt; "bqsim: {fault}");
             match fault {
@@ -302,7 +302,7 @@ fn tabled<T: Threads + Sync>(
 }
 
 /// Says which of the tasks and processors that are asked for are not there at all.
-fn say_absent(rt: &HostRuntime, workload: &Workload, asked: &Comparing) {
+fn report_absent(rt: &HostRuntime, workload: &Workload, asked: &Comparing) {
     let MachineSize { tasks, processors } = size_of_machine(workload);
     if !has_task(asked, tasks) {
         let _ = eprintln!(rt;
@@ -316,7 +316,7 @@ fn say_absent(rt: &HostRuntime, workload: &Workload, asked: &Comparing) {
     }
 }
 
-/// Whether one of that many tasks is asked for.
+/// Answers whether one of that many tasks is asked for.
 fn has_task(asked: &Comparing, count: u16) -> bool {
     for task in 0..count {
         if asked.window.shows_task(task) {
@@ -326,7 +326,7 @@ fn has_task(asked: &Comparing, count: u16) -> bool {
     false
 }
 
-/// Whether one of that many processors is asked for.
+/// Answers whether one of that many processors is asked for.
 fn has_processor(asked: &Comparing, count: u8) -> bool {
     for processor in 0..count {
         if asked.window.shows_processor(processor) {

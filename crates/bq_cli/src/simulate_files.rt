@@ -3,14 +3,16 @@
 use bq_complain::{TextKind, kind_of_text};
 use bq_console::status::{BAD_INPUT, BAD_WORDS};
 use bq_console::{
-    Name, file_named, name_of, read_input, say_out_of_memory, say_unread, whole_input,
+    Name, file_named, name_of, read_input, report_out_of_memory, report_unread, whole_input,
 };
 use bq_experiment::{AttachFault, HookWords, Policies, StudyWords};
 use bq_hooks::Hook;
 use bq_load::LoadFault;
 use bq_policy_file::{Head, fault_text, read_policy};
+use bq_words::Rule;
 use bq_workload::Workload;
 use bq_workload_file::{Changes, Fault, read};
+use std::io::{Error, ErrorKind};
 use std::process::ExitCode;
 use std::str::from_utf8;
 
@@ -27,7 +29,7 @@ pub(crate) fn others(
     for path in &words.against {
         if path.as_str() != "none" {
             let bytes = policy_bytes(rt, words, most, path)?;
-            let taken = policies.add_as_said(rt.alloc(), bytes.as_slice());
+            let taken = policies.add_by_head(rt.alloc(), bytes.as_slice());
             attached(rt, path.as_str(), None, taken)?;
         }
     }
@@ -45,13 +47,13 @@ pub(crate) fn workload(
     let bytes = whole_input(rt, &words.shown.file, most)?;
     let Ok(text) = from_utf8(bytes.as_slice()) else {
         let what = foreign_text(bytes.as_slice()).unwrap_or("the file is not UTF-8 text");
-        return Err(say_no_workload(rt, name, what));
+        return Err(report_no_workload(rt, name, what));
     };
     match read(rt.alloc(), text, changes) {
         Ok(workload) => Ok(workload),
-        Err(Fault::OutOfMemory) => Err(say_out_of_memory(rt)),
+        Err(Fault::OutOfMemory) => Err(report_out_of_memory(rt)),
         Err(fault) => match foreign_text(bytes.as_slice()) {
-            Some(what) => Err(say_no_workload(rt, name, what)),
+            Some(what) => Err(report_no_workload(rt, name, what)),
             None => {
                 let name = Name(name);
                 let _ = eprintln!(rt; "{name}{fault}");
@@ -62,13 +64,13 @@ pub(crate) fn workload(
 }
 
 /// Says what a file is that was given as a workload but is not one.
-fn say_no_workload(rt: &HostRuntime, name: &str, what: &str) -> ExitCode {
+fn report_no_workload(rt: &HostRuntime, name: &str, what: &str) -> ExitCode {
     let name = Name(name);
     let _ = eprintln!(rt; "{name}: {what}");
     ExitCode::from(BAD_INPUT)
 }
 
-/// What a file is that was given as a workload and is not one, and what to do with it, if that can be told.
+/// Says what a file is that was given as a workload, and what to do with it, if that can be told.
 fn foreign_text(bytes: &[u8]) -> Option<&'static str> {
     match kind_of_text(bytes) {
         TextKind::Policy => Some(
@@ -117,13 +119,13 @@ fn add(
     }
     let bytes = policy_bytes(rt, words, most, path)?;
     match policies.add(rt.alloc(), hook, bytes.as_slice()) {
-        Err(AttachFault::Hook) => Err(say_other_hook(rt, path.as_str(), hook, bytes.as_slice())),
+        Err(AttachFault::Hook) => Err(report_other_hook(rt, path.as_str(), hook, bytes.as_slice())),
         taken => attached(rt, path.as_str(), Some(hook), taken),
     }
 }
 
-/// Says that the policy of a file is for the hook that the file names, not for the one where it is to stand.
-fn say_other_hook(rt: &HostRuntime, path: &str, hook: Hook, file: &[u8]) -> ExitCode {
+/// Says that the policy of a file is for the hook that the file names, and not for the one that was asked for.
+fn report_other_hook(rt: &HostRuntime, path: &str, hook: Hook, file: &[u8]) -> ExitCode {
     let asked = hook.word();
     let path = Name(path);
     match read_policy(rt.alloc(), file, &Head::nothing()) {
@@ -151,7 +153,7 @@ fn policy_bytes(
     if path != "-" {
         return match read_input(rt, Some(path), most) {
             Ok(bytes) => Ok(bytes),
-            Err(error) => Err(say_unread(rt, Some(path), &error)),
+            Err(error) => Err(say_no_policy(rt, path, &error)),
         };
     }
     if file_named(&words.shown.file).is_none() {
@@ -159,6 +161,20 @@ fn policy_bytes(
         return Err(ExitCode::from(BAD_WORDS));
     }
     whole_input(rt, &None, most)
+}
+
+/// Says why the file of a policy can't be read. Where it would be, a discipline may have been named.
+fn say_no_policy(rt: &HostRuntime, path: &str, error: &Error) -> ExitCode {
+    let code = report_unread(rt, Some(path), error);
+    if error.kind() == ErrorKind::NotFound {
+        if let Some(rule) = Rule::of_word(path.as_bytes()) {
+            let rule = rule.word();
+            let _ = eprintln!(rt;
+                "bqsim: --place, --preempt, --pull and --against take the file of a policy, or none; a discipline goes by --discipline {rule}, and docs/SEEDS.md compares two"
+            );
+        }
+    }
+    code
 }
 
 /// Says why a file is no policy for the hook that the words name, or if they name none, for the hook that it says.
@@ -170,7 +186,7 @@ fn attached(
 ) -> Result<(), ExitCode> {
     match taken {
         Ok(()) => Ok(()),
-        Err(AttachFault::OutOfMemory) => Err(say_out_of_memory(rt)),
+        Err(AttachFault::OutOfMemory) => Err(report_out_of_memory(rt)),
         Err(AttachFault::Program(fault)) => Err(unaccepted(rt, path, hook, fault)),
         Err(fault) => {
             let path = Name(path);
@@ -180,11 +196,11 @@ fn attached(
     }
 }
 
-/// Says that a file's program is refused, as `check` names it, and which command explains it. That command names the hook if the words
-/// do, since the file may not.
+/// Says that a file's program is refused, by the name that `check` gives the fault, and which command explains it. That command
+/// names the hook if the words do, since the file may not.
 fn unaccepted(rt: &HostRuntime, path: &str, hook: Option<Hook>, fault: LoadFault) -> ExitCode {
     let Ok(named) = fault_text(rt.alloc(), fault) else {
-        return say_out_of_memory(rt);
+        return report_out_of_memory(rt);
     };
     let path = Name(path);
     match hook {

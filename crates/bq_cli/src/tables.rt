@@ -29,6 +29,13 @@ macro_rules! options {
     };
 }
 
+/// The end of a help page: examples, a line each. They run in the folder of the repository.
+macro_rules! examples {
+    ($($line:literal),*) => {
+        concat!("Examples:" $(, "\n  ", $line)*)
+    };
+}
+
 /// The text of `asm`, and the image that it is assembled to.
 const ASM_OPTIONS: &[OptionText] = options! {
     ("file", Alone("FILE"), "The assembler text; standard input without it, or as -"),
@@ -42,12 +49,12 @@ const RUN_FILE: &[OptionText] = options! {
     ("file", Alone("FILE"), "The policy: an image, its hex, or assembler text with ;@ lines that describe it; standard input without it, or as -")
 };
 
-/// The file of the policy that is listed. With no word at all, `dis` reads hex alone.
+/// The file of the policy that is listed. With no word at all, `dis` reads only hex.
 const DIS_FILE: &[OptionText] = options! {
     ("file", Alone("FILE"), "The policy: an image, its hex, or assembler text with ;@ lines that describe it; standard input as -, or with options alone")
 };
 
-/// The files of the policies that are judged. With no word at all, `check` reads hex alone.
+/// The files of the policies that are judged. With no word at all, `check` reads only hex.
 const CHECK_FILES: &[OptionText] = options! {
     ("file", Several("FILE"), "The policies, each an image, its hex, or assembler text with ;@ lines that describe it; standard input as -, or with options alone")
 };
@@ -169,11 +176,19 @@ static PROGRAM_COMMANDS: [CommandText<'static>; 2] = [
         name: "asm",
         about: "Reads an assembler text and writes the hex of its program",
         options: &[ASM_OPTIONS, READING_OPTIONS],
+        examples: examples![
+            "bqsim asm policies/heaviest.s",
+            "bqsim asm --hook place --format 2 policies/keep_home.s"
+        ],
     },
     CommandText {
         name: "import",
         about: "Writes a compiled policy as an assembler text, from an object file or from the bytes or the hex of its text section",
         options: &[IMPORT_OPTIONS, READING_OPTIONS],
+        examples: examples![
+            "bqsim asm policies/keep_home.s | bqsim import --hook place",
+            "bqsim asm policies/every_fourth_tick.s | bqsim import --hook preempt --maps 8:1"
+        ],
     },
 ];
 
@@ -183,11 +198,19 @@ static POLICY_COMMANDS: [CommandText<'static>; 3] = [
         name: "check",
         about: "Judges policies: accepted, or refused and why. Without a file and options it reads the hex of an image and writes its hook and budget",
         options: &[CHECK_FILES, POLICY_OPTIONS, READING_OPTIONS, CHECK_OPTIONS],
+        examples: examples![
+            "bqsim check --explain policies/keep_home.s",
+            "bqsim check --json --max-steps 100 policies/keep_home.s policies/heaviest.s"
+        ],
     },
     CommandText {
         name: "dis",
         about: "Lists a policy under the ;@ lines that describe it. Without a file and options it reads the hex of a program and writes its listing",
         options: &[DIS_FILE, POLICY_OPTIONS, READING_OPTIONS, DIS_OPTIONS],
+        examples: examples![
+            "bqsim dis policies/keep_home.s",
+            "bqsim dis --slots policies/heaviest.s"
+        ],
     },
     CommandText {
         name: "run",
@@ -199,6 +222,11 @@ static POLICY_COMMANDS: [CommandText<'static>; 3] = [
             INPUT_OPTIONS,
             RUN_OPTIONS,
         ],
+        examples: examples![
+            "bqsim run --set task=3,mask=0x6,processors=4,previous=1 policies/keep_home.s",
+            "bqsim run --trace policies/heavier_first.s",
+            "bqsim run --repeat 4 --map 0:0=05 policies/every_fourth_tick.s"
+        ],
     },
 ];
 
@@ -208,16 +236,29 @@ static MACHINE_COMMANDS: [CommandText<'static>; 4] = [
         name: "par",
         about: "Runs each processor in a thread of its own, and reports their one history",
         options: &[PAR_OPTIONS],
+        examples: examples![
+            "bqsim par --rule cfs --processors 4 --ticks 1000",
+            "bqsim par --rule eevdf --processors 2 --ticks 10"
+        ],
     },
     CommandText {
         name: "replay",
         about: "Reads a trace and writes the reply to each line",
         options: &[REPLAY_OPTIONS, READING_OPTIONS],
+        examples: examples![
+            "bqsim replay examples/four_tasks_cfs.trace",
+            "bqsim simulate --as trace workloads/desktop.toml | bqsim replay"
+        ],
     },
     CommandText {
         name: "timeline",
         about: "Shows the schedule of a trace",
         options: &[TIMELINE_OPTIONS, READING_OPTIONS, PART_OPTIONS],
+        examples: examples![
+            "bqsim timeline examples/four_tasks_cfs.trace",
+            "bqsim timeline --as map --width 60 examples/four_tasks_eevdf.trace",
+            "bqsim timeline --as why --tasks 1-2 examples/why.trace"
+        ],
     },
     CommandText {
         name: "simulate",
@@ -228,6 +269,11 @@ static MACHINE_COMMANDS: [CommandText<'static>; 4] = [
             LIMIT_OPTIONS,
             SIMULATE_OPTIONS,
             PART_OPTIONS,
+        ],
+        examples: examples![
+            "bqsim simulate workloads/desktop.toml",
+            "bqsim simulate --discipline eevdf --as map --to 100ms workloads/desktop.toml",
+            "bqsim simulate --seeds 10 --preempt policies/heavier_first.s --against none workloads/desktop.toml"
         ],
     },
 ];
@@ -240,6 +286,11 @@ pub fn program<'a>(alloc: Global) -> Result<Command<'a>, AllocError>
         alloc,
         "Simulates processors that choose among their tasks as CFS and EEVDF do",
         VERSION,
+        examples![
+            "bqsim simulate workloads/desktop.toml",
+            "bqsim timeline --as map examples/four_tasks_cfs.trace",
+            "bqsim check --explain policies/keep_home.s"
+        ],
     )?;
     let program = with_program_commands(alloc, program)?;
     let program = with_policy_commands(alloc, program)?;

@@ -5,9 +5,10 @@ ghost use Rattle.bq_cli.specs.Words.{AreShownWords, AreTimelineWords};
 ghost use Rattle.bq_timeline.specs.Settings.{AsksFor};
 
 use crate::policy_words::limit_of_bytes;
+use crate::refusing::refusal;
 use bq_console::{
     Bounded, ErasingWriter, Lines, Progress, ShowingReader, WordsFault, ended, file_named, opened,
-    refused_words, say_unread, waiting_input, word,
+    report_unread, waiting_input, word,
 };
 use bq_streams::{Counted, Kept};
 use bq_timeline::{Settings, SettingsFault, Words, show};
@@ -70,7 +71,7 @@ fn settings(alloc: Global, words: &Words) -> Result<Settings, WordsFault>
     match Settings::of(alloc, words) {
         Ok(settings) => Ok(settings),
         Err(SettingsFault::OutOfMemory) => Err(WordsFault::OutOfMemory),
-        Err(fault) => Err(refused_words(alloc, &fault)),
+        Err(fault) => Err(refusal(alloc, &fault, fault.refused(words))),
     }
 }
 
@@ -84,7 +85,7 @@ pub(crate) fn do_timeline(rt: &HostRuntime, words: &TimelineWords) -> Result<Exi
     };
     match opened(rt, path) {
         Ok(trace) => Ok(show_from(rt, settings, Some(path), Bounded::new(trace, most))),
-        Err(error) => Ok(say_unread(rt, Some(path), &error)),
+        Err(error) => Ok(report_unread(rt, Some(path), &error)),
     }
 }
 

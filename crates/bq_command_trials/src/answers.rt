@@ -3,7 +3,7 @@
 use crate::done::holds;
 use bq_console::file_named;
 use bq_policy_check::{
-    Answered, CheckWords, LimitWords, ListWords, PolicyWords, RunWords, TellingWords, check, list,
+    Answered, CheckWords, LimitWords, ListWords, PolicyWords, ReportWords, RunWords, check, list,
 };
 use bq_policy_run::run;
 use std::alloc::{AllocError, Global};
@@ -68,7 +68,7 @@ fn policy_words(alloc: Global, file: &str, hook: &str) -> Result<PolicyWords, Al
 }
 
 /// The text of an answer, after a letter that tells its kind.
-fn told(alloc: Global, answer: &Answered) -> Result<String, AllocError> {
+fn reported(alloc: Global, answer: &Answered) -> Result<String, AllocError> {
     let (kind, text) = match answer {
         Answered::Done(text) => ("D", text.as_str()),
         Answered::Refused(text) => ("R", text.as_str()),
@@ -88,7 +88,7 @@ type CheckRow = (
 );
 
 /// Policies, and what is told of them.
-static CHECKED: [CheckRow; 12] = [
+static CHECKED: [CheckRow; 13] = [
     (KEEP_HOME, "", "", "", "", "D accepted place budget 2\n"),
     (
         KEEP_HOME,
@@ -114,7 +114,7 @@ static CHECKED: [CheckRow; 12] = [
         "",
         "",
         "",
-        "W --hook Place is no hook (place, preempt or pull)",
+        "W --hook \"Place\": a hook is place, preempt or pull; did you mean \"place\"?",
     ),
     (
         COUNTS,
@@ -125,6 +125,14 @@ static CHECKED: [CheckRow; 12] = [
         "R refused limit helper 100\n",
     ),
     (COUNTS, "", "", "100", "", "D accepted preempt budget 5\n"),
+    (
+        COUNTS,
+        "",
+        "",
+        "1,3",
+        "",
+        "W --helpers \"3\": each is the number of a helper, with commas between them: 1 looks an entry up, 2 writes one, 5 is the time, 8 the processor, 100 adds to a counter, 101 reads one",
+    ),
     (
         "mov r0, 1\nexit\n",
         "pull",
@@ -192,7 +200,7 @@ fn checked(alloc: Global, words: &CheckWords, policy: &str) -> Result<String, Al
         file_named(&words.policy.file),
         policy.as_bytes(),
     )?;
-    told(alloc, &answer)
+    reported(alloc, &answer)
 }
 
 /// What `check` tells of a row's policy.
@@ -203,7 +211,7 @@ fn checked_by(alloc: Global, row: &CheckRow) -> Result<String, AllocError> {
 }
 
 #[test]
-fn checks_say_what_is_wrong(rt: HostRuntime) -> Result<(), Fail> {
+fn checks_report_what_is_wrong(rt: HostRuntime) -> Result<(), Fail> {
     for row in &CHECKED {
         let answer = checked_by(rt.alloc(), row)?;
         holds(
@@ -229,7 +237,17 @@ type RunRow = (
 );
 
 /// Policies, and what is told of their runs.
-static RUN: [RunRow; 16] = [
+static RUN: [RunRow; 19] = [
+    (
+        ";@ hook preempt\nexit\n",
+        "",
+        "",
+        "",
+        "",
+        "",
+        "",
+        "R refused L8 V9 0\nstandard input: bqsim check --explain - says why\n",
+    ),
     // Of words for the same field, counter or entry the last counts.
     (
         KEEP_HOME,
@@ -299,7 +317,7 @@ static RUN: [RunRow; 16] = [
         "",
         "",
         "",
-        "W --set prev=1: there is no field prev; the fields are task, weight, mask, slice, waker, previous, processors, own",
+        "W --set \"prev\": there is no such field; the fields are task, weight, mask, slice, waker, previous, processors, own",
     ),
     // Register 0 holds 0 before the run.
     (
@@ -331,7 +349,7 @@ static RUN: [RunRow; 16] = [
         "",
         "",
         "0",
-        "W --repeat 0: a number of runs is wanted, from 1 to 4294967295",
+        "W --repeat \"0\": a number of runs is at least 1, and below 4294967296",
     ),
     (
         KEEP_HOME,
@@ -341,7 +359,7 @@ static RUN: [RunRow; 16] = [
         "cpu1",
         "",
         "",
-        "W --processor cpu1 is no number below 4294967296",
+        "W --processor \"cpu1\": a processor is a whole number below 4294967296",
     ),
     (
         KEEP_HOME,
@@ -351,7 +369,7 @@ static RUN: [RunRow; 16] = [
         "4294967296",
         "",
         "",
-        "W --processor 4294967296 is no number below 4294967296",
+        "W --processor \"4294967296\": a processor is a whole number below 4294967296",
     ),
     // nobody is 2^32 - 1, where there may be nobody
     (
@@ -372,7 +390,27 @@ static RUN: [RunRow; 16] = [
         "",
         "",
         "",
-        "W --set task=none: none is no number of 64 bits",
+        "W --set \"task=none\": task is a whole number of at most 32 bits",
+    ),
+    (
+        KEEP_HOME,
+        "waker=4294967296",
+        "",
+        "",
+        "",
+        "",
+        "",
+        "W --set \"waker=4294967296\": waker is a whole number of at most 32 bits, or none",
+    ),
+    (
+        KEEP_HOME,
+        "tsk=1",
+        "",
+        "",
+        "",
+        "",
+        "",
+        "W --set \"tsk\": there is no such field; the fields are task, weight, mask, slice, waker, previous, processors, own, load.0 to load.15 (in version 2 to load.63); did you mean \"task\"?",
     ),
     (
         COUNTS,
@@ -382,7 +420,7 @@ static RUN: [RunRow; 16] = [
         "",
         "",
         "",
-        "W --counter 0=abc: what is behind = is no number of 64 bits; a counter is set as 3=10",
+        "W --counter \"0=abc\": what is behind = is no number of 64 bits; a counter is set as 3=10",
     ),
     (
         COUNTS,
@@ -392,7 +430,7 @@ static RUN: [RunRow; 16] = [
         "",
         "",
         "",
-        "W --counter 1x=1: what is before = is no number; a counter is set as 3=10",
+        "W --counter \"1x=1\": what is before = is no number; a counter is set as 3=10",
     ),
 ];
 
@@ -403,31 +441,31 @@ static AT: [(&str, &str); 6] = [
     ("1500", "D r0 1500 (0x5dc)  "),
     (
         "+7",
-        "W --time +7: a time is a whole number of nanoseconds below 2^64, or one with ns, us, ms or s, as 1500 or 5ms",
+        "W --time \"+7\": a time is a whole number of nanoseconds below 2^64, or one with ns, us, ms or s, as 1500 or 5ms",
     ),
     (
         "5 ms",
-        "W --time 5 ms: a time is a whole number of nanoseconds below 2^64, or one with ns, us, ms or s, as 1500 or 5ms",
+        "W --time \"5 ms\": a time is a whole number of nanoseconds below 2^64, or one with ns, us, ms or s, as 1500 or 5ms",
     ),
     (
         "18446744073709551616",
-        "W --time 18446744073709551616: a time is a whole number of nanoseconds below 2^64, or one with ns, us, ms or s, as 1500 or 5ms",
+        "W --time \"18446744073709551616\": a time is a whole number of nanoseconds below 2^64, or one with ns, us, ms or s, as 1500 or 5ms",
     ),
 ];
 
 /// What `check FILE` tells of a policy, after a letter that tells the kind of answer.
-pub fn check_tells(alloc: Global, policy: &str) -> Result<String, AllocError> {
+pub fn check_reports(alloc: Global, policy: &str) -> Result<String, AllocError> {
     let words = check_words(alloc, "", "", "", "")?;
     checked(alloc, &words, policy)
 }
 
 /// What `run FILE` tells of a policy, after a letter that tells the kind of answer.
-pub fn run_tells(alloc: Global, policy: &str) -> Result<String, AllocError> {
+pub fn run_reports(alloc: Global, policy: &str) -> Result<String, AllocError> {
     let clock = Ticking {
         readings: Cell::new(0),
     };
     let answer = run(alloc, &clock, &no_words(alloc), policy.as_bytes())?;
-    told(alloc, &answer)
+    reported(alloc, &answer)
 }
 
 /// What `run` tells of a policy that answers the time, at that time.
@@ -435,7 +473,7 @@ fn ran_at(alloc: Global, clock: &Ticking, time: &str) -> Result<String, AllocErr
     let mut words = no_words(alloc);
     words.time = text_of(alloc, time)?;
     let answer = run(alloc, clock, &words, b";@ hook preempt\ncall 5\nexit\n")?;
-    told(alloc, &answer)
+    reported(alloc, &answer)
 }
 
 #[test]
@@ -465,7 +503,7 @@ fn no_words(alloc: Global) -> RunWords {
             format: None,
             max_bytes: None,
         },
-        telling: TellingWords {
+        report: ReportWords {
             is_traced: false,
             repeat: None,
         },
@@ -489,10 +527,10 @@ fn ran(
     push_words(alloc, &mut words.entries, row.2)?;
     push_words(alloc, &mut words.counters, row.3)?;
     words.processor = text_of(alloc, row.4)?;
-    words.telling.is_traced = row.5 == "t";
-    words.telling.repeat = text_of(alloc, row.6)?;
+    words.report.is_traced = row.5 == "t";
+    words.report.repeat = text_of(alloc, row.6)?;
     let answer = run(alloc, clock, words, row.0.as_bytes())?;
-    told(alloc, &answer)
+    reported(alloc, &answer)
 }
 
 /// What `run` tells of a row's policy.
@@ -502,7 +540,7 @@ fn ran_by(alloc: Global, clock: &Ticking, row: &RunRow) -> Result<String, AllocE
 }
 
 #[test]
-fn runs_tell_what_came_of_them(rt: HostRuntime) -> Result<(), Fail> {
+fn runs_report_what_came_of_them(rt: HostRuntime) -> Result<(), Fail> {
     let clock = Ticking {
         readings: Cell::new(0),
     };
@@ -521,7 +559,7 @@ fn runs_tell_what_came_of_them(rt: HostRuntime) -> Result<(), Fail> {
 /// What `dis` tells of a policy.
 fn listed(alloc: Global, words: &ListWords, policy: &str) -> Result<String, AllocError> {
     let answer = list(alloc, words, policy.as_bytes())?;
-    told(alloc, &answer)
+    reported(alloc, &answer)
 }
 
 /// What `dis` tells of a policy on standard input.

@@ -2,8 +2,8 @@
 
 use crate::done::{Row, all_give, all_give_unread, does_nothing, done, holds, words_of};
 use bq_cli::{Command, job};
-use bq_console::WordsFault;
-use std::alloc::Global;
+use bq_console::{WordsFault, joined_words};
+use std::alloc::{AllocError, Global};
 use std::test::Fail;
 
 /// Commands that read.
@@ -36,7 +36,7 @@ fn replays_assembles_and_lists(rt: HostRuntime) -> Result<(), Fail> {
 }
 
 /// What some words are told, and where in the text.
-static TOLD: [(&str, &str); 33] = [
+static REPORTED: [(&str, &str); 34] = [
     ("", "Usage: bqsim"),
     ("--help", "Usage: bqsim"),
     ("help", "Usage: bqsim"),
@@ -44,7 +44,10 @@ static TOLD: [(&str, &str); 33] = [
     ("--version", "bqsim 0.2.0\n"),
     ("play", "error: "),
     ("replay once again", "error: "),
-    ("--replay", "error: "),
+    (
+        "--replay",
+        "error: unexpected argument '--replay' found\n\nFor more information",
+    ),
     ("--help", "check "),
     ("--help", "timeline "),
     ("--help", "simulate "),
@@ -53,15 +56,18 @@ static TOLD: [(&str, &str); 33] = [
     ("check --help", "Usage: bqsim check"),
     ("asm --help", "place, preempt or pull"),
     ("asm --help", "--maps <MAPS>"),
-    ("asm --hook tick", "invalid value 'tick' for '--hook'"),
+    (
+        "asm --hook tick",
+        "--hook \"tick\": a hook is place, preempt or pull\n",
+    ),
     (
         "asm --hook Place",
-        "\n  [possible values: place, preempt or pull]\n",
+        "--hook \"Place\": a hook is place, preempt or pull; did you mean \"place\"?\n",
     ),
     ("asm --hook", "error: "),
     (
         "asm --hook pull --format 3",
-        "invalid value '3' for '--format'",
+        "--format \"3\": a format is 1 or 2\n",
     ),
     ("asm --hook pull --hook place", "error: "),
     ("asm one.s two.s", "error: "),
@@ -70,25 +76,26 @@ static TOLD: [(&str, &str); 33] = [
     ("import", "--hook <HOOK>"),
     ("help simulate", "Usage: bqsim simulate"),
     ("par --help", "--processors <PROCESSORS>"),
+    ("par --help", "\n\nExamples:\n  bqsim par "),
     ("par", "error: "),
     ("par --rule cfs --ticks 10", "error: "),
     (
         "par --rule fifo --processors 4 --ticks 10",
-        "invalid value 'fifo' for '--rule'",
+        "--rule \"fifo\": a rule is cfs or eevdf\n",
     ),
     (
         "par --rule cfs --processors 3 --ticks 10",
-        "invalid value '3' for '--processors'\n  [possible values: 1, 2, 4, 8, 16, 32 or 64]\n",
+        "--processors \"3\": a number of processors is 1, 2, 4, 8, 16, 32 or 64\n",
     ),
     (
         "par --rule cfs --processors 4 --ticks 1000001",
-        "invalid value '1000001' for '--ticks'",
+        "--ticks \"1000001\": a number of ticks is 0 to 1000000\n",
     ),
     ("par --rule cfs --processors 4 --ticks 10 again", "error: "),
 ];
 
 /// The text that these words are told.
-fn text_told(alloc: Global, line: &str) -> Result<String, Fail> {
+fn text_reported(alloc: Global, line: &str) -> Result<String, Fail> {
     match job(alloc, words_of(alloc, line)?.as_slice()) {
         Err(WordsFault::Words(text)) => Ok(text),
         _ => Err(Fail::from("the words were taken")),
@@ -96,16 +103,49 @@ fn text_told(alloc: Global, line: &str) -> Result<String, Fail> {
 }
 
 #[test]
-fn tells_other_words(rt: HostRuntime) -> Result<(), Fail> {
-    for (line, told) in &TOLD {
-        let text = text_told(rt.alloc(), line)?;
+fn reports_other_words(rt: HostRuntime) -> Result<(), Fail> {
+    for (line, reported) in &REPORTED {
+        let text = text_reported(rt.alloc(), line)?;
         let text = text.as_str();
         holds(
             &rt,
-            text.contains(*told) && text.ends_with("\n"),
+            text.contains(*reported) && text.ends_with("\n"),
             text,
-            told,
+            reported,
         );
+    }
+    Ok(())
+}
+
+/// Words, and what becomes of negative numbers among them.
+static JOINED: [(&str, &str); 4] = [
+    ("simulate --seed -1 w.toml", "simulate --seed=-1 w.toml "),
+    (
+        "simulate --from=1 -2 w.toml",
+        "simulate --from=1 -2 w.toml ",
+    ),
+    ("run --trace -k.s", "run --trace -k.s "),
+    ("check -- --hook -2", "check -- --hook -2 "),
+];
+
+/// The words of a line with negative numbers joined to the options before them, each with a blank behind it.
+fn joined_line(alloc: Global, line: &str) -> Result<String, AllocError> {
+    let mut words = Vec::new(alloc);
+    for word in line.split(' ') {
+        words.push(String::from_str(alloc, word)?)?;
+    }
+    let mut joined = String::new(alloc);
+    for word in &joined_words(alloc, words.as_slice())? {
+        write!(joined, "{word} ")?;
+    }
+    Ok(joined)
+}
+
+#[test]
+fn negative_numbers_are_values(rt: HostRuntime) -> Result<(), Fail> {
+    for (line, joined) in &JOINED {
+        let found = joined_line(rt.alloc(), line)?;
+        holds(&rt, found.as_str() == *joined, found.as_str(), joined);
     }
     Ok(())
 }

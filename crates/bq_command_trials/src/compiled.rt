@@ -143,7 +143,7 @@ fn is_policy(alloc: Global, text: &str) -> bool {
 }
 
 /// The text that a program is imported as, or why it is refused.
-fn said(alloc: Global, settings: &ImportSettings, program: &[u8]) -> Result<String, Fail> {
+fn printed(alloc: Global, settings: &ImportSettings, program: &[u8]) -> Result<String, Fail> {
     match imported(alloc, settings, program) {
         Ok(text) => Ok(text),
         Err(refusal) => Ok(format!(in alloc; "{refusal}")?),
@@ -151,14 +151,14 @@ fn said(alloc: Global, settings: &ImportSettings, program: &[u8]) -> Result<Stri
 }
 
 /// The same beside the two maps.
-fn said_of(alloc: Global, program: &[u8]) -> Result<String, Fail> {
+fn printed_of(alloc: Global, program: &[u8]) -> Result<String, Fail> {
     let settings = settings(alloc)?;
-    said(alloc, &settings, program)
+    printed(alloc, &settings, program)
 }
 
 /// A program is imported as this listing with its settings, which is a policy.
 fn is_imported(rt: &impl Abort, alloc: Global, program: &[u8], listing: &str) -> Result<(), Fail> {
-    let text = said_of(alloc, program)?;
+    let text = printed_of(alloc, program)?;
     let text = text.as_str();
     let is = text.strip_prefix(HEAD) == Some(listing) && is_policy(alloc, text);
     holds(rt, is, text, listing);
@@ -217,7 +217,7 @@ fn runs_of_4096_slots(rt: HostRuntime) -> Result<(), Fail> {
     // a distance counts from the slot behind the jump: -173 from slot 172 + k to slot k
     let back = "160253ff00000000\n";
     let program = crossed(alloc, 86, over, into, back)?;
-    let text = said_of(alloc, program.as_bytes())?;
+    let text = printed_of(alloc, program.as_bytes())?;
     holds(
         &rt,
         is_policy(alloc, text.as_str()),
@@ -228,7 +228,7 @@ fn runs_of_4096_slots(rt: HostRuntime) -> Result<(), Fail> {
     let into = "1602570000000000\n";
     let back = "16024fff00000000\n";
     let program = crossed(alloc, 88, over, into, back)?;
-    let text = said_of(alloc, program.as_bytes())?;
+    let text = printed_of(alloc, program.as_bytes())?;
     let words =
         "the program takes more than 4096 slots once every jump goes forward; make it shorter";
     holds(&rt, text.as_str() == words, text.as_str(), words);
@@ -274,8 +274,8 @@ fn arms_that_share_an_exit(rt: HostRuntime) -> Result<(), Fail> {
 #[test]
 fn refusals_in_words(rt: HostRuntime) -> Result<(), Fail> {
     for (hex, words) in &REFUSED {
-        let said = said_of(rt.alloc(), hex.as_bytes())?;
-        holds(&rt, said.as_str() == *words, said.as_str(), words);
+        let printed = printed_of(rt.alloc(), hex.as_bytes())?;
+        holds(&rt, printed.as_str() == *words, printed.as_str(), words);
     }
     Ok(())
 }

@@ -66,7 +66,7 @@ static LIMITED: [LimitRow; 12] = [
         "",
         "",
         "",
-        "--hooks place,: each is one of place, preempt or pull, with commas between them",
+        "--hooks \"\": each is one of place, preempt or pull, with commas between them",
     ),
     (
         COUNTS,
@@ -74,7 +74,7 @@ static LIMITED: [LimitRow; 12] = [
         "x",
         "",
         "",
-        "--max-maps x: a limit is a number below 4294967296, as 100",
+        "--max-maps \"x\": a limit is a number below 4294967296, as 100",
     ),
     (
         COUNTS,
@@ -82,7 +82,7 @@ static LIMITED: [LimitRow; 12] = [
         "",
         "4294967296",
         "",
-        "--max-map-bytes 4294967296: a limit is a number below 4294967296, as 100",
+        "--max-map-bytes \"4294967296\": a limit is a number below 4294967296, as 100",
     ),
     (
         COUNTS,
@@ -90,7 +90,7 @@ static LIMITED: [LimitRow; 12] = [
         "",
         "",
         "-1",
-        "--max-counters -1: a limit is a number below 4294967296, as 100",
+        "--max-counters \"-1\": a limit is a number below 4294967296, as 100",
     ),
 ];
 

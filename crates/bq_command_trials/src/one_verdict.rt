@@ -4,7 +4,7 @@
 
 ghost use Rattle.std.specs.Prelude.{◌≡◌};
 
-use crate::answers::{check_tells, run_tells};
+use crate::answers::{check_reports, run_reports};
 use crate::done::{Performed, done_by, holds};
 use bq_cfs::CfsQueue;
 use bq_history::Naming;
@@ -146,8 +146,14 @@ fn next_sample(rt: &impl Abort, alloc: Global, number: &mut u64) -> Sample {
 }
 
 /// The first line that is told is the one that refuses the program; of one that is accepted, it begins so.
-fn agrees(rt: &impl Abort, alloc: Global, told: &str, refusal: Option<Refusal>, accepted: &str) {
-    let line = told.lines().next().unwrap_or("nothing");
+fn agrees(
+    rt: &impl Abort,
+    alloc: Global,
+    reported: &str,
+    refusal: Option<Refusal>,
+    accepted: &str,
+) {
+    let line = reported.lines().next().unwrap_or("nothing");
     let Some(Refusal { cause, slot }) = refusal else {
         holds(rt, line.starts_with(accepted), line, accepted);
         return;
@@ -170,7 +176,7 @@ fn performed<R: Abort + Threads + Wait + Sync>(
 }
 
 /// What a command tells of this input, where it tells `accepted` of a program that is accepted.
-fn tells<R: Abort + Threads + Wait + Sync>(
+fn reports<R: Abort + Threads + Wait + Sync>(
     rt: &R,
     alloc: Global,
     line: &str,
@@ -193,15 +199,15 @@ fn replays<R: Abort + Threads + Wait + Sync>(
         rt, "memory",
     );
     let done = performed(rt, alloc, "replay", trace.as_bytes());
-    let told = done.text().strip_prefix("draw 1\n").unwrap_or("no draw");
-    agrees(rt, alloc, told, refusal, "install ok");
+    let reported = done.text().strip_prefix("draw 1\n").unwrap_or("no draw");
+    agrees(rt, alloc, reported, refusal, "install ok");
 }
 
 /// Two commands on one program.
-fn commands_tell<R: Abort + Threads + Wait + Sync>(rt: &R, alloc: Global, sample: &Sample) {
+fn commands_report<R: Abort + Threads + Wait + Sync>(rt: &R, alloc: Global, sample: &Sample) {
     let hex = hex::encode(alloc, sample.image.as_slice()).expect(rt, "memory");
     let refusal = sample.refusal;
-    tells(
+    reports(
         rt,
         alloc,
         "check",
@@ -219,31 +225,34 @@ fn commands_agree(rt: HostRuntime) {
     let mut number = SEED;
     for _ in 0..PROGRAMS {
         let sample = next_sample(&rt, alloc, &mut number);
-        commands_tell(&rt, alloc, &sample);
+        commands_report(&rt, alloc, &sample);
     }
 }
 
 /// What is told of the program's file: a refusal is told as one.
-fn file_tells(
+fn file_reports(
     rt: &impl Abort,
     alloc: Global,
-    told: Result<String, AllocError>,
+    reported: Result<String, AllocError>,
     refusal: Option<Refusal>,
     accepted: &str,
 ) {
-    let told = told.expect(rt, "memory");
+    let reported = reported.expect(rt, "memory");
     let kind = if refusal.is_some() { "R " } else { "D " };
-    let told = told.as_str().strip_prefix(kind).unwrap_or("another kind");
-    agrees(rt, alloc, told, refusal, accepted);
+    let reported = reported
+        .as_str()
+        .strip_prefix(kind)
+        .unwrap_or("another kind");
+    agrees(rt, alloc, reported, refusal, accepted);
 }
 
 /// Two commands on one program's file.
-fn files_tell(rt: &impl Abort, alloc: Global, sample: &Sample) {
+fn files_report(rt: &impl Abort, alloc: Global, sample: &Sample) {
     let policy = sample.text.as_str();
     let refusal = sample.refusal;
-    let checked = check_tells(alloc, policy);
-    file_tells(rt, alloc, checked, refusal, "accepted preempt budget ");
-    file_tells(rt, alloc, run_tells(alloc, policy), refusal, "r0 ");
+    let checked = check_reports(alloc, policy);
+    file_reports(rt, alloc, checked, refusal, "accepted preempt budget ");
+    file_reports(rt, alloc, run_reports(alloc, policy), refusal, "r0 ");
 }
 
 /// By its file, checked and run.
@@ -253,7 +262,7 @@ fn files_agree(rt: HostRuntime) {
     let mut number = SEED;
     for _ in 0..PROGRAMS {
         let sample = next_sample(&rt, alloc, &mut number);
-        files_tell(&rt, alloc, &sample);
+        files_report(&rt, alloc, &sample);
     }
 }
 
@@ -281,13 +290,13 @@ fn is_loaded<N: Naming + Counting, R: Abort + Wait>(
     sample: &Sample,
 ) {
     let image = Some(sample.image.as_slice());
-    let told = match machine.load_all(rt, alloc, seat, Hook::Preempt, image) {
+    let reported = match machine.load_all(rt, alloc, seat, Hook::Preempt, image) {
         Ok(_) => String::from_str(alloc, "loaded"),
         Err(LoadRefused::Fault(fault)) => format!(in alloc; "refused {fault}"),
         Err(LoadRefused::Refusal(refusal)) => format!(in alloc; "refused {refusal}"),
     };
-    let told = told.expect(rt, "memory");
-    agrees(rt, alloc, told.as_str(), sample.refusal, "loaded");
+    let reported = reported.expect(rt, "memory");
+    agrees(rt, alloc, reported.as_str(), sample.refusal, "loaded");
 }
 
 /// Each program as a load of the locked machine.

@@ -170,10 +170,10 @@ fn left(
 }
 
 #[test]
-fn marks_that_asm_leaves_are_told(rt: HostRuntime) -> Result<(), Fail> {
+fn marks_that_asm_leaves_are_reported(rt: HostRuntime) -> Result<(), Fail> {
     for (maps, has_hook, text, begins, ends) in &LEFT {
-        let told = left(rt.alloc(), *maps, *has_hook, text)?;
-        let note = told.as_str();
+        let reported = left(rt.alloc(), *maps, *has_hook, text)?;
+        let note = reported.as_str();
         holds(&rt, note.starts_with(*begins), note, begins);
         holds(&rt, note.ends_with(*ends), note, ends);
         holds(&rt, !begins.is_empty() || note.is_empty(), note, text);
@@ -206,12 +206,12 @@ fn maps_refused(alloc: Global, maps: &str) -> Result<String, Fail> {
 #[test]
 fn maps_are_judged_part_by_part(rt: HostRuntime) -> Result<(), Fail> {
     for (maps, wanted) in &MAPS {
-        let said = complained(rt.alloc(), Some(Hook::Place), Some(*maps), None)?;
-        holds(&rt, said.as_str() == *wanted, said.as_str(), wanted);
+        let printed = complained(rt.alloc(), Some(Hook::Place), Some(*maps), None)?;
+        holds(&rt, printed.as_str() == *wanted, printed.as_str(), wanted);
     }
     for (maps, wanted) in &MAPS {
-        let said = maps_refused(rt.alloc(), maps)?;
-        holds(&rt, said.as_str() == *wanted, said.as_str(), wanted);
+        let printed = maps_refused(rt.alloc(), maps)?;
+        holds(&rt, printed.as_str() == *wanted, printed.as_str(), wanted);
     }
     Ok(())
 }
@@ -232,10 +232,10 @@ static WITHOUT_A_HOOK: [(Option<&str>, Option<Version>, &str); 3] = [
 ];
 
 #[test]
-fn options_without_a_hook_are_told(rt: HostRuntime) -> Result<(), Fail> {
+fn options_without_a_hook_are_reported(rt: HostRuntime) -> Result<(), Fail> {
     for (maps, format, wanted) in &WITHOUT_A_HOOK {
-        let said = complained(rt.alloc(), None, *maps, *format)?;
-        holds(&rt, said.as_str() == *wanted, said.as_str(), wanted);
+        let printed = complained(rt.alloc(), None, *maps, *format)?;
+        holds(&rt, printed.as_str() == *wanted, printed.as_str(), wanted);
     }
     Ok(())
 }

@@ -10,19 +10,19 @@ use std::test::Fail;
 
 /// What is told of a policy, and whether it is accepted.
 #[derive(Drop)]
-struct Told {
+struct Reported {
     text: String,
     accepted: bool,
 }
 
 /// What is explained of the policy of this text.
-fn explained(alloc: Global, text: &str) -> Result<Told, Fail> {
+fn explained(alloc: Global, text: &str) -> Result<Reported, Fail> {
     match read_policy(alloc, text.as_bytes(), &Head::nothing()) {
         Ok(policy) => {
-            let said = explain(alloc, &policy, text.as_bytes(), &Limits::none())?;
-            Ok(Told {
-                text: explanation_text(alloc, &policy, None, &said)?,
-                accepted: said.verdict.is_accepted(),
+            let printed = explain(alloc, &policy, text.as_bytes(), &Limits::none())?;
+            Ok(Reported {
+                text: explanation_text(alloc, &policy, None, &printed)?,
+                accepted: printed.verdict.is_accepted(),
             })
         }
         Err(_) => Err(Fail::from("the text is no policy")),
@@ -195,18 +195,18 @@ static REFUSED: [(&str, &str, &str, &str); 23] = [
 ];
 
 /// What is said of a policy has these words in it.
-fn has(rt: &impl Abort, said: &str, words: &str) {
-    holds(rt, said.contains(words), said, words);
+fn has(rt: &impl Abort, printed: &str, words: &str) {
+    holds(rt, printed.contains(words), printed, words);
 }
 
 #[test]
-fn refusals_say_what_helps(rt: HostRuntime) -> Result<(), Fail> {
+fn refusals_state_what_helps(rt: HostRuntime) -> Result<(), Fail> {
     for (text, first, need, help) in &REFUSED {
-        let said = explained(rt.alloc(), text)?;
-        let said = said.text.as_str();
-        holds(&rt, said.starts_with(*first), said, first);
-        has(&rt, said, need);
-        has(&rt, said, help);
+        let printed = explained(rt.alloc(), text)?;
+        let printed = printed.text.as_str();
+        holds(&rt, printed.starts_with(*first), printed, first);
+        has(&rt, printed, need);
+        has(&rt, printed, help);
     }
     Ok(())
 }
@@ -353,15 +353,15 @@ static COMPLAINED: [(&str, &str); 32] = [
 /// What is said of a text that does not assemble.
 fn complained(alloc: Global, text: &str) -> Result<String, Fail> {
     match complaint(alloc, text.as_bytes())? {
-        Some(said) => Ok(said),
+        Some(printed) => Ok(printed),
         None => Err(Fail::from("nothing was said")),
     }
 }
 
 #[test]
 fn complaints_name_what_is_wrong(rt: HostRuntime) -> Result<(), Fail> {
-    for (text, told) in &COMPLAINED {
-        has(&rt, complained(rt.alloc(), text)?.as_str(), told);
+    for (text, reported) in &COMPLAINED {
+        has(&rt, complained(rt.alloc(), text)?.as_str(), reported);
     }
     Ok(())
 }
@@ -395,11 +395,11 @@ static WHOLLY: [(&str, &str, bool); 2] = [
 ];
 
 #[test]
-fn a_refusal_and_what_is_accepted_are_told_whole(rt: HostRuntime) -> Result<(), Fail> {
+fn a_refusal_and_what_is_accepted_are_reported_whole(rt: HostRuntime) -> Result<(), Fail> {
     for (text, whole, is_accepted) in &WHOLLY {
-        let said = explained(rt.alloc(), text)?;
-        let is = said.text.as_str() == *whole && said.accepted == *is_accepted;
-        holds(&rt, is, said.text.as_str(), whole);
+        let printed = explained(rt.alloc(), text)?;
+        let is = printed.text.as_str() == *whole && printed.accepted == *is_accepted;
+        holds(&rt, is, printed.text.as_str(), whole);
     }
     Ok(())
 }
@@ -425,10 +425,10 @@ static KNOWN: [(&str, &str); 3] = [
 ];
 
 #[test]
-fn the_state_is_told(rt: HostRuntime) -> Result<(), Fail> {
-    for (text, told) in &KNOWN {
-        let said = explained(rt.alloc(), text)?;
-        has(&rt, said.text.as_str(), told);
+fn the_state_is_reported(rt: HostRuntime) -> Result<(), Fail> {
+    for (text, reported) in &KNOWN {
+        let printed = explained(rt.alloc(), text)?;
+        has(&rt, printed.text.as_str(), reported);
     }
     Ok(())
 }
@@ -483,14 +483,14 @@ static TRAILS: [(&str, &[&str], &[&str]); 5] = [
 
 #[test]
 fn trails_follow_the_ways(rt: HostRuntime) -> Result<(), Fail> {
-    for (text, told, not_told) in &TRAILS {
-        let said = explained(rt.alloc(), text)?;
-        let said = said.text.as_str();
-        for words in *told {
-            has(&rt, said, words);
+    for (text, reported, not_reported) in &TRAILS {
+        let printed = explained(rt.alloc(), text)?;
+        let printed = printed.text.as_str();
+        for words in *reported {
+            has(&rt, printed, words);
         }
-        for words in *not_told {
-            holds(&rt, !said.contains(*words), said, words);
+        for words in *not_reported {
+            holds(&rt, !printed.contains(*words), printed, words);
         }
     }
     Ok(())

@@ -23,13 +23,13 @@ static OTHERS: [(&str, &str); 2] = [("Nothing is there", "nothing is there"), ("
 fn reasons_are_the_systems_words(rt: HostRuntime) -> Result<(), Fail> {
     for (number, words) in &NUMBERED {
         let error = Error::from_raw_os_error(*number);
-        let said = reason(rt.alloc(), &error)?;
-        holds(&rt, said.as_str() == *words, said.as_str(), words);
+        let printed = reason(rt.alloc(), &error)?;
+        holds(&rt, printed.as_str() == *words, printed.as_str(), words);
     }
     for (text, words) in &OTHERS {
         let error = Error::other(*text);
-        let said = reason(rt.alloc(), &error)?;
-        holds(&rt, said.as_str() == *words, said.as_str(), words);
+        let printed = reason(rt.alloc(), &error)?;
+        holds(&rt, printed.as_str() == *words, printed.as_str(), words);
     }
     Ok(())
 }

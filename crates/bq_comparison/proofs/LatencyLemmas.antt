@@ -35,18 +35,22 @@ AreReordered-refl tasks = λ task. IsPermutation-refl (latencies_of tasks task)
 
 -- what is reordered twice is reordered
 pub AreReordered-trans : (old mid new : Tasks) → AreReordered old mid → AreReordered mid new → AreReordered old new
-AreReordered-trans old mid new a b = λ task. IsPermutation-trans (latencies_of old task) (latencies_of mid task) (latencies_of new task) (a task) (b task)
+AreReordered-trans old mid new a b =
+    λ task. IsPermutation-trans (latencies_of old task) (latencies_of mid task) (latencies_of new task) (a task) (b task)
 
 -- where those of one task are reordered and those of the others are the same
 pub reordered : (task : ℕ) (old new : Tasks) → IsPermutation (latencies_of old task) (latencies_of new task)
     → ((other : ℕ) → ¬ (other ≡ task) → latencies_of new other ≡ latencies_of old other) → AreReordered old new
 reordered task old new own others = λ k. elim (cases_eq k task) [
   | inl same ↦ subst (λ (n : ℕ). IsPermutation (latencies_of old n) (latencies_of new n)) (sym same) own
-  | inr other ↦ subst (λ (xs : List ℕ). IsPermutation (latencies_of old k) xs) (sym (others k other)) (IsPermutation-refl (latencies_of old k))
+  | inr other ↦
+      subst (λ (xs : List ℕ). IsPermutation (latencies_of old k) xs) (sym (others k other))
+      (IsPermutation-refl (latencies_of old k))
 ]
 
 -- what is a value after the latencies were reordered was one before
-pub IsValue-reordered : (s : Figures) (old new : Tasks) (f : Figure) (v : Option ℕ) → AreReordered old new → IsValue s new f v → IsValue s old f v
+pub IsValue-reordered : (s : Figures) (old new : Tasks) (f : Figure) (v : Option ℕ)
+    → AreReordered old new → IsValue s new f v → IsValue s old f v
 IsValue-reordered s old new (figure.Task id f) v kept h = h
 IsValue-reordered s old new (figure.Latency id f) v kept (sorted, same, order, is) =
     (sorted, IsPermutation-trans (latencies_of old id) (latencies_of new id) sorted (kept id) same, order, is)

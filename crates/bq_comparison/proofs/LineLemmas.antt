@@ -7,7 +7,8 @@ use Rattle.bq_comparison.specs.declared.line.FigureLine.{FigureLine}
 use Rattle.bq_comparison.specs.Lines.{Selects, beside, row_at}
 
 -- a line more at the end that is shown is selected too
-pub Selects-take : (P : FigureLine → Type 0) (xs ys : List FigureLine) (x : FigureLine) → Selects P xs ys → P x → Selects P (xs ++ x ∷ []) (ys ++ x ∷ [])
+pub Selects-take : (P : FigureLine → Type 0) (xs ys : List FigureLine) (x : FigureLine)
+    → Selects P xs ys → P x → Selects P (xs ++ x ∷ []) (ys ++ x ∷ [])
 Selects-take P [] ys x h shown = inl (shown, ([], ap (λ l. l ++ x ∷ []) h, refl))
 Selects-take P (z ∷ zs) ys x h shown =
     elim h [
@@ -16,7 +17,8 @@ Selects-take P (z ∷ zs) ys x h shown =
     ]
 
 -- a line more at the end that is not shown is left out
-pub Selects-leave : (P : FigureLine → Type 0) (xs ys : List FigureLine) (x : FigureLine) → Selects P xs ys → ¬ P x → Selects P (xs ++ x ∷ []) ys
+pub Selects-leave : (P : FigureLine → Type 0) (xs ys : List FigureLine) (x : FigureLine)
+    → Selects P xs ys → ¬ P x → Selects P (xs ++ x ∷ []) ys
 Selects-leave P [] ys x h hidden = inr (hidden, h)
 Selects-leave P (z ∷ zs) ys x h hidden =
     elim h [
@@ -26,6 +28,7 @@ Selects-leave P (z ∷ zs) ys x h hidden =
 
 -- a row more at the end stands beside the one at its place
 pub beside-more : (place : ℕ) (rows : List FigureRow) (row : FigureRow) (theirs : Option (Vec FigureRow Global))
-    → beside place (rows ++ row ∷ []) theirs ≡ beside place rows theirs ++ record { ours = row; theirs = row_at theirs (place + length rows) } ∷ []
+    → beside place (rows ++ row ∷ []) theirs
+    ≡ beside place rows theirs ++ record { ours = row; theirs = row_at theirs (place + length rows) } ∷ []
 beside-more place [] row theirs = grind (arith, common_steps)
 beside-more place (r ∷ rs) row theirs = grind (arith, common_steps, beside-more (place + 1) rs row theirs)

@@ -6,8 +6,10 @@ use Rattle.bq_comparison.specs.declared.summing.FigureRow.{FigureRow}
 use Rattle.bq_comparison.specs.Rows.{AreRowsFrom, IsRow, numbers_at}
 
 -- rows of some figures and the row of one figure more are the rows of all
-pub AreRowsFrom-push : (place : ℕ) (runs : List RunFigures) (figures : List Figure) (rows : List FigureRow) (f : Figure) (row : FigureRow)
-    → AreRowsFrom place runs figures rows → IsRow f (numbers_at (place + length figures) runs) row → AreRowsFrom place runs (figures ++ f ∷ []) (rows ++ row ∷ [])
+pub AreRowsFrom-push : (place : ℕ) (runs : List RunFigures) (figures : List Figure) (rows : List FigureRow)
+    (f : Figure) (row : FigureRow)
+    → AreRowsFrom place runs figures rows → IsRow f (numbers_at (place + length figures) runs) row
+    → AreRowsFrom place runs (figures ++ f ∷ []) (rows ++ row ∷ [])
 AreRowsFrom-push place runs [] [] f row h more =
     let P : ℕ → Type 0 = λ n. IsRow f (numbers_at n runs) row in
     (subst P (omega arith) more, tt)

@@ -12,7 +12,7 @@ use Rattle.bq_comparison.specs.declared.fault.SeedsFault.TheVariants as fault
 use Rattle.bq_comparison.specs.Faults.{HasFault, IsNoRun, IsNoSide, IsNoSummary, fault_of_run}
 use Rattle.bq_experiment.specs.Limits.{IsLonger}
 use Rattle.bq_workload.specs.Soundness.{first_flaw}
-use Rattle.bq_simulate.specs.Faults.{flaw_told}
+use Rattle.bq_simulate.specs.Faults.{reported_flaw}
 use Rattle.bq_simulate.specs.Order.{IsCutOff, IsEndless}
 use Rattle.bq_simulate.specs.declared.fault.SimulateFault.{SimulateFault}
 use Rattle.bq_simulate.specs.declared.fault.SimulateFault.TheVariants as run_fault
@@ -20,7 +20,8 @@ use Rattle.bq_simulate.specs.Simulations.{Accepted, with_seed}
 use Rattle.bq_comparison.specs.Seeds.{AreResults, AreRuns, Comes, IsRun}
 
 -- what came of runs that all came to their end
-ran : (policies : List Accepted) (w : Workload) (most : ℕ) (figures : List Figure) (seed : ℕ) (runs : List RunFigures) → AreResults policies w most figures seed (map Ok runs) → AreRuns policies w most figures seed runs
+ran : (policies : List Accepted) (w : Workload) (most : ℕ) (figures : List Figure) (seed : ℕ) (runs : List RunFigures)
+    → AreResults policies w most figures seed (map Ok runs) → AreRuns policies w most figures seed runs
 ran policies w most figures seed [] h = tt
 ran policies w most figures seed (x ∷ xs) h =
     let P : ℕ → Type 0 = λ s. IsRun policies (with_seed w s) most figures x in
@@ -33,8 +34,10 @@ ran policies w most figures seed (x ∷ xs) h =
     (subst P (omega arith) first.0, ran policies w most figures (seed + 1) xs rest)
 
 -- runs with some seeds, and results with the seeds after them that are runs, are runs together
-pub AreRuns-append : (policies : List Accepted) (w : Workload) (most : ℕ) (figures : List Figure) (seed : ℕ) (runs more : List RunFigures)
-    → AreRuns policies w most figures seed runs → AreResults policies w most figures (seed + length runs) (map Ok more) → AreRuns policies w most figures seed (runs ++ more)
+pub AreRuns-append : (policies : List Accepted) (w : Workload) (most : ℕ) (figures : List Figure)
+    (seed : ℕ) (runs more : List RunFigures)
+    → AreRuns policies w most figures seed runs → AreResults policies w most figures (seed + length runs) (map Ok more)
+    → AreRuns policies w most figures seed (runs ++ more)
 AreRuns-append policies w most figures seed [] more h k =
     let P : ℕ → Type 0 = λ s. AreResults policies w most figures s (map Ok more) in
     ran policies w most figures seed more (subst P (omega arith) k)
@@ -46,13 +49,17 @@ abbrev ended : RunFigures → Result RunFigures SeedsFault
 ended = Ok
 
 -- as many as came to their end
-pub Comes-count : (before after : List RunFigures) (results : List (Result RunFigures SeedsFault)) → Comes before results after → length after ≡ length before + length results
+pub Comes-count : (before after : List RunFigures) (results : List (Result RunFigures SeedsFault))
+    → Comes before results after → length after ≡ length before + length results
 Comes-count before after results (more, ok, is) =
     ap length is ∙ length-append before more ∙ ap (λ n. length before + n) (sym (length-map more ended) ∙ ap length (sym ok))
 
--- those with the next seeds stand behind those before
-pub AreRuns-come : (policies : List Accepted) (w : Workload) (most : ℕ) (figures : List Figure) (seed next : ℕ) (before after : List RunFigures) (results : List (Result RunFigures SeedsFault))
-    → next ≡ seed + length before → AreRuns policies w most figures seed before → AreResults policies w most figures next results → Comes before results after → AreRuns policies w most figures seed after
+-- the figures of runs with the next seeds stand behind those before
+pub AreRuns-come : (policies : List Accepted) (w : Workload) (most : ℕ) (figures : List Figure) (seed next : ℕ)
+    (before after : List RunFigures) (results : List (Result RunFigures SeedsFault))
+    → next ≡ seed + length before → AreRuns policies w most figures seed before
+    → AreResults policies w most figures next results → Comes before results after
+    → AreRuns policies w most figures seed after
 AreRuns-come policies w most figures seed next before after results at h k (more, ok, is) =
     let P : List RunFigures → Type 0 = λ l. AreRuns policies w most figures seed l in
     let Q : ℕ → Type 0 = λ s. AreResults policies w most figures s results in
@@ -74,7 +81,9 @@ endless w why other cut = elim cut [
 
 -- the fault of a run, in the words of a summary, says as much
 pub refused_is_no_run : (policies : List Accepted) (w : Workload) (most : ℕ) (why : SimulateFault)
-    → flaw_told why ≡ first_flaw w → (first_flaw w ≡ None → IsCutOff w why) → (why ≡ run_fault.Enough → IsLonger policies w most) → IsNoRun policies w most (fault_of_run why)
+    → reported_flaw why ≡ first_flaw w → (first_flaw w ≡ None → IsCutOff w why)
+    → (why ≡ run_fault.Enough → IsLonger policies w most)
+    → IsNoRun policies w most (fault_of_run why)
 refused_is_no_run policies w most run_fault.OutOfMemory h ends k = tt
 refused_is_no_run policies w most (run_fault.Unsound flaw) h ends k = (h, λ sound. endless w (run_fault.Unsound flaw) tt (ends sound))
 refused_is_no_run policies w most (run_fault.Drive fault) h ends k = (h, λ sound. endless w (run_fault.Drive fault) tt (ends sound))
@@ -83,16 +92,22 @@ refused_is_no_run policies w most run_fault.Endless h ends k = (h, λ sound. end
 refused_is_no_run policies w most run_fault.Enough h ends k = k refl
 
 -- where a run with one of the seeds is refused, so are all
-refused_all : (policies : List Accepted) (w : Workload) (most count i : ℕ) (why : SeedsFault) → i < count → IsNoRun policies (with_seed w (w.machine.seed + i)) most why → IsNoSummary policies w most count why
+refused_all : (policies : List Accepted) (w : Workload) (most count i : ℕ) (why : SeedsFault)
+    → i < count → IsNoRun policies (with_seed w (w.machine.seed + i)) most why
+    → IsNoSummary policies w most count why
 refused_all policies w most count i (fault.Run why) few h = h
 refused_all policies w most count i fault.Last few h = absurd h
 refused_all policies w most count i fault.Events few h = (i, few, h)
 refused_all policies w most count i fault.OutOfMemory few h = tt
 
--- and where one of the results is a fault, or memory runs out
-pub none_comes : (policies : List Accepted) (w : Workload) (most : ℕ) (figures : List Figure) (next before count : ℕ) (results : List (Result RunFigures SeedsFault)) (why : SeedsFault)
-    → next ≡ w.machine.seed + before → before + length results ≤ count → AreResults policies w most figures next results → (why ≡ fault.OutOfMemory) ⊎ HasFault results why → IsNoSummary policies w most count why
-none_comes policies w most figures next before count results why at few are (inl out) = subst (λ e. IsNoSummary policies w most count e) (sym out) tt
+-- all runs are refused where one of the results is a fault, or memory runs out
+pub none_comes : (policies : List Accepted) (w : Workload) (most : ℕ) (figures : List Figure) (next before count : ℕ)
+    (results : List (Result RunFigures SeedsFault)) (why : SeedsFault)
+    → next ≡ w.machine.seed + before → before + length results ≤ count → AreResults policies w most figures next results
+    → (why ≡ fault.OutOfMemory) ⊎ HasFault results why
+    → IsNoSummary policies w most count why
+none_comes policies w most figures next before count results why at few are (inl out) =
+    subst (λ e. IsNoSummary policies w most count e) (sym out) tt
 none_comes policies w most figures next before count results why at few are (inr (i, there)) =
     let one = are i (Err why) there in
     let low : i < length results = slice_get_within results i (Err why) there in
@@ -105,9 +120,11 @@ pub ours_refused : (policies mine : List Accepted) (others : Option (List Accept
     → mine ≡ policies → IsNoSummary mine w most count why → IsNoSide policies others w most count why
 ours_refused policies mine others w most count why is h = inl (subst (λ (l : List Accepted). IsNoSummary l w most count why) is h)
 
--- and so it is where theirs is refused
-pub theirs_refused : (policies mine theirs : List Accepted) (others : Option (List Accepted)) (w : Workload) (most count : ℕ) (why : SeedsFault)
-    → others ≡ Some theirs → mine ≡ theirs → IsNoSummary mine w most count why → IsNoSide policies others w most count why
+-- where their side of a comparison is refused, so is the comparison
+pub theirs_refused : (policies mine theirs : List Accepted) (others : Option (List Accepted))
+    (w : Workload) (most count : ℕ) (why : SeedsFault)
+    → others ≡ Some theirs → mine ≡ theirs → IsNoSummary mine w most count why
+    → IsNoSide policies others w most count why
 theirs_refused policies mine theirs others w most count why there is h =
     let P : List Accepted → Type 0 = λ l. IsNoSummary l w most count why in
     inr (subst (λ (o : Option (List Accepted)). IsSomeAnd o P) (sym there) (subst P is h))

@@ -1,8 +1,8 @@
 -- What the words of a comparison ask for.
-use Rattle.std.specs.Prelude.{◌≡◌, ℕ, Bool, true, false, ◌&&◌, ◌||◌, is_some, nat_le, List, [], Option, Some, None, IsNone, String, if◌then◌else◌, option_and_then, string_bytes}
+use Rattle.std.specs.Prelude.{◌≡◌, ℕ, Bool, true, false, ◌&&◌, ◌||◌, is_some, nat_le, List, [], Option, Some, None, IsNone, String, if◌then◌else◌, codes, option_and_then, string_bytes}
 use Rattle.std.specs.Global.{Global}
 use Rattle.bq_words.specs.Quantities.{decimal_of}
-use Rattle.bq_timeline.specs.Settings.{AsksFor, IsNoSettings, form_asked}
+use Rattle.bq_timeline.specs.Settings.{AsksFor, IsNoSettings, form_asked, option_refused as option_unset, word_refused as word_unset}
 use Rattle.bq_timeline.specs.declared.form_names.FormName.{FormName}
 use Rattle.bq_timeline.specs.declared.form_names.FormName.TheVariants as form
 use Rattle.bq_timeline.specs.declared.settings.Settings.{Settings}
@@ -35,7 +35,7 @@ table_of form.Csv = Some table.Csv
 table_of form.Json = Some table.Json
 table_of other = None
 
--- the form of a table, where the words are right: a report, where none is named
+-- the form of a table, if the words are right: a report if none is named
 abbrev pub table_asked : Words → Option TableForm
 table_asked w = option_and_then table_of (form_asked w)
 
@@ -58,13 +58,13 @@ pub record AskToCompare (words : StudyWords) (c : Comparing) : Type 0 where
   pub names : c.names ≡ settings.names
   pub form : table_of settings.form ≡ Some c.form
 
--- nothing where neither is asked for, and else this comparison
+-- nothing if neither seeds nor other policies are asked for; otherwise this comparison
 abbrev pub AskFor : StudyWords → Option Comparing → Type 0
 AskFor words None = AskForNone words
 AskFor words (Some c) = (¬ AskForNone words) × AskToCompare words c
 
--- the word that the fault names is not of its kind: no number of seeds, no form of a table, or none of what a timeline shows; or a stretch
--- of time is named
+-- the fault is right: the word of the seeds is no number of seeds, the form is not one of a table, a timeline does not know the
+-- words, or they name a stretch of time
 abbrev pub HasNoWord : StudyWords → ComparingFault → Type 0
 HasNoWord words fault.Seeds = seeds_asked words.seeds ≡ None
 HasNoWord words fault.Form = table_asked words.shown ≡ None
@@ -74,3 +74,17 @@ HasNoWord words (fault.Settings why) = IsNoSettings words.shown why
 -- a comparison is asked for, and the word that the fault names is not of its kind
 abbrev pub IsNoComparison : StudyWords → ComparingFault → Type 0
 IsNoComparison words why = (¬ AskForNone words) × HasNoWord words why
+
+-- the word that a fault refuses; none if the fault is not that of one word
+abbrev pub word_refused : StudyWords → ComparingFault → Option (String Global)
+word_refused words fault.Seeds = words.seeds
+word_refused words fault.Form = words.shown.form
+word_refused words fault.WholeRuns = None
+word_refused words (fault.Settings why) = word_unset words.shown why
+
+-- the option of the word that a fault refuses
+abbrev pub option_refused : ComparingFault → List ℕ
+option_refused fault.Seeds = codes "seeds"
+option_refused fault.Form = codes "as"
+option_refused fault.WholeRuns = []
+option_refused (fault.Settings why) = option_unset why

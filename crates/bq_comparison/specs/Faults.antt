@@ -4,7 +4,7 @@ use Rattle.std.specs.Option.{IsSomeAnd}
 use Rattle.bq_workload.specs.Soundness.{first_flaw}
 use Rattle.bq_workload.specs.declared.workload.Workload.{Workload}
 use Rattle.bq_experiment.specs.Limits.{IsLonger}
-use Rattle.bq_simulate.specs.Faults.{flaw_told}
+use Rattle.bq_simulate.specs.Faults.{reported_flaw}
 use Rattle.bq_simulate.specs.Order.{IsEndless}
 use Rattle.bq_simulate.specs.Simulations.{Accepted, with_seed}
 use Rattle.bq_simulate.specs.declared.fault.SimulateFault.{SimulateFault}
@@ -19,10 +19,10 @@ fault_of_run run_fault.OutOfMemory = fault.OutOfMemory
 fault_of_run run_fault.Enough = fault.Events
 fault_of_run why = fault.Run why
 
--- the workload is not followed to its end: for its first flaw exactly when it has one, and else only where 64 bits do not count the bound
--- of its steps
+-- the workload is not followed to its end: for its first flaw exactly if it has one, and otherwise only if 64 bits do not count
+-- the bound of its steps
 abbrev pub IsNotFollowed : Workload → SimulateFault → Type 0
-IsNotFollowed w why = (flaw_told why ≡ first_flaw w) × (first_flaw w ≡ None → IsEndless w why)
+IsNotFollowed w why = (reported_flaw why ≡ first_flaw w) × (first_flaw w ≡ None → IsEndless w why)
 
 -- a run of the workload with these policies does not come to its end: the workload is not followed, or the run is cut off after that many
 -- events, only when there are more; memory may run out whatever the workload is
@@ -32,7 +32,7 @@ IsNoRun policies w most fault.Last = ⊥
 IsNoRun policies w most fault.Events = IsLonger policies w most
 IsNoRun policies w most fault.OutOfMemory = ⊤
 
--- of this many seeds, from the workload's own on, there is one with which more than that many events come
+-- of this many seeds, from the workload's own on, there is one with which more than this many events come
 abbrev pub HasLonger : List Accepted → Workload → ℕ → ℕ → Type 0
 HasLonger policies w most count = (i : ℕ) × (i < count) × IsLonger policies (with_seed w (w.machine.seed + i)) most
 
@@ -43,7 +43,7 @@ IsNoSummary policies w most count fault.Last = 2 ^ 64 < w.machine.seed + count
 IsNoSummary policies w most count fault.Events = HasLonger policies w most count
 IsNoSummary policies w most count fault.OutOfMemory = ⊤
 
--- so it is with these policies, or with the others, if there are others
+-- there is no summary with these policies, or with the others, if there are others
 abbrev pub IsNoSide : List Accepted → Option (List Accepted) → Workload → ℕ → ℕ → SeedsFault → Type 0
 IsNoSide policies others w most count why = IsNoSummary policies w most count why ⊎ IsSomeAnd others (λ theirs. IsNoSummary theirs w most count why)
 

@@ -9,6 +9,7 @@ use Rattle.bq_report.specs.declared.window.Window.{Window}
 use Rattle.bq_report.specs.Windows.{ShowsProcessor, ShowsTask}
 use Rattle.bq_comparison.specs.declared.line.FigureLine.{FigureLine}
 
+-- the other side's row at a place, if there is another side
 abbrev pub row_at : Option (Vec FigureRow Global) → ℕ → Option FigureRow
 row_at theirs place = option_and_then (λ rows. slice_get rows.items place) theirs
 
@@ -22,26 +23,28 @@ abbrev pub is_nothing : Option ℕ → Bool
 is_nothing None = false
 is_nothing (Some mean) = mean == 0
 
+-- our mean is 0, and so is the mean of the other side, if there is one
 abbrev pub nothing_beside : Option FigureRow → Bool → Bool
 nothing_beside None ours = ours
 nothing_beside (Some theirs) ours = ours && is_nothing theirs.mean
 
 -- the means are 0 on both sides
-abbrev pub says_nothing : FigureLine → Bool
-says_nothing line = nothing_beside line.theirs (is_nothing line.ours.mean)
+abbrev pub is_zero : FigureLine → Bool
+is_zero line = nothing_beside line.theirs (is_nothing line.ours.mean)
 
+-- a line of a figure belongs to the window
 abbrev pub IsShownAs : Window → FigureLine → Figure → Type 0
 IsShownAs w line (Task id f) = ShowsTask w id
 IsShownAs w line (Latency id percent) = ShowsTask w id
 IsShownAs w line (StillWaiting id) = ShowsTask w id
 IsShownAs w line (Processor processor f) = ShowsProcessor w processor
-IsShownAs w line (Hook processor at f) = ShowsProcessor w processor × (says_nothing line ≡ false)
+IsShownAs w line (Hook processor at f) = ShowsProcessor w processor × (is_zero line ≡ false)
 
--- it tells of a task or a processor in the window, and of a hook only what is not 0 on both sides
+-- a line is of a task or a processor in the window; a line of a hook has a mean other than 0 on one side
 abbrev pub IsShown : Window → FigureLine → Type 0
 IsShown w line = IsShownAs w line line.ours.figure
 
--- those of some lines for which P holds, in their order
+-- the lines for which P holds are chosen, in their order
 abbrev pub Selects : (FigureLine → Type 0) → List FigureLine → List FigureLine → Type 0
 Selects P [] chosen = chosen ≡ []
 Selects P (x ∷ xs) chosen = (P x × ((rest : List FigureLine) × (chosen ≡ x ∷ rest) × Selects P xs rest)) ⊎ ((¬ P x) × Selects P xs chosen)

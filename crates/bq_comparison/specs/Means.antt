@@ -5,10 +5,11 @@ use Rattle.std.specs.Prelude.{ℕ, ◌+◌, ◌-◌, ◌*◌, ◌^◌, ◌<◌, 
 abbrev pub IsMean : List ℕ → ℕ → Type 0
 IsMean xs mean = (mean * length xs ≤ sum xs * 1000) × (sum xs * 1000 < (mean + 1) * length xs)
 
+-- the sum of the squares of some numbers
 abbrev pub squares : List ℕ → ℕ
 squares xs = sum_by (λ x. x * x) xs
 
--- as many times as there are numbers the sum of their squared differences from the mean: n Σx² - (Σx)²
+-- n times the sum of the squared differences of n numbers from their mean, as n Σx² - (Σx)²
 abbrev pub spread : List ℕ → ℕ
 spread xs = length xs * squares xs - sum xs * sum xs
 
@@ -21,6 +22,6 @@ IsRoot above below root = (root * root * below ≤ above * 1000000) × (above * 
 abbrev pub IsDeviation : List ℕ → ℕ → Type 0
 IsDeviation xs deviation = IsRoot (spread xs) (length xs * (length xs - 1)) deviation
 
--- too great for the arithmetic of 128 bits
+-- the numbers are too great for the arithmetic of 128 bits
 abbrev pub IsTooGreat : List ℕ → Type 0
 IsTooGreat xs = (2 ^ 128 ≤ length xs * squares xs * 1000000) ⊎ (2 ^ 128 ≤ sum xs * sum xs)

@@ -11,23 +11,23 @@ use Rattle.bq_comparison.specs.declared.naming.LatencyFigure.TheVariants as of_l
 use Rattle.bq_comparison.specs.declared.naming.ProcessorFigure.TheVariants as of_processor
 use Rattle.bq_comparison.specs.declared.naming.TaskFigure.TheVariants as of_task
 
--- of a task
+-- the figures of a task
 abbrev pub figures_of_task : ℕ → List Figure
 figures_of_task id =
     Task id of_task.Ran ∷ Task id of_task.Fair ∷ Task id of_task.Waited ∷ Task id of_task.Switches ∷ Task id of_task.Preemptions ∷ Task id of_task.Migrations
     ∷ Task id of_task.Wakes ∷ Latency id of_latency.P50 ∷ Latency id of_latency.P95 ∷ Latency id of_latency.P99 ∷ Latency id of_latency.Greatest
     ∷ StillWaiting id ∷ []
 
--- of a hook at a processor
+-- the figures of a hook at a processor
 abbrev pub figures_of_hook : ℕ → Hook → List Figure
 figures_of_hook processor at = AtHook processor at Asked ∷ AtHook processor at Overruled ∷ AtHook processor at Steps ∷ []
 
--- of a processor and its hooks
+-- the figures of a processor and its hooks
 abbrev pub figures_of_processor : ℕ → List Figure
 figures_of_processor processor =
     (Processor processor of_processor.Busy ∷ Processor processor of_processor.Idle ∷ Processor processor of_processor.Switches ∷ [])
     ++ figures_of_hook processor hook.Place ++ figures_of_hook processor hook.Preempt ++ figures_of_hook processor hook.Pull
 
--- of all tasks and then of all processors, by number
+-- the figures of all tasks and then of all processors, by number
 abbrev pub figures_of_report : MachineSize → List Figure
 figures_of_report size = flat_map figures_of_task (range_with_len 0 size.tasks) ++ flat_map figures_of_processor (range_with_len 0 size.processors)

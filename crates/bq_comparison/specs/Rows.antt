@@ -24,5 +24,6 @@ AreRowsFrom place runs [] [] = Unit {0}
 AreRowsFrom place runs (f ∷ figures) (row ∷ rows) = IsRow f (numbers_at place runs) row × AreRowsFrom (place + 1) runs figures rows
 AreRowsFrom place runs figures rows = ⊥
 
+-- the rows are those of these figures, in their order
 abbrev pub AreRows : List RunFigures → List Figure → List FigureRow → Type 0
 AreRows runs figures rows = AreRowsFrom 0 runs figures rows

@@ -18,7 +18,7 @@ pub record IsRun (policies : List Accepted) (w : Workload) (most : ℕ) (figures
   pub schedule : Figures
   pub tasks : Tasks
   pub gathered : IsGathered policies w most (Some schedule) tasks
-  pub told : IsRunOf schedule tasks figures run
+  pub reported : IsRunOf schedule tasks figures run
 
 -- a run with each seed in turn, from that one on
 abbrev pub AreRuns : List Accepted → Workload → ℕ → List Figure → ℕ → List RunFigures → Type 0
@@ -36,15 +36,15 @@ pub record IsSummary (policies : List Accepted) (w : Workload) (most : ℕ) (cou
   pub runs_are : AreFirstRuns policies w most figures runs
   pub rows_are : AreRows runs figures rows
 
--- what came of a run: its figures, where it came to its end, and else why it did not
+-- the result of a run: its figures if it came to its end, and otherwise why it did not
 abbrev pub IsResult : List Accepted → Workload → ℕ → List Figure → Result RunFigures SeedsFault → Type 0
 IsResult policies w most figures result = IfOk result (IsRun policies w most figures) × IfErr result (IsNoRun policies w most)
 
--- so it is with each seed in turn, from that one on
+-- the results of the runs with each seed in turn, from this one on
 abbrev pub AreResults : List Accepted → Workload → ℕ → List Figure → ℕ → List (Result RunFigures SeedsFault) → Type 0
 AreResults policies w most figures seed results =
     (i : ℕ) (result : Result RunFigures SeedsFault) → slice_get results i ≡ Some result → IsResult policies (with_seed w (seed + i)) most figures result
 
--- each of them came to its end, and they stand behind those before
+-- each run came to its end, and their figures follow those before
 abbrev pub Comes : List RunFigures → List (Result RunFigures SeedsFault) → List RunFigures → Type 0
 Comes before results after = (more : List RunFigures) × (results ≡ map Ok more) × (after ≡ before ++ more)

@@ -22,6 +22,7 @@ use Rattle.bq_comparison.specs.declared.naming.ProcessorFigure.TheVariants as of
 use Rattle.bq_comparison.specs.declared.naming.TaskFigure.{TaskFigure}
 use Rattle.bq_comparison.specs.declared.naming.TaskFigure.TheVariants as of_task
 
+-- the value of a figure of a task
 abbrev pub task_value : Figures → ℕ → TaskFigure → ℕ
 task_value s id of_task.Ran = (task_of s id).time
 task_value s id of_task.Fair = nearest (fair_of s id)
@@ -31,32 +32,36 @@ task_value s id of_task.Preemptions = (task_of s id).preemptions
 task_value s id of_task.Migrations = (task_of s id).migrations
 task_value s id of_task.Wakes = (task_of s id).wakes
 
+-- the value of a figure of a processor
 abbrev pub processor_value : Figures → ℕ → ProcessorFigure → ℕ
 processor_value s processor of_processor.Busy = (processor_of s processor).busy
 processor_value s processor of_processor.Idle = idle_of (processor_of s processor)
 processor_value s processor of_processor.Switches = (processor_of s processor).switches
 
+-- the figures of a hook at a processor
 abbrev pub hook_figures : Figures → ℕ → Hook → HookFigures
 hook_figures s processor hook.Place = (processor_of s processor).place
 hook_figures s processor hook.Preempt = (processor_of s processor).preempt
 hook_figures s processor hook.Pull = (processor_of s processor).pull
 
+-- the value of a figure of a hook at a processor
 abbrev pub hook_value : Figures → ℕ → Hook → HookFigure → ℕ
 hook_value s processor at of_hook.Asked = (hook_figures s processor at).asked
 hook_value s processor at of_hook.Overruled = (hook_figures s processor at).overruled
 hook_value s processor at of_hook.Steps = (hook_figures s processor at).steps
 
--- of some percentiles the one that is named
+-- the percentile that is named, of these
 abbrev pub percentile_value : Percentiles → LatencyFigure → Option ℕ
 percentile_value p of_latency.P50 = p.p50
 percentile_value p of_latency.P95 = p.p95
 percentile_value p of_latency.P99 = p.p99
 percentile_value p of_latency.Greatest = p.greatest
 
--- a percentile of exactly these numbers, or the greatest of them; nothing where there are no numbers
+-- a percentile of exactly these numbers, or the greatest of them; nothing if there are no numbers
 abbrev pub IsPercentile : LatencyFigure → List ℕ → Option ℕ → Type 0
 IsPercentile f xs v = (sorted : List ℕ) × IsPermutation xs sorted × IsSorted nat_cmp sorted × (v ≡ percentile_value (percentiles_of sorted) f)
 
+-- the value of a figure, if it has one
 abbrev pub IsValue : Figures → Tasks → Figure → Option ℕ → Type 0
 IsValue s tasks (figure.Task id f) v = v ≡ Some (task_value s id f)
 IsValue s tasks (figure.Latency id f) v = IsPercentile f (latencies_of tasks id) v

@@ -6,14 +6,14 @@ use crate::naming::{Figure, HookFigure, LatencyFigure, ProcessorFigure, TaskFigu
 use bq_hooks::Hook;
 use std::alloc::{AllocError, Global};
 
-/// How many tasks and processors there are.
+/// The numbers of tasks and processors.
 #[derive(Clone, Copy)]
 pub struct MachineSize {
     pub tasks: u16,
     pub processors: u8,
 }
 
-/// The figures of each task, then those of each processor with those of its hooks.
+/// Answers the figures of each task, then those of each processor and its hooks.
 pub fn all_figures(alloc: Global, size: MachineSize) -> Result<Vec<Figure>, AllocError>
     ensures { IfOk result (λ v. v.items ≡ figures_of_report size) }
 {

@@ -1,14 +1,15 @@
 //! What is asked for, by the words of the command.
-ghost use Rattle.std.specs.Prelude.{◌≡◌, ◌≤◌, ◌↔◌, ◌++◌, IfErr, IfOk, IfSome, IsErrOf, None, OnOk, string_bytes};
+ghost use Rattle.std.specs.Prelude.{◌≡◌, ◌≤◌, ◌↔◌, ◌++◌, IfErr, IfNone, IfOk, IfSome, IsErrOf, None, OnOk, Some, string_bytes};
 ghost use Rattle.bq_timeline.specs.Called.{tasks_for, uncalled_notes};
-ghost use Rattle.bq_comparison.specs.Asking.{AskFor, AskForNone, IsNoComparison, names_stretch, seeds_asked, seeds_in, table_of};
+ghost use Rattle.bq_timeline.specs.Settings.{text_of};
+ghost use Rattle.bq_comparison.specs.Asking.{AskFor, AskForNone, IsNoComparison, names_stretch, option_refused, seeds_asked, seeds_in, table_of, word_refused};
 ghost use Rattle.bq_comparison.specs.declared.asked.ComparingFault.TheVariants as why;
 
 use bq_experiment::{StudyWords, workload_names};
 use bq_report::{Names, Window};
 use bq_timeline::called::{add_called, note_uncalled};
 use bq_timeline::form_names::FormName;
-use bq_timeline::{Settings, SettingsFault, Words};
+use bq_timeline::{RefusedWord, Settings, SettingsFault, Words, word_after};
 use bq_workload::Workload;
 use std::alloc::{AllocError, Global};
 use thiserror::Error;
@@ -16,7 +17,7 @@ use thiserror::Error;
 /// The most seeds.
 pub const MOST_SEEDS: u64 = 1000;
 
-/// How the figures are written.
+/// The form in which the figures are written.
 #[derive(Clone, Copy)]
 pub enum TableForm {
     /// An aligned table.
@@ -31,19 +32,22 @@ pub enum TableForm {
 #[derive(Drop)]
 pub struct Comparing {
     pub seeds: u16,
-    /// Which processors, and which tasks by their numbers.
+    /// The processors that are shown, and the tasks by their numbers.
     pub window: Window,
     /// The names of the tasks that are asked for by name.
     pub names: Vec<String>,
     pub form: TableForm,
 }
 
-/// Why words ask for no comparison.
+/// The names of the forms of a table.
+const FORMS: &str = "report, csv or json";
+
+/// Why words ask for no comparison. A fault of one word says only what is right; `ComparingFault::refused` answers the word.
 #[derive(Clone, Copy, Debug, PartialEq, Eq, Error)]
 pub enum ComparingFault {
-    #[error("--seeds: a number of seeds is from 1 to {most}", most = MOST_SEEDS)]
+    #[error("a number of seeds is from 1 to {most}", most = MOST_SEEDS)]
     Seeds,
-    #[error("--as: with --seeds or --against a form is report, csv or json")]
+    #[error("with --seeds or --against a form is {forms}", forms = FORMS)]
     Form,
     #[error("with --seeds or --against the figures are of whole runs: --from and --to change nothing of them")]
     WholeRuns,
@@ -51,20 +55,36 @@ pub enum ComparingFault {
     Settings(SettingsFault),
 }
 
+impl ComparingFault {
+    /// The word that the fault refuses, and its option. `None` if the fault is not that of one word.
+    pub fn refused<'a>(self, words: &'a StudyWords) -> Option<RefusedWord<'a>>
+        ensures word { IfSome result (λ r. text_of (word_refused words.now self) ≡ Some r.word.now) }
+        ensures none { IfNone result (word_refused words.now self ≡ None) }
+        ensures option { IfSome result (λ r. r.option.now ≡ option_refused self) }
+    {
+        match self {
+            ComparingFault::Seeds => word_after("seeds", &words.seeds, ""),
+            ComparingFault::Form => word_after("as", &words.shown.form, FORMS),
+            ComparingFault::WholeRuns => None,
+            ComparingFault::Settings(fault) => fault.refused(&words.shown),
+        }
+    }
+}
+
 /// What the words ask for, if they ask for several seeds or for something to compare with. Without `--seeds` it is one seed.
 pub fn asked_comparison(
     alloc: Global,
     words: &StudyWords,
 ) -> Result<Option<Comparing>, ComparingFault>
-    // Nothing where the words ask for neither, and else as many seeds as they say, in the window and the form that they name. They name
-    // no stretch of time.
+    // None if the words ask for neither seeds nor other policies. Otherwise as many seeds as they say, in the window and the
+    // form that they name; then they name no stretch of time.
     ensures asked { IfOk result (AskFor words.now) }
     ensures bound { IfOk result (λ asked. IfSome asked (λ c. (1 ≤ c.seeds) × (c.seeds ≤ 1000))) }
 
     // The fault names a word that is not of its kind, or a stretch of time is named.
     ensures fault { IfErr result (IsNoComparison words.now) }
 
-    // That of the seeds comes exactly when they say another number.
+    // The fault of the seeds comes exactly when the words ask for a comparison and their number of seeds is bad.
     ensures seeds { IsErrOf result why.Seeds ↔ ((¬ AskForNone words.now) × (seeds_asked words.now.seeds ≡ None)) }
 {
     if words.seeds.is_none() && words.against.is_empty() {
@@ -92,7 +112,7 @@ pub fn asked_comparison(
     }))
 }
 
-/// Whether words name a stretch of time.
+/// Answers whether words name a stretch of time.
 fn names_stretch(words: &Words) -> bool
     ensures { result ≡ names_stretch words.now }
 {
@@ -107,8 +127,8 @@ impl Comparing {
         self.add_by_names(alloc, &names)
     }
 
-    /// Adds the tasks that are asked for by name to those that are shown, where `names` has the names of the tasks. Answers what is
-    /// noted of the names that no task has.
+    /// Adds the tasks that are asked for by name to the tasks that are shown; `names` has the names of the tasks. Answers a note
+    /// on each name that no task has.
     fn add_by_names(&mut self, alloc: Global, names: &Names) -> Result<String, AllocError>
         ensures tasks { OnOk result (self.new.window.tasks.items ≡ self.old.window.tasks.items ++ tasks_for names.now self.old.names.items) }
         ensures notes { IfOk result (λ notes. string_bytes notes ≡ uncalled_notes names.now self.old.names.items) }

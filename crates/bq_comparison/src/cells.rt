@@ -23,7 +23,7 @@ pub(crate) fn cell(
     }
 }
 
-/// A difference with its sign, where there is one, else another text.
+/// Answers a difference with its sign, if there is one; otherwise another text.
 pub(crate) fn signed(
     alloc: Global,
     difference: Option<Difference>,
@@ -38,7 +38,7 @@ pub(crate) fn signed(
     format!(in alloc; "{sign}{size}")
 }
 
-/// How many runs have the value of a row, if there is a row.
+/// Answers how many runs have the value of a row, if there is a row.
 pub(crate) fn runs_of(row: Option<FigureRow>) -> Option<u128> {
     let row = row?;
     Some(row.runs as u128)

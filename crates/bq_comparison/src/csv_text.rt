@@ -7,7 +7,6 @@ use crate::line::FigureLine;
 use crate::{Figure, FigureRow};
 use csv::{Error, Writer, WriterBuilder};
 use std::alloc::{AllocError, Global};
-use std::str;
 
 /// The first row.
 const HEAD: &str =
@@ -26,7 +25,7 @@ pub(crate) fn csv_text(
     Ok(text)
 }
 
-/// Adds the row of a figure.
+/// Adds the row of a figure. Each field is a `str`, so the row is UTF-8, and no byte of it is replaced.
 fn write_line(
     alloc: Global,
     text: &mut String,
@@ -34,10 +33,8 @@ fn write_line(
     names: &[String],
 ) -> Result<(), AllocError> {
     let bytes = row(alloc, line, names)?;
-    match str::from_utf8(bytes.as_slice()) {
-        Ok(row) => text.push_str(row),
-        Err(_) => Ok(()),
-    }
+    let row = String::from_utf8_lossy(alloc, bytes.as_slice())?;
+    text.push_str(row.as_str())
 }
 
 /// The row of a figure, with its line end.
@@ -81,7 +78,7 @@ fn write_side(
     write_field(writer, cell(alloc, deviation_of(side), "")?.as_str())
 }
 
-/// Writes a field; it fails where memory is wanted.
+/// Writes a field; fails if memory runs out.
 fn write_field(writer: &mut Writer<Vec<u8>>, field: &str) -> Result<(), AllocError> {
     match writer.write_field(field.as_bytes()) {
         Ok(()) => Ok(()),

@@ -2,7 +2,7 @@
 ghost use Rattle.std.specs.Prelude.{◌≡◌, ◌⊎◌, IfSome, IfNone, None};
 ghost use Rattle.bq_comparison.specs.Differences.{IsDifference};
 
-/// How much one mean is more or less than another.
+/// The amount by which one mean is more or less than another.
 #[derive(Clone, Copy)]
 pub enum Difference {
     More(u128),
@@ -10,7 +10,7 @@ pub enum Difference {
 }
 
 impl Difference {
-    /// How much more or less their mean is than ours, where both are there.
+    /// Answers how much more or less their mean is than ours, if both are there.
     pub fn of(ours: Option<u128>, theirs: Option<u128>) -> Option<Difference>
         ensures value { IfSome result (IsDifference ours theirs) }
         ensures none { IfNone result ((ours ≡ None) ⊎ (theirs ≡ None)) }

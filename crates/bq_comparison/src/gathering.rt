@@ -1,7 +1,7 @@
 //! What is kept of one simulation.
 ghost use Rattle.std.specs.Prelude.{◌≡◌, ℕ, [], IfErr, IfOk, None};
 ghost use Rattle.bq_workload.specs.Soundness.{first_flaw};
-ghost use Rattle.bq_comparison.specs.Gathering.{IsGathered, start_told};
+ghost use Rattle.bq_comparison.specs.Gathering.{IsGathered, reported_start};
 ghost use Rattle.bq_schedule.specs.WakeLatencies.{TakesStart, latencies_of};
 ghost use Rattle.bq_timeline.specs.Watching.{watched};
 ghost use Rattle.bq_comparison.specs.Faults.{IsNoRun};
@@ -16,8 +16,8 @@ use bq_trace::{Sink, TraceEvent};
 use bq_workload::Workload;
 use std::alloc::{AllocError, Global};
 
-/// A simulation as far as it has come: its schedule, once it has a machine, and the latencies of each task, from a wake until it
-/// ran; and how many events have come.
+/// A simulation up to now: its schedule, once it has a machine, the latencies of each task, each from a wake until the task ran,
+/// and the number of events that have come.
 #[derive(Drop)]
 pub struct Gatherer {
     alloc: Global,
@@ -42,7 +42,7 @@ impl Gatherer {
 }
 
 impl Sink for Gatherer {
-    ghost takes = { λ old n traced new. (new.schedule ≡ watched old.schedule traced) × TakesStart (start_told traced old.schedule) old.latencies new.latencies };
+    ghost takes = { λ old n traced new. (new.schedule ≡ watched old.schedule traced) × TakesStart (reported_start traced old.schedule) old.latencies new.latencies };
 
     fn take(&mut self, _number: u64, event: &TraceEvent<'_>) -> Result<(), AllocError> {
         match event {

@@ -12,7 +12,7 @@ use std::alloc::{AllocError, Global};
 const SCHEMA: u64 = 1;
 
 /// One object: `schema`, and `figures`, an array with an object a figure. Means, deviations and differences are whole
-/// thousandths of the unit. What is not there is null.
+/// thousandths of the unit. What is not there is null, and so is what does not fit 64 bits (a difference: 63).
 pub(crate) fn json_text(
     alloc: Global,
     lines: &[FigureLine],
@@ -83,7 +83,7 @@ fn put_numbers(
     put(object, alloc, "difference_thousandths", difference)
 }
 
-/// A number that fits in 64 bits, else null.
+/// A number that fits in 64 bits; null otherwise.
 fn number(value: Option<u128>) -> Value {
     match value {
         Some(value) => match u64::try_from(value) {
@@ -94,7 +94,7 @@ fn number(value: Option<u128>) -> Value {
     }
 }
 
-/// A difference whose size fits in 63 bits, else null.
+/// A difference whose size fits in 63 bits; null otherwise.
 fn signed_number(difference: Option<Difference>) -> Value {
     let (is_more, size) = match difference {
         Some(Difference::More(size)) => (true, size),

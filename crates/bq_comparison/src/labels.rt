@@ -65,7 +65,7 @@ fn latency_word(figure: LatencyFigure) -> &'static str {
     }
 }
 
-/// Whether a figure is a time; else it is a count.
+/// Answers whether a figure is a time; otherwise it is a count.
 pub(crate) fn is_time(figure: Figure) -> bool {
     match figure {
         Figure::Task(_, figure) => matches!(

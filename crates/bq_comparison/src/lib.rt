@@ -1,8 +1,9 @@
 //! `simulate` with several seeds, or beside another choice of policies: the mean and the standard deviation of each figure of
 //! the report, as a table, as comma-separated values or as JSON.
 //! Promises that both sides are summaries of as many runs as were asked for, that each line has the two rows of one figure, and
-//! that lines are left out only as asked, or of hooks of which there is nothing to say.
-//! The figures are of one run, in numbers; the seeds' runs are added up row by row. Stands on bq_experiment for the command's words.
+//! that lines are left out only as asked, or if a hook has only zeros.
+//!
+//! The figures are of one run, in numbers; the seeds' runs are added up row by row. Builds on bq_experiment for the command's words.
 #![tactic(auto)]
 
 mod all;

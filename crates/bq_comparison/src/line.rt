@@ -1,6 +1,6 @@
 //! Figures side by side.
 ghost use Rattle.std.specs.Prelude.{◌≡◌, ◌↔◌, IsTrue, IfOk};
-ghost use Rattle.bq_comparison.specs.Lines.{IsShown, Selects, beside, is_nothing, row_at, says_nothing};
+ghost use Rattle.bq_comparison.specs.Lines.{IsShown, Selects, beside, is_nothing, row_at, is_zero};
 
 use crate::sides::Sides;
 use crate::{Figure, FigureRow};
@@ -15,7 +15,7 @@ pub struct FigureLine {
 }
 
 impl FigureLine {
-    /// Whether it tells of a task or a processor in the window, and of a hook only what is not 0 on both sides.
+    /// Answers whether the line is of a task or a processor in the window; a line of a hook also needs a mean other than 0 on one side.
     fn is_shown(&self, window: &Window) -> bool
         ensures { IsTrue result ↔ IsShown window.now self.now }
     {
@@ -25,13 +25,13 @@ impl FigureLine {
             Figure::StillWaiting(task) => window.shows_task(task),
             Figure::Processor(processor, _) => window.shows_processor(processor),
             Figure::Hook(processor, _, _) => {
-                window.shows_processor(processor) && !self.says_nothing()
+                window.shows_processor(processor) && !self.is_zero()
             }
         }
     }
 
-    fn says_nothing(&self) -> bool
-        ensures { result ≡ says_nothing self.now }
+    fn is_zero(&self) -> bool
+        ensures { result ≡ is_zero self.now }
     {
         match &self.theirs {
             Some(theirs) => is_nothing(self.ours.mean) && is_nothing(theirs.mean),
@@ -40,7 +40,7 @@ impl FigureLine {
     }
 }
 
-/// Whether a mean is 0.
+/// Answers whether a mean is 0.
 fn is_nothing(mean: Option<u128>) -> bool
     ensures { result ≡ is_nothing mean }
 {

@@ -11,8 +11,9 @@ pub fn mean(numbers: &[u64]) -> u128
     total(numbers) * 1000 / numbers.len() as u128
 }
 
-/// The sample's standard deviation of 2 to 65,536 numbers in thousandths, rounded down. None where they are too great to be
-/// squared and added in 128 bits: no n numbers below 2^54 / n are, so no 1,000 below 2^44.
+/// Answers the sample's standard deviation of 2 to 65,536 numbers in thousandths, rounded down. None if the numbers are too
+/// great to be squared and added in 128 bits. n numbers always fit if each is below 2^54 / n; so 1,000 numbers fit if each is
+/// below 2^44.
 pub fn deviation(numbers: &[u64]) -> Option<u128>
     requires some { 2 ≤ length numbers.now }
     requires few { length numbers.now ≤ 65536 }
@@ -26,7 +27,7 @@ pub fn deviation(numbers: &[u64]) -> Option<u128>
     Some(root(whole.saturating_sub(square), count * (count - 1)))
 }
 
-/// This many times the sum of their squares, where a million times that fits too.
+/// `count` times the sum of the squares; `None` if 10^6 times that does not fit 128 bits.
 fn whole(count: u128, numbers: &[u64]) -> Option<u128>
     requires some { 0 < count }
     requires count { count ≡ length numbers.now }
@@ -61,7 +62,7 @@ fn total(numbers: &[u64]) -> u128
     total
 }
 
-/// The sum of their squares, where it fits.
+/// Answers the sum of their squares, if it fits.
 fn squares(numbers: &[u64]) -> Option<u128>
     ensures value { IfSome result (λ n. n ≡ squares numbers.now) }
     ensures none { IfNone result (2 ^ 128 ≤ squares numbers.now) }

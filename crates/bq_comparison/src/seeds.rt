@@ -33,7 +33,7 @@ pub struct Experiment<'a> {
     pub figures: &'a [Figure],
 }
 
-/// Where it is shown how many runs of all are done.
+/// The count of runs that are done, of all runs, and the place where it is shown.
 #[derive(Clone, Copy)]
 pub struct RunsShown<'a> {
     pub progress: &'a Progress<'a>,
@@ -46,11 +46,11 @@ pub struct RunsShown<'a> {
 /// At most this many runs are done at once.
 const MOST_AT_ONCE: usize = 64;
 
-/// Runs a workload with this many seeds, from its own on, with these policies at all processors; what the runs say of each of
-/// the figures. A run that has more events than it may have is cut off, and then there is no summary. As many runs are done at once
-/// as there are processors available, each on a thread of its own. A workload with a flaw is refused for the first of its flaws; the
-/// runs of one without fail only for memory, or where 64 bits do not count the bound of its steps. `Last` comes exactly when the
-/// last seed would be 2^64 or more.
+/// Runs a workload with this many seeds, from its own on, with these policies at all processors. Answers what the runs say of
+/// each figure. A run that has more events than it may have is cut off, and then there is no summary. As many runs are done at
+/// once as there are processors available, each on a thread of its own. A workload with a flaw is refused for the first of its
+/// flaws. The runs of a workload without a flaw fail only if memory runs out, or if 64 bits do not count the bound of its steps.
+/// `Last` comes exactly when the last seed would be 2^64 or more.
 pub fn summary<T: Threads + Sync>(
     threads: &T,
     alloc: Global,
@@ -109,7 +109,7 @@ fn show_runs(shown: &RunsShown<'_>, runs: &[RunFigures]) {
     }
 }
 
-/// How many runs are done at once: as many as there are processors available.
+/// Answers how many runs are done at once: as many as there are processors available.
 fn hands<T: Threads + Sync>(threads: &T) -> usize
     ensures { 1 ≤ result }
 {
@@ -155,7 +155,7 @@ fn nth_run(
     run(alloc, experiment, seed)
 }
 
-/// Adds what came of some runs; where one did not come to its end, the first such fault.
+/// Adds the figures of some runs. If one did not come to its end, the error is the first such fault.
 fn add_all(runs: &mut Vec<RunFigures>, results: Results) -> Result<(), SeedsFault>
     ensures comes { OnOk result (Comes runs.old.items results.items runs.new.items) }
     ensures fault { IfErr result (λ why. (why ≡ OutOfMemory) ⊎ HasFault results.items why) }

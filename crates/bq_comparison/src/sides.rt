@@ -18,7 +18,7 @@ pub struct Sides {
     pub theirs: Option<Rows>,
 }
 
-/// How far a comparison goes, and where it is shown how much of it is done.
+/// The extent of a comparison, and the place where its progress is shown.
 #[derive(Clone, Copy)]
 pub struct RunPlan<'a> {
     /// How many seeds there are.
@@ -28,10 +28,11 @@ pub struct RunPlan<'a> {
     pub progress: &'a Progress<'a>,
 }
 
-/// Runs a workload with these seeds, from its own on, under policies, and with the same seeds under others, if there are
-/// others; as many runs at once as there are processors available. A workload with a flaw is refused for the first of its flaws; the
-/// runs of one without fail only for memory, or where 64 bits do not count the bound of its steps. `Last` comes just for the numbers
-/// of the seeds. A run that has more events than it may have is cut off, and then there is no comparison.
+/// Runs a workload with these seeds, from its own on, under policies, and with the same seeds under others, if there are others.
+/// As many runs are done at once as there are processors available. A workload with a flaw is refused for the first of its
+/// flaws. The runs of a workload without a flaw fail only if memory runs out, or if 64 bits do not count the bound of its steps.
+/// `Last` comes only if the last seed would be 2^64 or more. A run that has more events than it may have is cut off, and then
+/// there is no comparison.
 pub fn compare<T: Threads + Sync>(
     threads: &T,
     alloc: Global,
@@ -67,7 +68,7 @@ pub fn compare<T: Threads + Sync>(
     })
 }
 
-/// Where the runs of a side are shown: how many sides come before it, and how many there are.
+/// Answers where the progress of a side is shown: how many sides come before it, and how many there are.
 fn shown<'a>(plan: &RunPlan<'a>, before: usize, sides: usize) -> RunsShown<'a> {
     let seeds = usize::from(plan.seeds);
     RunsShown {
@@ -77,7 +78,7 @@ fn shown<'a>(plan: &RunPlan<'a>, before: usize, sides: usize) -> RunsShown<'a> {
     }
 }
 
-/// How many tasks a workload has, as far as 16 bits count, and how many processors.
+/// Answers how many tasks a workload has, as far as 16 bits count, and how many processors.
 pub fn size_of_machine(workload: &Workload) -> MachineSize
     ensures { result ≡ size_of_machine workload.now }
 {

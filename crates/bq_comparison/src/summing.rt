@@ -15,12 +15,12 @@ pub struct FigureRow {
     pub runs: usize,
     /// The mean of the values, if there are any.
     pub mean: Option<u128>,
-    /// Their standard deviation, if there are two at least. None too where they are beyond the arithmetic of 128 bits, which no n
-    /// numbers below 2^54 / n are.
+    /// Their standard deviation, if there are at least two. None too if they are beyond the arithmetic of 128 bits; no n numbers
+    /// below 2^54 / n are.
     pub deviation: Option<u128>,
 }
 
-/// What some runs of the same figures say of each.
+/// Answers what some runs of the same figures say of each figure.
 pub fn rows(
     alloc: Global,
     figures: &[Figure],

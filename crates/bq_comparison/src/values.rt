@@ -9,8 +9,9 @@ use bq_report::tables::nanoseconds;
 use bq_report::{still_waiting, waited_in_all};
 use bq_schedule::{Percentiles, Schedule, WakeLatencies};
 
-/// The value of a figure in a schedule in which tasks had these latencies. A latency of a task that had none has no value, nor
-/// has the wait of a task that has run since its last wake. It sorts the latencies of a task that the figure is a latency of.
+/// Answers the value of a figure in a schedule in which tasks had these latencies. None for a latency of a task that had none,
+/// and for the wait of a task that has run since its last wake. If the figure is a latency of a task, the call sorts the task's
+/// latencies.
 pub fn value_of(schedule: &Schedule, latencies: &mut WakeLatencies, figure: Figure) -> Option<u64>
     ensures value { IsValue schedule.now latencies.old figure result }
     ensures kept { AreReordered latencies.old latencies.new }
@@ -76,7 +77,7 @@ fn latency_value(latencies: &mut WakeLatencies, task: u16, figure: LatencyFigure
     percentile_value(latencies.percentiles(task), figure)
 }
 
-/// Of some percentiles the one that is named.
+/// Answers the percentile that is named, of these.
 fn percentile_value(percentiles: Percentiles, figure: LatencyFigure) -> Option<u64>
     ensures { result ≡ percentile_value percentiles figure }
 {

@@ -8,6 +8,7 @@ use Rattle.bq_asm.proofs.LawLemmas.{no_program_is_faulty}
 use Rattle.bq_complain.specs.Complaints.{IsAssembly}
 
 -- a text that has a fault does not assemble
-pub faulty_is_none : (text said : List ℕ) (line : ℕ) (cause : Cause) → said ≡ text → Faulty (lines_of said) line cause → IsAssembly text → ⊥
-faulty_is_none text said line cause same faulty is =
-    no_program_is_faulty said is.1.0 line cause (subst (λ (t : List ℕ). Assembles t is.1.0) (sym same) is.1.1) faulty
+pub faulty_is_none : (text written : List ℕ) (line : ℕ) (cause : Cause)
+    → written ≡ text → Faulty (lines_of written) line cause → IsAssembly text → ⊥
+faulty_is_none text written line cause same faulty is =
+    no_program_is_faulty written is.1.0 line cause (subst (λ (t : List ℕ). Assembles t is.1.0) (sym same) is.1.1) faulty

@@ -9,22 +9,22 @@ use Rattle.bq_asm.specs.Lines.{lines_of}
 use Rattle.bq_asm.specs.Assembly.{Assembles}
 use Rattle.bq_asm.specs.Faults.{Faulty}
 
--- the text is UTF-8, and it stands for instructions
+-- the text is UTF-8, and assembles to instructions
 abbrev pub IsAssembly : List ℕ → Type 0
 IsAssembly text = IsUtf8 text × ((insns : List Insn) × Assembles text insns)
 
--- of a text that assembles there is no complaint, and there is one of any other
+-- there is no complaint exactly if the text assembles
 abbrev pub ComplainsOf : {S : Type 0} → List ℕ → Option S → Type 0
 ComplainsOf text None = IsAssembly text
-ComplainsOf text (Some told) = ¬ (IsAssembly text)
+ComplainsOf text (Some reported) = ¬ (IsAssembly text)
 
--- how a complaint of that line begins; lines are counted from 1, and line 0 stands for a text without instruction
+-- the beginning of a complaint of a line; lines are counted from 1, and line 0 means that the text has no instruction
 abbrev pub line_words : ℕ → List ℕ
 line_words line = if line == 0 then codes "the text has no instruction" else codes "line " ++ (decimal line ++ codes ": ")
 
 -- what is said of a text begins with the line of its fault
-pub record NamesLine (text told : List ℕ) : Type 0 where
+pub record NamesLine (text reported : List ℕ) : Type 0 where
   pub line : ℕ
   pub cause : Cause
   pub fault : Faulty (lines_of text) line cause
-  pub begins : StartsWith (line_words line) told
+  pub begins : StartsWith (line_words line) reported

@@ -9,10 +9,10 @@ use crate::text_kind::{TextKind, kind_of_text};
 use bq_asm::{AsmFault, Cause, assemble};
 use std::alloc::{AllocError, Global};
 
-/// One line on what is wrong with the text, by the number of the line at fault; None exactly where the assembler takes it.
+/// Answers one line on what is wrong with the text, by the number of the line at fault; None exactly if the assembler takes it.
 pub fn complaint(alloc: Global, text: &[u8]) -> Result<Option<String>, AllocError>
     ensures complains { IfOk result (ComplainsOf text.now) }
-    ensures line { IfOk result (λ c. IfSome c (λ told. IsUtf8 text.now → NamesLine text.now (string_bytes told))) }
+    ensures line { IfOk result (λ c. IfSome c (λ reported. IsUtf8 text.now → NamesLine text.now (string_bytes reported))) }
 {
     let Ok(text) = std::str::from_utf8(text) else {
         return Ok(Some(String::from_str(alloc, "the text is no UTF-8\n")?));
@@ -31,7 +31,7 @@ fn line_complaint(
     number: usize,
     cause: Cause,
 ) -> Result<String, AllocError>
-    ensures { IfOk result (λ told. StartsWith (line_words number) (string_bytes told)) }
+    ensures { IfOk result (λ reported. StartsWith (line_words number) (string_bytes reported)) }
 {
     if number == 0 {
         return String::from_str(alloc, "the text has no instruction\n");
@@ -40,7 +40,7 @@ fn line_complaint(
     format!(in alloc; "line {number}: {why}\n")
 }
 
-/// Why the assembler refuses the line of that number, for that cause; line 0 stands for a text without instruction.
+/// Says why the assembler refuses the line of that number, for that cause; line 0 means that the text has no instruction.
 pub fn assembly_words(
     alloc: Global,
     text: &str,
@@ -65,7 +65,7 @@ fn line_numbered(text: &str, number: usize) -> &str {
     ""
 }
 
-/// Why the assembler refuses the line of that number; where the text is not the assembler's, what it is.
+/// Says why the assembler refuses the line of that number. If the text is not the assembler's, says what it is.
 fn reason(alloc: Global, text: &str, number: usize, cause: Cause) -> Result<String, AllocError> {
     match foreign_text(text) {
         Some(what) => String::from_str(alloc, what),

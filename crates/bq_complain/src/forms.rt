@@ -1,4 +1,4 @@
-//! How the operands of each kind of instruction look.
+//! The form of the operands of each kind of instruction.
 use bq_asm::Mnemonic;
 use bq_bpf::with_helpers;
 use std::alloc::{AllocError, Global};

@@ -1,4 +1,4 @@
-//! What is wrong with a text that the assembler refuses, in words: the line at fault, the slip behind it, and what to write instead.
+//! What is wrong with a text that the assembler refuses, in words: the line at fault, the slip, and what to write instead.
 //! There is a complaint of exactly the texts that do not assemble. A text that is written for another command is called so.
 #![tactic(auto)]
 

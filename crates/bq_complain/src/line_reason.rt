@@ -15,13 +15,15 @@ pub(crate) fn line_reason(alloc: Global, line: &str, cause: Cause) -> Result<Str
         Cause::Word => word_reason(alloc, line),
         Cause::Number => number_reason(alloc, without_comment(line).trim()),
         Cause::LabelTwice => {
-            let said = Quoted(without_comment(line).trim());
-            format!(in alloc; "the label \"{said}\" was set before; one of them wants another name")
+            let written = Quoted(without_comment(line).trim());
+            format!(in alloc;
+                "the label \"{written}\" was set before; one of them wants another name"
+            )
         }
         Cause::LabelMissing => {
-            let said = Quoted(without_comment(line).trim());
+            let written = Quoted(without_comment(line).trim());
             format!(in alloc;
-                "\"{said}\" jumps to a label that is set nowhere; a label is set by a line of its own, as end:"
+                "\"{written}\" jumps to a label that is set nowhere; a label is set by a line of its own, as end:"
             )
         }
         Cause::Slots => format!(in alloc; "the program has more than {SLOTS} slots"),
@@ -44,7 +46,7 @@ pub fn with_nul_shown(alloc: Global, text: &str) -> Result<String, AllocError> {
 
 fn without_comment(line: &str) -> &str {
     match line.split_once(';') {
-        Some((said, _)) => said,
+        Some((written, _)) => written,
         None => line,
     }
 }
@@ -52,33 +54,33 @@ fn without_comment(line: &str) -> &str {
 /// Why the words of a line are none that the language has.
 fn word_reason(alloc: Global, line: &str) -> Result<String, AllocError> {
     let words = without_comment(line);
-    let said = words.trim();
-    if let Some(mark) = foreign_comment(said) {
+    let written = words.trim();
+    if let Some(mark) = foreign_comment(written) {
         return format!(in alloc; "\"{mark}\" begins no comment here: a comment begins with ;");
     }
-    if let Some(inside) = blank_in_brackets(said) {
+    if let Some(inside) = blank_in_brackets(written) {
         let inside = Quoted(inside);
         return format!(in alloc; "[{inside}]: no blank inside brackets");
     }
     let first = first_word(words);
     if first.ends_with(':') {
-        return label_reason(alloc, said, first);
+        return label_reason(alloc, written, first);
     }
     let Some(mnemonic) = named(first.as_bytes()) else {
         return unknown(alloc, first);
     };
-    if let Some(register) = no_register(said) {
+    if let Some(register) = no_register(written) {
         let register = Quoted(register);
         return format!(in alloc; "there is no register {register}: the registers are r0 to r10");
     }
     let form = form_of(alloc, first, mnemonic)?;
-    let said = Quoted(said);
-    format!(in alloc; "\"{said}\" has other operands than {first} takes; write it as {form}")
+    let written = Quoted(written);
+    format!(in alloc; "\"{written}\" has other operands than {first} takes; write it as {form}")
 }
 
-/// The first word of a line; nothing where it has none.
-pub(crate) fn first_word(said: &str) -> &str {
-    for word in said.split(is_between) {
+/// Answers the first word of a line; empty if it has none.
+pub(crate) fn first_word(written: &str) -> &str {
+    for word in written.split(is_between) {
         if !word.is_empty() {
             return word;
         }
@@ -86,15 +88,15 @@ pub(crate) fn first_word(said: &str) -> &str {
     ""
 }
 
-/// Whether the letter stands between words: a space, a tab or a comma.
+/// Answers whether the letter separates words: a space, a tab or a comma.
 pub(crate) fn is_between(letter: char) -> bool {
     letter == ' ' || letter == '\t' || letter == ','
 }
 
 /// Why a line whose first word ends with a colon sets no label.
-fn label_reason(alloc: Global, said: &str, first: &str) -> Result<String, AllocError> {
-    let shown = Quoted(said);
-    if said == first {
+fn label_reason(alloc: Global, written: &str, first: &str) -> Result<String, AllocError> {
+    let shown = Quoted(written);
+    if written == first {
         return format!(in alloc;
             "\"{shown}\" is no label: a label is a letter or _, then up to 31 letters, digits or _, and a colon"
         );
@@ -115,8 +117,8 @@ fn unknown(alloc: Global, word: &str) -> Result<String, AllocError> {
 }
 
 /// The first word of the line that names a register which does not exist: `r` and a number above 10.
-fn no_register(said: &str) -> Option<&str> {
-    for word in said.split(is_outside) {
+fn no_register(written: &str) -> Option<&str> {
+    for word in written.split(is_outside) {
         if let Some(digits) = word.strip_prefix('r') {
             let is_number = !digits.is_empty() && digits.bytes().all(|byte| byte.is_ascii_digit());
             if is_number && !is_register(digits) {
@@ -127,30 +129,30 @@ fn no_register(said: &str) -> Option<&str> {
     None
 }
 
-/// Whether these digits are a register's number.
+/// Answers whether these digits are a register's number.
 fn is_register(digits: &str) -> bool {
     digits == "10" || digits.len() == 1
 }
 
-/// Whether the letter stands between words, brackets and signs of an offset among them.
+/// Answers whether the letter separates words; brackets and the signs of an offset do so too.
 fn is_outside(letter: char) -> bool {
     is_between(letter) || letter == '[' || letter == ']' || letter == '+' || letter == '-'
 }
 
-/// How other languages begin a comment.
-fn foreign_comment(said: &str) -> Option<&'static str> {
-    if said.contains("//") {
+/// Answers the mark by which another language begins a comment, if the line has one.
+fn foreign_comment(written: &str) -> Option<&'static str> {
+    if written.contains("//") {
         return Some("//");
     }
-    if said.contains("#") {
+    if written.contains("#") {
         return Some("#");
     }
     None
 }
 
-/// What stands in brackets, if a blank is among it.
-fn blank_in_brackets(said: &str) -> Option<&str> {
-    let (_, rest) = said.split_once('[')?;
+/// Answers the text in brackets, if it has a blank.
+fn blank_in_brackets(written: &str) -> Option<&str> {
+    let (_, rest) = written.split_once('[')?;
     let (inside, _) = rest.split_once(']')?;
     if inside.contains(" ") || inside.contains("\t") {
         return Some(inside);

@@ -6,10 +6,10 @@ use bq_words::{duration, value};
 use std::alloc::{AllocError, Global};
 
 /// Why the assembler refuses a number of the line, which begins with the word of an instruction.
-pub(crate) fn number_reason(alloc: Global, said: &str) -> Result<String, AllocError> {
-    let first = first_word(said);
+pub(crate) fn number_reason(alloc: Global, written: &str) -> Result<String, AllocError> {
+    let first = first_word(written);
     let mut place: usize = 0;
-    for word in said.split(is_between) {
+    for word in written.split(is_between) {
         if word.is_empty() {
             continue;
         }
@@ -18,9 +18,9 @@ pub(crate) fn number_reason(alloc: Global, said: &str) -> Result<String, AllocEr
         }
         place = place.saturating_add(1);
     }
-    let said = Quoted(said);
+    let written = Quoted(written);
     format!(in alloc;
-        "a number in \"{said}\" is out of its range: numbers of instructions have 32 bits, those of lddw 64, offsets in brackets 16"
+        "a number in \"{written}\" is out of its range: numbers of instructions have 32 bits, those of lddw 64, offsets in brackets 16"
     )
 }
 
@@ -62,13 +62,13 @@ enum Slip {
     NoNumber,
     /// It does not fit 32 bits.
     Long,
-    /// It does not fit 32 bits, and is the number that stands for none in contexts and answers.
+    /// It does not fit 32 bits, and is the number that means no task or processor in contexts and answers.
     Nobody,
     /// It is below 0 and does not fit 32 bits; in 64 bits it is this word.
     LongBelowZero(u64),
     /// It numbers a helper or a map, and does not fit 32 bits.
     NoName,
-    /// It has a `+`, where that is not taken.
+    /// It has a `+`, which is not taken here.
     Plus,
     /// It is a distance without a sign.
     NoSign,
@@ -78,11 +78,11 @@ enum Slip {
     MuchTooFar,
     /// It is an offset in brackets that is no offset, or does not fit 16 bits.
     Offset,
-    /// It has a sign, where that is not taken.
+    /// It has a sign, which is not taken here.
     Signed,
 }
 
-/// What is wrong with the word at that place of an instruction, if it writes a number and something is.
+/// What is wrong with the word at that place of an instruction; `None` if it writes no number, or nothing is wrong with it.
 fn slip_at(first: &str, place: usize, word: &str) -> Option<Slip> {
     let mnemonic = named(first.as_bytes())?;
     if place == 0 {
@@ -157,7 +157,7 @@ fn long_slip(kind: NumberKind, is_negative: bool, size: u64) -> Slip {
     Slip::LongBelowZero(size.wrapping_neg())
 }
 
-/// Whether a number of that size is from minus the bound to below it.
+/// Answers whether a number of that size and sign is at least minus the bound, and below the bound.
 fn fits(size: u64, is_negative: bool, bound: u64) -> bool {
     size < bound || (is_negative && size == bound)
 }
@@ -177,7 +177,7 @@ fn offset_slip(word: &[u8]) -> Option<Slip> {
     }
 }
 
-/// Whether a word begins as a number does: with a digit or a sign.
+/// Answers whether a word begins as a number does: with a digit or a sign.
 fn begins_number(word: &[u8]) -> bool {
     match word {
         [first, ..] => first.is_ascii_digit() || *first == b'-' || *first == b'+',
@@ -185,7 +185,7 @@ fn begins_number(word: &[u8]) -> bool {
     }
 }
 
-/// What stands behind the sign of a number, if it has one.
+/// Answers the digits of a number, without its sign, if it has one.
 fn digits_of(word: &str) -> &str {
     match word.strip_prefix('-') {
         Some(digits) => digits,

@@ -11,7 +11,9 @@ use Rattle.clap.specs.declared.parser.matches.Found.{Found}
 -- the first value among rows is that among entries
 abbrev SameFirst : List ℕ → List Row → List Entry → Type 0
 SameFirst id rows entries =
-    first_of id rows ≡ option_and_then (λ a. option_map (λ s. s.now) (slice_get a.vals.items 0)) (option_map (λ e. e.1) (find (λ e. bytes_eq e.0.now id) entries))
+    first_of id rows
+    ≡ option_and_then (λ a. option_map (λ s. s.now) (slice_get a.vals.items 0))
+    (option_map (λ e. e.1) (find (λ e. bytes_eq e.0.now id) entries))
 
 first_in : (id : List ℕ) (entries : List Entry) → SameFirst id (map row_of entries) entries
 first_in id [] = refl
@@ -19,7 +21,8 @@ first_in id (e ∷ entries) = go (bytes_eq e.0.now id) (first_in id entries)
   where
     go : (b : Bool) → SameFirst id (map row_of entries) entries
         → option_and_then (λ r. slice_get r.values 0) (cond b (Some (row_of e)) (find (λ r. bytes_eq r.id id) (map row_of entries)))
-        ≡ option_and_then (λ a. option_map (λ s. s.now) (slice_get a.vals.items 0)) (option_map (λ x. x.1) (cond b (Some e) (find (λ x. bytes_eq x.0.now id) entries)))
+        ≡ option_and_then (λ a. option_map (λ s. s.now) (slice_get a.vals.items 0))
+        (option_map (λ x. x.1) (cond b (Some e) (find (λ x. bytes_eq x.0.now id) entries)))
     go true more = slice_get-map (λ s. s.now) e.1.vals.items 0
     go false more = more
 

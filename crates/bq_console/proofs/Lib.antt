@@ -1,4 +1,5 @@
 pub mod FoundLemmas
-pub mod SayingLemmas
+pub mod GivenLemmas
 pub mod TableLemmas
 pub mod WordLemmas
+pub mod JoinedLemmas

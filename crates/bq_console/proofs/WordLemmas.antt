@@ -36,6 +36,8 @@ pub value_once : (word : List ℕ) (m n : ℕ) → IsValue word m → IsValue wo
 value_once word m n one two = let same : Some m ≡ Some n = sym one ∙ two in cc
 
 -- the parts around the mark, if it stands there, are those of a cut
-pub cut_parts : (mark : ℕ) (text : List ℕ) (r : Option (Bor (List ℕ) × Bor (List ℕ))) → MatchOption r (IsFreeOf mark text) (λ x. (text ≡ x.0.now ++ (mark ∷ x.1.now)) × IsFreeOf mark x.0.now) → MatchOption r (IsFreeOf mark text) (λ x. IsCut mark text x.0.now x.1.now)
+pub cut_parts : (mark : ℕ) (text : List ℕ) (r : Option (Bor (List ℕ) × Bor (List ℕ)))
+    → MatchOption r (IsFreeOf mark text) (λ x. (text ≡ x.0.now ++ (mark ∷ x.1.now)) × IsFreeOf mark x.0.now)
+    → MatchOption r (IsFreeOf mark text) (λ x. IsCut mark text x.0.now x.1.now)
 cut_parts mark text None h = h
 cut_parts mark text (Some x) h = record { splits = h.0; first = h.1 }

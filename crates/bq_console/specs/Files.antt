@@ -5,7 +5,7 @@ use Rattle.std.specs.String.{string_bytes}
 use Rattle.std.specs.Prelude.{String}
 use Rattle.std.specs.declared.alloc.Global.{Global}
 
--- the file that a word names; `-` names none, and stands for standard input
+-- the file that a word names; `-` names none, and means standard input
 abbrev pub file_in : List ℕ → Option (List ℕ)
 file_in word = if bytes_eq word (codes "-") then None else Some word
 

@@ -9,6 +9,7 @@ use Rattle.bq_console.specs.declared.fault.WordsFault.TheVariants as fault
 use Rattle.bq_streams.specs.declared.fault.StreamFault.{StreamFault}
 use Rattle.bq_streams.specs.declared.fault.StreamFault.TheVariants.{Read, Write, TooLong, OutOfMemory}
 
+-- the exit status of an outcome
 abbrev pub status_of : Result Bool StreamFault → ℕ
 status_of (Ok true) = 0
 status_of (Ok false) = 1
@@ -17,16 +18,16 @@ status_of (Err Read) = 4
 status_of (Err Write) = 4
 status_of (Err TooLong) = 4
 
--- the status of words that ask for nothing, or of which lack of memory kept what is to be said
+-- the status of words that ask for nothing, or for whose message memory ran out
 abbrev pub refused_status : WordsFault → ℕ
 refused_status (fault.Words text) = 2
 refused_status fault.OutOfMemory = 3
 
--- how a program ends where a call of the system failed: 3 where memory was wanted, and else 4
+-- the exit status of a program of which a call to the system failed: 3 if memory ran out, and 4 otherwise
 pub record EndsFor (failed : ErrorKind) (code : ExitCode) : Type 0 where
   pub memory : failed ≡ kind.OutOfMemory → exit_status code ≡ 3
   pub other : failed ≢ kind.OutOfMemory → exit_status code ≡ 4
 
--- how a program ends where some call of the system failed: by 3 or 4
+-- the exit status of a program of which some call to the system failed: 3 or 4
 abbrev pub EndsFailed : ExitCode → Type 0
 EndsFailed code = (exit_status code ≡ 3) ⊎ (exit_status code ≡ 4)

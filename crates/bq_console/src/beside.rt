@@ -13,7 +13,7 @@ use std::io::{Read, Write};
 pub struct ShowingReader<'a, R> {
     inner: R,
     progress: &'a Progress<'a>,
-    /// How many bytes it has given.
+    /// The number of bytes that it has given.
     given: u64,
     /// At how many bytes it shows that next.
     next: u64,

@@ -1,10 +1,10 @@
-//! How a job ends that reads and writes: with what standard error says where a read or a write broke off.
+//! The end of a job that reads and writes: if a read or a write broke off, standard error says why.
 
 ghost use Rattle.std.specs.Prelude.{◌≡◌};
 ghost use Rattle.std.specs.Process.{exit_status as status};
 ghost use Rattle.bq_console.specs.Status.{status_of};
 
-use crate::saying::{say_unread, say_unwritten};
+use crate::reporting::{report_unread, report_unwritten};
 use crate::status::exit_status;
 use bq_streams::{Counted, Kept, StreamFault};
 use std::io::{Error, Read, Write};
@@ -18,8 +18,8 @@ struct Streams<'a> {
     written: Option<Error>,
 }
 
-/// The exit status of a job, whose reader and writer are given back. Where it broke off standard error says why: it names the
-/// file, or standard input where no name is given.
+/// Answers the exit status of a job whose reader and writer are given back. If the job broke off, standard error says why: it
+/// names the file, or standard input if no name is given.
 pub fn ended<R: Read + Drop, W: Write + Drop>(
     rt: &HostRuntime,
     name: Option<&str>,
@@ -35,19 +35,19 @@ pub fn ended<R: Read + Drop, W: Write + Drop>(
         written: output.into_inner().failure(),
     };
     if let Err(fault) = outcome {
-        say_fault(rt, *fault, &streams);
+        report_fault(rt, *fault, &streams);
     }
     ExitCode::from(exit_status(outcome))
 }
 
 /// Says on standard error why a job ended early.
-fn say_fault(rt: &HostRuntime, fault: StreamFault, streams: &Streams<'_>) {
+fn report_fault(rt: &HostRuntime, fault: StreamFault, streams: &Streams<'_>) {
     match (fault, &streams.read, &streams.written) {
         (StreamFault::Read, Some(error), _) => {
-            let _ = say_unread(rt, streams.name, error);
+            let _ = report_unread(rt, streams.name, error);
         }
         (StreamFault::Write, _, Some(error)) => {
-            let _ = say_unwritten(rt, error);
+            let _ = report_unwritten(rt, error);
         }
         _ => {
             let _ = eprintln!(rt; "bqsim: {fault}");

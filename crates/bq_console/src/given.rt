@@ -12,8 +12,8 @@ use std::io::ErrorKind;
 /// The most bytes that the system hands on as one word.
 const WORD: usize = 1 << 17;
 
-/// The words after the program's name, in order. In one that is no UTF-8 text each byte that is no part of such text stands as
-/// two hex digits behind `NO_TEXT`, which no word has otherwise.
+/// Answers the words after the program's name, in order. If a word is no UTF-8 text, each byte that is no part of such text
+/// becomes `NO_TEXT` and two hex digits; no word has `NO_TEXT` otherwise.
 pub fn given_words(rt: &HostRuntime) -> Result<Vec<String>, WordsFault> {
     match env::args(rt) {
         Ok(args) => Ok(args.skip(1).collect(rt.alloc())?),

@@ -1,19 +1,19 @@
-//! How far long work is: one line of a terminal, which is written again and again.
+//! The progress of long work: one line of a terminal, which is written again and again.
 
 use std::cell::Cell;
 use std::fmt;
 use std::io::IsTerminal;
 
-/// How many events of simulations are about a second's work.
+/// The number of events of simulations that are about a second's work.
 pub const EVENTS: u64 = 2_000_000;
 
-/// How many bytes of a trace are about a second's work.
+/// The number of bytes of a trace that are about a second's work.
 pub const BYTES: u64 = 4_000_000;
 
 /// What erases the line on which the cursor is.
 const ERASED: &str = "\r\x1b[K";
 
-/// How much of long work is done.
+/// The part of long work that is done.
 #[derive(Clone, Copy)]
 pub enum Done {
     /// This much of the time that is simulated, in percent.

@@ -2,21 +2,21 @@
 use std::alloc::{AllocError, Global};
 use std::io::Error;
 
-/// What stands before the system's number of an error.
+/// Comes before the system's number of an error.
 const NUMBER: &str = " (os error ";
 
 /// Why a read, a write or a call on a file failed: what the system says, without its number, in a small letter, as
 /// `is a directory`.
 pub fn reason(alloc: Global, error: &Error) -> Result<String, AllocError> {
-    let said = format!(in alloc; "{error}")?;
-    small(alloc, without_number(said.as_str()))
+    let message = format!(in alloc; "{error}")?;
+    small(alloc, without_number(message.as_str()))
 }
 
 /// The text without the system's number of the error.
-fn without_number(said: &str) -> &str {
-    match said.split_once(NUMBER) {
+fn without_number(message: &str) -> &str {
+    match message.split_once(NUMBER) {
         Some((words, _)) => words,
-        None => said,
+        None => message,
     }
 }
 

@@ -1,8 +1,6 @@
-//! Words that are refused: by clap, by an option that does not take their value, or by the command that they name.
+//! Words that are refused: by clap, or by the command that they name.
 ghost use Rattle.std.specs.Prelude.{◌≡◌};
 ghost use Rattle.clap.specs.Words.{kind_of};
-ghost use Rattle.bq_console.specs.Values.{refusal};
-ghost use Rattle.bq_console.specs.Words.{IsRefusedBy};
 
 use crate::fault::{WordsFault, words_fault};
 use clap::error::ErrorKind;
@@ -22,29 +20,32 @@ pub(crate) fn fault_of(alloc: Global, error: &clap::Error) -> WordsFault
     }
 }
 
-/// What clap says of the words. Beside an option that does not exist, its usage line has the near one as if that were required, so
-/// the line is left out.
+/// Comes before a word that clap takes for an option, and then it says how the word would be a file.
+const AS_FILE: &str = "  tip: to pass '--";
+
+/// Comes before the words of a command.
+const USAGE: &str = "Usage: ";
+
+/// What clap says of the words. Beside an option that does not exist it leaves out that the word may be a file, and the usage, which
+/// has the near option as if that were required.
 fn error_text(alloc: Global, error: &clap::Error) -> Result<String, AllocError> {
     let text = error.to_string(alloc)?;
     if error.kind() != ErrorKind::UnknownArgument {
         return Ok(text);
     }
-    let Some((before, usage)) = text.as_str().split_once("Usage: ") else {
-        return Ok(text);
-    };
-    match usage.split_once("\n\n") {
-        Some((_, behind)) => format!(in alloc; "{before}{behind}"),
-        None => String::from_str(alloc, text.as_str()),
-    }
+    let text = without(alloc, text.as_str(), AS_FILE)?;
+    without(alloc, text.as_str(), USAGE)
 }
 
-/// The fault of a value that an option does not take, with the values that it takes.
-pub fn refused_value(alloc: Global, option: &str, value: &str, taken: &str) -> WordsFault
-    ensures { IsRefusedBy (refusal option.now value.now taken.now) result }
-{
-    words_fault(format!(in alloc;
-        "error: invalid value '{value}' for '--{option}'\n  [possible values: {taken}]\n\nFor more information, try '--help'.\n"
-    ))
+/// The text without the paragraph that begins so, if it has one.
+fn without(alloc: Global, text: &str, beginning: &str) -> Result<String, AllocError> {
+    let Some((before, part)) = text.split_once(beginning) else {
+        return String::from_str(alloc, text);
+    };
+    match part.split_once("\n\n") {
+        Some((_, behind)) => format!(in alloc; "{before}{behind}"),
+        None => String::from_str(alloc, text),
+    }
 }
 
 /// The fault of words that a command refuses for this reason: `error: ` and the reason, as a line.

@@ -1,23 +1,23 @@
-//! How a job ends.
+//! The exit statuses of a job.
 ghost use Rattle.std.specs.Prelude.{◌≡◌};
 ghost use Rattle.bq_console.specs.Status.{status_of};
 
 use bq_streams::StreamFault;
 
-/// The exit status where an input is bad, or what it says is refused.
+/// The exit status if an input is bad, or what it says is refused.
 pub const BAD_INPUT: u8 = 1;
 
 /// The exit status of words that ask for nothing.
 pub const BAD_WORDS: u8 = 2;
 
-/// The exit status where memory was wanted.
+/// The exit status if memory runs out.
 pub const OUT_OF_MEMORY: u8 = 3;
 
-/// The exit status where a read or a write failed.
+/// The exit status if a read or a write fails.
 pub const IO_FAILED: u8 = 4;
 
-/// The exit status of an outcome: 0 where all is well, 1 where something was refused or bad, 3 where memory was wanted,
-/// 4 where a read or a write failed or the input was too long.
+/// Answers the exit status of an outcome: 0 if all is well, 1 if something was refused or bad, 3 if memory ran out, 4 if a read
+/// or a write failed or the input was too long.
 pub fn exit_status(outcome: &Result<bool, StreamFault>) -> u8
     ensures { result ≡ status_of outcome.now }
 {

@@ -41,6 +41,8 @@ pub struct CommandText<'a> {
     pub about: &'static str,
     /// Its options, table after table.
     pub options: &'a [&'a [OptionText]],
+    /// What its help page ends with: examples of the command.
+    pub examples: &'static str,
 }
 
 /// An option.
@@ -99,21 +101,26 @@ fn command<'a>(alloc: Global, text: &CommandText<'_>) -> Result<Command<'a>, All
     ensures shape { IfOk result (λ c. (app_of c).top ≡ command_of text.now) }
     ensures local { IfOk result (λ c. (fields_of c).has_globals ≡ false) }
 {
-    let command = Command::new(alloc, text.name).about(text.about);
+    let command = Command::new(alloc, text.name)
+        .about(text.about)
+        .after_help(text.examples);
     with_tables(alloc, command, text.options)
 }
 
-/// The program without commands. Words come without its name, and one of them has to be a command.
+/// The program without commands. Words come without its name, and one of them has to be a command. Its help page ends with the
+/// examples.
 pub fn program<'a>(
     alloc: Global,
     about: &'static str,
     version: &'static str,
+    examples: &'static str,
 ) -> Result<Command<'a>, AllocError>
     ensures { IfOk result (λ c. app_of c ≡ empty_program) }
 {
     Command::new(alloc, "bqsim")
         .about(about)
         .version(version)
+        .after_help(examples)
         .no_binary_name(true)
         .subcommand_required(true)
         .arg_required_else_help(true)

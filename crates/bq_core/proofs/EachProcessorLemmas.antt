@@ -6,7 +6,7 @@ use Rattle.bq_disc.specs.Rising.{IsRising}
 use Rattle.bq_disc.specs.Discipline.{Discipline, woken, pulled, next_of}
 use Rattle.bq_disc.specs.OneProcessor.{Running, run_id, start, exchanged, switched, decided, entered}
 use Rattle.bq_disc.proofs.RisingLemmas.{IsRising-place, IsRising-without}
-use Rattle.bq_bpf.specs.declared.board.Call.{Call as Asked}
+use Rattle.bq_bpf.specs.declared.board.CounterCall.{CounterCall}
 use Rattle.bq_hooks.specs.declared.hook.Hook.{Hook}
 use Rattle.bq_hooks.specs.declared.hook.Hook.TheVariants.{Place, Preempt, Pull}
 use Rattle.bq_hooks.specs.declared.hook.Version.{Version}
@@ -19,7 +19,7 @@ use Rattle.bq_parts.specs.declared.event.Event.TheVariants as event
 use Rattle.bq_parts.specs.declared.reply.Reply.{Reply}
 use Rattle.bq_parts.specs.Processors.{Processor, opening}
 use Rattle.bq_parts.specs.World.{World, processor_at, inbox, with_processor}
-use Rattle.bq_parts.specs.Choices.{PolicySemantics, Decision, SettlesBy, SettlesPreempt, decided_by}
+use Rattle.bq_parts.specs.Choices.{PolicySemantics, SettledChoice, SettlesBy, SettlesPreempt, decided_by}
 use Rattle.bq_parts.specs.Moves.{taken_from, without_task, with_pulled, started_if_idle}
 use Rattle.bq_parts.specs.Shares.{after_time, remarked, Decides}
 use Rattle.bq_parts.specs.Steps.{Performs}
@@ -34,7 +34,8 @@ abbrev pub AllWell : World → Type 0
 AllWell w = (processor : ℕ) → IsWell (processor_at w processor)
 
 -- a fact of each place of a list, after one place was written
-pub at_set : {X : Type 0} (Q : ℕ → X → Type 0) (xs : List X) (i : ℕ) (x d : X) → Q i x → ((j : ℕ) → Q j (get_or xs j d)) → (j : ℕ) → Q j (get_or (set xs i x) j d)
+pub at_set : {X : Type 0} (Q : ℕ → X → Type 0) (xs : List X) (i : ℕ) (x d : X)
+    → Q i x → ((j : ℕ) → Q j (get_or xs j d)) → (j : ℕ) → Q j (get_or (set xs i x) j d)
 at_set Q [] i x d q h j = h j
 at_set Q (y ∷ ys) zero x d q h zero = q
 at_set Q (y ∷ ys) zero x d q h (suc j) = h (suc j)
@@ -71,14 +72,16 @@ rising_switched d p (Some t) h = rising_exchanged p t (with_id (next_of d t p.qu
 rising_start : (d : Discipline) (p : Running) → IsRising p.queue → IsRising (start d p).queue
 rising_start d p h = rising_run p (id_of (d.choice p.queue)) h
 
-rising_decided : (d : Discipline) (p : Running) (o : Option Task) (gives_way : Bool) → IsRising p.queue → IsRising (decided d p o gives_way).queue
+rising_decided : (d : Discipline) (p : Running) (o : Option Task) (gives_way : Bool)
+    → IsRising p.queue → IsRising (decided d p o gives_way).queue
 rising_decided d p None b h = rising_start d p h
 rising_decided d p (Some t) true h = rising_switched d p (Some t) h
 rising_decided d p (Some t) false h = h
 
 rising_entered : (d : Discipline) (kept : ℕ) (queue tasks : List Task) → IsRising queue → IsRising (entered d kept queue tasks)
 rising_entered d kept queue [] h = h
-rising_entered d kept queue (t ∷ tasks) h = rising_entered d kept (place (woken d kept t) queue) tasks (IsRising-place (woken d kept t) queue h)
+rising_entered d kept queue (t ∷ tasks) h =
+    rising_entered d kept (place (woken d kept t) queue) tasks (IsRising-place (woken d kept t) queue h)
 
 rising_pulled : (d : Discipline) (p : Running) (o : Option Task) → IsRising p.queue → IsRising (with_pulled d p o).queue
 rising_pulled d p None h = h
@@ -95,7 +98,8 @@ rising_taken p (Some id) h = IsRising-without id p.queue h
 -- Hooks
 
 -- something else that may stand there
-ready_with : (hooks : Attachments) (hook : Hook) (new : Attached) → AreReady hooks → MayStand hook new → AreReady (with_attached hook hooks new)
+ready_with : (hooks : Attachments) (hook : Hook) (new : Attached)
+    → AreReady hooks → MayStand hook new → AreReady (with_attached hook hooks new)
 ready_with hooks Place new h m Place = m
 ready_with hooks Place new h m Preempt = h Preempt
 ready_with hooks Place new h m Pull = h Pull
@@ -107,24 +111,33 @@ ready_with hooks Pull new h m Preempt = h Preempt
 ready_with hooks Pull new h m Pull = m
 
 -- a policy that was asked stands there as before, with maps of its shapes
-settled_stands : (s : PolicySemantics) (hook : Hook) (policy : Option Accepted) (context : Version → List ℕ) (attached : Attached) (now processor : ℕ) (permitted : ℕ → Bool) (own : ℕ) (settled : Decision) →
-    attached.policy ≡ policy → SettlesBy s policy context attached now processor permitted own settled → MayStand hook attached → MayStand hook settled.attached
+settled_stands : (s : PolicySemantics) (hook : Hook) (policy : Option Accepted) (context : Version → List ℕ)
+    (attached : Attached) (now processor : ℕ) (permitted : ℕ → Bool) (own : ℕ) (settled : SettledChoice)
+    → attached.policy ≡ policy → SettlesBy s policy context attached now processor permitted own settled
+    → MayStand hook attached
+    → MayStand hook settled.attached
 settled_stands s hook None context attached now processor permitted own settled is h m = rw h m
 settled_stands s hook (Some p) context attached now processor permitted own settled is h m =
     let had : IsEquipped (Some p) attached.maps = subst (λ (o : Option Accepted). IsEquipped o attached.maps) is m.1 in
     rw h.leaves (m.0, subst (λ (o : Option Accepted). IsEquipped o h.maps) (sym is) (had.0, h.shapes))
 
-preempt_stands : (s : PolicySemantics) (processor : ℕ) (p : Processor) (o : Option Task) (settled : Decision) → SettlesPreempt s processor p o settled → AreReady p.hooks → MayStand Preempt settled.attached
+preempt_stands : (s : PolicySemantics) (processor : ℕ) (p : Processor) (o : Option Task) (settled : SettledChoice)
+    → SettlesPreempt s processor p o settled → AreReady p.hooks → MayStand Preempt settled.attached
 preempt_stands s processor p None settled h ready = rw h (ready Preempt)
-preempt_stands s processor p (Some t) settled h ready = settled_stands s Preempt p.hooks.preempt.policy _ p.hooks.preempt p.running.last processor _ _ settled refl h (ready Preempt)
+preempt_stands s processor p (Some t) settled h ready =
+    settled_stands s Preempt p.hooks.preempt.policy _ p.hooks.preempt p.running.last processor _ _ settled
+    refl h (ready Preempt)
 
 -- Processors
 
-decides_well : (s : PolicySemantics) (processor : ℕ) (p : Processor) (settled : Decision) (q : Processor) → Decides s processor p settled q → IsWell p → IsWell q
+decides_well : (s : PolicySemantics) (processor : ℕ) (p : Processor) (settled : SettledChoice) (q : Processor)
+    → Decides s processor p settled q → IsWell p → IsWell q
 decides_well s processor p settled q h well =
     let q' : IsWell (decided_by s p settled) = record {
       rising = rising_decided s.discipline p.running p.running.current (settled.choice == 1) well.rising;
-      ready = ready_with p.hooks Preempt settled.attached well.ready (preempt_stands s processor p p.running.current settled h.0 well.ready);
+      ready =
+          ready_with p.hooks Preempt settled.attached well.ready
+          (preempt_stands s processor p p.running.current settled h.0 well.ready);
     } in
     subst IsWell (sym h.1) q'
 
@@ -133,7 +146,8 @@ time_well : (d : Discipline) (now : ℕ) (p : Processor) → IsWell p → IsWell
 time_well d now p well = record { rising = well.rising; ready = well.ready }
 
 -- an event that is not refused keeps all processors well
-pub performs_well : (s : PolicySemantics) (w : World) (e : Event) (calls : List Asked) (r : Reply) (w' : World) → AllWell w → Performs s w e calls r w' → AllWell w'
+pub performs_well : (s : PolicySemantics) (w : World) (e : Event) (calls : List CounterCall) (r : Reply) (w' : World)
+    → AllWell w → Performs s w e calls r w' → AllWell w'
 performs_well s w (event.Admit id nice mask slice) calls r w' all k = rw k.3 all
 performs_well s w (event.Retire id) calls r w' all k = rw k.3 all
 performs_well s w event.Draw calls r w' all k = rw k.2 all
@@ -152,16 +166,22 @@ performs_well s w (event.EndWake processor now) calls r w' all k =
     let c = after_time s.discipline now p in
     let well = all processor in
     let b = k.2 in
-    let new = settled_stands s Place c.hooks.place.policy _ c.hooks.place c.running.last processor _ _ b.settled refl b.settles (well.ready Place) in
+    let new =
+    settled_stands s Place c.hooks.place.policy _ c.hooks.place c.running.last processor _ _ b.settled refl b.settles
+    (well.ready Place) in
     let q : IsWell k.1 = rw b.here (record { rising = well.rising; ready = ready_with c.hooks Place b.settled.attached well.ready new }) in
     rw k.4 (well_at w processor k.1 all q)
 performs_well s w (event.Drain processor now) calls r w' all k =
     let c = after_time s.discipline now (processor_at w processor) in
     let well = all processor in
-    let q = decides_well s processor _ k.1.0 k.0 k.1.1 (record { rising = rising_entered s.discipline c.running.kept c.running.queue (inbox w processor) well.rising; ready = well.ready }) in
+    let q = decides_well s processor _ k.1.0 k.0 k.1.1 (record {
+      rising = rising_entered s.discipline c.running.kept c.running.queue (inbox w processor) well.rising;
+      ready = well.ready;
+    }) in
     rw k.2 (well_at w processor k.0 all q)
 performs_well s w (event.Tick processor now) calls r w' all k =
-    rw k.2 (well_at w processor k.0 all (decides_well s processor _ k.1.0 k.0 k.1.1 (time_well s.discipline now (processor_at w processor) (all processor))))
+    rw k.2 (well_at w processor k.0 all
+    (decides_well s processor _ k.1.0 k.0 k.1.1 (time_well s.discipline now (processor_at w processor) (all processor))))
 performs_well s w (event.Block processor now) calls r w' all k =
     let c = after_time s.discipline now (processor_at w processor) in
     let well = all processor in
@@ -178,7 +198,9 @@ performs_well s w (event.Pull processor from now) calls r w' all k =
     let taken = taken_from source task in
     let well = all processor in
     let there = all from in
-    let new = settled_stands s Pull c.hooks.pull.policy _ c.hooks.pull c.running.last processor _ _ x.settled refl x.settles (well.ready Pull) in
+    let new =
+    settled_stands s Pull c.hooks.pull.policy _ c.hooks.pull c.running.last processor _ _ x.settled refl x.settles
+    (well.ready Pull) in
     let q : IsWell k.0 = rw x.here (record {
       rising = rising_started d (with_pulled d c.running taken) c.running.current (rising_pulled d c.running taken well.rising);
       ready = ready_with c.hooks Pull x.settled.attached well.ready new;

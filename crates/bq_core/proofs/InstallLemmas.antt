@@ -28,9 +28,13 @@ for_by_case h None e = tt
 for_by_case h (Some p) e = one_hook h p.hook e
 
 -- where no argument is refused the processor is there
-pub install_there : (count processor g : ℕ) (h : Hook) (o : Option Accepted) → argument_refusal count (Install processor h g o) ≡ None → processor < count
+pub install_there : (count processor g : ℕ) (h : Hook) (o : Option Accepted)
+    → argument_refusal count (Install processor h g o) ≡ None → processor < count
 install_there count processor g h o e = (not_refused_is_there count processor _ e).0
 
--- and the policy was verified for the hook
-pub install_suits : (count processor g : ℕ) (h : Hook) (o : Option Accepted) → argument_refusal count (Install processor h g o) ≡ None → IsFor h o
-install_suits count processor g h o e = for_by_case h o (not-false (is_for h o) (first_refusal_passed (not (is_for h o)) no.WrongHook None (not_refused_is_there count processor _ e).1).0)
+-- where no argument of an install is refused the policy was verified for the hook
+pub install_suits : (count processor g : ℕ) (h : Hook) (o : Option Accepted)
+    → argument_refusal count (Install processor h g o) ≡ None → IsFor h o
+install_suits count processor g h o e =
+    for_by_case h o
+    (not-false (is_for h o) (first_refusal_passed (not (is_for h o)) no.WrongHook None (not_refused_is_there count processor _ e).1).0)

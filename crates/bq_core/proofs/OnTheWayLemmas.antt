@@ -9,7 +9,7 @@ use Rattle.bq_disc.specs.Tasks.{Task}
 use Rattle.bq_disc.specs.OneProcessor.{present_at}
 use Rattle.bq_parts.specs.declared.carried.Carried.{Carried}
 use Rattle.bq_parts.specs.declared.lobby_entry.LobbyEntry.{LobbyEntry}
-use Rattle.bq_parts.specs.declared.lobby_entry.LobbyEntry.TheVariants.{Absent, Blocked, Away}
+use Rattle.bq_parts.specs.declared.lobby_entry.LobbyEntry.TheVariants.{Absent, Sleeping, Away}
 use Rattle.bq_parts.specs.Processors.{Processor, opening, count_of, held_by, in_hand}
 use Rattle.bq_parts.specs.World.{World, processor_at, inbox, entry, count_in, with_processor, with_inbox, with_lobby}
 use Rattle.bq_parts.specs.Refusals.{is_away}
@@ -31,7 +31,7 @@ pub record IsTidy (count : ℕ) (floating : List Task) (w : World) : Type 0 wher
   pub many : length w.processors ≡ count
   pub boxes : length w.inboxes ≡ count
   pub away : (id : ℕ) → standing_count id w + count_of id floating ≡ as_number (is_away (entry w id))
-  pub blocked : (id : ℕ) (t : Task) → entry w id ≡ Blocked t → (t.id ≡ id) × HasPlace count t
+  pub blocked : (id : ℕ) (t : Task) → entry w id ≡ Sleeping t → (t.id ≡ id) × HasPlace count t
   pub hand : (processor : ℕ) (c : Carried) → (processor_at w processor).hand ≡ Some c → HasPlace count c.task
   pub present : (processor : ℕ) → tally (unsuited count processor) (present_at (processor_at w processor).running) ≡ 0
   pub placed : (processor : ℕ) → tally (unsuited count processor) (inbox w processor) ≡ 0
@@ -39,12 +39,16 @@ pub record IsTidy (count : ℕ) (floating : List Task) (w : World) : Type 0 wher
 -- an orderly world is tidy with none on its way
 pub tidy_of : (w : World) → IsOrderly w → IsTidy (count_in w) [] w
 tidy_of w o =
-    let none : (processor : ℕ) → tally (unsuited (count_in w) processor) (runnable_at w processor) ≡ 0 = λ processor. none_unsuited (count_in w) processor (runnable_at w processor) (o.once.allowed processor) (o.places.runnable processor) in
-    let split : (processor : ℕ) → tally (unsuited (count_in w) processor) (runnable_at w processor) ≡ tally (unsuited (count_in w) processor) (present_at (processor_at w processor).running) + tally (unsuited (count_in w) processor) (inbox w processor) =
+    let none : (processor : ℕ) → tally (unsuited (count_in w) processor) (runnable_at w processor) ≡ 0 = λ processor.
+    none_unsuited (count_in w) processor (runnable_at w processor) (o.once.allowed processor) (o.places.runnable processor) in
+    let split : (processor : ℕ)
+    → tally (unsuited (count_in w) processor) (runnable_at w processor)
+    ≡ tally (unsuited (count_in w) processor) (present_at (processor_at w processor).running)
+    + tally (unsuited (count_in w) processor) (inbox w processor) =
     λ processor. tally-append (unsuited (count_in w) processor) (present_at (processor_at w processor).running) (inbox w processor) in
     record {
       many = refl;
-      boxes = o.even;
+      boxes = o.an_inbox_each;
       away = λ id. omega (arith, o.once.away id);
       blocked = λ id t e. (o.once.blocked id t e, o.places.in_lobby id t e);
       hand = o.places.in_hand;
@@ -52,11 +56,18 @@ tidy_of w o =
       placed = λ processor. omega (arith, none processor, split processor);
     }
 
--- and the other way round, where all processors are well
+-- a world that is tidy with none on its way is orderly, where all processors are well
 pub orderly_of : (w : World) → IsTidy (count_in w) [] w → AllWell w → IsOrderly w
 orderly_of w y well =
     let all : (processor : ℕ) → All (Suits (count_in w) processor) (runnable_at w processor) =
-    λ processor. all_suit (count_in w) processor (runnable_at w processor) (omega (arith, tally-append (unsuited (count_in w) processor) (present_at (processor_at w processor).running) (inbox w processor), y.present processor, y.placed processor)) in
+    λ processor.
+    all_suit (count_in w) processor (runnable_at w processor)
+    (omega (
+      arith,
+      tally-append (unsuited (count_in w) processor) (present_at (processor_at w processor).running) (inbox w processor),
+      y.present processor,
+      y.placed processor,
+    )) in
     record {
       once = record {
         away = λ id. omega (arith, y.away id);
@@ -68,7 +79,7 @@ orderly_of w y well =
         in_hand = y.hand;
         runnable = λ processor k d l. (all processor k d l).place;
       };
-      even = y.boxes;
+      an_inbox_each = y.boxes;
       rising = λ processor. (well processor).rising;
       ready = λ processor. (well processor).ready;
     }
@@ -78,7 +89,9 @@ pub well_of : (w : World) → IsOrderly w → AllWell w
 well_of w o processor = record { rising = o.rising processor; ready = o.ready processor }
 
 -- a fact of each place of a list, after one place was written, where it may have been false
-at_set_else : {X : Type 0} (Q : ℕ → X → Type 0) (xs : List X) (i : ℕ) (x d : X) → i < length xs → Q i x → ((j : ℕ) → j ≢ i → Q j (get_or xs j d)) → (j : ℕ) → Q j (get_or (set xs i x) j d)
+at_set_else : {X : Type 0} (Q : ℕ → X → Type 0) (xs : List X) (i : ℕ) (x d : X)
+    → i < length xs → Q i x → ((j : ℕ) → j ≢ i → Q j (get_or xs j d))
+    → (j : ℕ) → Q j (get_or (set xs i x) j d)
 at_set_else Q [] i x d l q h j = absurd (omega arith)
 at_set_else Q (y ∷ ys) zero x d l q h zero = q
 at_set_else Q (y ∷ ys) zero x d l q h (suc j) = h (suc j) (omega arith)
@@ -86,21 +99,28 @@ at_set_else Q (y ∷ ys) (suc i) x d l q h zero = h zero (omega arith)
 at_set_else Q (y ∷ ys) (suc i) x d l q h (suc j) = at_set_else (λ n. Q (suc n)) ys i x d (omega arith) q (λ n e. h (suc n) (omega arith)) j
 
 -- a processor's tasks leave the count, and those of the new one come
-pub held_count-set : (id : ℕ) (ps : List Processor) (processor : ℕ) (q : Processor) → processor < length ps → held_count id (set ps processor q) + count_of id (held_by (get_or ps processor opening)) ≡ held_count id ps + count_of id (held_by q)
+pub held_count-set : (id : ℕ) (ps : List Processor) (processor : ℕ) (q : Processor)
+    → processor < length ps
+    → held_count id (set ps processor q) + count_of id (held_by (get_or ps processor opening))
+    ≡ held_count id ps + count_of id (held_by q)
 held_count-set id [] processor q l = absurd (omega arith)
 held_count-set id (p ∷ ps) zero q l = omega arith
 held_count-set id (p ∷ ps) (suc processor) q l = omega (arith, held_count-set id ps processor q (omega arith))
 
--- and so do those of an inbox
-pub placed_count-set : (id : ℕ) (xss : List (List Task)) (processor : ℕ) (tasks : List Task) → processor < length xss → placed_count id (set xss processor tasks) + count_of id (get_or xss processor []) ≡ placed_count id xss + count_of id tasks
+-- an inbox's tasks leave the count, and those of the new one come
+pub placed_count-set : (id : ℕ) (xss : List (List Task)) (processor : ℕ) (tasks : List Task)
+    → processor < length xss
+    → placed_count id (set xss processor tasks) + count_of id (get_or xss processor []) ≡ placed_count id xss + count_of id tasks
 placed_count-set id [] processor tasks l = absurd (omega arith)
 placed_count-set id (xs ∷ xss) zero tasks l = omega arith
 placed_count-set id (xs ∷ xss) (suc processor) tasks l = omega (arith, placed_count-set id xss processor tasks (omega arith))
 
 -- a processor is written: its tasks come from those that were there and those on their way
-pub with_processor_tidy : (count : ℕ) (xs ys : List Task) (w : World) (processor : ℕ) (q : Processor) → IsTidy count xs w → processor < count →
-    ((id : ℕ) → count_of id (held_by q) + count_of id ys ≡ count_of id (held_by (processor_at w processor)) + count_of id xs) →
-    ((c : Carried) → q.hand ≡ Some c → HasPlace count c.task) → tally (unsuited count processor) (present_at q.running) ≡ 0 → IsTidy count ys (with_processor w processor q)
+pub with_processor_tidy : (count : ℕ) (xs ys : List Task) (w : World) (processor : ℕ) (q : Processor)
+    → IsTidy count xs w → processor < count
+    → ((id : ℕ) → count_of id (held_by q) + count_of id ys ≡ count_of id (held_by (processor_at w processor)) + count_of id xs)
+    → ((c : Carried) → q.hand ≡ Some c → HasPlace count c.task) → tally (unsuited count processor) (present_at q.running) ≡ 0
+    → IsTidy count ys (with_processor w processor q)
 with_processor_tidy count xs ys w processor q y l moved hand present =
     let l' : processor < length w.processors = omega (arith, y.many) in
     record {
@@ -108,46 +128,80 @@ with_processor_tidy count xs ys w processor q y l moved hand present =
       boxes = y.boxes;
       away = λ id. omega (arith, y.away id, moved id, held_count-set id w.processors processor q l');
       blocked = y.blocked;
-      hand = at_set (λ n (p : Processor). (c : Carried) → p.hand ≡ Some c → HasPlace count c.task) w.processors processor q opening hand y.hand;
-      present = at_set (λ n (p : Processor). tally (unsuited count n) (present_at p.running) ≡ 0) w.processors processor q opening present y.present;
+      hand =
+          at_set (λ n (p : Processor). (c : Carried) → p.hand ≡ Some c → HasPlace count c.task) w.processors processor q
+          opening hand y.hand;
+      present =
+          at_set (λ n (p : Processor). tally (unsuited count n) (present_at p.running) ≡ 0) w.processors processor q
+          opening present y.present;
       placed = y.placed;
     }
 
 -- the tasks that run or wait there come from those and from those on their way, by every tally; the hand stays
-pub running_tidy : (count : ℕ) (xs ys : List Task) (w : World) (processor : ℕ) (q : Processor) → IsTidy count xs w → processor < count → q.hand ≡ (processor_at w processor).hand →
-    ((g : ℕ → ℕ → ℕ) → tally g (present_at q.running) + tally g ys ≡ tally g (present_at (processor_at w processor).running) + tally g xs) →
-    tally (unsuited count processor) xs ≡ 0 → IsTidy count ys (with_processor w processor q)
+pub running_tidy : (count : ℕ) (xs ys : List Task) (w : World) (processor : ℕ) (q : Processor)
+    → IsTidy count xs w → processor < count → q.hand ≡ (processor_at w processor).hand
+    → ((g : ℕ → ℕ → ℕ) → tally g (present_at q.running) + tally g ys ≡ tally g (present_at (processor_at w processor).running) + tally g xs)
+    → tally (unsuited count processor) xs ≡ 0
+    → IsTidy count ys (with_processor w processor q)
 running_tidy count xs ys w processor q y l h moved fit =
     let p : Processor = processor_at w processor in
-    let hands : (id : ℕ) → count_of id (in_hand q) ≡ count_of id (in_hand p) = λ id. ap (λ o. count_of id (option_to_list (option_map (λ (c : Carried). c.task) o))) h in
+    let hands : (id : ℕ) → count_of id (in_hand q) ≡ count_of id (in_hand p) =
+    λ id. ap (λ o. count_of id (option_to_list (option_map (λ (c : Carried). c.task) o))) h in
     with_processor_tidy count xs ys w processor q y l
-    (λ id. omega (arith, count_of-held_by id q, count_of-held_by id p, hands id, count_of-tally id (present_at q.running), count_of-tally id (present_at p.running), count_of-tally id xs, count_of-tally id ys, moved (ones id)))
-    (λ c e. y.hand processor c (sym h ∙ e))
-    (omega (arith, moved (unsuited count processor), y.present processor, fit))
+    (λ id. omega (
+      arith,
+      count_of-held_by id q,
+      count_of-held_by id p,
+      hands id,
+      count_of-tally id (present_at q.running),
+      count_of-tally id (present_at p.running),
+      count_of-tally id xs,
+      count_of-tally id ys,
+      moved (ones id),
+    )) (λ c e. y.hand processor c (sym h ∙ e)) (omega (arith, moved (unsuited count processor), y.present processor, fit))
 
 -- an inbox is written: its tasks come from those that were there and those on their way
-pub inbox_tidy : (count : ℕ) (xs ys : List Task) (w : World) (processor : ℕ) (tasks : List Task) → IsTidy count xs w → processor < count →
-    ((g : ℕ → ℕ → ℕ) → tally g tasks + tally g ys ≡ tally g (inbox w processor) + tally g xs) → tally (unsuited count processor) xs ≡ 0 → IsTidy count ys (with_inbox w processor tasks)
+pub inbox_tidy : (count : ℕ) (xs ys : List Task) (w : World) (processor : ℕ) (tasks : List Task)
+    → IsTidy count xs w → processor < count → ((g : ℕ → ℕ → ℕ) → tally g tasks + tally g ys ≡ tally g (inbox w processor) + tally g xs)
+    → tally (unsuited count processor) xs ≡ 0
+    → IsTidy count ys (with_inbox w processor tasks)
 inbox_tidy count xs ys w processor tasks y l moved fit =
     let l' : processor < length w.inboxes = omega (arith, y.boxes) in
     record {
       many = y.many;
       boxes = length-set w.inboxes processor tasks ∙ y.boxes;
-      away = λ id. omega (arith, y.away id, placed_count-set id w.inboxes processor tasks l', count_of-tally id tasks, count_of-tally id (inbox w processor), count_of-tally id xs, count_of-tally id ys, moved (ones id));
+      away = λ id. omega (
+        arith,
+        y.away id,
+        placed_count-set id w.inboxes processor tasks l',
+        count_of-tally id tasks,
+        count_of-tally id (inbox w processor),
+        count_of-tally id xs,
+        count_of-tally id ys,
+        moved (ones id),
+      );
       blocked = y.blocked;
       hand = y.hand;
       present = y.present;
-      placed = at_set (λ n (ts : List Task). tally (unsuited count n) ts ≡ 0) w.inboxes processor tasks [] (omega (arith, moved (unsuited count processor), y.placed processor, fit)) y.placed;
+      placed =
+          at_set (λ n (ts : List Task). tally (unsuited count n) ts ≡ 0) w.inboxes processor tasks []
+          (omega (arith, moved (unsuited count processor), y.placed processor, fit)) y.placed;
     }
 
 -- an entry is written, and is away afterwards if it was before
-pub entry_tidy : (count : ℕ) (xs : List Task) (w : World) (id : ℕ) (s : LobbyEntry) → IsTidy count xs w → as_number (is_away s) ≡ as_number (is_away (entry w id)) →
-    ((t : Task) → s ≡ Blocked t → (t.id ≡ id) × HasPlace count t) → IsTidy count xs (with_entry w id s)
+pub entry_tidy : (count : ℕ) (xs : List Task) (w : World) (id : ℕ) (s : LobbyEntry)
+    → IsTidy count xs w → as_number (is_away s) ≡ as_number (is_away (entry w id))
+    → ((t : Task) → s ≡ Sleeping t → (t.id ≡ id) × HasPlace count t)
+    → IsTidy count xs (with_entry w id s)
 entry_tidy count xs w id s y same blocked = record {
   many = y.many;
   boxes = y.boxes;
-  away = at_set (λ j (x : LobbyEntry). standing_count j w + count_of j xs ≡ as_number (is_away x)) w.lobby id s Absent (y.away id ∙ sym same) y.away;
-  blocked = at_set (λ j (x : LobbyEntry). (t : Task) → x ≡ Blocked t → (t.id ≡ j) × HasPlace count t) w.lobby id s Absent blocked y.blocked;
+  away =
+      at_set (λ j (x : LobbyEntry). standing_count j w + count_of j xs ≡ as_number (is_away x)) w.lobby id s Absent
+      (y.away id ∙ sym same) y.away;
+  blocked =
+      at_set (λ j (x : LobbyEntry). (t : Task) → x ≡ Sleeping t → (t.id ≡ j) × HasPlace count t) w.lobby id s
+      Absent blocked y.blocked;
   hand = y.hand;
   present = y.present;
   placed = y.placed;
@@ -162,7 +216,8 @@ past_entry : (w : World) (id : ℕ) → entry w id ≢ Absent → id < length w.
 past_entry w id n = elim (cases_lt id (length w.lobby)) [ inl l ↦ l | inr g ↦ absurd (n (get_or_past w.lobby id Absent g)) ]
 
 -- a task leaves the lobby
-pub leaves_lobby : (count : ℕ) (w : World) (id : ℕ) (t : Task) → IsTidy count [] w → entry w id ≡ Blocked t → IsTidy count (t ∷ []) (with_entry w id Away)
+pub leaves_lobby : (count : ℕ) (w : World) (id : ℕ) (t : Task)
+    → IsTidy count [] w → entry w id ≡ Sleeping t → IsTidy count (t ∷ []) (with_entry w id Away)
 leaves_lobby count w id t y e =
     let same : t.id ≡ id = (y.blocked id t e).0 in
     let asleep : as_number (is_away (entry w id)) ≡ 0 = ap (λ s. as_number (is_away s)) e in
@@ -171,23 +226,34 @@ leaves_lobby count w id t y e =
     record {
       many = y.many;
       boxes = y.boxes;
-      away = at_set_else (λ j (x : LobbyEntry). standing_count j w + count_of j (t ∷ []) ≡ as_number (is_away x)) w.lobby id Away Absent (past_entry w id (λ h. cc)) (omega (arith, y.away id)) (λ j n. omega (arith, y.away j, apart j n));
-      blocked = at_set (λ j (x : LobbyEntry). (t : Task) → x ≡ Blocked t → (t.id ≡ j) × HasPlace count t) w.lobby id Away Absent (λ t e. cc) y.blocked;
+      away =
+          at_set_else (λ j (x : LobbyEntry). standing_count j w + count_of j (t ∷ []) ≡ as_number (is_away x)) w.lobby id Away
+          Absent (past_entry w id (λ h. cc)) (omega (arith, y.away id)) (λ j n. omega (arith, y.away j, apart j n));
+      blocked =
+          at_set (λ j (x : LobbyEntry). (t : Task) → x ≡ Sleeping t → (t.id ≡ j) × HasPlace count t) w.lobby id Away Absent
+          (λ t e. cc) y.blocked;
       hand = y.hand;
       present = y.present;
       placed = y.placed;
     }
 
 -- a task comes to the lobby
-pub enters_lobby : (count : ℕ) (w : World) (t new : Task) → IsTidy count (t ∷ []) w → new.id ≡ t.id → HasPlace count new → IsTidy count [] (with_entry w t.id (Blocked new))
+pub enters_lobby : (count : ℕ) (w : World) (t new : Task) → IsTidy count (t ∷ []) w → new.id ≡ t.id → HasPlace count new
+    → IsTidy count [] (with_entry w t.id (Sleeping new))
 enters_lobby count w t new y same place =
     let apart : (j : ℕ) → j ≢ t.id → one j t ≡ 0 = λ j n. other_id j t n in
-    let there : t.id < length w.lobby = past_entry w t.id (λ h. absurd (omega (arith, y.away t.id, one_self t, ap (λ s. as_number (is_away s)) h))) in
+    let there : t.id < length w.lobby =
+    past_entry w t.id (λ h. absurd (omega (arith, y.away t.id, one_self t, ap (λ s. as_number (is_away s)) h))) in
     record {
       many = y.many;
       boxes = y.boxes;
-      away = at_set_else (λ j (x : LobbyEntry). standing_count j w + 0 ≡ as_number (is_away x)) w.lobby t.id (Blocked new) Absent there (omega (arith, y.away t.id, one_self t, as_number_le (is_away (entry w t.id)))) (λ j n. omega (arith, y.away j, apart j n));
-      blocked = at_set (λ j (x : LobbyEntry). (t : Task) → x ≡ Blocked t → (t.id ≡ j) × HasPlace count t) w.lobby t.id (Blocked new) Absent (λ u e. let is : new ≡ u = cc in rw (← is) (same, place)) y.blocked;
+      away =
+          at_set_else (λ j (x : LobbyEntry). standing_count j w + 0 ≡ as_number (is_away x)) w.lobby t.id
+          (Sleeping new) Absent there (omega (arith, y.away t.id, one_self t, as_number_le (is_away (entry w t.id))))
+          (λ j n. omega (arith, y.away j, apart j n));
+      blocked =
+          at_set (λ j (x : LobbyEntry). (t : Task) → x ≡ Sleeping t → (t.id ≡ j) × HasPlace count t) w.lobby t.id
+          (Sleeping new) Absent (λ u e. let is : new ≡ u = cc in rw (← is) (same, place)) y.blocked;
       hand = y.hand;
       present = y.present;
       placed = y.placed;
@@ -209,7 +275,8 @@ same_everywhere x (suc n) zero = refl
 same_everywhere x (suc n) (suc i) = same_everywhere x n i
 
 -- a world of this many lobby that opens is tidy
-pub opening_tidy : (n many : ℕ) → IsTidy n [] (record { processors = replicate n opening; inboxes = replicate n []; lobby = replicate many Absent; drawn = 0 })
+pub opening_tidy : (n many : ℕ)
+    → IsTidy n [] (record { processors = replicate n opening; inboxes = replicate n []; lobby = replicate many Absent; drawn = 0 })
 opening_tidy n many =
     let w : World = record { processors = replicate n opening; inboxes = replicate n []; lobby = replicate many Absent; drawn = 0 } in
     let empty : (id : ℕ) → entry w id ≡ Absent = λ id. same_everywhere Absent many id in
@@ -218,7 +285,7 @@ opening_tidy n many =
       many = length-replicate n opening;
       boxes = length-replicate n [];
       away = λ id. omega (arith, standing_nowhere id n, placed_nowhere id n, ap (λ s. as_number (is_away s)) (empty id));
-      blocked = λ id t e. let none : Absent ≡ Blocked t = sym (empty id) ∙ e in cc;
+      blocked = λ id t e. let none : Absent ≡ Sleeping t = sym (empty id) ∙ e in cc;
       hand = λ processor c e. let none : None ≡ Some c = sym (ap (λ (p : Processor). p.hand) (rests processor)) ∙ e in cc;
       present = λ processor. ap (λ (p : Processor). tally (unsuited n processor) (present_at p.running)) (rests processor);
       placed = λ processor. ap (λ ts. tally (unsuited n processor) ts) (same_everywhere [] n processor);

@@ -5,7 +5,7 @@ use Rattle.std.proofs.lemmas.List.{length-replicate}
 use Rattle.std.proofs.lemmas.Nat.{pow_pos, mod_below}
 use Rattle.std.proofs.lemmas.Bool.{eqb-false}
 use Rattle.bq_parts.specs.declared.carried.Carried.{Carried}
-use Rattle.bq_bpf.specs.declared.board.Call.{Call as Asked}
+use Rattle.bq_bpf.specs.declared.board.CounterCall.{CounterCall}
 use Rattle.bq_hooks.specs.declared.hook.Hook.{Hook}
 use Rattle.bq_verify.specs.Accepted.{Accepted}
 use Rattle.bq_installed.specs.Answers.{fresh_maps}
@@ -22,7 +22,7 @@ use Rattle.bq_parts.specs.declared.refusal.Refusal.TheVariants as no
 use Rattle.bq_parts.specs.Processors.{Processor, HasEachOnce, opening}
 use Rattle.bq_parts.specs.World.{World, opening_world, processor_at, entry, count_in, loads_of}
 use Rattle.bq_parts.specs.Refusals.{refusal, argument_refusal, state_refusal, either, is_absent, is_away}
-use Rattle.bq_parts.specs.Choices.{PolicySemantics, Decision, policies, place_bytes, own_pull}
+use Rattle.bq_parts.specs.Choices.{PolicySemantics, SettledChoice, by_programs, place_bytes, own_pull}
 use Rattle.bq_parts.specs.Moves.{admitted}
 use Rattle.bq_parts.specs.Shares.{after_time, remarked}
 use Rattle.bq_parts.specs.Steps.{WorldStep, Performs}
@@ -38,7 +38,8 @@ use Rattle.bq_core.proofs.EventLemmas
 -- the opening world is in order
 pub opening_is_orderly : OpeningIsOrderly
 opening_is_orderly n =
-    let tidy : IsTidy (count_in (opening_world n)) [] (opening_world n) = subst (λ c. IsTidy c [] (opening_world n)) (sym (length-replicate n opening)) (opening_tidy n 1024) in
+    let tidy : IsTidy (count_in (opening_world n)) [] (opening_world n) =
+    subst (λ c. IsTidy c [] (opening_world n)) (sym (length-replicate n opening)) (opening_tidy n 1024) in
     orderly_of (opening_world n) tidy (λ processor. subst IsWell (sym (same_everywhere opening n processor)) opening_well)
 
 -- of two refusals neither holds
@@ -56,11 +57,15 @@ first_refusal_passed true r rest h = cc
 first_refusal_passed false r rest h = (refl, h)
 
 -- a processor that is not refused is there
-pub not_refused_is_there : (count processor : ℕ) (rest : Option Refusal) → cond (nat_le count processor) (Some no.NoProcessor) rest ≡ None → (processor < count) × (rest ≡ None)
-not_refused_is_there count processor rest h = let f = first_refusal_passed (nat_le count processor) no.NoProcessor rest h in (leb-false count processor f.0, f.1)
+pub not_refused_is_there : (count processor : ℕ) (rest : Option Refusal)
+    → cond (nat_le count processor) (Some no.NoProcessor) rest ≡ None → (processor < count) × (rest ≡ None)
+not_refused_is_there count processor rest h =
+    let f = first_refusal_passed (nat_le count processor) no.NoProcessor rest h in (leb-false count processor f.0, f.1)
 
 -- the mask of a task that is admitted has a processor of the machine
-admitted_has_place : (count id : ℕ) (nice : ℤ) (mask slice : ℕ) → argument_refusal count (Admit id nice mask slice) ≡ None → HasPlace count (admitted count id nice mask slice)
+admitted_has_place : (count id : ℕ) (nice : ℤ) (mask slice : ℕ)
+    → argument_refusal count (Admit id nice mask slice) ≡ None
+    → HasPlace count (admitted count id nice mask slice)
 admitted_has_place count id nice mask slice h =
     let some = (first_refusal_passed (mask % 2 ^ count == 0) no.EmptyMask _ (first_refusal_passed (nat_le 1024 id) no.NoTask _ h).1).0 in
     (mod_below mask (2 ^ count) (pow_pos count), eqb-false (mask % 2 ^ count) 0 some)
@@ -70,65 +75,91 @@ abbrev Keeps : World → World → Type 0
 Keeps w w' = IsTidy (count_in w) [] w'
 
 -- each event by itself, as it is not refused
-admit_keeps : (s : PolicySemantics) (w : World) (id : ℕ) (nice : ℤ) (mask slice : ℕ) (calls : List Asked) (r : Reply) (w' : World) → IsTidy (count_in w) [] w → refusal w (Admit id nice mask slice) ≡ None →
-    Performs s w (Admit id nice mask slice) calls r w' → Keeps w w'
+admit_keeps : (s : PolicySemantics) (w : World) (id : ℕ) (nice : ℤ) (mask slice : ℕ) (calls : List CounterCall)
+    (r : Reply) (w' : World)
+    → IsTidy (count_in w) [] w → refusal w (Admit id nice mask slice) ≡ None
+    → Performs s w (Admit id nice mask slice) calls r w'
+    → Keeps w w'
 admit_keeps s w id nice mask slice calls r w' y h k =
     let f = accepted w (Admit id nice mask slice) h in
-    rw (k.3, k.1.2) (EventLemmas.admit_tidy (count_in w) w id (admitted (count_in w) id nice mask slice) y k.1.0 refl (admitted_has_place (count_in w) id nice mask slice f.0))
+    rw (k.3, k.1.2) (EventLemmas.admit_tidy (count_in w) w id (admitted (count_in w) id nice mask slice) y k.1.0 refl
+    (admitted_has_place (count_in w) id nice mask slice f.0))
 
-retire_keeps : (s : PolicySemantics) (w : World) (id : ℕ) (calls : List Asked) (r : Reply) (w' : World) → IsTidy (count_in w) [] w → Performs s w (Retire id) calls r w' → Keeps w w'
+retire_keeps : (s : PolicySemantics) (w : World) (id : ℕ) (calls : List CounterCall) (r : Reply) (w' : World)
+    → IsTidy (count_in w) [] w → Performs s w (Retire id) calls r w' → Keeps w w'
 retire_keeps s w id calls r w' y k =
     let later = (first_refusal_passed (is_absent (entry w id)) no.NoTask _ k.1.0).1 in
     rw (k.3, k.1.2) (EventLemmas.retire_tidy (count_in w) w id y (first_refusal_passed (is_away (entry w id)) no.NotBlocked None later).0)
 
-install_keeps : (s : PolicySemantics) (w : World) (processor : ℕ) (hook : Hook) (g : ℕ) (policy : Option Accepted) (calls : List Asked) (r : Reply) (w' : World) → IsTidy (count_in w) [] w → refusal w (Install processor hook g policy) ≡ None →
-    Performs s w (Install processor hook g policy) calls r w' → Keeps w w'
+install_keeps : (s : PolicySemantics) (w : World) (processor : ℕ) (hook : Hook) (g : ℕ) (policy : Option Accepted)
+    (calls : List CounterCall) (r : Reply) (w' : World)
+    → IsTidy (count_in w) [] w → refusal w (Install processor hook g policy) ≡ None
+    → Performs s w (Install processor hook g policy) calls r w'
+    → Keeps w w'
 install_keeps s w processor hook g policy calls r w' y h k =
     let new : Attached = record { policy = policy; generation = g; maps = fresh_maps policy } in
     let l = (not_refused_is_there (count_in w) processor _ (accepted w (Install processor hook g policy) h).0).0 in
     rw (k.3, k.1.2) (EventLemmas.install_tidy (count_in w) w processor (with_attached hook (processor_at w processor).hooks new) y l)
 
-begin_wake_keeps : (s : PolicySemantics) (w : World) (processor id : ℕ) (calls : List Asked) (r : Reply) (w' : World) → IsTidy (count_in w) [] w → refusal w (BeginWake processor id) ≡ None →
-    Performs s w (BeginWake processor id) calls r w' → Keeps w w'
+begin_wake_keeps : (s : PolicySemantics) (w : World) (processor id : ℕ) (calls : List CounterCall) (r : Reply) (w' : World)
+    → IsTidy (count_in w) [] w → refusal w (BeginWake processor id) ≡ None → Performs s w (BeginWake processor id) calls r w'
+    → Keeps w w'
 begin_wake_keeps s w processor id calls r w' y h k =
     let b = k.2 in
     let l = (not_refused_is_there (count_in w) processor _ (accepted w (BeginWake processor id) h).0).0 in
-    let later = (first_refusal_passed (is_away (entry w id)) no.NotBlocked _ (first_refusal_passed (is_absent (entry w id)) no.NoTask _ b.not_refused).1).1 in
-    rw (k.4, b.in_hand, b.away) (EventLemmas.begin_wake_tidy (count_in w) w processor id b.task (loads_of w.processors w.inboxes) y l b.sleeps (first_refusal_passed (is_some (processor_at w processor).hand) no.InHand None later).0)
+    let later =
+    (first_refusal_passed (is_away (entry w id)) no.NotBlocked _
+    (first_refusal_passed (is_absent (entry w id)) no.NoTask _ b.not_refused).1).1 in
+    rw (k.4, b.in_hand, b.away) (EventLemmas.begin_wake_tidy (count_in w)
+    w processor id b.task (loads_of w.processors w.inboxes) y l b.sleeps
+    (first_refusal_passed (is_some (processor_at w processor).hand) no.InHand None later).0)
 
-end_wake_keeps : (s : PolicySemantics) (w : World) (processor now : ℕ) (calls : List Asked) (r : Reply) (w' : World) → IsTidy (count_in w) [] w → refusal w (EndWake processor now) ≡ None →
-    Performs s w (EndWake processor now) calls r w' → Keeps w w'
+end_wake_keeps : (s : PolicySemantics) (w : World) (processor now : ℕ) (calls : List CounterCall) (r : Reply) (w' : World)
+    → IsTidy (count_in w) [] w → refusal w (EndWake processor now) ≡ None → Performs s w (EndWake processor now) calls r w'
+    → Keeps w w'
 end_wake_keeps s w processor now calls r w' y h k =
     let l = (not_refused_is_there (count_in w) processor None (accepted w (EndWake processor now) h).0).0 in
     let p : Processor = after_time s.discipline now (processor_at w processor) in
     let b = k.2 in
     let to = k.0.to in
     let carried : Carried = b.carried in
-    let settled : Decision = b.settled in
+    let settled : SettledChoice = b.settled in
     let own : ℕ = unwrap_or (own_place (count_in w) carried.loads carried.task) 0 in
-    let goes = settled_permitted s (place_bytes (record { task = carried.task; waking = processor; processors = count_in w; own = own; loads = carried.loads })) p.hooks.place p.running.last processor (may_place (count_in w) carried.task) own settled
+    let goes =
+    settled_permitted s
+    (place_bytes (record { task = carried.task; waking = processor; processors = count_in w; own = own; loads = carried.loads }))
+    p.hooks.place p.running.last processor (may_place (count_in w) carried.task) own settled
     (own_place_permitted (count_in w) carried.loads carried.task (y.hand processor carried b.in_hand)) b.settles in
     let fits = may_place_fits (count_in w) carried.task to (subst (λ n. may_place (count_in w) carried.task n ≡ true) (sym b.to) goes) in
-    rw (k.4, b.here, b.task) (EventLemmas.end_wake_tidy s.discipline (count_in w) w processor now to carried (record p.hooks { place = settled.attached }) y l b.in_hand fits.0 fits.1)
+    rw (k.4, b.here, b.task) (EventLemmas.end_wake_tidy s.discipline (count_in w) w processor now to carried
+    (record p.hooks { place = settled.attached }) y l b.in_hand fits.0 fits.1)
 
-drain_keeps : (s : PolicySemantics) (w : World) (processor now : ℕ) (calls : List Asked) (r : Reply) (w' : World) → IsTidy (count_in w) [] w → refusal w (Drain processor now) ≡ None → Performs s w (Drain processor now) calls r w' → Keeps w w'
+drain_keeps : (s : PolicySemantics) (w : World) (processor now : ℕ) (calls : List CounterCall) (r : Reply) (w' : World)
+    → IsTidy (count_in w) [] w → refusal w (Drain processor now) ≡ None → Performs s w (Drain processor now) calls r w'
+    → Keeps w w'
 drain_keeps s w processor now calls r w' y h k =
     let l = (not_refused_is_there (count_in w) processor None (accepted w (Drain processor now) h).0).0 in
     rw (k.2, k.1.1.1) (EventLemmas.drain_tidy s (count_in w) w processor now k.1.0 y l)
 
-tick_keeps : (s : PolicySemantics) (w : World) (processor now : ℕ) (calls : List Asked) (r : Reply) (w' : World) → IsTidy (count_in w) [] w → refusal w (Tick processor now) ≡ None → Performs s w (Tick processor now) calls r w' → Keeps w w'
+tick_keeps : (s : PolicySemantics) (w : World) (processor now : ℕ) (calls : List CounterCall) (r : Reply) (w' : World)
+    → IsTidy (count_in w) [] w → refusal w (Tick processor now) ≡ None → Performs s w (Tick processor now) calls r w'
+    → Keeps w w'
 tick_keeps s w processor now calls r w' y h k =
     let l = (not_refused_is_there (count_in w) processor None (accepted w (Tick processor now) h).0).0 in
     rw (k.2, k.1.1.1) (EventLemmas.tick_tidy s (count_in w) w processor now k.1.0 y l)
 
-block_keeps : (s : PolicySemantics) (w : World) (processor now : ℕ) (calls : List Asked) (r : Reply) (w' : World) → IsTidy (count_in w) [] w → refusal w (Block processor now) ≡ None → Performs s w (Block processor now) calls r w' → Keeps w w'
+block_keeps : (s : PolicySemantics) (w : World) (processor now : ℕ) (calls : List CounterCall) (r : Reply) (w' : World)
+    → IsTidy (count_in w) [] w → refusal w (Block processor now) ≡ None → Performs s w (Block processor now) calls r w'
+    → Keeps w w'
 block_keeps s w processor now calls r w' y h k =
     let l = (not_refused_is_there (count_in w) processor None (accepted w (Block processor now) h).0).0 in
     let b = k.2 in
     rw (k.4, b.1.1, b.1.3) (EventLemmas.block_tidy s.discipline (count_in w) w processor now b.0 y l b.1.0)
 
-pull_keeps : (s : PolicySemantics) (w : World) (processor from now : ℕ) (calls : List Asked) (r : Reply) (w' : World) → IsOrderly w → IsTidy (count_in w) [] w →
-    refusal w (Pull processor from now) ≡ None → Performs s w (Pull processor from now) calls r w' → Keeps w w'
+pull_keeps : (s : PolicySemantics) (w : World) (processor from now : ℕ) (calls : List CounterCall) (r : Reply) (w' : World)
+    → IsOrderly w → IsTidy (count_in w) [] w → refusal w (Pull processor from now) ≡ None
+    → Performs s w (Pull processor from now) calls r w'
+    → Keeps w w'
 pull_keeps s w processor from now calls r w' o y h k =
     let f = not_refused_is_there (count_in w) processor _ (accepted w (Pull processor from now) h).0 in
     let g = not_refused_is_there (count_in w) from _ f.1 in
@@ -136,13 +167,17 @@ pull_keeps s w processor from now calls r w' o y h k =
     let p : Processor = after_time s.discipline now (processor_at w processor) in
     let source : Processor = remarked s.discipline (processor_at w from) in
     let x = k.2 in
-    let settled : Decision = x.settled in
+    let settled : SettledChoice = x.settled in
     let once : HasEachOnce source.running.queue = each_once_queue (processor_at w from).running (each_once_running w from o) in
-    let may = settled_permitted s _ p.hooks.pull p.running.last processor (may_pull processor source.running.queue) (or_nobody (own_pull processor p source)) settled (own_pull_permitted processor p source once) x.settles in
-    rw (k.3, x.here, x.there) (EventLemmas.pull_tidy s.discipline (count_in w) w processor from now settled.choice (task_numbered settled.choice) (record p.hooks { pull = settled.attached }) y f.0 g.0 apart may refl)
+    let may =
+    settled_permitted s _ p.hooks.pull p.running.last processor (may_pull processor source.running.queue)
+    (or_nobody (own_pull processor p source)) settled (own_pull_permitted processor p source once) x.settles in
+    rw (k.3, x.here, x.there) (EventLemmas.pull_tidy s.discipline (count_in w) w processor from now settled.choice
+    (task_numbered settled.choice) (record p.hooks { pull = settled.attached }) y f.0 g.0 apart may refl)
 
 -- an event that is not refused keeps a world tidy
-performs_tidy : (s : PolicySemantics) (w : World) (e : Event) (calls : List Asked) (r : Reply) (w' : World) → IsOrderly w → IsTidy (count_in w) [] w → refusal w e ≡ None → Performs s w e calls r w' → Keeps w w'
+performs_tidy : (s : PolicySemantics) (w : World) (e : Event) (calls : List CounterCall) (r : Reply) (w' : World)
+    → IsOrderly w → IsTidy (count_in w) [] w → refusal w e ≡ None → Performs s w e calls r w' → Keeps w w'
 performs_tidy s w (Admit id nice mask slice) calls r w' o y h k = admit_keeps s w id nice mask slice calls r w' y h k
 performs_tidy s w (Retire id) calls r w' o y h k = retire_keeps s w id calls r w' y k
 performs_tidy s w Draw calls r w' o y h k = rw k.2 (EventLemmas.draw_tidy (count_in w) w _ y)
@@ -155,12 +190,15 @@ performs_tidy s w (Block processor now) calls r w' o y h k = block_keeps s w pro
 performs_tidy s w (Pull processor from now) calls r w' o y h k = pull_keeps s w processor from now calls r w' o y h k
 
 -- in every setting a step leaves the world tidy
-pub step_tidy : (s : PolicySemantics) (w : World) (e : Event) (calls : List Asked) (r : Result Reply Refusal) (w' : World) → WorldStep s w e calls r w' → IsOrderly w → Keeps w w'
+pub step_tidy : (s : PolicySemantics) (w : World) (e : Event) (calls : List CounterCall)
+    (r : Result Reply Refusal) (w' : World)
+    → WorldStep s w e calls r w' → IsOrderly w → Keeps w w'
 step_tidy s w e calls (Ok r) w' step o = performs_tidy s w e calls r w' o (tidy_of w o) step.0 step.1
 step_tidy s w e calls (Err r) w' step o = subst (Keeps w) (sym step.1) (tidy_of w o)
 
--- and all its processors well
-step_well : (s : PolicySemantics) (w : World) (e : Event) (calls : List Asked) (r : Result Reply Refusal) (w' : World) → WorldStep s w e calls r w' → IsOrderly w → AllWell w'
+-- in every setting a step leaves all processors of the world well
+step_well : (s : PolicySemantics) (w : World) (e : Event) (calls : List CounterCall) (r : Result Reply Refusal) (w' : World)
+    → WorldStep s w e calls r w' → IsOrderly w → AllWell w'
 step_well s w e calls (Ok r) w' step o = performs_well s w e calls r w' (well_of w o) step.1
 step_well s w e calls (Err r) w' step o = subst AllWell (sym step.1) (well_of w o)
 
@@ -172,26 +210,27 @@ tidy_is_orderly count w y well = orderly_of w (subst (λ c. IsTidy c [] w) (sym 
 pub step_keeps : (s : PolicySemantics) → StepKeeps s
 step_keeps s w e calls r w' step o = tidy_is_orderly (count_in w) w' (step_tidy s w e calls r w' step o) (step_well s w e calls r w' step o)
 
--- and so do the first of some events, however many
+-- in every setting each beginning of a list of events keeps order
 pub run_keeps : (s : PolicySemantics) → RunKeeps s
 run_keeps s w [] o zero [] [] w' run = subst IsOrderly (sym run) o
 run_keeps s w [] o (suc n) [] [] w' run = subst IsOrderly (sym run) o
 run_keeps s w (e ∷ es) o zero [] [] w' run = subst IsOrderly (sym run) o
-run_keeps s w (e ∷ es) o (suc n) (calls ∷ more) (a ∷ answers) w' run = run_keeps s run.0 es (step_keeps s w e calls a run.0 run.1 o) n more answers w' run.2
+run_keeps s w (e ∷ es) o (suc n) (calls ∷ more) (a ∷ answers) w' run =
+    run_keeps s run.0 es (step_keeps s w e calls a run.0 run.1 o) n more answers w' run.2
 run_keeps s w es o n calls answers w' run = absurd run
 
 -- under every discipline each step keeps a world in order
 pub step_keeps_order : StepKeepsOrder
-step_keeps_order d = step_keeps (policies d)
+step_keeps_order d = step_keeps (by_programs d)
 
--- so does each step when a policy may answer anything at all
+-- each step keeps a world in order, even if a policy may answer anything at all
 pub step_keeps_order_anyhow : StepKeepsOrderAnyhow
 step_keeps_order_anyhow d = step_keeps (under_any_answers d)
 
 -- under every discipline events one after another keep a world in order, after each of them
 pub run_keeps_order : RunKeepsOrder
-run_keeps_order d = run_keeps (policies d)
+run_keeps_order d = run_keeps (by_programs d)
 
 -- under every discipline each world that events leave of the opening one is in order
 pub history_is_orderly : HistoryIsOrderly
-history_is_orderly d n es = run_keeps (policies d) (opening_world n) es (opening_is_orderly n)
+history_is_orderly d n es = run_keeps (by_programs d) (opening_world n) es (opening_is_orderly n)

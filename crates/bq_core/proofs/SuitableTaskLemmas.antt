@@ -36,21 +36,30 @@ suits_of count processor t h =
     let f = tests_of (allows t.mask processor) (nat_lt t.mask (2 ^ count)) (t.mask == 0) h in
     record { can = f.0; place = (ltb-true t.mask (2 ^ count) f.1, eqb-false t.mask 0 f.2) }
 
--- and one that suits it doesn't count
+-- a task that suits the processor doesn't count
 pub of_suits : (count processor : ℕ) (t : Task) → can_use processor t ≡ true → HasPlace count t → worth (unsuited count processor) t ≡ 0
 of_suits count processor t e h = rw (e, lt-ltb t.mask (2 ^ count) h.0, ne_eqb t.mask 0 h.1) refl
 
-unsuited_by_recursion : (count processor : ℕ) (xs : List Task) → AllByRecursion (λ t. can_use processor t ≡ true) xs → AllByRecursion (HasPlace count) xs → tally (unsuited count processor) xs ≡ 0
+unsuited_by_recursion : (count processor : ℕ) (xs : List Task)
+    → AllByRecursion (λ t. can_use processor t ≡ true) xs → AllByRecursion (HasPlace count) xs
+    → tally (unsuited count processor) xs ≡ 0
 unsuited_by_recursion count processor [] h k = refl
-unsuited_by_recursion count processor (x ∷ xs) h k = omega (arith, of_suits count processor x h.0 k.0, unsuited_by_recursion count processor xs h.1 k.1)
+unsuited_by_recursion count processor (x ∷ xs) h k =
+    omega (arith, of_suits count processor x h.0 k.0, unsuited_by_recursion count processor xs h.1 k.1)
 
 -- where each task may use the processor and has a place, none is unsuited
-pub none_unsuited : (count processor : ℕ) (xs : List Task) → All (λ t. can_use processor t ≡ true) xs → All (HasPlace count) xs → tally (unsuited count processor) xs ≡ 0
-none_unsuited count processor xs h k = unsuited_by_recursion count processor xs (recursion_from_All (λ t. can_use processor t ≡ true) xs h) (recursion_from_All (HasPlace count) xs k)
+pub none_unsuited : (count processor : ℕ) (xs : List Task) → All (λ t. can_use processor t ≡ true) xs
+    → All (HasPlace count) xs
+    → tally (unsuited count processor) xs ≡ 0
+none_unsuited count processor xs h k =
+    unsuited_by_recursion count processor xs (recursion_from_All (λ t. can_use processor t ≡ true) xs h)
+    (recursion_from_All (HasPlace count) xs k)
 
-suits_by_recursion : (count processor : ℕ) (xs : List Task) → tally (unsuited count processor) xs ≡ 0 → AllByRecursion (Suits count processor) xs
+suits_by_recursion : (count processor : ℕ) (xs : List Task) → tally (unsuited count processor) xs ≡ 0
+    → AllByRecursion (Suits count processor) xs
 suits_by_recursion count processor [] h = tt
-suits_by_recursion count processor (x ∷ xs) h = (suits_of count processor x (omega arith), suits_by_recursion count processor xs (omega arith))
+suits_by_recursion count processor (x ∷ xs) h =
+    (suits_of count processor x (omega arith), suits_by_recursion count processor xs (omega arith))
 
 -- where none is unsuited the processor suits each
 pub all_suit : (count processor : ℕ) (xs : List Task) → tally (unsuited count processor) xs ≡ 0 → All (Suits count processor) xs

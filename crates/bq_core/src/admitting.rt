@@ -2,7 +2,7 @@
 ghost use Rattle.std.specs.Prelude.{◌≡◌, ◌<◌, [], None};
 ghost use Rattle.bq_parts.specs.World.{count_in};
 ghost use Rattle.bq_parts.specs.Refusals.{argument_refusal};
-ghost use Rattle.bq_parts.specs.Choices.{policies};
+ghost use Rattle.bq_parts.specs.Choices.{by_programs};
 ghost use Rattle.bq_parts.specs.Steps.{WorldStep};
 
 use crate::parts::Parts;
@@ -12,7 +12,7 @@ use bq_parts::{Event, Refusal, Reply, new_task};
 use std::alloc::Global;
 
 impl<Q: RunQueue> Parts<Q> {
-    /// A new task stands in the lobby. It takes memory for the task.
+    /// A new task enters the lobby. It takes memory for the task.
     #[inline(never)]
     pub(crate) fn admit(
         &mut self,
@@ -23,7 +23,7 @@ impl<Q: RunQueue> Parts<Q> {
         slice: u64,
     ) -> Result<Reply, Refusal>
         requires fits { argument_refusal (count_in self.old) (Event.Admit task nice mask slice) ≡ None }
-        ensures step { WorldStep (policies Q.R.discipline) self.old (Event.Admit task nice mask slice) [] result self.new }
+        ensures step { WorldStep (by_programs Q.R.discipline) self.old (Event.Admit task nice mask slice) [] result self.new }
     {
         let Ok(new) = new_task(alloc, self.cpus.len(), task, nice, mask, slice) else {
             return Err(Refusal::OutOfMemory);
@@ -35,7 +35,7 @@ impl<Q: RunQueue> Parts<Q> {
     #[inline(never)]
     pub(crate) fn retire(&mut self, task: u16) -> Result<Reply, Refusal>
         requires below { task < TASKS }
-        ensures step { WorldStep (policies Q.R.discipline) self.old (Event.Retire task) [] result self.new }
+        ensures step { WorldStep (by_programs Q.R.discipline) self.old (Event.Retire task) [] result self.new }
     {
         self.lobby.retire(task)
     }

@@ -1,4 +1,4 @@
-//! Refusals that an event's arguments have in any world of this many processors.
+//! Refusals of an event only for its arguments, in any world of this many processors.
 ghost use Rattle.std.specs.Prelude.{◌≡◌, ◌<◌, ◌≤◌, Some, None};
 ghost use Rattle.bq_parts.specs.Refusals.{argument_refusal};
 
@@ -8,8 +8,8 @@ use bq_installed::Policy;
 use bq_parts::{Event, Refusal};
 use bq_weights::is_nice;
 
-/// The refusal that an event's arguments have in any world of this many processors; the first by number, where there are
-/// several.
+/// Why an event is refused for its arguments, in any world of this many processors. If there are several reasons, this is
+/// the one of least number.
 pub fn argument_refusal(count: usize, event: &Event) -> Option<Refusal>
     requires { count ≤ PROCESSORS }
     ensures { result ≡ argument_refusal count event.now }

@@ -1,7 +1,7 @@
-//! The events of the generations: a number is drawn, and what it stands for is installed.
+//! The events of the generations: a number is drawn, and a policy or none is installed under it.
 ghost use Rattle.std.specs.Prelude.{◌≡◌, ◌<◌, [], None};
 ghost use Rattle.bq_parts.specs.World.{count_in};
-ghost use Rattle.bq_parts.specs.Choices.{policies};
+ghost use Rattle.bq_parts.specs.Choices.{by_programs};
 ghost use Rattle.bq_parts.specs.Refusals.{argument_refusal};
 ghost use Rattle.bq_parts.specs.Steps.{WorldStep};
 
@@ -13,9 +13,9 @@ use bq_parts::{Event, Refusal, Reply};
 use std::alloc::Global;
 
 impl<Q: RunQueue> Parts<Q> {
-    /// The next generation's number is drawn. The greatest of all is drawn again and again.
+    /// Draws the next generation's number. After the greatest number, it draws that one again and again.
     pub(crate) fn draw(&mut self) -> Result<Reply, Refusal>
-        ensures step { WorldStep (policies Q.R.discipline) self.old Event.Draw [] result self.new }
+        ensures step { WorldStep (by_programs Q.R.discipline) self.old Event.Draw [] result self.new }
     {
         self.drawn = self.drawn.saturating_add(1);
         Ok(Reply::Drawn {
@@ -23,8 +23,8 @@ impl<Q: RunQueue> Parts<Q> {
         })
     }
 
-    /// A policy, or none, stands at a processor's hook from now on, with maps of its own, for which it takes memory. Its
-    /// generation was drawn, and is above the one that stands there.
+    /// Installs a policy, or none, at a processor's hook, with maps of its own. It takes memory for the maps. The event is
+    /// refused if the generation was not drawn, or is not above the one at the hook.
     #[inline(never)]
     pub(crate) fn install(
         &mut self,
@@ -35,7 +35,7 @@ impl<Q: RunQueue> Parts<Q> {
         policy: Option<Policy>,
     ) -> Result<Reply, Refusal>
         requires fits { argument_refusal (count_in self.old) (Event.Install processor hook generation policy) ≡ None }
-        ensures step { WorldStep (policies Q.R.discipline) self.old (Event.Install processor hook generation policy) [] result self.new }
+        ensures step { WorldStep (by_programs Q.R.discipline) self.old (Event.Install processor hook generation policy) [] result self.new }
     {
         let Ok(installed) = Installed::new(alloc, policy, generation) else {
             return Err(Refusal::OutOfMemory);

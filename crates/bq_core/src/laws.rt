@@ -1,7 +1,7 @@
 //! The laws of the world, each as the contract of a function that does nothing.
 ghost use Rattle.bq_core.specs.Laws.{HistoryIsOrderly, OpeningIsOrderly, RunKeepsOrder, StepIsOne, StepKeepsOrder, StepKeepsOrderAnyhow};
 
-/// A world in which nothing has happened is in order: no task stands anywhere, and no policy.
+/// A world in which nothing has happened is in order: it has no task and no policy.
 pub fn opening_is_orderly()
     ensures { OpeningIsOrderly }
 {}
@@ -21,13 +21,13 @@ pub fn run_keeps_order()
     ensures { RunKeepsOrder }
 {}
 
-/// Every world that events leave of the opening one is in order.
+/// Every world that events reach from the opening one is in order.
 pub fn history_is_orderly()
     ensures { HistoryIsOrderly }
 {}
 
-/// What an event does is decided by the world, the event and what the counters answer: there is one reply, one world
-/// afterwards, and one list of calls. Lack of memory is excepted.
+/// What an event does is decided by the world, the event and the counters' answers: there is one reply, one world
+/// afterwards, and one list of calls. The exception is an event for which memory runs out.
 pub fn step_is_one()
     ensures { StepIsOne }
 {}

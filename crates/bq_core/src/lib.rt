@@ -1,7 +1,7 @@
 //! The world of processors, queues and sleeping tasks as one value, and the step that each event makes in it.
-//! Promises that each step is the world's, with each choice the policy's where permitted and else the discipline's own, and
-//! that every admitted task stands exactly once, on a processor of its mask.
-//! Stands on bq_parts, whose calls are what each event does to the parts that it touches.
+//! Promises that each step is the world's, with each choice the policy's if permitted and else the discipline's own, and
+//! that every admitted task is in the world exactly once, on a processor of its mask if it runs or waits.
+//! Builds on bq_parts, whose calls are what each event does to the parts that it touches.
 #![tactic(auto)]
 
 mod admitting;

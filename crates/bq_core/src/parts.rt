@@ -8,7 +8,7 @@ use bq_parts::{Cpu, Inbox, Lobby};
 use std::alloc::{AllocError, Global};
 use std::marker::Model;
 
-/// Processors, an inbox for each, the lobby, and the number drawn last. Contracts see the world that they make.
+/// Processors, an inbox for each, the lobby, and the last number drawn. Contracts see the world that they make.
 #[derive(Drop)]
 pub struct Parts<Q: RunQueue> {
     pub(crate) cpus: Vec<Cpu<Q>>,
@@ -58,7 +58,7 @@ impl<Q: RunQueue> Parts<Q> {
         requires inboxes { length inboxes.items ≡ length cpus.items }
         ensures { result ≡ record { processors = cpus.items; inboxes = inboxes.items; lobby = lobby; drawn = drawn } }
     {
-        // To look at the lobby brings to the proof that it has an entry for each id.
+        // Reading the lobby brings into the proof that it has an entry for each id.
         let _entries = &lobby;
         Parts {
             cpus,
@@ -76,7 +76,7 @@ impl<Q: RunQueue> Parts<Q> {
         &self.cpus[usize::from(number)]
     }
 
-    /// How many processors there are.
+    /// Answers how many processors there are.
     pub fn processors(&self) -> usize
         ensures value { result ≡ count_in self.now }
         ensures few { result ≤ PROCESSORS }

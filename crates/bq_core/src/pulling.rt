@@ -4,7 +4,7 @@ ghost use Rattle.bq_disc.specs.OneProcessor.{present_at};
 ghost use Rattle.bq_bpf.specs.Counters.{Through};
 ghost use Rattle.bq_parts.specs.Processors.{opening, HasEachOnce, HasLobbyIds};
 ghost use Rattle.bq_parts.specs.World.{count_in};
-ghost use Rattle.bq_parts.specs.Choices.{policies};
+ghost use Rattle.bq_parts.specs.Choices.{by_programs};
 ghost use Rattle.bq_parts.specs.Shares.{PullsBetween};
 ghost use Rattle.bq_parts.specs.Steps.{WorldStep};
 ghost use Rattle.bq_parts.specs.StandsOnce.{IsOrderly};
@@ -17,8 +17,8 @@ use bq_installed::Scratch;
 use bq_parts::{Cpu, Event, Refusal, Reply};
 
 impl<Q: RunQueue> Parts<Q> {
-    /// A processor takes a task from the queue of another: the one that its policy names, or that of the discipline, where
-    /// the other has more tasks.
+    /// A processor takes a task from the queue of another: the one that its policy names, or that of the discipline, which
+    /// takes one only if the other has at least two more.
     #[inline(never)]
     pub(crate) fn pull<B: Board>(
         &mut self,
@@ -33,7 +33,7 @@ impl<Q: RunQueue> Parts<Q> {
         requires inside_from { from < count_in self.old }
         requires apart { processor ≢ from }
         requires unasked { scratch.old ≡ [] }
-        ensures step { WorldStep (policies Q.R.discipline) self.old (Event.Pull processor from now) scratch.new result self.new }
+        ensures step { WorldStep (by_programs Q.R.discipline) self.old (Event.Pull processor from now) scratch.new result self.new }
         ensures board { Through B.leads board.old scratch.new board.new }
     {
         let cpus = self.cpus.as_mut_slice();
@@ -41,7 +41,7 @@ impl<Q: RunQueue> Parts<Q> {
     }
 }
 
-/// The one of some processors takes a task from the queue of the other.
+/// One of some processors takes a task from the queue of another.
 fn pull_between<Q: RunQueue, B: Board>(
     cpus: &mut [Cpu<Q>],
     processor: u8,
@@ -57,7 +57,7 @@ fn pull_between<Q: RunQueue, B: Board>(
     requires once { HasEachOnce (present_at (slice_index_or cpus.old processor opening).running ++ present_at (slice_index_or cpus.old from opening).running) }
     requires ids { HasLobbyIds (present_at (slice_index_or cpus.old processor opening).running ++ present_at (slice_index_or cpus.old from opening).running) }
     requires unasked { scratch.old ≡ [] }
-    ensures share { PullsBetween (policies Q.R.discipline) processor from now cpus.old scratch.new result cpus.new }
+    ensures share { PullsBetween (by_programs Q.R.discipline) processor from now cpus.old scratch.new result cpus.new }
     ensures board { Through B.leads board.old scratch.new board.new }
 {
     if processor < from {

@@ -2,7 +2,7 @@
 ghost use Rattle.std.specs.Prelude.{◌≡◌, ◌<◌, []};
 ghost use Rattle.bq_parts.specs.World.{count_in};
 ghost use Rattle.bq_bpf.specs.Counters.{Through};
-ghost use Rattle.bq_parts.specs.Choices.{policies};
+ghost use Rattle.bq_parts.specs.Choices.{by_programs};
 ghost use Rattle.bq_parts.specs.Steps.{WorldStep};
 ghost use Rattle.bq_parts.specs.StandsOnce.{IsOrderly};
 
@@ -24,7 +24,7 @@ impl<Q: RunQueue> Parts<Q> {
         requires orderly { IsOrderly self.old }
         requires inside { processor < count_in self.old }
         requires unasked { scratch.old ≡ [] }
-        ensures step { WorldStep (policies Q.R.discipline) self.old (Event.Tick processor now) scratch.new result self.new }
+        ensures step { WorldStep (by_programs Q.R.discipline) self.old (Event.Tick processor now) scratch.new result self.new }
         ensures board { Through B.leads board.old scratch.new board.new }
     {
         let cpu = &mut self.cpus[usize::from(processor)];
@@ -42,7 +42,7 @@ impl<Q: RunQueue> Parts<Q> {
         requires orderly { IsOrderly self.old }
         requires inside { processor < count_in self.old }
         requires unasked { scratch.old ≡ [] }
-        ensures step { WorldStep (policies Q.R.discipline) self.old (Event.Drain processor now) scratch.new result self.new }
+        ensures step { WorldStep (by_programs Q.R.discipline) self.old (Event.Drain processor now) scratch.new result self.new }
         ensures board { Through B.leads board.old scratch.new board.new }
     {
         let inbox = &mut self.inboxes[usize::from(processor)];
@@ -54,7 +54,7 @@ impl<Q: RunQueue> Parts<Q> {
     pub(crate) fn block(&mut self, processor: u8, now: u64) -> Result<Reply, Refusal>
         requires orderly { IsOrderly self.old }
         requires inside { processor < count_in self.old }
-        ensures step { WorldStep (policies Q.R.discipline) self.old (Event.Block processor now) [] result self.new }
+        ensures step { WorldStep (by_programs Q.R.discipline) self.old (Event.Block processor now) [] result self.new }
     {
         let cpu = &mut self.cpus[usize::from(processor)];
         cpu.block(&mut self.lobby, processor, now)

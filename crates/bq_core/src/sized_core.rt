@@ -1,10 +1,10 @@
 //! The world of a number of processors that its type names.
 ghost use Rattle.std.specs.Prelude.{◌≡◌, ◌≤◌, ◌<◌, List, OnErr, IfOk, IfErr, length};
 ghost use Rattle.bq_parts.specs.World.{opening_world, processor_at, count_in};
-ghost use Rattle.bq_parts.specs.Choices.{policies};
+ghost use Rattle.bq_parts.specs.Choices.{by_programs};
 ghost use Rattle.bq_parts.specs.Steps.{WorldStep, RunsOn};
 ghost use Rattle.bq_bpf.specs.Counters.{Through};
-ghost use Rattle.bq_bpf.specs.declared.board.Call.{Call as Asked};
+ghost use Rattle.bq_bpf.specs.declared.board.CounterCall.{CounterCall};
 ghost use Rattle.bq_parts.specs.StandsOnce.{IsOrderly};
 ghost use Rattle.bq_parts.specs.declared.refusal.Refusal.TheVariants as no;
 ghost use Rattle.bq_core.specs.Laws.{StaysOrderly};
@@ -17,8 +17,8 @@ use bq_parts::{Cpu, Event, Inbox, Lobby, Refusal, Reply};
 use std::alloc::{AllocError, Global};
 use std::marker::Model;
 
-/// A world of `P` processors, at most 64, each with a run queue `Q`. Each admitted task is in it exactly once, and while it
-/// runs or waits, on a processor of its mask.
+/// A world of `P` processors, at most 64, each with a run queue `Q`. Each admitted task is in the world exactly once. A task
+/// that runs or waits is on a processor of its mask.
 #[derive(Drop)]
 pub struct Core<Q: RunQueue, const P: usize> {
     world: DynamicCore<Q>,
@@ -92,7 +92,7 @@ impl<Q: RunQueue, const P: usize> Core<Q, P> {
         event: Event,
         board: &mut B,
     ) -> Result<Reply, Refusal>
-        ensures step { (calls : List Asked) × WorldStep (policies Q.R.discipline) self.old event calls result self.new × Through B.leads board.old calls board.new }
+        ensures step { (calls : List CounterCall) × WorldStep (by_programs Q.R.discipline) self.old event calls result self.new × Through B.leads board.old calls board.new }
         ensures orderly { IsOrderly self.new }
     {
         self.world.step(alloc, event, board)
@@ -125,17 +125,17 @@ impl<Q: RunQueue, const P: usize> Core<Q, P> {
         events: Vec<Event>,
         board: &mut B,
     ) -> Result<Vec<Result<Reply, Refusal>>, Refusal>
-        ensures ok { IfOk result (λ answers. RunsOn (policies Q.R.discipline) B.leads self.old board.old events.items answers.items self.new board.new) }
+        ensures ok { IfOk result (λ answers. RunsOn (by_programs Q.R.discipline) B.leads self.old board.old events.items answers.items self.new board.new) }
         ensures err { OnErr result (self.new ≡ self.old) }
         ensures still { OnErr result (board.new ≡ board.old) }
         ensures memory { IfErr result (λ refusal. refusal ≡ no.OutOfMemory) }
         ensures orderly { IsOrderly self.new }
-        ensures throughout { StaysOrderly (policies Q.R.discipline) self.old events.items }
+        ensures throughout { StaysOrderly (by_programs Q.R.discipline) self.old events.items }
     {
         self.world.run(alloc, events, board)
     }
 
-    /// A processor, whose number is below that of the processors.
+    /// A processor. Its number must be below the number of processors.
     pub fn cpu(&self, number: u8) -> &Cpu<Q>
         requires { number < count_in self.now }
         ensures { result.now ≡ processor_at self.now number }
@@ -143,7 +143,7 @@ impl<Q: RunQueue, const P: usize> Core<Q, P> {
         self.world.cpu(number)
     }
 
-    /// How many processors there are.
+    /// Answers how many processors there are.
     pub fn processors(&self) -> usize
         ensures value { result ≡ count_in self.now }
         ensures few { result ≤ PROCESSORS }

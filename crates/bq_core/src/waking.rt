@@ -3,7 +3,7 @@ ghost use Rattle.std.specs.Prelude.{◌≡◌, ◌<◌, ◌≤◌, ◌^◌, ℕ,
 ghost use Rattle.bq_parts.specs.Processors.{opening, load_of};
 ghost use Rattle.bq_parts.specs.World.{count_in, loads_of};
 ghost use Rattle.bq_bpf.specs.Counters.{Through};
-ghost use Rattle.bq_parts.specs.Choices.{policies};
+ghost use Rattle.bq_parts.specs.Choices.{by_programs};
 ghost use Rattle.bq_parts.specs.Steps.{WorldStep};
 ghost use Rattle.bq_parts.specs.StandsOnce.{IsOrderly};
 
@@ -22,14 +22,14 @@ impl<Q: RunQueue> Parts<Q> {
         requires orderly { IsOrderly self.old }
         requires inside { processor < count_in self.old }
         requires below { task < TASKS }
-        ensures step { WorldStep (policies Q.R.discipline) self.old (Event.BeginWake processor task) [] result self.new }
+        ensures step { WorldStep (by_programs Q.R.discipline) self.old (Event.BeginWake processor task) [] result self.new }
     {
         let loads = loads_of(self.cpus.as_slice(), self.inboxes.as_slice());
         let cpu = &mut self.cpus[usize::from(processor)];
         cpu.begin_with(&mut self.lobby, task, loads)
     }
 
-    /// The task in the hand of a processor is placed: it stands at the end of the chosen processor's inbox.
+    /// Places the task in a processor's hand: the task goes to the end of the chosen processor's inbox.
     #[inline(never)]
     pub(crate) fn end_wake<B: Board>(
         &mut self,
@@ -41,7 +41,7 @@ impl<Q: RunQueue> Parts<Q> {
         requires orderly { IsOrderly self.old }
         requires inside { processor < count_in self.old }
         requires unasked { scratch.old ≡ [] }
-        ensures step { WorldStep (policies Q.R.discipline) self.old (Event.EndWake processor now) scratch.new result self.new }
+        ensures step { WorldStep (by_programs Q.R.discipline) self.old (Event.EndWake processor now) scratch.new result self.new }
         ensures board { Through B.leads board.old scratch.new board.new }
     {
         let count = self.cpus.len();

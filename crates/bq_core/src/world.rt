@@ -1,10 +1,10 @@
 //! The world and its events: the call by which everything else drives it.
 ghost use Rattle.std.specs.Prelude.{◌≡◌, ◌+◌, ◌≤◌, ◌<◌, List, [], Err, OnErr, IfOk, IfErr, length, vec_len, vec_capacity};
 ghost use Rattle.bq_parts.specs.World.{opening_world, processor_at, count_in};
-ghost use Rattle.bq_parts.specs.Choices.{policies};
+ghost use Rattle.bq_parts.specs.Choices.{by_programs};
 ghost use Rattle.bq_parts.specs.Steps.{WorldStep, RunsOn};
 ghost use Rattle.bq_bpf.specs.Counters.{Through};
-ghost use Rattle.bq_bpf.specs.declared.board.Call.{Call as Asked};
+ghost use Rattle.bq_bpf.specs.declared.board.CounterCall.{CounterCall};
 ghost use Rattle.bq_parts.specs.StandsOnce.{IsOrderly};
 ghost use Rattle.bq_parts.specs.declared.refusal.Refusal.TheVariants as no;
 ghost use Rattle.bq_core.specs.Laws.{StaysOrderly};
@@ -19,8 +19,8 @@ use bq_parts::{Cpu, Event, Inbox, Lobby, Refusal, Reply};
 use std::alloc::{AllocError, Global};
 use std::marker::Model;
 
-/// A world of at most 64 processors, each with a run queue `Q`. Each task that is admitted stands in it exactly
-/// once, on a processor of its mask where it runs or waits. [`Core`](crate::Core) has the number of processors in its type.
+/// A world of at most 64 processors, each with a run queue `Q`. Each admitted task is in the world exactly once. A task that
+/// runs or waits is on a processor of its mask. [`Core`](crate::Core) has the number of processors in its type.
 #[derive(Drop)]
 pub struct DynamicCore<Q: RunQueue> {
     parts: Parts<Q>,
@@ -73,8 +73,8 @@ impl<Q: RunQueue> DynamicCore<Q> {
         }
     }
 
-    /// One event. What policies ask of the counters goes through the board. A refusal leaves the world as it was, and the
-    /// board. Only Admit and Install may be refused for lack of memory.
+    /// Does one event. Policies reach the counters through the board. A refusal changes neither the world nor the board.
+    /// Only Admit and Install may run out of memory.
     ///
     /// # Example
     ///
@@ -97,7 +97,7 @@ impl<Q: RunQueue> DynamicCore<Q> {
         event: Event,
         board: &mut B,
     ) -> Result<Reply, Refusal>
-        ensures step { (calls : List Asked) × WorldStep (policies Q.R.discipline) self.old event calls result self.new × Through B.leads board.old calls board.new }
+        ensures step { (calls : List CounterCall) × WorldStep (by_programs Q.R.discipline) self.old event calls result self.new × Through B.leads board.old calls board.new }
         ensures orderly { IsOrderly self.new }
     {
         self.parts.step(alloc, event, &mut self.scratch, board)
@@ -130,14 +130,14 @@ impl<Q: RunQueue> DynamicCore<Q> {
         events: Vec<Event>,
         board: &mut B,
     ) -> Result<Vec<Result<Reply, Refusal>>, Refusal>
-        ensures ok { IfOk result (λ answers. RunsOn (policies Q.R.discipline) B.leads self.old board.old events.items answers.items self.new board.new) }
+        ensures ok { IfOk result (λ answers. RunsOn (by_programs Q.R.discipline) B.leads self.old board.old events.items answers.items self.new board.new) }
         ensures err { OnErr result (self.new ≡ self.old) }
         ensures still { OnErr result (board.new ≡ board.old) }
         ensures memory { IfErr result (λ refusal. refusal ≡ no.OutOfMemory) }
         ensures orderly { IsOrderly self.new }
-        ensures throughout { StaysOrderly (policies Q.R.discipline) self.old events.items }
+        ensures throughout { StaysOrderly (by_programs Q.R.discipline) self.old events.items }
     {
-        // To look at the parts brings to the proof what always holds of them.
+        // Reading the parts brings into the proof what always holds of them.
         let _ = &self.parts;
         let Ok(mut answers) = Vec::with_capacity(alloc, events.len()) else {
             return Err(Refusal::OutOfMemory);
@@ -146,7 +146,7 @@ impl<Q: RunQueue> DynamicCore<Q> {
         Ok(answers)
     }
 
-    /// Some events in order, whose answers are added to a list that has room for them.
+    /// Does some events in order. The list must have room for their answers, which are added to it.
     fn run_all<B: Board>(
         &mut self,
         alloc: Global,
@@ -156,10 +156,10 @@ impl<Q: RunQueue> DynamicCore<Q> {
     )
         requires room { vec_len answers.old + length events.items ≤ vec_capacity answers.old }
         requires empty { answers.old.items ≡ [] }
-        ensures run { RunsOn (policies Q.R.discipline) B.leads self.old board.old events.items answers.new.items self.new board.new }
+        ensures run { RunsOn (by_programs Q.R.discipline) B.leads self.old board.old events.items answers.new.items self.new board.new }
         ensures orderly { IsOrderly self.new }
     {
-        // To look at the parts brings to the proof what always holds of them.
+        // Reading the parts brings into the proof what always holds of them.
         let _ = &self.parts;
         for event in events {
             let answer = self.step(alloc, event, board);
@@ -167,7 +167,7 @@ impl<Q: RunQueue> DynamicCore<Q> {
         }
     }
 
-    /// A processor, whose number is below that of the processors.
+    /// A processor. Its number must be below the number of processors.
     pub fn cpu(&self, number: u8) -> &Cpu<Q>
         requires { number < count_in self.now }
         ensures { result.now ≡ processor_at self.now number }
@@ -175,7 +175,7 @@ impl<Q: RunQueue> DynamicCore<Q> {
         self.parts.cpu(number)
     }
 
-    /// How many processors there are.
+    /// Answers how many processors there are.
     pub fn processors(&self) -> usize
         ensures value { result ≡ count_in self.now }
         ensures few { result ≤ PROCESSORS }
@@ -185,7 +185,7 @@ impl<Q: RunQueue> DynamicCore<Q> {
 }
 
 impl<Q: RunQueue> Parts<Q> {
-    /// One event. The scratch space has its calls of counters afterwards.
+    /// Does one event. The scratch space holds the event's calls of counters afterwards.
     pub(crate) fn step<B: Board>(
         &mut self,
         alloc: Global,
@@ -194,10 +194,10 @@ impl<Q: RunQueue> Parts<Q> {
         board: &mut B,
     ) -> Result<Reply, Refusal>
         requires orderly { IsOrderly self.old }
-        ensures step { WorldStep (policies Q.R.discipline) self.old event scratch.new result self.new }
+        ensures step { WorldStep (by_programs Q.R.discipline) self.old event scratch.new result self.new }
         ensures board { Through B.leads board.old scratch.new board.new }
     {
-        // To look at the processors brings to the proof what always holds of them.
+        // Reading the processors brings into the proof what always holds of them.
         let _ = &self.cpus;
         scratch.clear();
         if let Some(refusal) = argument_refusal(self.processors(), &event) {

@@ -45,7 +45,8 @@ last_former x (Some y) h = last_by_test (runs_before x y) x y refl h
 -- the first to be pulled of a rising list is its last
 first_is_last : (xs : List Task) → IsRising xs → id_of (first_by pulled_before xs) ≡ last_id xs
 first_is_last [] h = refl
-first_is_last (x ∷ xs) h = ap Some (last_former x (first_by pulled_before xs) (after_all x xs h.0) ∙ ap (λ o. unwrap_or o x.id) (first_is_last xs h.1))
+first_is_last (x ∷ xs) h =
+    ap Some (last_former x (first_by pulled_before xs) (after_all x xs h.0) ∙ ap (λ o. unwrap_or o x.id) (first_is_last xs h.1))
 
 none_filter : (p : Task → Bool) (x : Task) (xs : List Task) → NoneRunsBefore x xs → NoneRunsBefore x (filter p xs)
 none_filter p x [] h = tt
@@ -78,6 +79,9 @@ front_reverse (x ∷ xs) =
     ∙ front_append (ids (reverse xs)) x.id ∙ ap (λ o. Some (unwrap_or o x.id)) (front_reverse xs)
 
 -- the first that a queue names is the first to be pulled
-pub greatest_named : (processor : ℕ) (xs : List Task) (named : List ℕ) → IsRising xs → named ≡ take 8 (ids (movable_to processor xs)) → slice_get named 0 ≡ id_of (first_by pulled_before (movable processor xs))
+pub greatest_named : (processor : ℕ) (xs : List Task) (named : List ℕ)
+    → IsRising xs → named ≡ take 8 (ids (movable_to processor xs))
+    → slice_get named 0 ≡ id_of (first_by pulled_before (movable processor xs))
 greatest_named processor xs named h e =
-    ap (λ ns. slice_get ns 0) e ∙ front_take (ids (movable_to processor xs)) ∙ front_reverse (movable processor xs) ∙ sym (first_is_last (movable processor xs) (rising_filter (can_use processor) xs h))
+    ap (λ ns. slice_get ns 0) e ∙ front_take (ids (movable_to processor xs)) ∙ front_reverse (movable processor xs)
+    ∙ sym (first_is_last (movable processor xs) (rising_filter (can_use processor) xs h))

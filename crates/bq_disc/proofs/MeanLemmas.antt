@@ -43,7 +43,8 @@ kept_by_test : (b : Bool) (x : Task) (ys : List Task) → (b ≡ false → ys �
 kept_by_test true x ys h = λ e. cc
 kept_by_test false x ys h = h refl
 
-kept_by_filter : (p : Task → Bool) (xs : List Task) (t : Task) (k : ℕ) → k < length xs → slice_index_or xs k t ≡ t → p t ≡ true → filter p xs ≢ []
+kept_by_filter : (p : Task → Bool) (xs : List Task) (t : Task) (k : ℕ)
+    → k < length xs → slice_index_or xs k t ≡ t → p t ≡ true → filter p xs ≢ []
 kept_by_filter p [] t k l e pt = λ f. absurd (omega (arith, l))
 kept_by_filter p (x ∷ xs) t zero l e pt = kept_by_test (p x) x (filter p xs) (λ f. let g : p x ≡ true = ap p e ∙ pt in cc)
 kept_by_filter p (x ∷ xs) t (suc k) l e pt = kept_by_test (p x) x (filter p xs) (λ f. kept_by_filter p xs t k (omega (arith, l)) e pt)
@@ -53,4 +54,5 @@ pub someone_at_most_mean : (xs : List Task) → xs ≢ [] → filter (is_at_most
 someone_at_most_mean [] h = h
 someone_at_most_mean (x ∷ xs) h =
     let l = has_least x xs in
-    kept_by_filter (is_at_most_mean (total_weight (x ∷ xs)) (weighted_sum (x ∷ xs))) (x ∷ xs) l.0 l.1.0 l.1.1 l.1.2 (least_at_most_mean (x ∷ xs) l.0 l.2)
+    kept_by_filter (is_at_most_mean (total_weight (x ∷ xs)) (weighted_sum (x ∷ xs))) (x ∷ xs) l.0 l.1.0 l.1.1
+    l.1.2 (least_at_most_mean (x ∷ xs) l.0 l.2)

@@ -7,8 +7,11 @@ use Rattle.bq_disc.specs.Queues.{can_use}
 use Rattle.bq_disc.specs.Movable.{movable_to, ids, Adds}
 use Rattle.bq_disc.specs.declared.movable.Movable.{Movable}
 
-movable_to-append : (processor : ℕ) (xs ys : List Task) → movable_to processor (xs ++ ys) ≡ movable_to processor ys ++ movable_to processor xs
-movable_to-append processor xs ys = ap reverse (filter-append (can_use processor) xs ys) ∙ reverse-append (filter (can_use processor) xs) (filter (can_use processor) ys)
+movable_to-append : (processor : ℕ) (xs ys : List Task)
+    → movable_to processor (xs ++ ys) ≡ movable_to processor ys ++ movable_to processor xs
+movable_to-append processor xs ys =
+    ap reverse (filter-append (can_use processor) xs ys)
+    ∙ reverse-append (filter (can_use processor) xs) (filter (can_use processor) ys)
 
 take_again : (n : ℕ) (xs ys : List ℕ) → take n (take n xs ++ ys) ≡ take n (xs ++ ys)
 take_again zero xs ys = refl
@@ -26,7 +29,9 @@ append_nothing [] = refl
 append_nothing (x ∷ xs) = ap (λ l. x ∷ l) (append_nothing xs)
 
 -- a task that may go is only counted, where eight ids are kept
-pub Adds-full : (processor : ℕ) (t : Task) (a b : Movable) → can_use processor t ≡ true → b.count ≡ a.count + 1 → b.first.items ≡ a.first.items → length a.first.items ≡ 8 → Adds processor (t ∷ []) a b
+pub Adds-full : (processor : ℕ) (t : Task) (a b : Movable) → can_use processor t ≡ true → b.count ≡ a.count + 1
+    → b.first.items ≡ a.first.items → length a.first.items ≡ 8
+    → Adds processor (t ∷ []) a b
 Adds-full processor t a b e count first h =
     let one : movable_to processor (t ∷ []) ≡ t ∷ [] = rw e refl in
     record {
@@ -36,12 +41,15 @@ Adds-full processor t a b e count first h =
     }
 
 -- the later part is looked at first
-pub Adds-append : (processor : ℕ) (xs ys : List Task) (a b c : Movable) → Adds processor ys a b → Adds processor xs b c → Adds processor (xs ++ ys) a c
+pub Adds-append : (processor : ℕ) (xs ys : List Task) (a b c : Movable)
+    → Adds processor ys a b → Adds processor xs b c → Adds processor (xs ++ ys) a c
 Adds-append processor xs ys a b c h k =
     let both = movable_to-append processor xs ys in
     let many = length-append (movable_to processor ys) (movable_to processor xs) in
     let split = ap ids both ∙ map-append (λ (t : Task). t.id) (movable_to processor ys) (movable_to processor xs) in
-    let join = ap (λ l. take 8 (l ++ ids (movable_to processor xs))) h.first ∙ take_again 8 (a.first.items ++ ids (movable_to processor ys)) (ids (movable_to processor xs)) in
+    let join =
+    ap (λ l. take 8 (l ++ ids (movable_to processor xs))) h.first
+    ∙ take_again 8 (a.first.items ++ ids (movable_to processor ys)) (ids (movable_to processor xs)) in
     let regroup = ap (λ l. take 8 l) (append_assoc a.first.items (ids (movable_to processor ys)) (ids (movable_to processor xs))) in
     record {
       count = omega (arith, h.count, k.count, ap length both);

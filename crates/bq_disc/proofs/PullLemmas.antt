@@ -20,8 +20,11 @@ are_two_more : (size from : ℕ) → nat_le (size + 2) from ≡ true → size + 
 are_two_more size from e = grind (arith, nat_tests)
 
 -- where the difference is two at least, it is the first that a queue names
-pub pulls_first_named : (processor size from : ℕ) (queue : List Task) (named : List ℕ) → 2 ≤ from - size → IsRising queue → named ≡ take 8 (ids (movable_to processor queue)) → slice_get named 0 ≡ id_of (pull_of processor size from queue)
-pulls_first_named processor size from queue named l h e = rw (two_more size from (omega (arith, l))) (greatest_named processor queue named h e)
+pub pulls_first_named : (processor size from : ℕ) (queue : List Task) (named : List ℕ)
+    → 2 ≤ from - size → IsRising queue → named ≡ take 8 (ids (movable_to processor queue))
+    → slice_get named 0 ≡ id_of (pull_of processor size from queue)
+pulls_first_named processor size from queue named l h e =
+    rw (two_more size from (omega (arith, l))) (greatest_named processor queue named h e)
 
 pulled_before-IsOrder : IsOrder pulled_before
 pulled_before-IsOrder = record {
@@ -39,31 +42,43 @@ if_pulled : (b : Bool) (o : Option Task) (P : Task → Type 0) → IfSome o P �
 if_pulled true o P h = h
 if_pulled false o P h = tt
 
-if_enough : (b : Bool) (size from : ℕ) (o : Option Task) → nat_le (size + 2) from ≡ b → IfSome (if b then o else None) (λ t. size + 2 ≤ from)
+if_enough : (b : Bool) (size from : ℕ) (o : Option Task) → nat_le (size + 2) from ≡ b
+    → IfSome (if b then o else None) (λ t. size + 2 ≤ from)
 if_enough true size from None e = tt
 if_enough true size from (Some t) e = are_two_more size from e
 if_enough false size from o e = tt
 
-first_movable : (processor : ℕ) (queue : List Task) → IfSome (first_by pulled_before (movable processor queue)) (λ t. Contains queue t × (can_use processor t ≡ true))
+first_movable : (processor : ℕ) (queue : List Task)
+    → IfSome (first_by pulled_before (movable processor queue)) (λ t. Contains queue t × (can_use processor t ≡ true))
 first_movable processor queue =
-    IfSome-weaker (first_by pulled_before (movable processor queue)) (Contains (movable processor queue)) (λ t. Contains queue t × (can_use processor t ≡ true))
-    (Contains-filter (can_use processor) queue) (first_by-member pulled_before (movable processor queue))
+    IfSome-weaker (first_by pulled_before (movable processor queue)) (Contains (movable processor queue))
+    (λ t. Contains queue t × (can_use processor t ≡ true)) (Contains-filter (can_use processor) queue)
+    (first_by-member pulled_before (movable processor queue))
 
-none_greater : (processor : ℕ) (queue : List Task) → IfSome (first_by pulled_before (movable processor queue)) (λ t. (u : Task) → Contains queue u → can_use processor u ≡ true → runs_before t u ≡ false)
-none_greater processor queue =
-    IfSome-weaker (first_by pulled_before (movable processor queue)) (λ t. (u : Task) → Contains (movable processor queue) u → pulled_before u t ≡ false)
+none_greater : (processor : ℕ) (queue : List Task)
+    → IfSome (first_by pulled_before (movable processor queue))
     (λ t. (u : Task) → Contains queue u → can_use processor u ≡ true → runs_before t u ≡ false)
-    (λ t h u c k. h u (filter-Contains (can_use processor) queue u c.0 c.1 c.2 k)) (first_by-least pulled_before pulled_before-IsOrder (movable processor queue))
+none_greater processor queue =
+    IfSome-weaker (first_by pulled_before (movable processor queue))
+    (λ t. (u : Task) → Contains (movable processor queue) u → pulled_before u t ≡ false)
+    (λ t. (u : Task) → Contains queue u → can_use processor u ≡ true → runs_before t u ≡ false)
+    (λ t h u c k. h u (filter-Contains (can_use processor) queue u c.0 c.1 c.2 k))
+    (first_by-least pulled_before pulled_before-IsOrder (movable processor queue))
 
 -- the rule by which a task is pulled meets the laws of pulling
 pub pull_is_lawful : IsLawfulPull pull_of
 pull_is_lawful = record {
   exists = λ processor size from queue t l c k.
-      rw (two_more size from l) (first_by-exists pulled_before (movable processor queue) (not_empty (movable processor queue) t (filter-Contains (can_use processor) queue t c.0 c.1 c.2 k)));
+      rw (two_more size from l) (first_by-exists pulled_before (movable processor queue)
+      (not_empty (movable processor queue) t (filter-Contains (can_use processor) queue t c.0 c.1 c.2 k)));
   fewer = λ processor size from queue. if_enough (nat_le (size + 2) from) size from (first_by pulled_before (movable processor queue)) refl;
-  member = λ processor size from queue. if_pulled (nat_le (size + 2) from) (first_by pulled_before (movable processor queue)) _ (first_movable processor queue);
-  greatest = λ processor size from queue. if_pulled (nat_le (size + 2) from) (first_by pulled_before (movable processor queue)) _ (none_greater processor queue);
+  member = λ processor size from queue.
+      if_pulled (nat_le (size + 2) from) (first_by pulled_before (movable processor queue)) _ (first_movable processor queue);
+  greatest = λ processor size from queue.
+      if_pulled (nat_le (size + 2) from) (first_by pulled_before (movable processor queue)) _ (none_greater processor queue);
   same = λ processor size from xs ys dx dy s.
       ap (λ o. if nat_le (size + 2) from then o else None)
-      (first_by-same pulled_before pulled_before-IsOrder (movable processor xs) (movable processor ys) (HasDistinctIds-filter (can_use processor) xs dx) (HasDistinctIds-filter (can_use processor) ys dy) (SameSet-filter (can_use processor) xs ys s));
+      (first_by-same pulled_before pulled_before-IsOrder (movable processor xs) (movable processor ys)
+      (HasDistinctIds-filter (can_use processor) xs dx) (HasDistinctIds-filter (can_use processor) ys dy)
+      (SameSet-filter (can_use processor) xs ys s));
 }

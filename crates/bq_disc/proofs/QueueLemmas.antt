@@ -114,7 +114,9 @@ HasSmallIds-without j (x ∷ xs) d =
       | false ↦ (d.0, HasSmallIds-without j xs d.1)
     ]
 
-length_by_test : (b : Bool) (x : Task) (xs ys : List Task) (o : Option Task) → IsSome (cond b (Some x) o) → (IsSome o → length ys + 1 ≡ length xs) → length (cond b xs (x ∷ ys)) + 1 ≡ length (x ∷ xs)
+length_by_test : (b : Bool) (x : Task) (xs ys : List Task) (o : Option Task)
+    → IsSome (cond b (Some x) o) → (IsSome o → length ys + 1 ≡ length xs)
+    → length (cond b xs (x ∷ ys)) + 1 ≡ length (x ∷ xs)
 length_by_test true x xs ys o k rest = omega arith
 length_by_test false x xs ys o k rest = omega (arith, rest k)
 
@@ -130,7 +132,8 @@ without-absent j (x ∷ xs) h =
     let s = with_id-none j x xs h in
     rw s.0 (ap (λ ys. x ∷ ys) (without-absent j xs s.1))
 
-gone_by_test : (i : ℕ) (b : Bool) (x : Task) (xs ys : List Task) → eqb x.id i ≡ b → with_id x.id xs ≡ None → with_id i ys ≡ None → with_id i (cond b xs (x ∷ ys)) ≡ None
+gone_by_test : (i : ℕ) (b : Bool) (x : Task) (xs ys : List Task)
+    → eqb x.id i ≡ b → with_id x.id xs ≡ None → with_id i ys ≡ None → with_id i (cond b xs (x ∷ ys)) ≡ None
 gone_by_test i true x xs ys e d rest = rw (eqb-true x.id i e) at d
 gone_by_test i false x xs ys e d rest = rw e rest
 
@@ -139,4 +142,12 @@ pub with_id-without_same : (i : ℕ) (xs : List Task) → HasDistinctIds xs → 
 with_id-without_same i [] d = refl
 with_id-without_same i (x ∷ xs) d = gone_by_test i (eqb x.id i) x xs (without i xs) refl d.0 (with_id-without_same i xs d.1)
 
-pub ruleset queue_facts = (length-few, HasDistinctIds-place, HasSmallIds-place, length-place, HasDistinctIds-without, HasSmallIds-without, with_id-without_same)
+pub ruleset queue_facts = (
+  length-few,
+  HasDistinctIds-place,
+  HasSmallIds-place,
+  length-place,
+  HasDistinctIds-without,
+  HasSmallIds-without,
+  with_id-without_same,
+)

@@ -25,7 +25,8 @@ none_place x t (y ∷ xs) b h =
       | false ↦ (h.0, none_place x t xs b h.1)
     ]
 
-rising_by_test : (b : Bool) (t x : Task) (xs : List Task) → runs_before t x ≡ b → IsRising (x ∷ xs) → IsRising (place t xs) → IsRising (cond b (t ∷ x ∷ xs) (x ∷ place t xs))
+rising_by_test : (b : Bool) (t x : Task) (xs : List Task) → runs_before t x ≡ b → IsRising (x ∷ xs) → IsRising (place t xs)
+    → IsRising (cond b (t ∷ x ∷ xs) (x ∷ place t xs))
 rising_by_test true t x xs e h p = ((before_not t x e, none_later t x xs e h.0), h)
 rising_by_test false t x xs e h p = (none_place x t xs e h.0, p)
 
@@ -55,7 +56,8 @@ least_by_rest : (x : Task) (o : Option Task) → IfSome o (λ y. runs_before y x
 least_by_rest x None h = refl
 least_by_rest x (Some y) h = rw h refl
 
-none_of_former : (x y : Task) (o : Option Task) → runs_before y x ≡ false → IfSome o (λ z. runs_before z x ≡ false) → runs_before (former runs_before y o) x ≡ false
+none_of_former : (x y : Task) (o : Option Task) → runs_before y x ≡ false → IfSome o (λ z. runs_before z x ≡ false)
+    → runs_before (former runs_before y o) x ≡ false
 none_of_former x y None h k = h
 none_of_former x y (Some z) h k =
     elim (runs_before z y) as (λ b. runs_before (cond b z y) x ≡ false) [

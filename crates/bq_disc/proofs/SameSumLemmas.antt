@@ -14,25 +14,33 @@ abbrev pub sum_of : (Task → ℕ) → List Task → ℕ
 sum_of f [] = 0
 sum_of f (x ∷ xs) = f x + sum_of f xs
 
-taken_by_test : (f : Task → ℕ) (b : Bool) (x t : Task) (xs ys : List Task) (o : Option Task) → cond b (Some x) o ≡ Some t → (o ≡ Some t → sum_of f xs ≡ f t + sum_of f ys) → sum_of f (x ∷ xs) ≡ f t + sum_of f (cond b xs (x ∷ ys))
+taken_by_test : (f : Task → ℕ) (b : Bool) (x t : Task) (xs ys : List Task) (o : Option Task)
+    → cond b (Some x) o ≡ Some t → (o ≡ Some t → sum_of f xs ≡ f t + sum_of f ys)
+    → sum_of f (x ∷ xs) ≡ f t + sum_of f (cond b xs (x ∷ ys))
 taken_by_test f true x t xs ys o h rest = let same : x ≡ t = cc in ap (λ s. f s + sum_of f xs) same
 taken_by_test f false x t xs ys o h rest = let r = rest h in omega (arith, r)
 
 -- what a task adds to a sum, and what is left without it
-pub sum_of-without : (f : Task → ℕ) (i : ℕ) (xs : List Task) (t : Task) → with_id i xs ≡ Some t → sum_of f xs ≡ f t + sum_of f (without i xs)
+pub sum_of-without : (f : Task → ℕ) (i : ℕ) (xs : List Task) (t : Task)
+    → with_id i xs ≡ Some t → sum_of f xs ≡ f t + sum_of f (without i xs)
 sum_of-without f i [] t h = cc
 sum_of-without f i (x ∷ xs) t h = taken_by_test f (eqb x.id i) x t xs (without i xs) (with_id i xs) h (sum_of-without f i xs t)
 
-other_by_test : (i j : ℕ) (b c : Bool) (x : Task) (xs ys : List Task) → eqb x.id i ≡ b → eqb x.id j ≡ c → (i ≡ j → ⊥) → with_id j ys ≡ with_id j xs → with_id j (cond b xs (x ∷ ys)) ≡ cond c (Some x) (with_id j xs)
+other_by_test : (i j : ℕ) (b c : Bool) (x : Task) (xs ys : List Task)
+    → eqb x.id i ≡ b → eqb x.id j ≡ c → (i ≡ j → ⊥) → with_id j ys ≡ with_id j xs
+    → with_id j (cond b xs (x ∷ ys)) ≡ cond c (Some x) (with_id j xs)
 other_by_test i j true true x xs ys e g ne rest = absurd (ne (sym (eqb-true x.id i e) ∙ eqb-true x.id j g))
 other_by_test i j true false x xs ys e g ne rest = refl
 other_by_test i j false c x xs ys e g ne rest = rw g (ap (λ o. cond c (Some x) o) rest)
 
 with_id-without_other : (i j : ℕ) (xs : List Task) → (i ≡ j → ⊥) → with_id j (without i xs) ≡ with_id j xs
 with_id-without_other i j [] ne = refl
-with_id-without_other i j (x ∷ xs) ne = other_by_test i j (eqb x.id i) (eqb x.id j) x xs (without i xs) refl refl ne (with_id-without_other i j xs ne)
+with_id-without_other i j (x ∷ xs) ne =
+    other_by_test i j (eqb x.id i) (eqb x.id j) x xs (without i xs) refl refl ne (with_id-without_other i j xs ne)
 
-rest_same_at : (x : Task) (xs ys : List Task) → HasDistinctIds (x ∷ xs) → HasDistinctIds ys → SameById (x ∷ xs) ys → (j : ℕ) (b : Bool) → eqb x.id j ≡ b → with_id j xs ≡ with_id j (without x.id ys)
+rest_same_at : (x : Task) (xs ys : List Task) → HasDistinctIds (x ∷ xs) → HasDistinctIds ys → SameById (x ∷ xs) ys
+    → (j : ℕ) (b : Bool) → eqb x.id j ≡ b
+    → with_id j xs ≡ with_id j (without x.id ys)
 rest_same_at x xs ys d dy h j true e =
     let same = eqb-true x.id j e in
     ap (λ i. with_id i xs) (sym same) ∙ d.0 ∙ sym (with_id-without_same x.id ys dy) ∙ ap (λ i. with_id i (without x.id ys)) same
@@ -41,7 +49,8 @@ rest_same_at x xs ys d dy h j false e =
     let ne : x.id ≡ j → ⊥ = λ same. let t = eq-eqb x.id j same in cc in
     sym here ∙ h j ∙ sym (with_id-without_other x.id j ys ne)
 
-rest_same : (x : Task) (xs ys : List Task) → HasDistinctIds (x ∷ xs) → HasDistinctIds ys → SameById (x ∷ xs) ys → SameById xs (without x.id ys)
+rest_same : (x : Task) (xs ys : List Task) → HasDistinctIds (x ∷ xs) → HasDistinctIds ys → SameById (x ∷ xs) ys
+    → SameById xs (without x.id ys)
 rest_same x xs ys d dy h = λ j. rest_same_at x xs ys d dy h j (eqb x.id j) refl
 
 first_there : (x : Task) (xs ys : List Task) → SameById (x ∷ xs) ys → with_id x.id ys ≡ Some x
@@ -68,16 +77,19 @@ weighted_sum-sum_of (x ∷ xs) = ap (λ n. x.weight * x.v + n) (weighted_sum-sum
 -- the same tasks have the same weight together
 pub total_weight-same : (xs ys : List Task) → HasDistinctIds xs → HasDistinctIds ys → SameSet xs ys → total_weight xs ≡ total_weight ys
 total_weight-same xs ys dx dy s =
-    total_weight-sum_of xs ∙ sum_of-same (λ (t : Task). t.weight) xs ys dx dy (SameById-SameSet xs ys dx dy s) ∙ sym (total_weight-sum_of ys)
+    total_weight-sum_of xs ∙ sum_of-same (λ (t : Task). t.weight) xs ys dx dy (SameById-SameSet xs ys dx dy s)
+    ∙ sym (total_weight-sum_of ys)
 
--- and the same weighted sum
+-- the same tasks have the same weighted sum
 pub weighted_sum-same : (xs ys : List Task) → HasDistinctIds xs → HasDistinctIds ys → SameSet xs ys → weighted_sum xs ≡ weighted_sum ys
 weighted_sum-same xs ys dx dy s =
-    weighted_sum-sum_of xs ∙ sum_of-same (λ (t : Task). t.weight * t.v) xs ys dx dy (SameById-SameSet xs ys dx dy s) ∙ sym (weighted_sum-sum_of ys)
+    weighted_sum-sum_of xs ∙ sum_of-same (λ (t : Task). t.weight * t.v) xs ys dx dy (SameById-SameSet xs ys dx dy s)
+    ∙ sym (weighted_sum-sum_of ys)
 
 -- Tasks that pass a test
 
-kept_none : (p : Task → Bool) (i : ℕ) (b : Bool) (x : Task) (xs : List Task) → with_id i xs ≡ None → eqb x.id i ≡ false → with_id i (cond b (x ∷ xs) xs) ≡ None
+kept_none : (p : Task → Bool) (i : ℕ) (b : Bool) (x : Task) (xs : List Task)
+    → with_id i xs ≡ None → eqb x.id i ≡ false → with_id i (cond b (x ∷ xs) xs) ≡ None
 kept_none p i true x xs h e = rw e h
 kept_none p i false x xs h e = h
 
@@ -96,7 +108,10 @@ pub HasDistinctIds-filter : (p : Task → Bool) (xs : List Task) → HasDistinct
 HasDistinctIds-filter p [] d = tt
 HasDistinctIds-filter p (x ∷ xs) d = kept_distinct (p x) x (filter p xs) (filter_none p x.id xs d.0) (HasDistinctIds-filter p xs d.1)
 
-at_filter : (p : Task → Bool) (b : Bool) (x t : Task) (ys xs : List Task) (k : ℕ) → p x ≡ b → k < length (cond b (x ∷ ys) ys) → slice_index_or (cond b (x ∷ ys) ys) k t ≡ t → (Contains ys t → Contains xs t × (p t ≡ true)) → Contains (x ∷ xs) t × (p t ≡ true)
+at_filter : (p : Task → Bool) (b : Bool) (x t : Task) (ys xs : List Task) (k : ℕ)
+    → p x ≡ b → k < length (cond b (x ∷ ys) ys) → slice_index_or (cond b (x ∷ ys) ys) k t ≡ t
+    → (Contains ys t → Contains xs t × (p t ≡ true))
+    → Contains (x ∷ xs) t × (p t ≡ true)
 at_filter p false x t ys xs k e l i rest = let r = rest (k, l, i) in (Contains-later x t xs r.0, r.1)
 at_filter p true x t ys xs zero e l i rest = ((0, omega arith, i), ap p (sym i) ∙ e)
 at_filter p true x t ys xs (suc k) e l i rest = let r = rest (k, omega (arith, l), i) in (Contains-later x t xs r.0, r.1)
@@ -111,7 +126,8 @@ kept_later true x t ys h = Contains-later x t ys h
 kept_later false x t ys h = h
 
 -- what is there and passes the test is kept
-pub filter-Contains : (p : Task → Bool) (xs : List Task) (t : Task) (k : ℕ) → k < length xs → slice_index_or xs k t ≡ t → p t ≡ true → Contains (filter p xs) t
+pub filter-Contains : (p : Task → Bool) (xs : List Task) (t : Task) (k : ℕ)
+    → k < length xs → slice_index_or xs k t ≡ t → p t ≡ true → Contains (filter p xs) t
 filter-Contains p [] t k l e h = absurd (omega (arith, l))
 filter-Contains p (x ∷ xs) t zero l e h =
     let passes : p x ≡ true = ap p e ∙ h in

@@ -12,7 +12,8 @@ use Rattle.bq_disc.specs.Orders.{Contains-first, Contains-later}
 abbrev pub SameById : List Task → List Task → Type 0
 SameById xs ys = (id : ℕ) → with_id id xs ≡ with_id id ys
 
-found_by_test : (b : Bool) (i : ℕ) (x t : Task) (o : Option Task) → eqb x.id i ≡ b → cond b (Some x) o ≡ Some t → (o ≡ Some t → t.id ≡ i) → t.id ≡ i
+found_by_test : (b : Bool) (i : ℕ) (x t : Task) (o : Option Task)
+    → eqb x.id i ≡ b → cond b (Some x) o ≡ Some t → (o ≡ Some t → t.id ≡ i) → t.id ≡ i
 found_by_test true i x t o e h rest = let same : x ≡ t = cc in ap (λ (s : Task). s.id) (sym same) ∙ eqb-true x.id i e
 found_by_test false i x t o e h rest = rest h
 
@@ -21,12 +22,15 @@ pub with_id-id : (i : ℕ) (xs : List Task) (t : Task) → with_id i xs ≡ Some
 with_id-id i [] t h = cc
 with_id-id i (x ∷ xs) t h = found_by_test (eqb x.id i) i x t (with_id i xs) refl h (with_id-id i xs t)
 
-later_by_test : (b : Bool) (x t : Task) (xs : List Task) → eqb x.id t.id ≡ b → with_id x.id xs ≡ None → with_id t.id xs ≡ Some t → cond b (Some x) (with_id t.id xs) ≡ Some t
+later_by_test : (b : Bool) (x t : Task) (xs : List Task) → eqb x.id t.id ≡ b → with_id x.id xs ≡ None
+    → with_id t.id xs ≡ Some t
+    → cond b (Some x) (with_id t.id xs) ≡ Some t
 later_by_test true x t xs e none some = let same = eqb-true x.id t.id e in let here = rw same at none in cc
 later_by_test false x t xs e none some = some
 
 -- a task that a list has is the one of its id
-pub with_id-Contains : (xs : List Task) (t : Task) (k : ℕ) → HasDistinctIds xs → k < length xs → slice_index_or xs k t ≡ t → with_id t.id xs ≡ Some t
+pub with_id-Contains : (xs : List Task) (t : Task) (k : ℕ) → HasDistinctIds xs → k < length xs → slice_index_or xs k t ≡ t
+    → with_id t.id xs ≡ Some t
 with_id-Contains [] t k d l e = absurd (omega (arith, l))
 with_id-Contains (x ∷ xs) t zero d l e =
     let here : x ≡ t = e in
@@ -39,7 +43,8 @@ some_or_none : (o : Option Task) → (o ≡ None) ⊎ ((t : Task) × (o ≡ Some
 some_or_none None = inl refl
 some_or_none (Some t) = inr (t, refl)
 
-here_or_later : (b : Bool) (x t : Task) (xs : List Task) (i : ℕ) → cond b (Some x) (with_id i xs) ≡ Some t → (with_id i xs ≡ Some t → Contains xs t) → Contains (x ∷ xs) t
+here_or_later : (b : Bool) (x t : Task) (xs : List Task) (i : ℕ)
+    → cond b (Some x) (with_id i xs) ≡ Some t → (with_id i xs ≡ Some t → Contains xs t) → Contains (x ∷ xs) t
 here_or_later true x t xs i h rest = (0, omega arith, cc)
 here_or_later false x t xs i h rest = let l = rest h in (suc l.0, omega (arith, l.1), l.2)
 
@@ -48,7 +53,9 @@ pub Contains-with_id : (i : ℕ) (xs : List Task) (t : Task) → with_id i xs �
 Contains-with_id i [] t h = cc
 Contains-with_id i (x ∷ xs) t h = here_or_later (eqb x.id i) x t xs i h (Contains-with_id i xs t)
 
-carried_over : (i : ℕ) (xs ys : List Task) (o : Option Task) → with_id i xs ≡ o → HasDistinctIds ys → ((t : Task) → Contains xs t → Contains ys t) → ((t : Task) → Contains ys t → Contains xs t) → HasDistinctIds xs → with_id i ys ≡ o
+carried_over : (i : ℕ) (xs ys : List Task) (o : Option Task) → with_id i xs ≡ o → HasDistinctIds ys
+    → ((t : Task) → Contains xs t → Contains ys t) → ((t : Task) → Contains ys t → Contains xs t) → HasDistinctIds xs
+    → with_id i ys ≡ o
 carried_over i xs ys (Some t) e d h k dx =
     let c = h t (Contains-with_id i xs t e) in
     rw (← (with_id-id i xs t e)) (with_id-Contains ys t c.0 d c.1 c.2)
@@ -97,7 +104,9 @@ abbrev NoneBefore : (Task → Task → Bool) → Task → List Task → Type 0
 NoneBefore before m [] = Unit {0}
 NoneBefore before m (x ∷ xs) = (before x m ≡ false) × NoneBefore before m xs
 
-none_before_later : (before : Task → Task → Bool) → IsOrder before → (m n : Task) (xs : List Task) → before m n ≡ false → NoneBefore before m xs → NoneBefore before n xs
+none_before_later : (before : Task → Task → Bool) → IsOrder before → (m n : Task) (xs : List Task) → before m n ≡ false
+    → NoneBefore before m xs
+    → NoneBefore before n xs
 none_before_later before o m n [] e h = tt
 none_before_later before o m n (x ∷ xs) e h = (o.passes_on x m n h.0 e, none_before_later before o m n xs e h.1)
 
@@ -105,11 +114,16 @@ abbrev IsFirst : (Task → Task → Bool) → List Task → Option Task → Type
 IsFirst before xs None = xs ≡ []
 IsFirst before xs (Some m) = Contains xs m × NoneBefore before m xs
 
-first_of_two : (before : Task → Task → Bool) → IsOrder before → (x m : Task) (xs : List Task) (b : Bool) → before m x ≡ b → Contains xs m → NoneBefore before m xs → IsFirst before (x ∷ xs) (Some (cond b m x))
+first_of_two : (before : Task → Task → Bool) → IsOrder before → (x m : Task) (xs : List Task) (b : Bool) → before m x ≡ b
+    → Contains xs m → NoneBefore before m xs
+    → IsFirst before (x ∷ xs) (Some (cond b m x))
 first_of_two before o x m xs true e c h = (Contains-later x m xs c, (o.one_way m x e, h))
-first_of_two before o x m xs false e c h = (Contains-first x xs, (not_itself before o x (before x x) refl, none_before_later before o m x xs e h))
+first_of_two before o x m xs false e c h =
+    (Contains-first x xs, (not_itself before o x (before x x) refl, none_before_later before o m x xs e h))
 
-first_with : (before : Task → Task → Bool) → IsOrder before → (x : Task) (xs : List Task) (m : Option Task) → IsFirst before xs m → IsFirst before (x ∷ xs) (Some (former before x m))
+first_with : (before : Task → Task → Bool) → IsOrder before → (x : Task) (xs : List Task) (m : Option Task)
+    → IsFirst before xs m
+    → IsFirst before (x ∷ xs) (Some (former before x m))
 first_with before o x xs None h = (Contains-first x xs, (not_itself before o x (before x x) refl, rw h tt))
 first_with before o x xs (Some m) h = first_of_two before o x m xs (before m x) refl h.0 h.1
 
@@ -117,7 +131,8 @@ is_first : (before : Task → Task → Bool) → IsOrder before → (xs : List T
 is_first before o [] = refl
 is_first before o (x ∷ xs) = first_with before o x xs (first_by before xs) (is_first before o xs)
 
-not_before_at : (before : Task → Task → Bool) (m t : Task) (xs : List Task) (k : ℕ) → NoneBefore before m xs → k < length xs → slice_index_or xs k t ≡ t → before t m ≡ false
+not_before_at : (before : Task → Task → Bool) (m t : Task) (xs : List Task) (k : ℕ)
+    → NoneBefore before m xs → k < length xs → slice_index_or xs k t ≡ t → before t m ≡ false
 not_before_at before m t [] k h l e = absurd (omega (arith, l))
 not_before_at before m t (x ∷ xs) zero h l e = ap (λ s. before s m) (sym e) ∙ h.0
 not_before_at before m t (x ∷ xs) (suc k) h l e = not_before_at before m t xs k h.1 (omega (arith, l)) e
@@ -126,7 +141,9 @@ nothing_in : (xs : List Task) (t : Task) → xs ≡ [] → Contains xs t → ⊥
 nothing_in [] t e c = omega (arith, c.1)
 nothing_in (x ∷ xs) t e c = cc
 
-same_firsts : (before : Task → Task → Bool) → IsOrder before → (xs ys : List Task) → HasDistinctIds xs → HasDistinctIds ys → SameSet xs ys → (m n : Option Task) → IsFirst before xs m → IsFirst before ys n → m ≡ n
+same_firsts : (before : Task → Task → Bool) → IsOrder before → (xs ys : List Task) → HasDistinctIds xs → HasDistinctIds ys
+    → SameSet xs ys → (m n : Option Task) → IsFirst before xs m → IsFirst before ys n
+    → m ≡ n
 same_firsts before o xs ys dx dy s None None h k = refl
 same_firsts before o xs ys dx dy s None (Some n) h k = absurd (nothing_in xs n h (s.1 n k.0))
 same_firsts before o xs ys dx dy s (Some m) None h k = absurd (nothing_in ys m k (s.0 m h.0))
@@ -141,15 +158,20 @@ same_firsts before o xs ys dx dy s (Some m) (Some n) h k =
     sym m_there ∙ ap (λ i. with_id i xs) same_id ∙ n_there
 
 -- the same tasks have the same first
-pub first_by-same : (before : Task → Task → Bool) → IsOrder before → (xs ys : List Task) → HasDistinctIds xs → HasDistinctIds ys → SameSet xs ys → first_by before xs ≡ first_by before ys
-first_by-same before o xs ys dx dy s = same_firsts before o xs ys dx dy s (first_by before xs) (first_by before ys) (is_first before o xs) (is_first before o ys)
+pub first_by-same : (before : Task → Task → Bool) → IsOrder before → (xs ys : List Task) → HasDistinctIds xs
+    → HasDistinctIds ys → SameSet xs ys
+    → first_by before xs ≡ first_by before ys
+first_by-same before o xs ys dx dy s =
+    same_firsts before o xs ys dx dy s (first_by before xs) (first_by before ys) (is_first before o xs) (is_first before o ys)
 
-no_other_before : (before : Task → Task → Bool) (xs : List Task) (o : Option Task) → IsFirst before xs o → IfSome o (λ m. (t : Task) → Contains xs t → before t m ≡ false)
+no_other_before : (before : Task → Task → Bool) (xs : List Task) (o : Option Task)
+    → IsFirst before xs o → IfSome o (λ m. (t : Task) → Contains xs t → before t m ≡ false)
 no_other_before before xs None h = tt
 no_other_before before xs (Some m) h = λ t c. not_before_at before m t xs c.0 h.1 c.1 c.2
 
 -- none comes before the first
-pub first_by-least : (before : Task → Task → Bool) → IsOrder before → (xs : List Task) → IfSome (first_by before xs) (λ m. (t : Task) → Contains xs t → before t m ≡ false)
+pub first_by-least : (before : Task → Task → Bool) → IsOrder before
+    → (xs : List Task) → IfSome (first_by before xs) (λ m. (t : Task) → Contains xs t → before t m ≡ false)
 first_by-least before o xs = no_other_before before xs (first_by before xs) (is_first before o xs)
 
 -- what holds of a value holds of it in other words

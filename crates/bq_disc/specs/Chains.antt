@@ -9,15 +9,16 @@ use Rattle.bq_disc.specs.declared.node.Node.{Node, out-Node, Node', Held-Node-le
 abbrev pub task_of : Node → Task
 task_of n = (out-Node n).entity
 
--- a node that is linked to none
+-- the node is linked to none
 abbrev pub IsLone : Node → Type 0
 IsLone (Node' entity left right due totals height) = (left ≡ None') × (right ≡ None')
 
 abbrev mutual
-  -- the tasks of a node and of those behind its left links
+  -- the tasks of a node and of those that its left links lead to, in order
   pub chain : Node → List Task
   chain (Node' entity left right due totals height) = entity ∷ chain_held left
 
+  -- the tasks of what a left link holds
   pub chain_held : Held-Node-left → List Task
   chain_held None' = []
   chain_held (Some' p n) = chain n
@@ -27,15 +28,17 @@ abbrev mutual
   pub IsStraight : Node → Type 0
   IsStraight (Node' entity left right due totals height) = (right ≡ None') × IsStraightHeld left
 
+  -- what a left link holds has no right link in it
   pub IsStraightHeld : Held-Node-left → Type 0
   IsStraightHeld None' = Unit {0}
   IsStraightHeld (Some' p n) = IsStraight n
 
--- the tasks of the chain behind a link, if there is one; and that none of its nodes has a right link
+-- the tasks of the chain that a link leads to; none if it leads to none
 abbrev pub chain_behind : Option (Box Node Global) → List Task
 chain_behind None = []
 chain_behind (Some b) = chain b.value
 
+-- no node of the chain that a link leads to has a right link
 abbrev pub IsStraightBehind : Option (Box Node Global) → Type 0
 IsStraightBehind None = Unit {0}
 IsStraightBehind (Some b) = IsStraight b.value

@@ -5,17 +5,19 @@ use Rattle.bq_disc.specs.Tasks.{Task, with_id}
 use Rattle.bq_disc.specs.Queues.{can_use}
 use Rattle.bq_disc.specs.declared.movable.Movable.{Movable}
 
+-- the tasks that may use a processor, the greatest (v, id) first
 abbrev pub movable_to : ℕ → List Task → List Task
 movable_to processor xs = reverse (filter (can_use processor) xs)
 
+-- the ids of some tasks
 abbrev pub ids : List Task → List ℕ
 ids xs = map (λ (t : Task). t.id) xs
 
--- whether the task of that id is there and may go to a processor
+-- whether the task with this id is there and may go to a processor
 abbrev pub is_movable_to : ℕ → ℕ → List Task → Bool
 is_movable_to processor id xs = option_map_or (can_use processor) (with_id id xs) false
 
--- what is found once these tasks too were looked at, from the last to the first
+-- one more stretch of the queue, looked at from its last task to its first, takes the tally from `old` to `new`
 pub record Adds (processor : ℕ) (xs : List Task) (old new : Movable) : Type 0 where
   pub count : new.count ≡ old.count + length (movable_to processor xs)
   pub first : new.first.items ≡ take 8 (old.first.items ++ ids (movable_to processor xs))

@@ -12,7 +12,7 @@ pub record Running : Type 0 where
   pub current : Option Task
   pub last : ℕ
 
--- nothing has come yet: the mark begins at 2^32
+-- a processor to which nothing has come yet; its mark begins at 2^32
 abbrev pub at_rest : Running
 at_rest = record { queue = []; kept = 2 ^ 32; current = None; last = 0 }
 
@@ -20,11 +20,11 @@ at_rest = record { queue = []; kept = 2 ^ 32; current = None; last = 0 }
 abbrev pub present_at : Running → List Task
 present_at p = present p.current p.queue
 
--- a reading counts as at most 2^48 - 1, and as no less than the last
+-- what a reading counts as: at most 2^48 - 1, and no less than the last reading
 abbrev pub reading : ℕ → ℕ → ℕ
 reading last now = max last (min now (2 ^ 48 - 1))
 
--- the mark is computed again over those present
+-- the processor with its mark computed again over the tasks present
 abbrev pub marked : Discipline → Running → Running
 marked d p = record p { kept = d.mark p.kept (present_at p) }
 
@@ -34,7 +34,7 @@ charge d p now =
     let at = reading p.last now in
     marked d (record p { last = at; current = option_map (λ t. charged d t (at - p.last)) p.current })
 
--- the task of that id leaves the queue and runs
+-- the task with this id leaves the queue and runs
 abbrev pub run_id : Running → Option ℕ → Running
 run_id p None = p
 run_id p (Some id) = record p { current = with_id id p.queue; queue = without id p.queue }
@@ -43,39 +43,39 @@ run_id p (Some id) = record p { current = with_id id p.queue; queue = without id
 abbrev pub start : Discipline → Running → Running
 start d p = run_id p (id_of (d.choice p.queue))
 
--- the current task goes to the queue, and another one runs in its place; v and deadline stay
+-- the current task goes to the queue, and the new one runs in its place; no v and no deadline changes
 abbrev pub exchanged : Running → Task → Option Task → Running
 exchanged p old None = p
 exchanged p old (Some new) = record p { current = Some new; queue = place old (without new.id p.queue) }
 
--- the current task and the next change places, unless they are the same
+-- the current task and the next one change places, unless they are one and the same
 abbrev pub switched : Discipline → Running → Option Task → Running
 switched d p None = p
 switched d p (Some current) = exchanged p current (with_id (next_of d current p.queue) p.queue)
 
--- Decide: where nothing runs the queue's choice runs; else the answer says whether the current task gives way
+-- Decide: if nothing runs, the queue's choice runs; else `gives_way` says whether the current task gives way
 abbrev pub decided : Discipline → Running → Option Task → Bool → Running
 decided d p None gives_way = start d p
 decided d p (Some current) gives_way = if gives_way then switched d p (Some current) else p
 
--- the discipline's own answer
+-- the discipline's own answer to whether the current task gives way
 abbrev pub own_preempt : Discipline → List Task → Option Task → Bool
 own_preempt d queue None = false
 own_preempt d queue (Some current) = d.wants_preempt current queue
 
--- a queue that woken tasks have entered one after another, at a mark
+-- the queue after woken tasks have entered it one after another, at this mark
 abbrev pub entered : Discipline → ℕ → List Task → List Task → List Task
 entered d kept queue [] = queue
 entered d kept queue (t ∷ tasks) = entered d kept (place (woken d kept t) queue) tasks
 
--- some tasks enter in their order, at the mark that is kept
+-- the processor after some tasks have entered its queue in their order, at the kept mark
 abbrev pub enter_all : Discipline → Running → List Task → Running
 enter_all d p tasks = record p { queue = entered d p.kept p.queue tasks }
 
--- how far a reading makes the clock rise
+-- how far a reading moves the clock forward
 abbrev pub rise : Running → ℕ → ℕ
 rise p now = reading p.last now - p.last
 
--- Tick: the time that has passed is charged, and the discipline's own answer says whether the current task gives way
+-- Tick: the time since the last reading is charged, and the discipline's own answer says whether the current task gives way
 abbrev pub ticked : Discipline → Running → ℕ → Running
 ticked d p now = let c = charge d p now in decided d c c.current (own_preempt d c.queue c.current)

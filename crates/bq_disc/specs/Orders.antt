@@ -7,7 +7,7 @@ use Rattle.bq_disc.specs.Tasks.{Task, first_by, former}
 pub Contains-first : (x : Task) (xs : List Task) → Contains (x ∷ xs) x
 Contains-first x xs = (0, omega arith, refl)
 
--- and what the rest contains
+-- a list contains what its rest contains
 pub Contains-later : (x y : Task) (xs : List Task) → Contains xs y → Contains (x ∷ xs) y
 Contains-later x y xs h = (suc h.0, omega (arith, h.1), h.2)
 
@@ -19,12 +19,12 @@ member_former : (before : Task → Task → Bool) (x : Task) (xs : List Task) (o
 member_former before x xs None h = Contains-first x xs
 member_former before x xs (Some y) h = former_is_one (before y x) x y xs h
 
--- the first is one of the tasks
+-- the first of some tasks is one of them
 pub first_by-member : (before : Task → Task → Bool) (xs : List Task) → IfSome (first_by before xs) (Contains xs)
 first_by-member before [] = tt
 first_by-member before (x ∷ xs) = member_former before x xs (first_by before xs) (first_by-member before xs)
 
--- there is a first where there is a task
+-- there is a first task if there is any task
 pub first_by-exists : (before : Task → Task → Bool) (xs : List Task) → xs ≢ [] → IsSome (first_by before xs)
 first_by-exists before [] h = absurd (h refl)
 first_by-exists before (x ∷ xs) h = refl

@@ -4,11 +4,12 @@ use Rattle.std.specs.Coded.{Coded, code_by, coded×, coded_ℕ, coded_list}
 use Rattle.bq_disc.specs.Masks.{allows}
 use Rattle.bq_disc.specs.Tasks.{Task, coded_task, comes_before, with_id}
 
--- the tasks that wait, and the mark of virtual time that is kept for them
+-- the waiting tasks, and the mark of virtual time that is kept for them
 pub record Queue : Type 0 where
   pub members : List Task
   pub kept : ℕ
 
+-- a queue is stored as the pair of its fields
 abbrev pub coded_queue : Coded Queue
 coded_queue =
     code_by (List Task × ℕ) (coded× (coded_list coded_task) coded_ℕ) (λ q. (q.members, q.kept)) (λ p. record { members = p.0; kept = p.1 }) (λ _. refl)
@@ -23,15 +24,15 @@ abbrev pub HasSmallIds : List Task → Type 0
 HasSmallIds [] = Unit {0}
 HasSmallIds (x ∷ xs) = (x.id < 2 ^ 16) × HasSmallIds xs
 
--- where a task stands in the order
+-- a task's place in the order: its (v, id)
 abbrev pub key_of : Task → ℕ × ℕ
 key_of t = (t.v, t.id)
 
--- the first task that comes after some (v, id)
+-- whether a task comes after (v, id)
 abbrev pub comes_after : ℕ → ℕ → Task → Bool
 comes_after v id t = comes_before v id t.v t.id
 
--- whether a task comes after the one of this (v, id); after none, each does
+-- whether a task comes after `last`; every task does if there is no last one
 abbrev pub follows : Option (ℕ × ℕ) → Task → Bool
 follows None t = true
 follows (Some last) t = comes_after last.0 last.1 t

@@ -4,7 +4,7 @@ use Rattle.std.specs.Option.{option_map}
 use Rattle.std.specs.Coded.{Coded, code_by, coded×, coded_ℕ, coded_ℤ, coded_option}
 
 -- mask is the set of processors that it may use, by bits; slice the time that it asks for; v its virtual runtime;
--- rel how far from the mark it was when it last left; prev the processor at which it last blocked
+-- rel its v less the mark when it last left, at most 2^30 and at least -2^30; prev the processor at which it last blocked
 pub record Task : Type 0 where
   pub id : ℕ
   pub weight : ℕ
@@ -33,15 +33,15 @@ coded_task =
     })
     (λ _. refl)
 
--- the lesser time comes first, and of equal times that of the lesser id
+-- whether the first time is less than the other; of equal times, whether the first id is less
 abbrev pub comes_before : ℕ → ℕ → ℕ → ℕ → Bool
 comes_before time id other_time other_id = nat_lt time other_time || (time == other_time && nat_lt id other_id)
 
--- by least (v, id)
+-- whether task a has the lesser (v, id)
 abbrev pub runs_before : Task → Task → Bool
 runs_before a b = comes_before a.v a.id b.v b.id
 
--- x, unless one that is given comes before it
+-- x, or the other task if there is one and it comes before x
 abbrev pub former : (Task → Task → Bool) → Task → Option Task → Task
 former before x None = x
 former before x (Some y) = if before y x then y else x
@@ -51,14 +51,15 @@ abbrev pub first_by : (Task → Task → Bool) → List Task → Option Task
 first_by before [] = None
 first_by before (x ∷ xs) = Some (former before x (first_by before xs))
 
+-- whether a task has this id
 abbrev pub has_id : ℕ → Task → Bool
 has_id id t = t.id == id
 
--- the task of that id
+-- the task with this id, if there is one
 abbrev pub with_id : ℕ → List Task → Option Task
 with_id id xs = find (has_id id) xs
 
--- the tasks but the one of that id
+-- the tasks without the one that has this id
 abbrev pub without : ℕ → List Task → List Task
 without id [] = []
 without id (x ∷ xs) = if has_id id x then xs else x ∷ without id xs
@@ -68,10 +69,11 @@ abbrev pub place : Task → List Task → List Task
 place t [] = t ∷ []
 place t (x ∷ xs) = if runs_before t x then t ∷ x ∷ xs else x ∷ place t xs
 
--- what is present at a processor: its current task, if any, and its queue
+-- the tasks present at a processor: its current task, if any, and its queue
 abbrev pub present : Option Task → List Task → List Task
 present None queue = queue
 present (Some current) queue = current ∷ queue
 
+-- the id of a task, if there is a task
 abbrev pub id_of : Option Task → Option ℕ
 id_of o = option_map (λ (t : Task). t.id) o

@@ -1,26 +1,26 @@
--- What some tasks have together, and their mean v.
+-- The totals of some tasks, and their mean v.
 use Rattle.std.specs.Prelude.{Bool, ℕ, suc, ◌+◌, ◌*◌, ◌/◌, ◌≤◌, ◌^◌, nat_le, List, [], ◌∷◌, length, Option, Some, None}
 use Rattle.std.specs.List.{AllByRecursion}
 use Rattle.bq_weights.specs.VirtualTime.{IsWeight}
 use Rattle.bq_disc.specs.Tasks.{Task}
 use Rattle.bq_disc.specs.declared.totals.Totals.{Totals}
 
--- the weights of some tasks together
+-- the sum of the weights of some tasks
 abbrev pub total_weight : List Task → ℕ
 total_weight [] = 0
 total_weight (t ∷ xs) = t.weight + total_weight xs
 
--- each v times its weight, together
+-- the sum of each weight times its v
 abbrev pub weighted_sum : List Task → ℕ
 weighted_sum [] = 0
 weighted_sum (t ∷ xs) = t.weight * t.v + weighted_sum xs
 
--- the weighted mean of the v of some tasks
+-- the weighted mean of the v of some tasks; None of no task
 abbrev pub mean_of : List Task → Option ℕ
 mean_of [] = None
 mean_of (x ∷ xs) = Some (weighted_sum (x ∷ xs) / total_weight (x ∷ xs))
 
--- whether a task's v is at most the mean of tasks that have this weight and this weighted sum together
+-- whether a task's v is at most the mean of tasks with this sum of weights and this weighted sum
 abbrev pub is_at_most_mean : ℕ → ℕ → Task → Bool
 is_at_most_mean weight sum t = nat_le (weight * t.v) sum
 
@@ -28,22 +28,23 @@ is_at_most_mean weight sum t = nat_le (weight * t.v) sum
 abbrev pub NoneBelow : ℕ → List Task → Type 0
 NoneBelow m xs = AllByRecursion (λ (t : Task). m ≤ t.v) xs
 
+-- the totals of some tasks
 abbrev pub sums_of : List Task → Totals
 sums_of xs = record { moment = weighted_sum xs; weight = total_weight xs; count = length xs }
 
--- one task more
+-- the totals with one more task
 abbrev pub added : Totals → Task → Totals
 added s t = record { moment = t.weight * t.v + s.moment; weight = t.weight + s.weight; count = suc s.count }
 
--- other tasks more
+-- the totals of two lists of tasks together
 abbrev pub joined : Totals → Totals → Totals
 joined s r = record { moment = s.moment + r.moment; weight = s.weight + r.weight; count = s.count + r.count }
 
--- a task whose weight and v are in their ranges
+-- a task's weight and v are in their ranges
 abbrev pub IsBounded : Task → Type 0
 IsBounded t = IsWeight t.weight × (t.v ≤ 2 ^ 62)
 
--- how large totals are, by how many tasks there are
+-- the bounds of totals, in terms of how many tasks there are
 pub record HasBounds (s : Totals) : Type 0 where
   pub weight_low : 15 * s.count ≤ s.weight
   pub weight_high : s.weight ≤ 88761 * s.count

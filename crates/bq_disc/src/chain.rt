@@ -13,7 +13,7 @@ use crate::node::{Link, behind};
 use crate::{Deadline, Movable, Node, Timeline, Totals};
 use std::marker::Model;
 
-/// Nodes in their order, each linked to the next.
+/// Nodes in their order. Each is linked to the next.
 #[derive(Drop)]
 pub struct Chain {
     head: Link,
@@ -51,7 +51,7 @@ impl Timeline for Chain {
     }
 
     fn insert(&mut self, node: Box<Node>) {
-        // To ask for the id brings to the proof that it is below 2^16.
+        // Reading the id brings into the proof that it is below 2^16.
         let _small = node.entity.id();
         insert_behind(&mut self.head, node);
         self.len += 1;
@@ -116,7 +116,7 @@ pub(crate) fn insert_behind(link: &mut Link, mut node: Box<Node>)
     }
 }
 
-/// Takes the node of that id out of a chain.
+/// Takes the node with this id out of a chain.
 pub(crate) fn take_behind(link: &mut Link, id: u16) -> Link
     requires straight { IsStraightBehind link.old }
     ensures taken { option_map (λ b. task_of b.value) result ≡ with_id id (chain_behind link.old) }
@@ -135,7 +135,7 @@ pub(crate) fn take_behind(link: &mut Link, id: u16) -> Link
     }
 }
 
-/// The task of that id in a chain.
+/// The node with this id in a chain.
 pub(crate) fn get_behind(link: &Link, id: u16) -> Option<&Node>
     ensures { option_map (λ n. task_of n.now) result ≡ with_id id (chain_behind link.now) }
 {
@@ -149,7 +149,7 @@ pub(crate) fn get_behind(link: &Link, id: u16) -> Option<&Node>
     None
 }
 
-/// The first task of a chain after some (v, id).
+/// The first node of a chain whose task comes after (v, id).
 pub(crate) fn after_behind(link: &Link, v: u64, id: u16) -> Option<&Node>
     ensures { option_map (λ n. task_of n.now) result ≡ find (comes_after v id) (chain_behind link.now) }
 {
@@ -163,7 +163,7 @@ pub(crate) fn after_behind(link: &Link, v: u64, id: u16) -> Option<&Node>
     None
 }
 
-/// The first task of a chain.
+/// The first node of a chain.
 pub(crate) fn front(link: &Link) -> Option<&Node>
     ensures { option_map (λ n. task_of n.now) result ≡ find (follows None) (chain_behind link.now) }
 {
@@ -173,7 +173,7 @@ pub(crate) fn front(link: &Link) -> Option<&Node>
     }
 }
 
-/// What the tasks of a chain have together.
+/// The totals of a chain's tasks.
 fn totals_behind(chain: &Link) -> Totals
     requires { length (chain_behind chain.now) ≤ 2 ^ 16 }
     ensures sums { result ≡ sums_of (chain_behind chain.now) }
@@ -187,7 +187,7 @@ fn totals_behind(chain: &Link) -> Totals
     totals
 }
 
-/// When the first is due of a chain's tasks that are at most a mean.
+/// The earliest virtual deadline of the chain's tasks with `weight * v <= moment`.
 fn earliest_behind(chain: &Link, weight: u64, moment: u128) -> Option<Deadline>
     ensures { result ≡ first_due (filter (is_at_most_mean weight moment) (chain_behind chain.now)) }
 {

@@ -10,7 +10,7 @@ ghost use Rattle.bq_disc.specs.Pulls.{pull_of};
 use crate::limits::PROCESSORS;
 use crate::{Node, Timeline};
 
-/// A task is pulled where the other processor has this many more at least.
+/// A processor pulls a task only if the other one has at least this many more.
 const WORTH_A_PULL: usize = 2;
 
 /// A discipline, with its choices over any timeline.
@@ -18,22 +18,23 @@ pub trait Discipline {
     /// The discipline's definitions.
     ghost discipline: { Discipline };
 
-    /// Who should run, of a timeline's tasks and of one more.
+    /// The id of the task that should run, of a timeline's tasks and the current task.
     fn choice<T: Timeline>(current: Option<&Node>, queue: &T) -> Option<u16>
         ensures { result ≡ id_of (discipline.choice (present (option_map (λ n. task_of n.now) current.entry) (T.tasks queue.now))) };
 
-    /// Whether a timeline's tasks should take the place of the current one.
+    /// Whether a task of the timeline should take the place of the current one.
     fn wants_preempt<T: Timeline>(current: &Node, queue: &T) -> bool
         ensures { result ≡ discipline.wants_preempt (task_of current.now) (T.tasks queue.now) };
 
-    /// The mark, of the old one and of what is present.
+    /// The new mark, from the old one, the current task and the timeline's tasks.
     fn mark<T: Timeline>(old: u64, current: Option<&Node>, queue: &T) -> u64
         requires { old ≤ 2 ^ 62 }
         ensures value { result ≡ discipline.mark old (present (option_map (λ n. task_of n.now) current.entry) (T.tasks queue.now)) }
         ensures high { result ≤ 2 ^ 62 };
 
-    /// The task that an emptier processor takes from a timeline, the queue of another. `size` tasks run or wait there, and
-    /// `from` here: where these are two more at least, it is the movable task of greatest (v, id).
+    /// The task that an emptier processor takes from a timeline, the queue of another. `size` tasks run or wait at the
+    /// puller and `from` at the other processor. If `from` is at least two more, this is the movable task of greatest
+    /// (v, id); else no task is pulled.
     fn pull<T: Timeline>(processor: u8, size: usize, from: usize, queue: &T) -> Option<u16>
         requires processor { processor < PROCESSORS }
         ensures { result ≡ id_of (pull_of processor size from (T.tasks queue.now)) }
@@ -45,7 +46,7 @@ pub trait Discipline {
         found.first.first().copied()
     }
 
-    /// The v at which a woken task enters.
+    /// The v at which a woken task enters, from the mark and the task's rel, slice and weight.
     fn wake(mark: u64, rel: i64, slice: u64, weight: u32) -> u64
         requires mark { mark ≤ 2 ^ 62 }
         requires slice { slice < 2 ^ 48 }
@@ -53,14 +54,14 @@ pub trait Discipline {
         ensures value { result ≡ discipline.wake mark rel slice weight }
         ensures high { result ≤ 2 ^ 62 };
 
-    /// The deadline of a task that enters.
+    /// The deadline of a task that enters at `v`.
     fn deadline(v: u64, slice: u64, weight: u32) -> u64
         requires slice { slice < 2 ^ 48 }
         requires weight { IsWeight weight }
         ensures value { result ≡ discipline.deadline v slice weight }
         ensures high { result ≤ 2 ^ 62 };
 
-    /// The deadline of a task that has run.
+    /// The deadline of a task that has run and is at `v` now; `deadline` is the one before.
     fn renewed(v: u64, slice: u64, weight: u32, deadline: u64) -> u64
         requires slice { slice < 2 ^ 48 }
         requires weight { IsWeight weight }

@@ -2,7 +2,7 @@
 ghost use Rattle.std.specs.Prelude.{◌≡◌, Option, Some, None};
 ghost use Rattle.bq_disc.specs.Dues.{is_earlier, earlier_of, earliest_of};
 
-/// A virtual deadline, and the id of the task that it is set for. Of equal deadlines that of the lesser id comes first.
+/// A virtual deadline, and the id of its task. Of two equal deadlines, the one with the lesser id comes first.
 #[derive(Clone, Copy)]
 pub struct Deadline {
     pub deadline: u64,
@@ -10,21 +10,21 @@ pub struct Deadline {
 }
 
 impl Deadline {
-    /// Whether it comes before another.
+    /// Whether this deadline comes before another.
     pub fn is_before(&self, other: &Deadline) -> bool
         ensures { result ≡ is_earlier self.now other.now }
     {
         self.deadline < other.deadline || (self.deadline == other.deadline && self.id < other.id)
     }
 
-    /// The earlier of two.
+    /// The earlier of two deadlines.
     pub fn earlier(self, other: Deadline) -> Deadline
         ensures { result ≡ earlier_of self other }
     {
         if other.is_before(&self) { other } else { self }
     }
 
-    /// The earlier of this one and of another that may be there.
+    /// The earlier of this deadline and another one, if there is another.
     pub fn earliest(self, other: Option<Deadline>) -> Deadline
         ensures { result ≡ earliest_of self other }
     {

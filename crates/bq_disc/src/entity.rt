@@ -62,14 +62,14 @@ impl Entity {
         }
     }
 
-    /// The number by which it is known.
+    /// The task's id.
     pub fn id(&self) -> u16
         ensures { result ≡ self.now.id }
     {
         self.id
     }
 
-    /// Its weight, from 15 to 88,761: its share of a processor beside the others'.
+    /// Its weight, from 15 to 88,761. Tasks share a processor in proportion to their weights.
     pub fn weight(&self) -> u32
         ensures value { result ≡ self.now.weight }
         ensures range { IsWeight result }
@@ -77,14 +77,14 @@ impl Entity {
         self.weight
     }
 
-    /// The processors that it may use, by bits.
+    /// The processors that it may use: bit k is processor k.
     pub fn mask(&self) -> u64
         ensures { result ≡ self.now.mask }
     {
         self.mask
     }
 
-    /// The time that it asks for at once, from 100,000 to 100,000,000 nanoseconds.
+    /// The time that it asks for at once: its slice, from 100,000 to 100,000,000 nanoseconds.
     pub fn slice(&self) -> u64
         ensures value { result ≡ self.now.slice }
         ensures low { LEAST_SLICE ≤ result }
@@ -109,7 +109,7 @@ impl Entity {
         self.deadline
     }
 
-    /// How far its v was above the mark when it last left; below 0 where it was behind.
+    /// Its v less the mark when it last left: below 0 if it was behind the mark.
     pub fn rel(&self) -> i64
         ensures { result ≡ self.now.rel }
     {
@@ -140,7 +140,7 @@ impl Entity {
         self.rel = rel;
     }
 
-    /// Writes down the processor that it leaves.
+    /// Records the processor that it leaves.
     pub fn set_prev(&mut self, prev: u8)
         ensures { self.new ≡ record self.old { prev = Some prev } }
     {
@@ -155,7 +155,7 @@ impl Entity {
         allows(self.mask, processor)
     }
 
-    /// Where it stands in the order: its (v, id).
+    /// Its place in the order: its (v, id).
     pub fn key(&self) -> (u64, u16)
         ensures value { result ≡ key_of self.now }
         ensures high { result.0 ≤ 2 ^ 62 }
@@ -178,7 +178,7 @@ impl Entity {
         u128::from(weight) * u128::from(self.v) <= moment
     }
 
-    /// When it is due.
+    /// Its virtual deadline, with its id.
     pub fn due(&self) -> Deadline
         ensures { result ≡ due_of self.now }
     {

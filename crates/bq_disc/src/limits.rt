@@ -1,6 +1,6 @@
-//! How many processors and tasks there may be, how long slices, and where virtual time begins.
+//! Limits: the most processors and tasks, the lengths of slices, and the beginning of virtual time.
 
-/// How many processors there may be: numbers are 0 to 63, the bits of a mask.
+/// The most processors that there may be. Their numbers are 0 to 63, the bits of a mask.
 pub const PROCESSORS: u8 = 64;
 
 /// A text with the numbers of processors in it.
@@ -11,10 +11,10 @@ macro_rules! with_processors {
     };
 }
 
-/// The number of the last of this many processors.
+/// The greatest processor number: processors are numbered from 0 to this.
 pub const LAST_PROCESSOR: u8 = PROCESSORS - 1;
 
-/// How many tasks there may be: ids are 0 to 1023.
+/// The most tasks that there may be. Their ids are 0 to 1023.
 pub const TASKS: u16 = 1024;
 
 /// The shortest slice that a task may ask for, in nanoseconds.
@@ -34,5 +34,5 @@ macro_rules! with_slices {
 /// The slice of a task that asks for none of its own, in nanoseconds.
 pub const DEFAULT_SLICE: u64 = 3_000_000;
 
-/// Where virtual time begins: the mark of a queue that no task was in.
+/// Where virtual time begins: the mark of a queue that has had no task yet.
 pub const FIRST_MARK: u64 = 1 << 32;

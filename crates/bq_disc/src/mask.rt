@@ -4,7 +4,7 @@ ghost use Rattle.bq_disc.specs.Masks.{allows};
 
 use crate::limits::PROCESSORS;
 
-/// Whether a mask has this processor. None has a number that is no processor's.
+/// Whether a mask has this processor. No mask has a processor with a number of 64 or more.
 pub fn allows(mask: u64, processor: u8) -> bool
     ensures { result ≡ allows mask processor }
 {

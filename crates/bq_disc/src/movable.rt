@@ -7,7 +7,7 @@ use crate::Entity;
 use crate::limits::PROCESSORS;
 use arrayvec::ArrayVec;
 
-/// How many may go, and the ids of the first of them, the greatest (v, id) first.
+/// How many tasks may go, and the ids of the first eight of them, the greatest (v, id) first.
 #[derive(Drop)]
 pub struct Movable {
     pub count: u32,
@@ -15,7 +15,7 @@ pub struct Movable {
 }
 
 impl Movable {
-    /// Nothing was looked at yet.
+    /// What is found before any task is looked at: nothing.
     pub fn new() -> Movable
         ensures count { result.count ≡ 0 }
         ensures first { result.first.items ≡ [] }
@@ -26,7 +26,7 @@ impl Movable {
         }
     }
 
-    /// Looks at one more task.
+    /// Looks at one more task, and adds it if it may use the processor.
     pub fn add(&mut self, entity: &Entity, processor: u8)
         requires processor { processor < PROCESSORS }
         requires few { self.old.count < 2 ^ 20 }

@@ -7,13 +7,13 @@ ghost use Rattle.bq_disc.specs.Chains.{task_of, IsLone, chain, chain_behind, IsS
 
 use crate::{Deadline, Entity, Totals};
 
-/// A way to another node, or to none.
+/// A link to another node, or to none.
 pub type Link = Option<Box<Node>>;
 
 /// A task with the links by which a queue holds it, at most one queue at a time.
 ///
-/// A tree also keeps the height in it and, if it keeps sums, when the first task is due of all that hang from it and what
-/// they have together; elsewhere these three say nothing.
+/// A tree also keeps in each node the height there. A tree that keeps sums keeps two more figures of all tasks that hang
+/// from the node: the earliest deadline, and their totals. Elsewhere these three fields mean nothing.
 #[derive(Drop)]
 pub struct Node {
     pub entity: Entity,
@@ -45,7 +45,7 @@ impl Node {
     }
 }
 
-/// The chain behind a node.
+/// The chain that follows a node.
 pub fn behind(node: &Node) -> &Link
     ensures { chain node.now ≡ task_of node.now ∷ chain_behind result.now }
 {

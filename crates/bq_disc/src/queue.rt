@@ -38,7 +38,7 @@ pub trait RunQueue {
     /// The tasks, by rising (v, id).
     ghost members: { Self → List Task };
 
-    /// The mark that was computed last.
+    /// The mark as it was last computed.
     ghost kept_mark: { Self → ℕ };
 
     /// A queue without tasks, its mark at 2^32.
@@ -46,18 +46,18 @@ pub trait RunQueue {
         ensures members { members result ≡ [] }
         ensures mark { kept_mark result ≡ 2 ^ 32 };
 
-    /// How many tasks are there.
+    /// Answers how many tasks are in the queue.
     fn len(&self) -> usize
         ensures { result ≡ length (members self.now) };
 
-    /// Inserts a task as it is. No task of its id may be there.
+    /// Inserts a task as it is. The queue must have no task with its id.
     fn insert(&mut self, node: Box<Node>)
         requires lone { IsLone node.value }
         requires fresh { with_id (task_of node.value).id (members self.old) ≡ None }
         ensures members { members self.new ≡ place (task_of node.value) (members self.old) }
         ensures mark { kept_mark self.new ≡ kept_mark self.old };
 
-    /// Removes the task of an id, if it is there.
+    /// Removes the task with this id, if it is there.
     fn take(&mut self, id: u16) -> Option<Box<Node>>
         ensures taken { option_map (λ b. task_of b.value) result ≡ with_id id (members self.old) }
         ensures lone { IfSome result (λ b. IsLone b.value) }
@@ -65,12 +65,12 @@ pub trait RunQueue {
         ensures gone { with_id id (members self.new) ≡ None }
         ensures mark { kept_mark self.new ≡ kept_mark self.old };
 
-    /// The task of an id, if it is there.
+    /// The task with this id, if it is there.
     fn get(&self, id: u16) -> Option<&Node>
         ensures task { option_map (λ n. task_of n.now) result ≡ with_id id (members self.now) }
         ensures small { HasSmallIds (members self.now) };
 
-    /// The task of least (v, id) above the one given; of none, the task of least (v, id).
+    /// The task of least (v, id) above `last`; the task of least (v, id) of all if there is no `last`.
     fn after(&self, last: Option<(u64, u16)>) -> Option<&Node>
         ensures task { option_map (λ n. task_of n.now) result ≡ find (follows last) (members self.now) }
         ensures rising { IsRising (members self.now) }
@@ -84,7 +84,7 @@ pub trait RunQueue {
         ensures first { result.first.items ≡ take 8 (ids (movable_to processor (members self.now))) }
         ensures rising { IsRising (members self.now) };
 
-    /// Whether the task of that id is there and may go to a processor.
+    /// Whether the task with this id is there and may go to a processor.
     fn is_movable(&self, id: u16, processor: u8) -> bool
         requires { processor < PROCESSORS }
         ensures value { result ≡ is_movable_to processor id (members self.now) }
@@ -96,8 +96,8 @@ pub trait RunQueue {
         }
     }
 
-    /// The task that an emptier processor takes from this queue if no policy chooses. `size` tasks run or wait there, and `from`
-    /// here, the running one included.
+    /// The task that an emptier processor takes from this queue if no policy chooses. `size` tasks run or wait at the puller
+    /// and `from` at this queue's processor, the running one included.
     fn own_pull(&self, processor: u8, size: usize, from: usize) -> Option<u16>
         requires processor { processor < PROCESSORS }
         ensures { result ≡ id_of (pull_of processor size from (members self.now)) };
@@ -110,7 +110,7 @@ pub trait RunQueue {
     fn wants_preempt(&self, current: &Node) -> bool
         ensures { result ≡ Self.R.discipline.wants_preempt (task_of current.now) (members self.now) };
 
-    /// The task that the current one gives way to; None if that is the current task itself.
+    /// The task that the current one gives way to; None if the current task runs on.
     fn next(&self, current: &Node) -> Option<u16>
         ensures { result ≡ next_other Self.R.discipline (task_of current.now) (members self.now) }
     {
@@ -127,7 +127,7 @@ pub trait RunQueue {
         ensures kept { kept_mark self.new ≡ result }
         ensures members { members self.new ≡ members self.old };
 
-    /// The mark that was computed last.
+    /// The mark as it was last computed.
     fn kept(&self) -> u64
         ensures value { result ≡ kept_mark self.now }
         ensures high { result ≤ 2 ^ 62 };
@@ -144,7 +144,7 @@ pub trait RunQueue {
         entity.set_times(v, deadline);
     }
 
-    /// Gives a task its v and deadline as it enters, by the mark that is kept.
+    /// Gives a task its v and deadline as it enters, by the kept mark.
     fn enter(&self, node: &mut Node, entry: Entry)
         ensures task { task_of node.new ≡ entered_by Self.R.discipline (kept_mark self.now) entry (task_of node.old) }
         ensures lone { IsLone node.old → IsLone node.new }
@@ -163,7 +163,7 @@ pub trait RunQueue {
         entity.set_times(v, deadline);
     }
 
-    /// Keeps in a task that leaves its distance from the mark that is kept.
+    /// Records the distance of a task that leaves from the kept mark.
     fn leave(&self, node: &mut Node)
         ensures task { task_of node.new ≡ left_at (kept_mark self.now) (task_of node.old) }
         ensures lone { IsLone node.old → IsLone node.new }

@@ -6,7 +6,7 @@ use crate::limits::FIRST_MARK;
 use crate::{Chain, Discipline, Movable, Node, RunQueue, Timeline};
 use std::marker::{Model, PhantomData};
 
-/// A timeline with the mark that a rule keeps for it.
+/// A timeline under a rule, with its mark.
 #[derive(Drop)]
 pub struct RuledQueue<T: Timeline, R: Discipline> {
     tasks: T,
@@ -14,7 +14,7 @@ pub struct RuledQueue<T: Timeline, R: Discipline> {
     rule: PhantomData<R>,
 }
 
-/// The plain queue, a list of boxes, under any rule.
+/// The plain queue under any rule: a list of boxes.
 pub type List<R> = RuledQueue<Chain, R>;
 
 impl<T: Timeline, R: Discipline> Model for RuledQueue<T, R> {

@@ -14,16 +14,16 @@ use crate::{Deadline, Movable, Node, Totals};
 
 /// Tasks with distinct ids, by rising (v, id). No call takes memory: nodes move.
 ///
-/// The plain one is `Chain`; a balanced tree answers the same, faster.
+/// The plain timeline is `Chain`; a balanced tree answers as it does, but faster.
 pub trait Timeline {
     /// The tasks in their order.
     ghost tasks: { Self → List Task };
 
-    /// One without tasks.
+    /// A timeline without tasks.
     fn empty() -> Self
         ensures { tasks result ≡ [] };
 
-    /// How many tasks are there.
+    /// Answers how many tasks are in the timeline.
     fn len(&self) -> usize
         ensures { result ≡ length (tasks self.now) };
 
@@ -33,19 +33,19 @@ pub trait Timeline {
         requires fresh { with_id (task_of node.value).id (tasks self.old) ≡ None }
         ensures { tasks self.new ≡ place (task_of node.value) (tasks self.old) };
 
-    /// Takes out the task of an id, if it is there.
+    /// Takes out the task with this id, if it is there.
     fn take(&mut self, id: u16) -> Option<Box<Node>>
         ensures taken { option_map (λ b. task_of b.value) result ≡ with_id id (tasks self.old) }
         ensures lone { IfSome result (λ b. IsLone b.value) }
         ensures rest { tasks self.new ≡ without id (tasks self.old) }
         ensures gone { with_id id (tasks self.new) ≡ None };
 
-    /// The task of an id, if it is there.
+    /// The task with this id, if it is there.
     fn get(&self, id: u16) -> Option<&Node>
         ensures task { option_map (λ n. task_of n.now) result ≡ with_id id (tasks self.now) }
         ensures small { HasSmallIds (tasks self.now) };
 
-    /// The task of least (v, id) above the one given; of none, the task of least (v, id).
+    /// The task of least (v, id) above `last`; the task of least (v, id) of all if there is no `last`.
     fn after(&self, last: Option<(u64, u16)>) -> Option<&Node>
         ensures task { option_map (λ n. task_of n.now) result ≡ find (follows last) (tasks self.now) }
         ensures rising { IsRising (tasks self.now) }
@@ -59,18 +59,18 @@ pub trait Timeline {
         ensures first { result.first.items ≡ take 8 (ids (movable_to processor (tasks self.now))) }
         ensures rising { IsRising (tasks self.now) };
 
-    /// The (v, id) of the task of least (v, id).
+    /// The least (v, id) of the tasks.
     fn least(&self) -> Option<(u64, u16)>
         ensures key { result ≡ option_map key_of (first_by runs_before (tasks self.now)) }
         ensures high { IfSome result (λ key. key.0 ≤ 2 ^ 62) };
 
-    /// What the tasks have together.
+    /// The totals of the tasks.
     fn totals(&self) -> Totals
         ensures sums { result ≡ sums_of (tasks self.now) }
         ensures bounds { HasBounds result }
         ensures few { result.count ≤ 2 ^ 16 };
 
-    /// When the first is due of the tasks whose v is at most a mean: of those with `weight * v <= moment`.
+    /// The earliest virtual deadline of the tasks whose v is at most a mean: of those with `weight * v <= moment`.
     fn earliest_at_most_mean(&self, weight: u64, moment: u128) -> Option<Deadline>
         ensures { result ≡ first_due (filter (is_at_most_mean weight moment) (tasks self.now)) };
 }

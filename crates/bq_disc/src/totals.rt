@@ -1,13 +1,13 @@
-//! What some tasks have together.
+//! The totals of some tasks: their number, their weights, and their mean v.
 ghost use Rattle.std.specs.Prelude.{◌≡◌, ◌≤◌, ◌<◌, ◌*◌, ◌^◌, List, [], IfSome};
 ghost use Rattle.bq_disc.specs.Tasks.{Task};
 ghost use Rattle.bq_disc.specs.Totals.{HasBounds, sums_of, added, joined, mean_of, IsBounded};
 
 use crate::Entity;
 
-/// How many tasks there are, their weights together, and each weight times its v together.
+/// How many tasks there are, the sum of their weights, and the sum of each weight times its v.
 ///
-/// A queue adds up as it changes, so that their mean v, `moment / weight`, is available at any time.
+/// A queue updates its totals as it changes. So the mean v of its tasks, `moment / weight`, is available at any time.
 #[derive(Clone, Copy)]
 pub struct Totals {
     pub moment: u128,
@@ -16,7 +16,7 @@ pub struct Totals {
 }
 
 impl Totals {
-    /// Those of no task.
+    /// The totals of no task.
     pub fn none() -> Totals
         ensures sums { result ≡ sums_of [] }
         ensures bounds { HasBounds result }
@@ -42,7 +42,7 @@ impl Totals {
         self.count += 1;
     }
 
-    /// No longer counts a task that it counted.
+    /// Takes away a task that was counted before.
     pub fn remove(&mut self, entity: &Entity)
         requires count { 1 ≤ self.old.count }
         requires weight { entity.now.weight ≤ self.old.weight }
@@ -55,7 +55,7 @@ impl Totals {
         self.count -= 1;
     }
 
-    /// Those of these tasks and of others.
+    /// The totals of these tasks and of others together.
     pub fn join(&self, other: &Totals) -> Totals
         requires few { self.now.count ≤ 2 ^ 17 }
         requires others { other.now.count ≤ 2 ^ 17 }
@@ -71,7 +71,7 @@ impl Totals {
         }
     }
 
-    /// Their mean v, each weighted by its weight, rounded down; none of no task.
+    /// The mean v of the tasks, each weighted by its weight, rounded down; None if there is no task.
     pub fn mean(&self) -> Option<u64>
         requires { HasBounds self.now }
         ensures value { (xs : List Task) → self.now ≡ sums_of xs → result ≡ mean_of xs }

@@ -9,8 +9,9 @@ unfolding marks_text
 marks_none s step top edge text = sym (append-nil text)
 
 -- one more
-pub marks_more : (s : Setting) (step top edge number at : ℕ) (old now next : List ℕ) → at ≡ line_at s.extent step number
-    → now ≡ old ++ marks_text s step top edge number → next ≡ now ++ mark_if s top edge at → next ≡ old ++ marks_text s step top edge (number + 1)
+pub marks_more : (s : Setting) (step top edge number at : ℕ) (old now next : List ℕ)
+    → at ≡ line_at s.extent step number → now ≡ old ++ marks_text s step top edge number → next ≡ now ++ mark_if s top edge at
+    → next ≡ old ++ marks_text s step top edge (number + 1)
 unfolding marks_text
 marks_more s step top edge number at old now next is e1 e2 =
     let before = marks_text s step top edge number in

@@ -40,6 +40,7 @@ shown_next drawn tasks i d whole now next there e is =
     ∙ sym (at_drop_more (λ (l : List ℕ). now ++ tasks_shown l drawn) tasks i d there) ∙ is
 
 -- all of them
-pub shown_end : (drawn tasks : List ℕ) (i : ℕ) (whole now : List ℕ) → drop i tasks ≡ [] → now ++ tasks_shown (drop i tasks) drawn ≡ whole → now ≡ whole
+pub shown_end : (drawn tasks : List ℕ) (i : ℕ) (whole now : List ℕ)
+    → drop i tasks ≡ [] → now ++ tasks_shown (drop i tasks) drawn ≡ whole → now ≡ whole
 shown_end drawn tasks i whole now none is =
     sym (append-nil now) ∙ sym (ap (λ (l : List ℕ). now ++ tasks_shown l drawn) none) ∙ is

@@ -23,9 +23,11 @@ use Rattle.bq_drawing.specs.Runs.{run_on}
 use Rattle.bq_drawing.specs.Perfetto.{IsPerfettoOf, IsPerfettoRunner, IsPerfettoTail, ShowsChange, left_run, past_reading, past_start, past_stop, past_wake, perfetto_ends_if, perfetto_migration, perfetto_overruled, perfetto_pull, perfetto_reading, perfetto_run, perfetto_wake}
 
 -- the two tracks of a processor
-pub tracks_written : (processor runs events : ℕ) (name other old now new : List ℕ) → runs ≡ processor → events ≡ 64
-    → name ≡ codes "cpu " ++ decimal runs → other ≡ codes "cpu " ++ (decimal runs ++ codes " events")
-    → now ≡ old ++ track_text runs name (runs * 2) → new ≡ now ++ track_text (events + runs) other (runs * 2 + 1) → new ≡ old ++ tracks_text processor
+pub tracks_written : (processor runs events : ℕ) (name other old now new : List ℕ)
+    → runs ≡ processor → events ≡ 64 → name ≡ codes "cpu " ++ decimal runs
+    → other ≡ codes "cpu " ++ (decimal runs ++ codes " events") → now ≡ old ++ track_text runs name (runs * 2)
+    → new ≡ now ++ track_text (events + runs) other (runs * 2 + 1)
+    → new ≡ old ++ tracks_text processor
 tracks_written processor runs events name other old now new is is_64 n o e1 e2 =
     let first = codes "cpu " ++ decimal runs in
     let second = codes "cpu " ++ (decimal runs ++ codes " events") in
@@ -42,30 +44,40 @@ same_mark kind name name' track track' at args args' n t a =
     ap (λ m. mark_text kind m track at args) n ∙ ap (λ k. mark_text kind name' k at args) t ∙ ap (λ b. mark_text kind name' track' at b) a
 
 -- a wake that is there, and the beginning of its arrow
-pub wake_written : (names : NamedTasks) (arrow : ℕ) (given : Option Wake) (k : Wake) (track : ℕ) (name args old now new : List ℕ) → given ≡ Some k
-    → name ≡ act_name names (codes "wake") k.task → args ≡ task_args k.task (codes "to") k.to → track ≡ event_track k.from
-    → now ≡ old ++ mark_text (codes "wake") name track k.at args → new ≡ now ++ beginning_text (codes "wake") arrow track k.at
+pub wake_written : (names : NamedTasks) (arrow : ℕ) (given : Option Wake) (k : Wake) (track : ℕ)
+    (name args old now new : List ℕ)
+    → given ≡ Some k → name ≡ act_name names (codes "wake") k.task → args ≡ task_args k.task (codes "to") k.to
+    → track ≡ event_track k.from → now ≡ old ++ mark_text (codes "wake") name track k.at args
+    → new ≡ now ++ beginning_text (codes "wake") arrow track k.at
     → new ≡ old ++ perfetto_wake names arrow given
 wake_written names arrow given k track name args old now new is n a t e1 e2 =
     let mark = mark_text (codes "wake") name track k.at args in
-    let told = mark_text (codes "wake") (act_name names (codes "wake") k.task) (event_track k.from) k.at (task_args k.task (codes "to") k.to) in
-    e2 ∙ ap (λ x. x ++ beginning_text (codes "wake") arrow track k.at) e1 ∙ append_assoc old mark (beginning_text (codes "wake") arrow track k.at)
+    let reported =
+    mark_text (codes "wake") (act_name names (codes "wake") k.task) (event_track k.from) k.at
+    (task_args k.task (codes "to") k.to) in
+    e2 ∙ ap (λ x. x ++ beginning_text (codes "wake") arrow track k.at) e1
+    ∙ append_assoc old mark (beginning_text (codes "wake") arrow track k.at)
     ∙ ap (λ x. old ++ (x ++ beginning_text (codes "wake") arrow track k.at))
-    (same_mark (codes "wake") name (act_name names (codes "wake") k.task) track (event_track k.from) k.at args (task_args k.task (codes "to") k.to) n t a)
-    ∙ ap (λ x. old ++ (told ++ beginning_text (codes "wake") arrow x k.at)) t ∙ ap (λ x. old ++ perfetto_wake names arrow x) (sym is)
+    (same_mark (codes "wake") name (act_name names (codes "wake") k.task) track (event_track k.from) k.at args
+    (task_args k.task (codes "to") k.to) n t a)
+    ∙ ap (λ x. old ++ (reported ++ beginning_text (codes "wake") arrow x k.at)) t
+    ∙ ap (λ x. old ++ perfetto_wake names arrow x) (sym is)
 
 -- a pull that is there
-pub pull_written : (names : NamedTasks) (given : Option PulledTask) (p : PulledTask) (track : ℕ) (name args old new : List ℕ) → given ≡ Some p
-    → name ≡ act_name names (codes "pull") p.task → args ≡ task_args p.task (codes "from") p.from → track ≡ event_track p.to
-    → new ≡ old ++ mark_text (codes "pull") name track p.at args → new ≡ old ++ perfetto_pull names given
+pub pull_written : (names : NamedTasks) (given : Option PulledTask) (p : PulledTask) (track : ℕ) (name args old new : List ℕ)
+    → given ≡ Some p → name ≡ act_name names (codes "pull") p.task → args ≡ task_args p.task (codes "from") p.from
+    → track ≡ event_track p.to → new ≡ old ++ mark_text (codes "pull") name track p.at args
+    → new ≡ old ++ perfetto_pull names given
 pull_written names given p track name args old new is n a t e =
-    e ∙ ap (λ x. old ++ x)
-    (same_mark (codes "pull") name (act_name names (codes "pull") p.task) track (event_track p.to) p.at args (task_args p.task (codes "from") p.from) n t a)
+    e ∙ ap (λ x. old ++ x) (same_mark (codes "pull") name (act_name names (codes "pull") p.task) track
+    (event_track p.to) p.at args (task_args p.task (codes "from") p.from) n t a)
     ∙ ap (λ x. old ++ perfetto_pull names x) (sym is)
 
 -- the beginning of a migration's arrow
-pub migration_written : (arrow : ℕ) (given : Option Slice) (run : Slice) (track at : ℕ) (old new : List ℕ) → given ≡ Some run → track ≡ run.processor
-    → at ≡ run.to - 1 → new ≡ old ++ beginning_text (codes "migration") arrow track at → new ≡ old ++ perfetto_migration arrow given
+pub migration_written : (arrow : ℕ) (given : Option Slice) (run : Slice) (track at : ℕ) (old new : List ℕ)
+    → given ≡ Some run → track ≡ run.processor → at ≡ run.to - 1
+    → new ≡ old ++ beginning_text (codes "migration") arrow track at
+    → new ≡ old ++ perfetto_migration arrow given
 migration_written arrow given run track at old new is t a e =
     e ∙ ap (λ x. old ++ beginning_text (codes "migration") arrow x at) t
     ∙ ap (λ x. old ++ beginning_text (codes "migration") arrow run.processor x) a ∙ ap (λ x. old ++ perfetto_migration arrow x) (sym is)
@@ -82,8 +94,9 @@ run_written names s h given part start run name args old now new is_start is_run
     ∙ ap (λ x. old ++ perfetto_run names s h (Some start) x) (sym is_run) ∙ ap (λ x. old ++ perfetto_run names s h x part) (sym is_start)
 
 -- one more processor's tracks
-pub tracks_more : (number processor : ℕ) (old now next : List ℕ) → processor ≡ number → Adds (AreParts (λ p own. own ≡ tracks_text p) number) old now
-    → next ≡ now ++ tracks_text processor → Adds (AreParts (λ p own. own ≡ tracks_text p) (number + 1)) old next
+pub tracks_more : (number processor : ℕ) (old now next : List ℕ)
+    → processor ≡ number → Adds (AreParts (λ p own. own ≡ tracks_text p) number) old now → next ≡ now ++ tracks_text processor
+    → Adds (AreParts (λ p own. own ≡ tracks_text p) (number + 1)) old next
 tracks_more number processor old now next is before e =
     lines_more (λ p own. own ≡ tracks_text p) number old now next before (tracks_text number, refl, e ∙ ap (λ p. now ++ tracks_text p) is)
 
@@ -117,15 +130,15 @@ regroup t a b c d e f = simp append_assoc
 six : (t0 t1 t2 t3 t4 t5 t6 a b c d e f : List ℕ) → t1 ≡ t0 ++ a → t2 ≡ t1 ++ b → t3 ≡ t2 ++ c → t4 ≡ t3 ++ d → t5 ≡ t4 ++ e → t6 ≡ t5 ++ f
     → t6 ≡ t0 ++ (a ++ (b ++ (c ++ (d ++ (e ++ f)))))
 six t0 t1 t2 t3 t4 t5 t6 a b c d e f e1 e2 e3 e4 e5 e6 =
-    e6 ∙ ap (λ t. t ++ f) (e5 ∙ ap (λ t. t ++ e) (e4 ∙ ap (λ t. t ++ d) (e3 ∙ ap (λ t. t ++ c) (e2 ∙ ap (λ t. t ++ b) e1)))) ∙ regroup t0 a b c d e f
+    e6 ∙ ap (λ t. t ++ f) (e5 ∙ ap (λ t. t ++ e) (e4 ∙ ap (λ t. t ++ d) (e3 ∙ ap (λ t. t ++ c) (e2 ∙ ap (λ t. t ++ b) e1))))
+    ∙ regroup t0 a b c d e f
 
 -- the events of a change, in order
-pub events_added : (w : Window) (names : NamedTasks) (s : Figures) (change : Change) (shown : ShownParts) (old woken stopped started new : Past)
-    (t0 t1 t2 t3 t4 t5 t6 : List ℕ) → ShowsChange w change shown
-    → t1 ≡ t0 ++ perfetto_overruled shown.overruled change.reading
+pub events_added : (w : Window) (names : NamedTasks) (s : Figures) (change : Change) (shown : ShownParts)
+    (old woken stopped started new : Past) (t0 t1 t2 t3 t4 t5 t6 : List ℕ)
+    → ShowsChange w change shown → t1 ≡ t0 ++ perfetto_overruled shown.overruled change.reading
     → woken ≡ past_wake change.wake shown.wake old → t2 ≡ t1 ++ perfetto_wake names (next_arrow old) shown.wake
-    → t3 ≡ t2 ++ perfetto_pull names shown.pull
-    → stopped ≡ past_stop change.stop shown.run woken
+    → t3 ≡ t2 ++ perfetto_pull names shown.pull → stopped ≡ past_stop change.stop shown.run woken
     → t4 ≡ t3 ++ perfetto_run names s woken (option_map (λ (stop : Stop). stop.start) change.stop) shown.run
     → started ≡ past_start change.start shown.migration stopped
     → t5 ≡ t4 ++ perfetto_migration (next_arrow stopped) (left_run stopped shown.migration)
@@ -145,7 +158,9 @@ events_added w names s change shown old woken stopped started new t0 t1 t2 t3 t4
     after_all = h6;
     whole = refl;
   },
-  six t0 t1 t2 t3 t4 t5 t6 (perfetto_overruled shown.overruled change.reading) (perfetto_wake names (next_arrow old) shown.wake)
-      (perfetto_pull names shown.pull) (perfetto_run names s woken (option_map (λ (stop : Stop). stop.start) change.stop) shown.run)
-      (perfetto_migration (next_arrow stopped) (left_run stopped shown.migration)) (perfetto_reading s started shown.reading) e1 e2 e3 e4 e5 e6,
+  six t0 t1 t2 t3 t4 t5 t6 (perfetto_overruled shown.overruled change.reading)
+      (perfetto_wake names (next_arrow old) shown.wake) (perfetto_pull names shown.pull)
+      (perfetto_run names s woken (option_map (λ (stop : Stop). stop.start) change.stop) shown.run)
+      (perfetto_migration (next_arrow stopped) (left_run stopped shown.migration))
+      (perfetto_reading s started shown.reading) e1 e2 e3 e4 e5 e6,
 )

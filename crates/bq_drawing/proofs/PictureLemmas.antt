@@ -7,7 +7,7 @@ use Rattle.std.specs.BTreeMap.{Updates, get}
 use Rattle.std.specs.Option.{option_map}
 use Rattle.std.specs.Ordering.{nat_cmp}
 use Rattle.std.specs.Prelude.{OnOk, Result, codes, flat_map}
-use Rattle.bq_parts.specs.Counts.{counted}
+use Rattle.bq_parts.specs.Counts.{saturating_sum}
 use Rattle.bq_schedule.specs.declared.change.Change.{Change}
 use Rattle.bq_schedule.specs.declared.change.Stop.{Stop}
 use Rattle.bq_schedule.specs.declared.change.Wake.{Wake}
@@ -52,11 +52,13 @@ pub runner_held : (w : Window) (s : Figures) (number : ℕ) (p : ProcessorFigure
     → p ≡ processor_of s number → HoldsRun w p.running (run_on p) now new → HoldsRunners w s (number + 1) old new
 unfolding HoldsRunners
 runner_held w s number p old now new before is holds =
-    let here : HoldsRun w (processor_of s number).running (run_on (processor_of s number)) now new = subst (λ q. HoldsRun w q.running (run_on q) now new) is holds in
+    let here : HoldsRun w (processor_of s number).running (run_on (processor_of s number)) now new =
+    subst (λ q. HoldsRun w q.running (run_on q) now new) is holds in
     subst (λ n. HoldsRunners w s n old new) (sym (add-one number)) (now, before, here)
 
--- those of all processors
-pub runners_all : (w : Window) (s : Figures) (number : ℕ) (old new : Held) → number ≡ 64 → HoldsRunners w s number old new → HoldsRunners w s 64 old new
+-- what is held of the runs that go on at all processors
+pub runners_all : (w : Window) (s : Figures) (number : ℕ) (old new : Held)
+    → number ≡ 64 → HoldsRunners w s number old new → HoldsRunners w s 64 old new
 runners_all w s number old new is holds = subst (λ n. HoldsRunners w s n old new) is holds
 
 -- ---- the whole
@@ -66,56 +68,71 @@ pub both_added : (old t1 t2 a b : List ℕ) → t1 ≡ old ++ a → t2 ≡ t1 ++
 both_added old t1 t2 a b e1 e2 = e2 ∙ ap (λ t. t ++ b) e1 ∙ append_assoc old a b
 
 -- what is added last stands by a result that may tell a failure
-pub last_added : {T E : Type 0} (r : Result T E) (old now new a b told : List ℕ) → now ≡ old ++ a → told ≡ b → OnOk r (new ≡ now ++ told)
-    → OnOk r (new ≡ old ++ (a ++ b))
-last_added r old now new a b told e1 is e2 = on_ok_weaker r (λ e. both_added old now new a b e1 (e ∙ ap (λ t. now ++ t) is)) e2
+pub last_added : {T E : Type 0} (r : Result T E) (old now new a b reported : List ℕ)
+    → now ≡ old ++ a → reported ≡ b → OnOk r (new ≡ now ++ reported) → OnOk r (new ≡ old ++ (a ++ b))
+last_added r old now new a b reported e1 is e2 = on_ok_weaker r (λ e. both_added old now new a b e1 (e ∙ ap (λ t. now ++ t) is)) e2
 
--- the same where nothing stands before it
-pub added_as : {T E : Type 0} (r : Result T E) (old new a told : List ℕ) → told ≡ a → OnOk r (new ≡ old ++ told) → OnOk r (new ≡ old ++ a)
-added_as r old new a told is e1 = on_ok_weaker r (λ e. e ∙ ap (λ t. old ++ t) is) e1
+-- what is added last stands by a result that may tell a failure, where nothing stands before it
+pub added_as : {T E : Type 0} (r : Result T E) (old new a reported : List ℕ)
+    → reported ≡ a → OnOk r (new ≡ old ++ reported) → OnOk r (new ≡ old ++ a)
+added_as r old new a reported is e1 = on_ok_weaker r (λ e. e ∙ ap (λ t. old ++ t) is) e1
 
 all_added : (old t1 t2 t3 a b c : List ℕ) → t1 ≡ old ++ a → t2 ≡ t1 ++ b → t3 ≡ t2 ++ c → t3 ≡ old ++ (a ++ (b ++ c))
 all_added old t1 t2 t3 a b c e1 e2 e3 = both_added old t1 t3 a (b ++ c) e1 (both_added t1 t2 t3 b c e2 e3)
 
 -- a row: its band and its name, then its runs, its waits and its wakes, and the names upon the runs
-pub row_written : (s : Setting) (number : ℕ) (row : Row) (waits wakes : List Stretch) (levels lanes top below above : ℕ) (old new : WrittenRows) (t1 t2 t3 : List ℕ)
-    → ArePutInOrder row.waits waits → ArePutInOrder row.wakes wakes → levels ≡ length (lanes_after (arrow_of s.extent) [] wakes)
-    → top ≡ counted old.bottom (levels * level_height + 4) → lanes ≡ length (lanes_after (λ (wait : Stretch). wait) [] waits)
-    → new.bottom ≡ counted top (band_height + (lanes * lane_height + row_gap)) → below ≡ counted 0 (left_out (λ (wait : Stretch). wait) [] waits)
-    → new.waits_left_out ≡ counted old.waits_left_out below → above ≡ counted 0 (left_out (arrow_of s.extent) [] wakes)
-    → new.wakes_left_out ≡ counted old.wakes_left_out above → new.links ≡ old.links → Updates nat_cmp old.bands new.bands number (Some top)
+pub row_written : (s : Setting) (number : ℕ) (row : Row) (waits wakes : List Stretch) (levels lanes top below above : ℕ)
+    (old new : WrittenRows) (t1 t2 t3 : List ℕ)
+    → ArePutInOrder row.waits waits → ArePutInOrder row.wakes wakes
+    → levels ≡ length (lanes_after (arrow_of s.extent) [] wakes) → top ≡ saturating_sum old.bottom (levels * level_height + 4)
+    → lanes ≡ length (lanes_after (λ (wait : Stretch). wait) [] waits)
+    → new.bottom ≡ saturating_sum top (band_height + (lanes * lane_height + row_gap))
+    → below ≡ saturating_sum 0 (left_out (λ (wait : Stretch). wait) [] waits)
+    → new.waits_left_out ≡ saturating_sum old.waits_left_out below
+    → above ≡ saturating_sum 0 (left_out (arrow_of s.extent) [] wakes)
+    → new.wakes_left_out ≡ saturating_sum old.wakes_left_out above
+    → new.links ≡ old.links → Updates nat_cmp old.bands new.bands number (Some top)
     → string_bytes new.labels ≡ string_bytes old.labels ++ flat_map (label_text s top) row.runs
-    → t1 ≡ string_bytes old.text ++ (band_text top ++ row_name number top) → t2 ≡ t1 ++ flat_map (run_text s top) row.runs → t3 ≡ t2 ++ waits_text s top waits
-    → string_bytes new.text ≡ t3 ++ wakes_text s top wakes → IsRowWritten s number row old new
-row_written s number row waits wakes levels lanes top below above old new t1 t2 t3 first second high at wide ends few less some fewer links bands labels e1 e2 e3 e4 =
+    → t1 ≡ string_bytes old.text ++ (band_text top ++ row_name number top) → t2 ≡ t1 ++ flat_map (run_text s top) row.runs
+    → t3 ≡ t2 ++ waits_text s top waits → string_bytes new.text ≡ t3 ++ wakes_text s top wakes
+    → IsRowWritten s number row old new
+row_written s number row waits wakes levels lanes top below above old new t1 t2 t3 first second high at wide ends few less
+    some fewer links bands labels e1 e2 e3 e4 =
     let drawn = flat_map (run_text s top) row.runs in
     let under = waits_text s top waits in
-    let over = wakes_text s top wakes in record {
+    let over = wakes_text s top wakes in
+    record {
       placed = record { number = number; top = top; row = record { runs = row.runs; waits = waits; wakes = wakes } };
       is_placed = record {
         of_processor = refl;
-        below = at ∙ ap (λ n. counted old.bottom (n * level_height + 4)) high;
+        below = at ∙ ap (λ n. saturating_sum old.bottom (n * level_height + 4)) high;
         runs_stay = refl;
         waits_in_order = first;
         wakes_in_order = second;
       };
-      text = all_added (string_bytes old.text) t1 t2 (string_bytes new.text) (band_text top ++ row_name number top) drawn (under ++ over) e1 e2
+      text =
+          all_added (string_bytes old.text) t1 t2 (string_bytes new.text) (band_text top ++ row_name number top) drawn (under ++ over) e1 e2
           (both_added t2 t3 (string_bytes new.text) under over e3 e4)
           ∙ ap (λ t. string_bytes old.text ++ t) (append_assoc (band_text top) (row_name number top) (drawn ++ (under ++ over)));
       labels = labels;
       links = links;
       bands = bands;
-      bottom = ends ∙ ap (λ n. counted top (band_height + (n * lane_height + row_gap))) wide;
-      waits = less ∙ ap (λ n. counted old.waits_left_out n) few ∙ counted_anew old.waits_left_out (left_out (λ (wait : Stretch). wait) [] waits);
-      wakes = fewer ∙ ap (λ n. counted old.wakes_left_out n) some ∙ counted_anew old.wakes_left_out (left_out (arrow_of s.extent) [] wakes);
+      bottom = ends ∙ ap (λ n. saturating_sum top (band_height + (n * lane_height + row_gap))) wide;
+      waits =
+          less ∙ ap (λ n. saturating_sum old.waits_left_out n) few
+          ∙ counted_anew old.waits_left_out (left_out (λ (wait : Stretch). wait) [] waits);
+      wakes =
+          fewer ∙ ap (λ n. saturating_sum old.wakes_left_out n) some
+          ∙ counted_anew old.wakes_left_out (left_out (arrow_of s.extent) [] wakes);
     }
   where
-    counted_anew : (n more : ℕ) → counted n (counted 0 more) ≡ counted n more
+    counted_anew : (n more : ℕ) → saturating_sum n (saturating_sum 0 more) ≡ saturating_sum n more
     counted_anew n more = omega arith
 
 -- one more of some shapes that stand one after another
-pub shapes_next : {A : Type 0} (draw : A → List ℕ) (items : List A) (i : ℕ) (d : A) (whole now next : List ℕ) → i < length items
-    → next ≡ now ++ draw (get_or items i d) → now ++ flat_map draw (drop i items) ≡ whole → next ++ flat_map draw (drop (i + 1) items) ≡ whole
+pub shapes_next : {A : Type 0} (draw : A → List ℕ) (items : List A) (i : ℕ) (d : A) (whole now next : List ℕ)
+    → i < length items → next ≡ now ++ draw (get_or items i d) → now ++ flat_map draw (drop i items) ≡ whole
+    → next ++ flat_map draw (drop (i + 1) items) ≡ whole
 shapes_next {A} draw items i d whole now next there e is =
     let later = flat_map draw (drop (i + 1) items) in
     ap (λ t. t ++ later) e ∙ append_assoc now (draw (get_or items i d)) later
@@ -127,18 +144,22 @@ pub shapes_end : {A : Type 0} (draw : A → List ℕ) (items : List A) (i : ℕ)
 shapes_end {A} draw items i whole now none is = sym (append-nil now) ∙ sym (ap (λ (l : List A). now ++ flat_map draw l) none) ∙ is
 
 -- one more line between rows
-pub line_written : (kind : LinkKind) (s : Setting) (links : List Link) (i : ℕ) (d : Link) (old now next : WrittenRows) (whole : List ℕ) → i < length links
-    → now ≡ record old { links = now.links }
+pub line_written : (kind : LinkKind) (s : Setting) (links : List Link) (i : ℕ) (d : Link)
+    (old now next : WrittenRows) (whole : List ℕ)
+    → i < length links → now ≡ record old { links = now.links }
     → string_bytes next.links ≡ string_bytes now.links ++ line_of kind s (get nat_cmp now.bands) (get_or links i d)
     → string_bytes now.links ++ flat_map (line_of kind s (get nat_cmp old.bands)) (drop i links) ≡ whole
     → string_bytes next.links ++ flat_map (line_of kind s (get nat_cmp old.bands)) (drop (i + 1) links) ≡ whole
 line_written kind s links i d old now next whole there same e is =
-    shapes_next (line_of kind s (get nat_cmp old.bands)) links i d whole (string_bytes now.links) (string_bytes next.links) there
-    (e ∙ ap (λ (m : BTreeMap ℕ ℕ). string_bytes now.links ++ line_of kind s (get nat_cmp m) (get_or links i d)) (ap (λ (r : WrittenRows). r.bands) same)) is
+    shapes_next (line_of kind s (get nat_cmp old.bands)) links i d whole (string_bytes now.links)
+    (string_bytes next.links) there
+    (e ∙ ap (λ (m : BTreeMap ℕ ℕ). string_bytes now.links ++ line_of kind s (get nat_cmp m) (get_or links i d))
+    (ap (λ (r : WrittenRows). r.bands) same)) is
 
 -- one more of some shapes in lanes
-pub lanes_next : (room : Stretch → Stretch) (draw : ℕ → Stretch → List ℕ) (lanes after : List ℕ) (items : List Stretch) (i : ℕ) (d place : Stretch) (lane : Option ℕ)
-    (whole now next : List ℕ) → i < length items → place ≡ room (get_or items i d) → lane ≡ lane_of place lanes → after ≡ taken lane place.to lanes
+pub lanes_next : (room : Stretch → Stretch) (draw : ℕ → Stretch → List ℕ) (lanes after : List ℕ) (items : List Stretch)
+    (i : ℕ) (d place : Stretch) (lane : Option ℕ) (whole now next : List ℕ)
+    → i < length items → place ≡ room (get_or items i d) → lane ≡ lane_of place lanes → after ≡ taken lane place.to lanes
     → next ≡ now ++ shape_in draw lane (get_or items i d) → now ++ in_lanes room draw lanes (drop i items) ≡ whole
     → next ++ in_lanes room draw after (drop (i + 1) items) ≡ whole
 unfolding in_lanes
@@ -149,13 +170,15 @@ lanes_next room draw lanes after items i d place lane whole now next there needs
     let own : lane ≡ lane_of (room here) lanes = takes ∙ ap (λ (p : Stretch). lane_of p lanes) needs in
     let kept : after ≡ taken lane (room here).to lanes = keeps ∙ ap (λ (p : Stretch). taken lane p.to lanes) needs in
     let added : next ≡ now ++ shape = e ∙ ap (λ (l : Option ℕ). now ++ shape_in draw l here) own in
-    let left : after ≡ taken (lane_of (room here) lanes) (room here).to lanes = kept ∙ ap (λ (l : Option ℕ). taken l (room here).to lanes) own in
+    let left : after ≡ taken (lane_of (room here) lanes) (room here).to lanes =
+    kept ∙ ap (λ (l : Option ℕ). taken l (room here).to lanes) own in
     ap (λ t. t ++ in_lanes room draw after later) added ∙ append_assoc now shape (in_lanes room draw after later)
     ∙ ap (λ (l : List ℕ). now ++ (shape ++ in_lanes room draw l later)) left
     ∙ sym (at_drop_more (λ (l : List Stretch). now ++ in_lanes room draw lanes l) items i d there) ∙ is
 
 -- all of them
-pub lanes_end : (room : Stretch → Stretch) (draw : ℕ → Stretch → List ℕ) (lanes : List ℕ) (items : List Stretch) (i : ℕ) (whole now : List ℕ)
+pub lanes_end : (room : Stretch → Stretch) (draw : ℕ → Stretch → List ℕ) (lanes : List ℕ) (items : List Stretch) (i : ℕ)
+    (whole now : List ℕ)
     → drop i items ≡ [] → now ++ in_lanes room draw lanes (drop i items) ≡ whole → now ≡ whole
 unfolding in_lanes
 lanes_end room draw lanes items i whole now none is =
@@ -167,20 +190,25 @@ pub letters_more : (old now next yielded : List ℕ) (letter : ℕ) → now ≡ 
 letters_more old now next yielded letter so_far e =
     let all : flat_map xml_letter (yielded ++ letter ∷ []) ≡ flat_map xml_letter yielded ++ xml_letter letter
     = flat_map-append xml_letter yielded (letter ∷ []) ∙ ap (λ t. flat_map xml_letter yielded ++ t) (append-nil (xml_letter letter)) in
-    e ∙ ap (λ t. t ++ xml_letter letter) so_far ∙ append_assoc old (flat_map xml_letter yielded) (xml_letter letter) ∙ ap (λ t. old ++ t) (sym all)
+    e ∙ ap (λ t. t ++ xml_letter letter) so_far ∙ append_assoc old (flat_map xml_letter yielded) (xml_letter letter)
+    ∙ ap (λ t. old ++ t) (sym all)
 
 -- the row of a processor that is there, and is shown
 pub row_there : (w : Window) (s : Setting) (rows : Rows) (number : ℕ) (row : Row) (old new : WrittenRows)
-    → number < length rows → ShowsProcessor w number → row ≡ row_of rows number → IsRowWritten s number row old new → IsRowWrittenIf w s rows number old new
+    → number < length rows → ShowsProcessor w number → row ≡ row_of rows number → IsRowWritten s number row old new
+    → IsRowWrittenIf w s rows number old new
 row_there w s rows number row old new there shown is written =
     inl (record { exists = there; shown = shown }, subst (λ r. IsRowWritten s number r old new) is written)
 
 -- what stands above, the axis, the rows, and what stands behind them
-pub drawing_whole : (w : Window) (s : Setting) (title : List ℕ) (rule : Option Rule) (held : Held) (written : WrittenRows) (height : ℕ) (t0 t1 t2 t3 t4 t5 : List ℕ)
-    → AreDrawn w s held written → t0 ≡ heading_text s title rule → t1 ≡ t0 ++ axis_text s (axis_step s.extent) rows_edge written.bottom
-    → t2 ≡ t1 ++ string_bytes written.text → t3 ≡ t2 ++ string_bytes written.links → t4 ≡ t3 ++ string_bytes written.labels
+pub drawing_whole : (w : Window) (s : Setting) (title : List ℕ) (rule : Option Rule) (held : Held) (written : WrittenRows)
+    (height : ℕ) (t0 t1 t2 t3 t4 t5 : List ℕ)
+    → AreDrawn w s held written → t0 ≡ heading_text s title rule
+    → t1 ≡ t0 ++ axis_text s (axis_step s.extent) rows_edge written.bottom → t2 ≡ t1 ++ string_bytes written.text
+    → t3 ≡ t2 ++ string_bytes written.links → t4 ≡ t3 ++ string_bytes written.labels
     → t5 ≡ t4 ++ legend_text s (tasks_shown s.tasks held.tasks) (key_beside held.links written) (legend_top written.bottom)
-    → height ≡ counted (legend_top written.bottom) (legend_height (length (tasks_shown s.tasks held.tasks)) (key_beside held.links written))
+    → height
+    ≡ saturating_sum (legend_top written.bottom) (legend_height (length (tasks_shown s.tasks held.tasks)) (key_beside held.links written))
     → IsDrawing w s title rule held height t5
 drawing_whole w s title rule held written height t0 t1 t2 t3 t4 t5 drawn_so e0 e1 e2 e3 e4 e5 high =
     let are = drawn_so.are_written in
@@ -192,11 +220,14 @@ drawing_whole w s title rule held written height t0 t1 t2 t3 t4 t5 drawn_so e0 e
     let behind = lines ++ (labels ++ legend) in
     let key : key_beside held.links written ≡ key_of s held.links are.placed
     = ap (λ n. record (key_beside held.links written) { waits_left_out = n }) are.waits
-    ∙ ap (λ n. record (key_of s held.links are.placed) { wakes_left_out = n }) are.wakes in record {
+    ∙ ap (λ n. record (key_of s held.links are.placed) { wakes_left_out = n }) are.wakes in
+    record {
       placed = are.placed;
       edge = written.bottom;
       are_placed = are.are_placed;
-      is_high = high ∙ ap (λ (k : Key). counted (legend_top written.bottom) (legend_height (length (tasks_shown s.tasks held.tasks)) k)) key;
+      is_high =
+          high
+          ∙ ap (λ (k : Key). saturating_sum (legend_top written.bottom) (legend_height (length (tasks_shown s.tasks held.tasks)) k)) key;
       whole = all_added t0 t1 t2 t5 axis drawn behind e1 (e2 ∙ ap (λ t. t1 ++ t) are.text)
           (all_added t2 t3 t4 t5 lines labels legend (e3 ∙ ap (λ t. t2 ++ t) drawn_so.lines) (e4 ∙ ap (λ t. t3 ++ t) are.labels)
           (e5 ∙ ap (λ (k : Key). t4 ++ legend_text s (tasks_shown s.tasks held.tasks) k (legend_top written.bottom)) key))
@@ -204,16 +235,22 @@ drawing_whole w s title rule held written height t0 t1 t2 t3 t4 t5 drawn_so e0 e
     }
 
 -- a picture: its head, what is drawn, and its end
-pub picture_added : (w : Window) (look : Look) (s : Setting) (rule : Option Rule) (held : Held) (height : ℕ) (head drawn old t1 t2 t3 : List ℕ)
-    → IsDrawing w s (title_of look) rule held height drawn → IsHead look drawn height head → t1 ≡ old ++ head → t2 ≡ t1 ++ drawn → t3 ≡ t2 ++ codes "</svg>\n"
+pub picture_added : (w : Window) (look : Look) (s : Setting) (rule : Option Rule) (held : Held)
+    (height : ℕ) (head drawn old t1 t2 t3 : List ℕ)
+    → IsDrawing w s (title_of look) rule held height drawn → IsHead look drawn height head → t1 ≡ old ++ head
+    → t2 ≡ t1 ++ drawn → t3 ≡ t2 ++ codes "</svg>\n"
     → Adds (IsPicture w look s rule held) old t3
-picture_added w look s rule held height head drawn old t1 t2 t3 is is_head e1 e2 e3 =
-    (head ++ (drawn ++ codes "</svg>\n"), record { head = head; drawn = drawn; height = height; is_drawing = is; is_head = is_head; whole = refl }, all_added old t1 t2 t3 head drawn (codes "</svg>\n") e1 e2 e3)
+picture_added w look s rule held height head drawn old t1 t2 t3 is is_head e1 e2 e3 = (
+  head ++ (drawn ++ codes "</svg>\n"),
+  record { head = head; drawn = drawn; height = height; is_drawing = is; is_head = is_head; whole = refl },
+  all_added old t1 t2 t3 head drawn (codes "</svg>\n") e1 e2 e3,
+)
 
 -- the picture at the end: only the runs and the waits that go on have come to what was held
 pub picture_at_end : (held between last : Svg) (s : Figures) (names : NamedTasks) (e : Extent) (old new : List ℕ)
     → between ≡ record held { drawing = between.drawing } → last ≡ record between { drawing = last.drawing }
-    → HoldsRunners held.window s 64 held.drawing between.drawing → HoldsWaiting between.window s 1024 between.drawing last.drawing → IsDrawnOver last.window s e
+    → HoldsRunners held.window s 64 held.drawing between.drawing
+    → HoldsWaiting between.window s 1024 between.drawing last.drawing → IsDrawnOver last.window s e
     → Adds (IsPicture last.window last.look (drawn_in e last.roster names) last.rule last.drawing) old new
     → Adds (IsPictureOf held.window held.look held.rule s names held.roster held.drawing) old new
 picture_at_end held between last s names e old new first second runs waits over added =
@@ -248,23 +285,26 @@ waiting_held w s id wait old now new before is holds =
     let here : HoldsWait w (wait_at s id (task_of s id).place) now new = subst (λ own. HoldsWait w own now new) is holds in
     subst (λ n. HoldsWaiting w s n old new) (sym (add-one id)) (now, before, here)
 
--- those of all tasks
-pub waiting_all : (w : Window) (s : Figures) (id : ℕ) (old new : Held) → id ≡ 1024 → HoldsWaiting w s id old new → HoldsWaiting w s 1024 old new
+-- what is held of the waits of all tasks that still wait
+pub waiting_all : (w : Window) (s : Figures) (id : ℕ) (old new : Held)
+    → id ≡ 1024 → HoldsWaiting w s id old new → HoldsWaiting w s 1024 old new
 waiting_all w s id old new is holds = subst (λ n. HoldsWaiting w s n old new) is holds
 
 -- a wake that is shown
-pub wake_held : (w : Window) (wake : Option Wake) (k : Wake) (old new : Held) → wake ≡ Some k → Shows w k.to k.task k.at → new ≡ with_wake (Some k) old
-    → HoldsWake w wake old new
+pub wake_held : (w : Window) (wake : Option Wake) (k : Wake) (old new : Held)
+    → wake ≡ Some k → Shows w k.to k.task k.at → new ≡ with_wake (Some k) old → HoldsWake w wake old new
 wake_held w wake k old new is shown e =
     let own : HoldsWake w (Some k) old new = (Some k, (shown, refl), e) in
     subst (λ (o : Option Wake). HoldsWake w o old new) (sym is) own
 
 -- all that a change tells, part after part
-pub change_held : (change : Change) (v0 v1 v2 v3 : Svg) (new : Held) → v1 ≡ record v0 { drawing = v1.drawing } → v2 ≡ record v1 { drawing = v2.drawing }
-    → v3 ≡ record v2 { drawing = v3.drawing; stops = v3.stops } → HoldsWake v0.window change.wake v0.drawing v1.drawing
-    → HoldsPull v1.window change.pull v1.drawing v2.drawing
+pub change_held : (change : Change) (v0 v1 v2 v3 : Svg) (new : Held)
+    → v1 ≡ record v0 { drawing = v1.drawing } → v2 ≡ record v1 { drawing = v2.drawing }
+    → v3 ≡ record v2 { drawing = v3.drawing; stops = v3.stops }
+    → HoldsWake v0.window change.wake v0.drawing v1.drawing → HoldsPull v1.window change.pull v1.drawing v2.drawing
     → HoldsRun v2.window (option_map (λ (s : Stop). s.start) change.stop) (ended_run change.stop) v2.drawing v3.drawing
-    → v3.stops.entries ≡ with_stop change.stop v2.stops.entries → HoldsStart v3.window v3.stops.entries change.start v3.drawing new
+    → v3.stops.entries ≡ with_stop change.stop v2.stops.entries
+    → HoldsStart v3.window v3.stops.entries change.start v3.drawing new
     → HoldsChange v0.window change v0.stops.entries v3.stops.entries v0.drawing new
 change_held change v0 v1 v2 v3 new s1 s2 s3 wake pull stop stops start =
     let w1 : v1.window ≡ v0.window = ap (λ (v : Svg). v.window) s1 in

@@ -12,7 +12,7 @@ use Rattle.std.specs.Map.{lookup}
 use Rattle.std.specs.Option.{option_map, option_or}
 use Rattle.std.specs.Ordering.{nat_cmp}
 use Rattle.std.specs.Prelude.{◌==◌, find, flat_map}
-use Rattle.bq_parts.specs.Counts.{counted}
+use Rattle.bq_parts.specs.Counts.{saturating_sum}
 use Rattle.bq_report.specs.declared.window.Window.{Window}
 use Rattle.bq_drawing.specs.declared.drawing.WrittenRows.{WrittenRows}
 use Rattle.bq_drawing.specs.declared.lanes.Stretch.{Stretch}
@@ -30,9 +30,11 @@ use Rattle.bq_drawing.specs.Writing.{AreDrawn, AreWritten, IsRowWritten, IsRowWr
 -- ---- lanes
 
 -- the lanes when one more has taken its own
-pub lanes_more : (room : Stretch → Stretch) (lanes after : List ℕ) (items : List Stretch) (i : ℕ) (d place : Stretch) (lane : Option ℕ) (whole : List ℕ)
+pub lanes_more : (room : Stretch → Stretch) (lanes after : List ℕ) (items : List Stretch) (i : ℕ)
+    (d place : Stretch) (lane : Option ℕ) (whole : List ℕ)
     → i < length items → place ≡ room (get_or items i d) → lane ≡ lane_of place lanes → after ≡ taken lane place.to lanes
-    → lanes_after room lanes (drop i items) ≡ whole → lanes_after room after (drop (i + 1) items) ≡ whole
+    → lanes_after room lanes (drop i items) ≡ whole
+    → lanes_after room after (drop (i + 1) items) ≡ whole
 unfolding lanes_after
 lanes_more room lanes after items i d place lane whole there needs takes keeps is =
     let here = get_or items i d in
@@ -49,14 +51,15 @@ unfolding lanes_after
 lanes_all room lanes items i whole none is =
     ap (λ (l : List ℕ). length l) (sym (ap (λ (l : List Stretch). lanes_after room lanes l) none) ∙ is)
 
-further : (n a b : ℕ) → counted (counted n a) b ≡ counted n (a + b)
+further : (n a b : ℕ) → saturating_sum (saturating_sum n a) b ≡ saturating_sum n (a + b)
 further n a b = omega arith
 
 -- one more that may find none
-pub left_more : (room : Stretch → Stretch) (lanes after : List ℕ) (items : List Stretch) (i : ℕ) (d place : Stretch) (lane : Option ℕ) (whole now next : ℕ)
+pub left_more : (room : Stretch → Stretch) (lanes after : List ℕ) (items : List Stretch) (i : ℕ)
+    (d place : Stretch) (lane : Option ℕ) (whole now next : ℕ)
     → i < length items → place ≡ room (get_or items i d) → lane ≡ lane_of place lanes → after ≡ taken lane place.to lanes
-    → next ≡ counted now (without_lane lane) → counted now (left_out room lanes (drop i items)) ≡ whole
-    → counted next (left_out room after (drop (i + 1) items)) ≡ whole
+    → next ≡ saturating_sum now (without_lane lane) → saturating_sum now (left_out room lanes (drop i items)) ≡ whole
+    → saturating_sum next (left_out room after (drop (i + 1) items)) ≡ whole
 unfolding left_out
 left_more room lanes after items i d place lane whole now next there needs takes keeps e is =
     let here = get_or items i d in
@@ -64,18 +67,18 @@ left_more room lanes after items i d place lane whole now next there needs takes
     let left : after ≡ taken (lane_of (room here) lanes) (room here).to lanes
     = keeps ∙ ap (λ (p : Stretch). taken lane p.to lanes) needs ∙ ap (λ (l : Option ℕ). taken l (room here).to lanes) own in
     let later = drop (i + 1) items in
-    ap (λ n. counted n (left_out room after later)) (e ∙ ap (λ (l : Option ℕ). counted now (without_lane l)) own)
+    ap (λ n. saturating_sum n (left_out room after later)) (e ∙ ap (λ (l : Option ℕ). saturating_sum now (without_lane l)) own)
     ∙ further now (without_lane (lane_of (room here) lanes)) (left_out room after later)
-    ∙ ap (λ (l : List ℕ). counted now (without_lane (lane_of (room here) lanes) + left_out room l later)) left
-    ∙ sym (at_drop_more (λ (l : List Stretch). counted now (left_out room lanes l)) items i d there) ∙ is
+    ∙ ap (λ (l : List ℕ). saturating_sum now (without_lane (lane_of (room here) lanes) + left_out room l later)) left
+    ∙ sym (at_drop_more (λ (l : List Stretch). saturating_sum now (left_out room lanes l)) items i d there) ∙ is
 
 -- all of them
 pub left_all : (room : Stretch → Stretch) (lanes : List ℕ) (items : List Stretch) (i whole now : ℕ) → drop i items ≡ [] → now < 2 ^ 64
-    → counted now (left_out room lanes (drop i items)) ≡ whole → now ≡ whole
+    → saturating_sum now (left_out room lanes (drop i items)) ≡ whole → now ≡ whole
 unfolding left_out
 left_all room lanes items i whole now none small is =
-    let same : counted now 0 ≡ now = omega (arith, small) in
-    sym same ∙ sym (ap (λ (l : List Stretch). counted now (left_out room lanes l)) none) ∙ is
+    let same : saturating_sum now 0 ≡ now = omega (arith, small) in
+    sym same ∙ sym (ap (λ (l : List Stretch). saturating_sum now (left_out room lanes l)) none) ∙ is
 
 -- ---- rows
 
@@ -83,20 +86,22 @@ has_number : ℕ → PlacedRow → Bool
 has_number q p = p.number == q
 
 -- no row of a processor that is still to come
-none_yet : (w : Window) (s : Setting) (rows : Rows) (number : ℕ) (placed : List PlacedRow) (edge q : ℕ) → ArePlaced w s rows number placed edge → number ≤ q
+none_yet : (w : Window) (s : Setting) (rows : Rows) (number : ℕ) (placed : List PlacedRow) (edge q : ℕ)
+    → ArePlaced w s rows number placed edge → number ≤ q
     → find (λ (p : PlacedRow). p.number == q) placed ≡ None
 unfolding ArePlaced
 none_yet w s rows zero placed edge q is from = ap (find (λ (p : PlacedRow). p.number == q)) is.0
 none_yet w s rows (suc number) placed edge q (above, before, are, way) from =
-    let earlier : find (λ (p : PlacedRow). p.number == q) above ≡ None = none_yet w s rows number above before q are (omega (arith, from)) in
-    ⊎_elim
-    (λ (there : HasRow w rows number × IsNextRow s number (row_of rows number) above before placed edge).
+    let earlier : find (λ (p : PlacedRow). p.number == q) above ≡ None =
+    none_yet w s rows number above before q are (omega (arith, from)) in
+    ⊎_elim (λ (there : HasRow w rows number × IsNextRow s number (row_of rows number) above before placed edge).
     let next = there.1.next in
     let apart : (next.number == q) ≡ false = ap (λ n. n == q) there.1.is_placed.of_processor ∙ grind (arith, nat_tests, from) in
     ap (find (λ (p : PlacedRow). p.number == q)) there.1.comes_last ∙ find-append (λ (p : PlacedRow). p.number == q) above (next ∷ [])
     ∙ ap (λ (o : Option PlacedRow). option_or o (find (λ (p : PlacedRow). p.number == q) (next ∷ []))) earlier
     ∙ ap (λ b. cond b (Some next) None) apart)
-    (λ (none : ¬ (HasRow w rows number) × IsNoRow above before placed edge). ap (find (λ (p : PlacedRow). p.number == q)) none.1.placed_stay ∙ earlier) way
+    (λ (none : ¬ (HasRow w rows number) × IsNoRow above before placed edge).
+    ap (find (λ (p : PlacedRow). p.number == q)) none.1.placed_stay ∙ earlier) way
 
 -- the bands when one more row is there
 bands_next : (placed : List PlacedRow) (next : PlacedRow) (number : ℕ) (old new : BTreeMap ℕ ℕ) → next.number ≡ number
@@ -104,43 +109,49 @@ bands_next : (placed : List PlacedRow) (next : PlacedRow) (number : ℕ) (old ne
     → ((q : ℕ) → get nat_cmp new q ≡ cond (is_at (nat_cmp number) q) (Some next.top) (get nat_cmp old q))
     → ((q : ℕ) → get nat_cmp old q ≡ top_at placed q) → (q : ℕ) → get nat_cmp new q ≡ top_at (placed ++ next ∷ []) q
 bands_next placed next number old new own none sets before q =
-    let joined : find (λ (p : PlacedRow). p.number == q) (placed ++ next ∷ []) ≡ option_or (find (λ (p : PlacedRow). p.number == q) placed) (cond (next.number == q) (Some next) None)
-    = find-append (λ (p : PlacedRow). p.number == q) placed (next ∷ []) in
-    ⊎_elim
-    (λ (same : number ≡ q).
+    let joined : find (λ (p : PlacedRow). p.number == q) (placed ++ next ∷ [])
+    ≡ option_or (find (λ (p : PlacedRow). p.number == q) placed) (cond (next.number == q) (Some next) None) =
+    find-append (λ (p : PlacedRow). p.number == q) placed (next ∷ []) in
+    ⊎_elim (λ (same : number ≡ q).
     let here : is_at (nat_cmp number) q ≡ true = grind (arith, nat_tests, same) in
     let this : (next.number == q) ≡ true = ap (λ n. n == q) own ∙ grind (arith, nat_tests, same) in
-    let empty : find (λ (p : PlacedRow). p.number == q) placed ≡ None = subst (λ n. find (λ (p : PlacedRow). p.number == n) placed ≡ None) same none in
+    let empty : find (λ (p : PlacedRow). p.number == q) placed ≡ None =
+    subst (λ n. find (λ (p : PlacedRow). p.number == n) placed ≡ None) same none in
     sets q ∙ ap (λ b. cond b (Some next.top) (get nat_cmp old q)) here
-    ∙ sym (ap (option_map (λ (p : PlacedRow). p.top)) (joined ∙ ap (λ (o : Option PlacedRow). option_or o (cond (next.number == q) (Some next) None)) empty
+    ∙ sym (ap (option_map (λ (p : PlacedRow). p.top))
+    (joined ∙ ap (λ (o : Option PlacedRow). option_or o (cond (next.number == q) (Some next) None)) empty
     ∙ ap (λ b. cond b (Some next) None) this)))
     (λ (not : number ≢ q).
     let other : is_at (nat_cmp number) q ≡ false = grind (arith, nat_tests, not) in
     let apart : (next.number == q) ≡ false = ap (λ n. n == q) own ∙ grind (arith, nat_tests, not) in
     sets q ∙ ap (λ b. cond b (Some next.top) (get nat_cmp old q)) other ∙ before q
-    ∙ sym (ap (option_map (λ (p : PlacedRow). p.top)) (joined ∙ ap (λ b. option_or (find (λ (p : PlacedRow). p.number == q) placed) (cond b (Some next) None)) apart
-    ∙ or_none (find (λ (p : PlacedRow). p.number == q) placed))))
-    (cases_eq number q)
+    ∙ sym (ap (option_map (λ (p : PlacedRow). p.top))
+    (joined ∙ ap (λ b. option_or (find (λ (p : PlacedRow). p.number == q) placed) (cond b (Some next) None)) apart
+    ∙ or_none (find (λ (p : PlacedRow). p.number == q) placed)))) (cases_eq number q)
   where
     or_none : (o : Option PlacedRow) → option_or o None ≡ o
     or_none None = refl
     or_none (Some p) = refl
 
-more_text : (draw : PlacedRow → List ℕ) (placed : List PlacedRow) (next : PlacedRow) (old new : List ℕ) → old ≡ flat_map draw placed → new ≡ old ++ draw next
-    → new ≡ flat_map draw (placed ++ next ∷ [])
+more_text : (draw : PlacedRow → List ℕ) (placed : List PlacedRow) (next : PlacedRow) (old new : List ℕ)
+    → old ≡ flat_map draw placed → new ≡ old ++ draw next → new ≡ flat_map draw (placed ++ next ∷ [])
 more_text draw placed next old new before e =
-    e ∙ ap (λ t. t ++ draw next) before ∙ ap (λ t. flat_map draw placed ++ t) (sym (append-nil (draw next))) ∙ sym (flat_map-append draw placed (next ∷ []))
+    e ∙ ap (λ t. t ++ draw next) before ∙ ap (λ t. flat_map draw placed ++ t) (sym (append-nil (draw next)))
+    ∙ sym (flat_map-append draw placed (next ∷ []))
 
-more_left : (count : PlacedRow → ℕ) (placed : List PlacedRow) (next : PlacedRow) (old new : ℕ) → old ≡ counted 0 (sum_by count placed)
-    → new ≡ counted old (count next) → new ≡ counted 0 (sum_by count (placed ++ next ∷ []))
+more_left : (count : PlacedRow → ℕ) (placed : List PlacedRow) (next : PlacedRow) (old new : ℕ)
+    → old ≡ saturating_sum 0 (sum_by count placed) → new ≡ saturating_sum old (count next)
+    → new ≡ saturating_sum 0 (sum_by count (placed ++ next ∷ []))
 more_left count placed next old new before e =
     let sum : sum_by count (placed ++ next ∷ []) ≡ sum_by count placed + (0 + count next) = sum_by-append count placed (next ∷ []) in
-    e ∙ ap (λ n. counted n (count next)) before ∙ further 0 (sum_by count placed) (count next)
-    ∙ ap (λ n. counted 0 n) (sym (sum ∙ ap (λ n. sum_by count placed + n) (omega arith)))
+    e ∙ ap (λ n. saturating_sum n (count next)) before ∙ further 0 (sum_by count placed) (count next)
+    ∙ ap (λ n. saturating_sum 0 n) (sym (sum ∙ ap (λ n. sum_by count placed + n) (omega arith)))
 
 -- no row is written yet
-pub rows_none : (w : Window) (s : Setting) (rows : Rows) (written : WrittenRows) → string_bytes written.text ≡ [] → string_bytes written.labels ≡ []
-    → written.bands.entries ≡ [] → written.bottom ≡ rows_edge → written.waits_left_out ≡ 0 → written.wakes_left_out ≡ 0 → AreWritten w s rows 0 written
+pub rows_none : (w : Window) (s : Setting) (rows : Rows) (written : WrittenRows)
+    → string_bytes written.text ≡ [] → string_bytes written.labels ≡ [] → written.bands.entries ≡ []
+    → written.bottom ≡ rows_edge → written.waits_left_out ≡ 0 → written.wakes_left_out ≡ 0
+    → AreWritten w s rows 0 written
 unfolding ArePlaced
 rows_none w s rows written text labels bands bottom waits wakes = record {
   placed = [];
@@ -156,20 +167,29 @@ rows_none w s rows written text labels bands bottom waits wakes = record {
 pub rows_next : (w : Window) (s : Setting) (rows : Rows) (number : ℕ) (old new : WrittenRows) → AreWritten w s rows number old
     → IsRowWrittenIf w s rows number old new → AreWritten w s rows (number + 1) new
 unfolding ArePlaced
-rows_next w s rows number old new before way = subst (λ n. AreWritten w s rows n new) (sym (add-one number)) (⊎_elim
-    (λ (there : HasRow w rows number × IsRowWritten s number (row_of rows number) old new).
+rows_next w s rows number old new before way =
+    subst (λ n. AreWritten w s rows n new) (sym (add-one number))
+    (⊎_elim (λ (there : HasRow w rows number × IsRowWritten s number (row_of rows number) old new).
     let is = there.1 in
-    let next = is.placed in record {
+    let next = is.placed in
+    record {
       placed = before.placed ++ next ∷ [];
-      are_placed = (before.placed, old.bottom, before.are_placed, inl (there.0, record { next = next; is_placed = is.is_placed; comes_last = refl; ends = is.bottom }));
+      are_placed = (
+        before.placed,
+        old.bottom,
+        before.are_placed,
+        inl (there.0, record { next = next; is_placed = is.is_placed; comes_last = refl; ends = is.bottom }),
+      );
       text = more_text (row_text s) before.placed next _ _ before.text is.text;
       labels = more_text (labels_text s) before.placed next _ _ before.labels is.labels;
       bands = bands_next before.placed next number old.bands new.bands is.is_placed.of_processor
           (none_yet w s rows number before.placed old.bottom number before.are_placed (omega arith)) is.bands.0 before.bands;
-      waits = more_left (λ (p : PlacedRow). left_out (λ (wait : Stretch). wait) [] p.row.waits) before.placed next _ _ before.waits is.waits;
+      waits =
+          more_left (λ (p : PlacedRow). left_out (λ (wait : Stretch). wait) [] p.row.waits) before.placed next _ _
+          before.waits is.waits;
       wakes = more_left (λ (p : PlacedRow). left_out (arrow_of s.extent) [] p.row.wakes) before.placed next _ _ before.wakes is.wakes;
-    })
-    (λ (none : ¬ (HasRow w rows number) × (new ≡ old)). subst (λ (now : WrittenRows). AreWritten w s rows (suc number) now) (sym none.1) (record {
+    }) (λ (none : ¬ (HasRow w rows number) × (new ≡ old)).
+    subst (λ (now : WrittenRows). AreWritten w s rows (suc number) now) (sym none.1) (record {
       placed = before.placed;
       are_placed = (before.placed, old.bottom, before.are_placed, inr (none.0, record { placed_stay = refl; edge_stays = refl }));
       text = before.text;
@@ -177,8 +197,7 @@ rows_next w s rows number old new before way = subst (λ n. AreWritten w s rows 
       bands = before.bands;
       waits = before.waits;
       wakes = before.wakes;
-    }))
-    way)
+    })) way)
 
 -- a row leaves the lines as they are
 pub lines_stay : (w : Window) (s : Setting) (rows : Rows) (number : ℕ) (old new : WrittenRows) → IsRowWrittenIf w s rows number old new
@@ -188,7 +207,8 @@ lines_stay w s rows number old new way = ⊎_elim
     (λ (none : ¬ (HasRow w rows number) × (new ≡ old)). ap (λ (r : WrittenRows). r.links) none.1)
     way
 
-line_same : (kind : LinkKind) (s : Setting) (f g : ℕ → Option ℕ) → ((q : ℕ) → f q ≡ g q) → (link : Link) → line_of kind s f link ≡ line_of kind s g link
+line_same : (kind : LinkKind) (s : Setting) (f g : ℕ → Option ℕ)
+    → ((q : ℕ) → f q ≡ g q) → (link : Link) → line_of kind s f link ≡ line_of kind s g link
 line_same kind s f g same link =
     ap (λ (o : Option ℕ). cond (same_kind link.kind kind) (link_if s link o (f link.to.processor)) []) (same link.from.processor)
     ∙ ap (λ (o : Option ℕ). cond (same_kind link.kind kind) (link_if s link (g link.from.processor) o) []) (same link.to.processor)
@@ -211,11 +231,13 @@ drawn_all w s held number r0 r1 r2 end none are s1 s2 e1 e2 =
     let migrations = flat_map (line_of Migration s tops) held.links in
     let pulls = flat_map (line_of Pull s tops) held.links in
     let bands : r1.bands ≡ r0.bands = ap (λ (r : WrittenRows). r.bands) s1 in
-    let first : string_bytes r1.links ≡ migrations
-    = e1 ∙ ap (λ t. t ++ flat_map (line_of Migration s (get nat_cmp r0.bands)) held.links) none ∙ lines_same Migration s (get nat_cmp r0.bands) tops all.bands held.links in
-    let second : string_bytes r2.links ≡ migrations ++ pulls
-    = e2 ∙ ap (λ t. t ++ flat_map (line_of Pull s (get nat_cmp r1.bands)) held.links) first
-    ∙ ap (λ t. migrations ++ t) (lines_same Pull s (get nat_cmp r1.bands) tops (λ q. ap (λ (m : BTreeMap ℕ ℕ). get nat_cmp m q) bands ∙ all.bands q) held.links) in
+    let first : string_bytes r1.links ≡ migrations =
+    e1 ∙ ap (λ t. t ++ flat_map (line_of Migration s (get nat_cmp r0.bands)) held.links) none
+    ∙ lines_same Migration s (get nat_cmp r0.bands) tops all.bands held.links in
+    let second : string_bytes r2.links ≡ migrations ++ pulls =
+    e2 ∙ ap (λ t. t ++ flat_map (line_of Pull s (get nat_cmp r1.bands)) held.links) first
+    ∙ ap (λ t. migrations ++ t)
+    (lines_same Pull s (get nat_cmp r1.bands) tops (λ q. ap (λ (m : BTreeMap ℕ ℕ). get nat_cmp m q) bands ∙ all.bands q) held.links) in
     let whole : r2 ≡ record r0 { links = r2.links } = s2 ∙ ap (λ (r : WrittenRows). record r { links = r2.links }) s1 in
     let now : WrittenRows = record r0 { links = r2.links } in
     let drawn : AreDrawn w s held now = record {

@@ -2,7 +2,7 @@
 use Rattle.std.specs.Prelude.{ℕ, zero, suc, ◌+◌, ◌*◌, ◌/◌, ◌^◌, ◌-◌, List, [], ◌++◌, codes, if◌then◌else◌, max, min, nat_le}
 use Rattle.std.specs.Fmt.{decimal}
 use Rattle.std.specs.Int.{div_ceil}
-use Rattle.bq_parts.specs.Counts.{counted}
+use Rattle.bq_parts.specs.Counts.{saturating_sum}
 use Rattle.bq_report.specs.declared.extent.Extent.{Extent}
 use Rattle.bq_drawing.specs.Places.{hundredths, left_edge, place_of, time_width}
 use Rattle.bq_drawing.specs.Shapes.{Setting}
@@ -16,36 +16,36 @@ most_lines = 12
 abbrev pub first_line : Extent → ℕ → ℕ
 first_line e step = min (div_ceil e.from (max step 1) * step) (2 ^ 64 - 1)
 
--- the moment of a line: so many steps after the first
+-- the moment of a line: this many steps after the first line
 abbrev pub line_at : Extent → ℕ → ℕ → ℕ
-line_at e step number = counted (first_line e step) (step * number)
+line_at e step number = saturating_sum (first_line e step) (step * number)
 
 -- a line at this place, between these heights
 abbrev pub grid_line : ℕ → ℕ → ℕ → List ℕ
 grid_line place top edge =
     codes "<path class=\"grid\" d=\"M" ++ (hundredths place ++ (codes " " ++ (decimal top ++ (codes "V" ++ (decimal edge ++ codes "\"/>")))))
 
--- the number at a line
+-- the number at a line of the axis
 abbrev pub grid_count : ℕ → ℕ → ℕ → List ℕ
 grid_count place line count =
     codes "<text class=\"small middle\" x=\"" ++ (hundredths place ++ (codes "\" y=\"" ++ (decimal line ++ (codes "\">"
     ++ (decimal count ++ codes "</text>\n")))))
 
--- a moment on the axis: its line from above the rows to where they end, and below it how many units it is
+-- a moment on the axis: its line from above the rows to where they end, and the number of units below it
 abbrev pub mark_text : Setting → ℕ → ℕ → ℕ → List ℕ
 mark_text s top edge at =
-    grid_line (place_of s.extent at) top edge ++ grid_count (place_of s.extent at) (counted edge 20) (at / unit_length s.unit)
+    grid_line (place_of s.extent at) top edge ++ grid_count (place_of s.extent at) (saturating_sum edge 20) (at / unit_length s.unit)
 
--- a moment on the axis, as `mark_text` draws it, if the extent is not over before
+-- a moment on the axis, as `mark_text` draws it, if it is no later than the extent
 abbrev pub mark_if : Setting → ℕ → ℕ → ℕ → List ℕ
 mark_if s top edge at = if nat_le at s.extent.to then mark_text s top edge at else []
 
--- the first lines, so many at most
+-- the first lines of the axis, at most this many
 unfoldable pub marks_text : Setting → ℕ → ℕ → ℕ → ℕ → List ℕ
 marks_text s step top edge zero = []
 marks_text s step top edge (suc number) = marks_text s step top edge number ++ mark_if s top edge (line_at s.extent step number)
 
--- what the axis tells
+-- the name of the axis, with the name of its unit
 abbrev pub axis_name : List ℕ → ℕ → List ℕ
 axis_name unit line =
     codes "<text class=\"small middle\" x=\"" ++ (decimal (left_edge + time_width / 2) ++ (codes "\" y=\"" ++ (decimal line ++ (codes "\">time in "
@@ -53,4 +53,4 @@ axis_name unit line =
 
 -- the axis: its lines, at each multiple of the step in the extent, and its name
 abbrev pub axis_text : Setting → ℕ → ℕ → ℕ → List ℕ
-axis_text s step top edge = marks_text s step top edge most_lines ++ axis_name (unit_name s.unit) (counted edge 42)
+axis_text s step top edge = marks_text s step top edge most_lines ++ axis_name (unit_name s.unit) (saturating_sum edge 42)

@@ -13,7 +13,7 @@ use Rattle.bq_report.specs.Names.{NamedTasks, name_of}
 abbrev pub json_text : List ℕ → List ℕ
 json_text text = compact_text (string text)
 
--- a name that a task has, or its number where it has none
+-- the name of a task, or its number if it has none
 abbrev pub label_of : ℕ → Option (List ℕ) → List ℕ
 label_of task None = codes "task " ++ decimal task
 label_of task (Some name) = name
@@ -26,11 +26,11 @@ run_name names task = json_text (label_of task (name_of names task))
 abbrev pub act_name : NamedTasks → List ℕ → ℕ → List ℕ
 act_name names act task = json_text (act ++ (codes " " ++ label_of task (name_of names task)))
 
--- the track of a processor's events; that of its runs has the processor's own number
+-- the track of a processor's events; the track of its runs has the processor's own number
 abbrev pub event_track : ℕ → ℕ
 event_track processor = 64 + processor
 
--- a track by its name, and its place among all
+-- a track with its name and its place among all tracks
 abbrev pub track_text : ℕ → List ℕ → ℕ → List ℕ
 track_text track name place =
     codes ",\n{\"ph\":\"M\",\"pid\":0,\"tid\":" ++ (decimal track
@@ -43,15 +43,15 @@ tracks_text processor =
     track_text processor (codes "cpu " ++ decimal processor) (processor * 2)
     ++ track_text (event_track processor) (codes "cpu " ++ (decimal processor ++ codes " events")) (processor * 2 + 1)
 
--- the event of a run: a complete event (X) on the track of its processor, from its beginning on and as long as it, with this name
--- and these arguments, each JSON already
+-- the event of a run: a complete event (X) on its processor's track, which begins when the run does and is as long; the name and the
+-- arguments are JSON already
 abbrev pub run_event : Slice → List ℕ → List ℕ → List ℕ
 run_event run name args =
     codes ",\n{\"ph\":\"X\",\"cat\":\"run\",\"name\":" ++ (name ++ (codes ",\"pid\":0,\"tid\":" ++ (decimal run.processor
     ++ (codes ",\"ts\":" ++ (micros_text run.from ++ (codes ",\"dur\":" ++ (micros_text (run.to - run.from)
     ++ (codes ",\"args\":" ++ (args ++ codes "}")))))))))
 
--- the arguments of a run: its task's nice value and weight, its task, and how long that had waited for it
+-- the arguments of a run: its task's nice value and weight, its task, and how long that task had waited for it
 abbrev pub run_object : TaskFigures → ℕ → ℕ → Data
 run_object t task waited =
     object (member (codes "nice") (number (of_integer t.nice))
@@ -59,23 +59,23 @@ run_object t task waited =
     (member (codes "waited_ns") (number (unsigned waited))
     (member (codes "weight") (number (unsigned t.weight)) no_members))))
 
--- a slice of a nanosecond, the least that the format can have, of this category and with this name, on this track at a moment
+-- a slice of one nanosecond, the shortest that the format can have, with this category and name, on this track at a moment
 abbrev pub mark_text : List ℕ → List ℕ → ℕ → ℕ → List ℕ → List ℕ
 mark_text kind name track at args =
     codes ",\n{\"ph\":\"X\",\"cat\":\"" ++ (kind ++ (codes "\",\"name\":" ++ (name ++ (codes ",\"pid\":0,\"tid\":" ++ (decimal track
     ++ (codes ",\"ts\":" ++ (micros_text at ++ (codes ",\"dur\":0.001,\"args\":" ++ (args ++ codes "}")))))))))
 
--- a task, and another number by its name
+-- a task, and another number under its name
 abbrev pub task_args : ℕ → List ℕ → ℕ → List ℕ
 task_args task name n = codes "{\"task\":" ++ (decimal task ++ (codes ",\"" ++ (name ++ (codes "\":" ++ (decimal n ++ codes "}")))))
 
--- the beginning of the arrow of that number
+-- the beginning of the arrow with this number
 abbrev pub beginning_text : List ℕ → ℕ → ℕ → ℕ → List ℕ
 beginning_text kind arrow track at =
     codes ",\n{\"ph\":\"s\",\"cat\":\"" ++ (kind ++ (codes "\",\"name\":\"" ++ (kind ++ (codes "\",\"id\":" ++ (decimal arrow
     ++ (codes ",\"pid\":0,\"tid\":" ++ (decimal track ++ (codes ",\"ts\":" ++ (micros_text at ++ codes "}")))))))))
 
--- its end, at the beginning of a run
+-- the end of the arrow with this number, at the beginning of a run
 abbrev pub end_text : List ℕ → ℕ → Slice → List ℕ
 end_text kind arrow run =
     codes ",\n{\"ph\":\"f\",\"bp\":\"e\",\"cat\":\"" ++ (kind ++ (codes "\",\"name\":\"" ++ (kind ++ (codes "\",\"id\":" ++ (decimal arrow

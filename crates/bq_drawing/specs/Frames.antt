@@ -1,4 +1,4 @@
--- What stands around a picture: the beginning of its root, with its name and its size, its title, and its end.
+-- The frame of a picture: the beginning of its root, with its name and its size, its title, and its end.
 use Rattle.std.specs.Prelude.{ℕ, ◌-◌, ◌*◌, ◌%◌, ◌^◌, false, List, [], ◌++◌, bit_xor, codes}
 use Rattle.std.specs.Fmt.{decimal, digits, format_spec, padded_integral}
 use Rattle.std.specs.List.{fold}
@@ -9,11 +9,11 @@ use Rattle.bq_drawing.specs.Titles.{escaped}
 
 -- ---- the name of a picture, by which its styles are its own
 
--- a hash with a byte more: that of Fowler, Noll and Vo (FNV-1a) of 32 bits
+-- the hash after one more byte, by the 32-bit hash of Fowler, Noll and Vo (FNV-1a)
 abbrev pub mixed : ℕ → ℕ → ℕ
 mixed hash byte = bit_xor hash byte * 16777619 % 2 ^ 32
 
--- the hash of nothing
+-- the hash before any byte
 abbrev pub hash_basis : ℕ
 hash_basis = 2166136261
 
@@ -27,7 +27,7 @@ theme_letter Auto = 97
 abbrev pub hash_of : Theme → List ℕ → ℕ
 hash_of theme drawn = fold mixed (mixed hash_basis (theme_letter theme)) drawn
 
--- a number in eight digits of base 16
+-- a number in eight hexadecimal digits
 abbrev pub eight_digits : ℕ → List ℕ
 eight_digits n = padded_integral (format_spec 32 0 4 8 (2 ^ 64 - 1)) false [] (digits 16 false n)
 
@@ -44,6 +44,6 @@ root_text name height =
     ++ (decimal height ++ codes "\""))))))
     ++ (codes " viewBox=\"0 0 " ++ (decimal page_width ++ (codes " " ++ (decimal height ++ codes "\" role=\"img\">\n"))))
 
--- the name of the picture for a reader that does not see it
+-- the name of the picture for a reader who does not see it
 abbrev pub root_title : List ℕ → List ℕ
 root_title title = codes "<title>" ++ (escaped (2 ^ 64 - 1) title ++ codes "</title>\n")

@@ -1,4 +1,4 @@
--- What stands above a picture: its title, the discipline, and the time that it is drawn over.
+-- The heading above a picture: its title, the discipline, and the time that it is drawn over.
 use Rattle.std.specs.Prelude.{ℕ, List, [], ◌++◌, Option, Some, None, codes, string_bytes, unwrap_or}
 use Rattle.std.specs.Fmt.{decimal}
 use Rattle.std.specs.Option.{option_map}
@@ -9,7 +9,7 @@ use Rattle.bq_drawing.specs.Places.{left_edge}
 use Rattle.bq_drawing.specs.Shapes.{Setting}
 use Rattle.bq_drawing.specs.Titles.{amount_text, escaped, unit_name}
 
--- what a picture is called: its own title, if it has one
+-- the title of a picture: its own, or a default if it has none
 abbrev pub title_of : Look → List ℕ
 title_of look = unwrap_or (option_map (λ t. string_bytes t) look.title) (codes "Schedule")
 
@@ -18,7 +18,7 @@ abbrev pub discipline : Rule → List ℕ
 discipline Cfs = codes "CFS"
 discipline Eevdf = codes "EEVDF"
 
--- the discipline, once it is known
+-- the discipline, if it is known
 abbrev pub rule_text : Option Rule → List ℕ
 rule_text None = []
 rule_text (Some rule) = discipline rule ++ codes ", "
@@ -32,7 +32,7 @@ times_text s =
 abbrev pub title_text : List ℕ → List ℕ
 title_text title = (codes "<text class=\"title\" x=\"" ++ (decimal left_edge ++ codes "\" y=\"34\">")) ++ (escaped 90 title ++ codes "</text>\n")
 
--- the line below it
+-- the line below the title: the discipline and the time
 abbrev pub span_text : Setting → Option Rule → List ℕ
 span_text s rule = (codes "<text class=\"small\" x=\"" ++ (decimal left_edge ++ codes "\" y=\"58\">")) ++ (rule_text rule ++ times_text s)
 

@@ -23,30 +23,33 @@ use Rattle.bq_drawing.specs.declared.shapes.DrawnRun.{DrawnRun}
 use Rattle.bq_drawing.specs.Rows.{Row, Rows, empty_row, row_of}
 use Rattle.bq_drawing.specs.Runs.{ended_run, run_on}
 
--- what is held: a row for each processor, the lines between rows, and the tasks of which anything is drawn
+-- what is held: a row for each processor, the lines between rows, and the tasks of which something is drawn
 pub record Held : Type 0 where
   pub rows : Rows
   pub links : List Link
   pub tasks : List ℕ
 
--- nothing, of so many processors
+-- nothing is held, with this many processors
 abbrev pub nothing_of : ℕ → Held
 nothing_of processors = record { rows = replicate processors empty_row; links = []; tasks = [] }
 
--- the part of a run that is shown, and how the run began
+-- the shown part of a run, and how the run began
 abbrev pub drawn_run : Start → Slice → DrawnRun
 drawn_run start part = record { task = part.task; from = part.from; to = part.to; waited = start.waited; latency = start.latency }
 
+-- a row with one more run
 abbrev pub row_with_run : DrawnRun → Row → Row
 row_with_run run row = record row { runs = row.runs ++ run ∷ [] }
 
+-- a row with one more wait
 abbrev pub row_with_wait : Stretch → Row → Row
 row_with_wait wait row = record row { waits = row.waits ++ wait ∷ [] }
 
+-- a row with one more wake
 abbrev pub row_with_wake : Stretch → Row → Row
 row_with_wake wake row = record row { wakes = row.wakes ++ wake ∷ [] }
 
--- tasks in order, with this one among them
+-- a sorted list of tasks, with this one in it
 abbrev pub with_task : ℕ → List ℕ → List ℕ
 with_task task tasks = insert_key nat_cmp tasks task
 
@@ -55,21 +58,22 @@ abbrev pub with_more : ℕ → ℕ → (Row → Row) → Held → Held
 with_more processor task more held =
     record held { rows = slice_set held.rows processor (more (row_of held.rows processor)); tasks = with_task task held.tasks }
 
--- what is held, with a run added at the end of its processor's row, if any of it is shown
+-- what is held, with a run added at the end of its processor's row, if a part of it is shown
 abbrev pub with_run : Option Start → Option Slice → Held → Held
 with_run None part held = held
 with_run (Some start) None held = held
 with_run (Some start) (Some part) held = with_more part.processor part.task (row_with_run (drawn_run start part)) held
 
+-- what is held, with a wait added to the row of a processor
 abbrev pub with_stretch : ℕ → Stretch → Held → Held
 with_stretch processor wait held = with_more processor wait.task (row_with_wait wait) held
 
--- what is held, with the part of a wait added to its processor's row, if any of it is shown
+-- what is held, with the part of a wait added to its processor's row, if a part of it is shown
 abbrev pub with_wait : Option Slice → Held → Held
 with_wait None held = held
 with_wait (Some part) held = with_stretch part.processor (record { from = part.from; to = part.to; task = part.task }) held
 
--- the moment of a wake
+-- a wake as a stretch of no length
 abbrev pub waking : Wake → Stretch
 waking k = record { from = k.at; to = k.at; task = k.task }
 
@@ -90,20 +94,20 @@ HoldsRun w start run old new = (part : Option Slice) × IsShownPart w run part �
 abbrev pub HoldsWait : Window → Option Slice → Held → Held → Type 0
 HoldsWait w wait old new = (part : Option Slice) × IsShownPart w wait part × (new ≡ with_wait part old)
 
--- a wake is shown where its task was placed
+-- a wake is shown if the window shows it at the processor where its task was placed
 abbrev pub IsShownThere : Window → Option Wake → Option Wake → Type 0
 IsShownThere w None part = part ≡ None
 IsShownThere w (Some k) part = SomeIff part (Shows w k.to k.task k.at) k
 
--- a wake is put there if it is shown
+-- a wake is added to its processor's row, if it is shown
 abbrev pub HoldsWake : Window → Option Wake → Held → Held → Type 0
 HoldsWake w wake old new = (part : Option Wake) × IsShownThere w wake part × (new ≡ with_wake part old)
 
--- the wait before a run that began so
+-- the wait before a run with this start
 abbrev pub wait_before : Start → Slice
 wait_before start = record { processor = start.processor; task = start.task; from = start.at - start.waited; to = start.at }
 
--- the wait that a pull ended, where the task was taken from
+-- the wait that a pull ended, at the processor that the task was taken from
 abbrev pub wait_ended : PulledTask → Slice
 wait_ended pull = record { processor = pull.from; task = pull.task; from = pull.at - pull.waited; to = pull.at }
 
@@ -126,19 +130,20 @@ pulled_link pull = record {
   to = record { processor = pull.to; at = pull.at };
 }
 
--- when each task last ceased to run
+-- when each task last stopped running
 abbrev pub Stops : Type 0
 Stops = List (ℕ × ℕ)
 
+-- when each task last stopped running, after a change that may have ended a run
 abbrev pub with_stop : Option Stop → Stops → Stops
 with_stop None stops = stops
 with_stop (Some stop) stops = insert_entry nat_cmp stops stop.start.task stop.at
 
--- where the line of a migration begins: when its task last ceased to run, or where the run begins if that is not known
+-- when the line of a migration begins: when its task last stopped running, or when the run begins if that is not known
 abbrev pub left_at : Stops → Start → ℕ
 left_at stops start = unwrap_or (lookup (is_at (nat_cmp start.task)) stops) start.at
 
--- the line of a run that began so, from another processor
+-- the line to a run with this start, from another processor
 abbrev pub link_from : Stops → Start → ℕ → Link
 link_from stops start before = record {
   kind = Migration;
@@ -147,15 +152,16 @@ link_from stops start before = record {
   to = record { processor = start.processor; at = start.at };
 }
 
--- that line, if the task ran elsewhere before
+-- the line of a migration, if the task ran on another processor before
 abbrev pub migration_of : Stops → Start → Option Link
 migration_of stops start = if has_migrated start then option_map (link_from stops start) start.before else None
 
+-- the line of a migration, if there is a start and its task ran on another processor before
 abbrev pub migration_link : Stops → Option Start → Option Link
 migration_link stops None = None
 migration_link stops (Some start) = migration_of stops start
 
--- the wait that a pull ended is added, and its line
+-- the wait that a pull ended is added, and the pull's line
 pub record HoldsPull (w : Window) (pull : Option PulledTask) (old new : Held) : Type 0 where
   pub waited : Held
   pub wait : HoldsWait w (option_map wait_ended pull) old waited
@@ -167,7 +173,7 @@ pub record HoldsStart (w : Window) (stops : Stops) (start : Option Start) (old n
   pub wait : HoldsWait w (option_map wait_before start) old waited
   pub line : HoldsLink w (migration_link stops start) waited new
 
--- what is held of a change: its wake, its pull, the run that is over, and what the run that began waited for and came from
+-- what a change adds: its wake, its pull, the run that it ends, and the wait and the migration of the run that begins
 pub record HoldsChange (w : Window) (change : Change) (before after : Stops) (old new : Held) : Type 0 where
   pub woken : Held
   pub pulled : Held
@@ -178,21 +184,21 @@ pub record HoldsChange (w : Window) (change : Change) (before after : Stops) (ol
   pub stops : after ≡ with_stop change.stop before
   pub start : HoldsStart w after change.start stopped new
 
--- the shown parts of the runs that still go on are added, at the processors below a number
+-- the shown parts of the runs that still go on are added, for the processors below a number
 unfoldable pub HoldsRunners : Window → Figures → ℕ → Held → Held → Type 0
 HoldsRunners w s zero old new = new ≡ old
 HoldsRunners w s (suc processor) old new =
     (before : Held) × HoldsRunners w s processor old before
     × HoldsRun w (processor_of s processor).running (run_on (processor_of s processor)) before new
 
--- the wait of a task that goes on at a place, unless it runs there: till the last reading of the clock there
+-- the wait of a task at a place, unless it runs there: it goes on up to the last reading of the clock there
 abbrev pub wait_at : Figures → ℕ → Option ℕ → Option Slice
 wait_at s id None = None
 wait_at s id (Some p) =
     if is_this id (running_task (processor_of s p)) then None
     else Some (record { processor = p; task = id; from = (task_of s id).since; to = (processor_of s p).last })
 
--- the shown parts of the waits that still go on are added, of the tasks below a number
+-- the shown parts of the waits that still go on are added, for the tasks below a number
 unfoldable pub HoldsWaiting : Window → Figures → ℕ → Held → Held → Type 0
 HoldsWaiting w s zero old new = new ≡ old
 HoldsWaiting w s (suc id) old new =

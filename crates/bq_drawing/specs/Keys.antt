@@ -1,9 +1,9 @@
--- What the legend of a picture tells.
+-- What the legend of a picture explains.
 use Rattle.std.specs.Prelude.{ℕ, ◌+◌, Bool, List, length}
 use Rattle.std.specs.BTreeMap.{is_at}
 use Rattle.std.specs.List.{filter, list_any}
 use Rattle.std.specs.Ordering.{nat_cmp}
-use Rattle.bq_parts.specs.Counts.{counted}
+use Rattle.bq_parts.specs.Counts.{saturating_sum}
 use Rattle.bq_drawing.specs.declared.legend.Key.{Key}
 use Rattle.bq_drawing.specs.declared.links.Link.{Link}
 use Rattle.bq_drawing.specs.declared.links.LinkKind.{LinkKind}
@@ -15,32 +15,32 @@ use Rattle.bq_drawing.specs.Places.{axis_height, row_gap}
 use Rattle.bq_drawing.specs.Rows.{PlacedRow, waits_left_out, wakes_left_out}
 use Rattle.bq_drawing.specs.Shapes.{Setting}
 
--- the tasks of which anything is drawn, by their places among all
+-- the tasks of which something is drawn, by their places among all
 abbrev pub tasks_shown : List ℕ → List ℕ → List ℕ
 tasks_shown tasks drawn = filter (λ task. list_any (is_at (nat_cmp task)) drawn) tasks
 
--- whether there is a line of a kind
+-- whether there is a line of this kind
 abbrev pub has_line : LinkKind → List Link → Bool
 has_line kind links = list_any (λ (link : Link). same_kind link.kind kind) links
 
--- what it tells besides the tasks
+-- what the legend explains besides the tasks
 abbrev pub key_of : Setting → List Link → List PlacedRow → Key
 key_of s links placed = record {
   has_pulls = has_line Pull links;
   has_migrations = has_line Migration links;
-  waits_left_out = counted 0 (waits_left_out placed);
-  wakes_left_out = counted 0 (wakes_left_out s placed);
+  waits_left_out = saturating_sum 0 (waits_left_out placed);
+  wakes_left_out = saturating_sum 0 (wakes_left_out s placed);
 }
 
--- where it stands, below the axis
+-- where the legend begins, below the axis
 abbrev pub legend_top : ℕ → ℕ
-legend_top edge = counted edge (axis_height + row_gap)
+legend_top edge = saturating_sum edge (axis_height + row_gap)
 
 -- the legend of a picture whose rows end at this height
 abbrev pub legend_of : Setting → Held → List PlacedRow → ℕ → List ℕ
 legend_of s held placed edge = legend_text s (tasks_shown s.tasks held.tasks) (key_of s held.links placed) (legend_top edge)
 
--- how high the picture is
+-- how high the picture is together with its legend
 abbrev pub picture_height : Setting → Held → List PlacedRow → ℕ → ℕ
 picture_height s held placed edge =
-    counted (legend_top edge) (legend_height (length (tasks_shown s.tasks held.tasks)) (key_of s held.links placed))
+    saturating_sum (legend_top edge) (legend_height (length (tasks_shown s.tasks held.tasks)) (key_of s held.links placed))

@@ -1,8 +1,8 @@
--- The lines between rows: pulls, and migrations.
+-- The lines between rows: pulls and migrations.
 use Rattle.std.specs.Prelude.{ℕ, ◌-◌, ◌*◌, ◌/◌, ◌^◌, Bool, true, false, List, [], ◌++◌, Option, Some, None, codes, flat_map, if◌then◌else◌, max, min, nat_le, nat_lt}
 use Rattle.std.specs.Fmt.{decimal}
 use Rattle.std.specs.Int.{abs_diff}
-use Rattle.bq_parts.specs.Counts.{counted}
+use Rattle.bq_parts.specs.Counts.{saturating_sum}
 use Rattle.bq_drawing.specs.declared.links.Link.{Link}
 use Rattle.bq_drawing.specs.declared.links.LinkKind.{LinkKind}
 use Rattle.bq_drawing.specs.declared.links.LinkKind.TheVariants.{Migration, Pull}
@@ -13,37 +13,37 @@ use Rattle.bq_drawing.specs.Titles.{amount_text, unit_name}
 
 -- ---- where a line is
 
--- a line leaves the edge of its band that is nearer to the other, whose upper edges are at `from` and `to`
+-- a line leaves its band, which begins at `from`, at the edge that is nearer to the other band, which begins at `to`
 abbrev pub leaves_at : ℕ → ℕ → ℕ
-leaves_at from to = if nat_lt from to then counted from band_height else from
+leaves_at from to = if nat_lt from to then saturating_sum from band_height else from
 
--- and ends at the nearer edge of the other
+-- a line ends at the nearer edge of the other band
 abbrev pub ends_at : ℕ → ℕ → ℕ
-ends_at from to = if nat_lt from to then to else counted to band_height
+ends_at from to = if nat_lt from to then to else saturating_sum to band_height
 
--- how much of the height between its ends is left from a moment on: as much as of its time
+-- how much of the height between a line's ends is left from a moment on: the same part as of its time
 abbrev pub height_left : Link → ℕ → ℕ → ℕ → ℕ
 height_left link begin end first = min (abs_diff begin end * (link.to.at - first)) (2 ^ 64 - 1) / max (link.to.at - link.from.at) 1
 
--- where it enters a picture that begins at a moment: where it begins, unless that is before
+-- the height at which a line enters a picture that begins at a moment; a line that begins later enters where it begins
 abbrev pub enters_at : Link → ℕ → ℕ → ℕ → ℕ
 enters_at link begin end first =
     if nat_le first link.from.at then begin
     else if nat_lt begin end then end - height_left link begin end first
-    else counted end (height_left link begin end first)
+    else saturating_sum end (height_left link begin end first)
 
 -- ---- how it is drawn
 
--- the way of a line between two places and heights
+-- the path of a line between two places and heights
 abbrev pub way_text : ℕ → ℕ → ℕ → ℕ → List ℕ → List ℕ
 way_text left begin right end rest =
     hundredths left ++ (codes " " ++ (decimal begin ++ (codes "L" ++ (hundredths right ++ (codes " " ++ (decimal end ++ rest))))))
 
--- the wider line below it, in the colour of the page
+-- the wider line in the colour of the page, below the line
 abbrev pub halo_text : ℕ → ℕ → ℕ → ℕ → List ℕ
 halo_text left begin right end = codes "<g><path class=\"halo\" stroke-width=\"5\" d=\"M" ++ way_text left begin right end (codes "\"/>")
 
--- the head of an arrow that ends there, down or up
+-- the head of an arrow that ends at this place, pointing down or up
 abbrev pub head_text : ℕ → ℕ → ℕ → Bool → List ℕ
 head_text colour place end true =
     codes "<path class=\"c" ++ (decimal colour ++ (codes " run\" d=\"M" ++ (hundredths place ++ (codes " " ++ (decimal end ++ codes "l-5 -10h10z\"/>")))))
@@ -65,16 +65,16 @@ line_text Migration colour left begin right end is_down =
     (codes "<path class=\"c" ++ (decimal colour ++ (codes " link dashed\" d=\"M" ++ way_text left begin right end (codes "\"/>"))))
     ++ dot_text colour right end
 
--- what it is
+-- what the line means
 abbrev pub act_text : LinkKind → ℕ → ℕ → List ℕ
 act_text Pull from to = codes " is pulled from cpu " ++ (decimal from ++ (codes " by cpu " ++ decimal to))
 act_text Migration from to = codes " migrates from cpu " ++ (decimal from ++ (codes " to cpu " ++ decimal to))
 
--- the beginning of its tooltip: whose it is
+-- the beginning of a line's tooltip: the name of its task
 abbrev pub name_head : Setting → ℕ → List ℕ
 name_head s task = codes "<title>" ++ whole_name s task
 
--- its tooltip: whose it is, what, and when
+-- a line's tooltip: the name of its task, what happened, and when
 abbrev pub link_title : Setting → Link → List ℕ
 link_title s link =
     name_head s link.task
@@ -91,20 +91,20 @@ link_between s link from to =
     (halo_text left begin right end ++ line_text link.kind (colour_of s.tasks link.task) left begin right end (nat_lt from to))
     ++ link_title s link
 
--- a line between two bands, as `link_between` draws it, if both are there
+-- a line between two bands, as `link_between` draws it, if both bands are drawn
 abbrev pub link_if : Setting → Link → Option ℕ → Option ℕ → List ℕ
 link_if s link None to = []
 link_if s link (Some from) None = []
 link_if s link (Some from) (Some to) = link_between s link from to
 
--- a line of this kind
+-- whether two kinds are the same
 abbrev pub same_kind : LinkKind → LinkKind → Bool
 same_kind Pull Pull = true
 same_kind Pull Migration = false
 same_kind Migration Pull = false
 same_kind Migration Migration = true
 
--- a line, if it is of this kind, between bands by the heights of the processors' upper edges
+-- a line, if it is of this kind; `tops` gives the height at which a processor's band begins
 abbrev pub line_of : LinkKind → Setting → (ℕ → Option ℕ) → Link → List ℕ
 line_of kind s tops link = if same_kind link.kind kind then link_if s link (tops link.from.processor) (tops link.to.processor) else []
 

@@ -19,7 +19,7 @@ use Rattle.bq_drawing.specs.Rows.{ArePlaced, PlacedRow, labels_text, row_text}
 use Rattle.bq_drawing.specs.Shapes.{Setting, drawn_in}
 use Rattle.bq_drawing.specs.Titles.{axis_step}
 
--- all that is drawn: the heading, the axis, the rows, the lines between them, the names upon their runs, and the legend
+-- all that is drawn: the heading, the axis, the rows, the lines between them, the names on their runs, and the legend
 pub record IsDrawing (w : Window) (s : Setting) (title : List ℕ) (rule : Option Rule) (held : Held) (height : ℕ) (text : List ℕ) : Type 0 where
   pub placed : List PlacedRow
   pub edge : ℕ
@@ -31,8 +31,8 @@ pub record IsDrawing (w : Window) (s : Setting) (title : List ℕ) (rule : Optio
       ++ (links_text s placed held.links
       ++ (flat_map (labels_text s) placed ++ legend_of s held placed edge))))
 
--- the head of a picture in which this is drawn: its root, with its name and its size, its title, and the styles of a theme, of which
--- nothing is said here
+-- the head of a picture in which this is drawn: its root, with its name and its size, its title, and the styles of a theme. Nothing is
+-- said here of the styles
 abbrev pub IsHead : Look → List ℕ → ℕ → List ℕ → Type 0
 IsHead look drawn height text =
     (styles : List ℕ) × (text ≡ root_text (name_text (hash_of look.theme drawn)) height ++ (root_title (title_of look) ++ styles))
@@ -50,11 +50,11 @@ pub record IsPicture (w : Window) (look : Look) (s : Setting) (rule : Option Rul
 abbrev pub PassesNoTime : Window → Figures → Type 0
 PassesNoTime w s = (e : Extent) → Spans w s e → e.to ≤ e.from
 
--- what a picture is drawn over: from the first reading to the last, in the window; a nanosecond where no time passes
+-- the time that a picture is drawn over: from the first reading to the last, in the window; one nanosecond if no time passes
 abbrev pub IsDrawnOver : Window → Figures → Extent → Type 0
 IsDrawnOver w s e = (Spans w s e × (e.from < e.to)) ⊎ (PassesNoTime w s × (e ≡ record { from = 0; to = 1 }))
 
--- the picture at the end of a schedule: of all that is held, and of the runs and the waits that go on
+-- the picture at the end of a schedule: of all that is held, and of the runs and the waits that still go on
 pub record IsPictureOf (w : Window) (look : Look) (rule : Option Rule) (s : Figures) (names : NamedTasks) (tasks : List ℕ) (old : Held)
     (text : List ℕ) : Type 0 where
   pub running : Held

@@ -1,4 +1,4 @@
--- Where a moment lies in the picture.
+-- Where a moment is in the picture.
 use Rattle.std.specs.Prelude.{ℕ, ◌+◌, ◌-◌, ◌*◌, ◌/◌, ◌%◌, max, min, List, ◌++◌, codes}
 use Rattle.std.specs.Fmt.{decimal}
 use Rattle.bq_report.specs.declared.extent.Extent.{Extent}
@@ -31,7 +31,7 @@ lane_height = 12
 abbrev pub level_height : ℕ
 level_height = 13
 
--- how far a row is from the next
+-- how far a row is from the next row
 abbrev pub row_gap : ℕ
 row_gap = 24
 
@@ -47,12 +47,12 @@ least_width = 40
 abbrev pub arrow_width : ℕ
 arrow_width = 9
 
--- how far from the left edge, in hundredths: the time's edge, and of its width so much as of the extent has passed; the end for what is
--- later
+-- how far a moment is from the left edge, in hundredths: in proportion to how much of the extent has passed then. A moment after the
+-- extent is at its end
 abbrev pub place_of : Extent → ℕ → ℕ
 place_of e time = left_edge * 100 + (min time e.to - e.from) * (time_width * 100) / max (e.to - e.from) 1
 
--- how wide the stretch between two moments is drawn, in hundredths: from the place of one to that of the other, and no less than can be seen
+-- how wide the stretch between two moments is drawn, in hundredths: at least as wide as can be seen
 abbrev pub width_of : Extent → ℕ → ℕ → ℕ
 width_of e from to = max (place_of e to - place_of e from) least_width
 
@@ -60,6 +60,6 @@ width_of e from to = max (place_of e to - place_of e from) least_width
 abbrev pub hundredths : ℕ → List ℕ
 hundredths n = decimal (n / 100) ++ (codes "." ++ (decimal (n / 10 % 10) ++ decimal (n % 10)))
 
--- how long the time is over which the arrow of a wake is drawn: as long as the arrow is wide, in whole units of the picture
+-- the time that the arrow of a wake covers: as long as the arrow is wide, in whole units of the picture
 abbrev pub arrow_time : Extent → ℕ
 arrow_time e = (e.to - e.from) / time_width * arrow_width + 1

@@ -4,7 +4,7 @@ use Rattle.std.specs.List.{sum_by}
 use Rattle.std.specs.Option.{option_map}
 use Rattle.std.specs.Ordering.{nat_cmp, ordering_then}
 use Rattle.std.specs.declared.cmp.Ordering.{Ordering}
-use Rattle.bq_parts.specs.Counts.{counted}
+use Rattle.bq_parts.specs.Counts.{saturating_sum}
 use Rattle.bq_report.specs.declared.window.Window.{Window}
 use Rattle.bq_report.specs.Windows.{ShowsProcessor}
 use Rattle.bq_drawing.specs.declared.lanes.Stretch.{Stretch}
@@ -13,12 +13,13 @@ use Rattle.bq_drawing.specs.Lanes.{lanes_after, left_out}
 use Rattle.bq_drawing.specs.Places.{band_height, lane_height, level_height, row_gap, rows_edge}
 use Rattle.bq_drawing.specs.Shapes.{Setting, arrow_of, label_text, shapes_text}
 
--- what is drawn of a processor: its runs, its waits and its wakes, each as they came
+-- what is drawn of a processor: its runs, its waits and its wakes, each in the order in which they came
 pub record Row : Type 0 where
   pub runs : List DrawnRun
   pub waits : List Stretch
   pub wakes : List Stretch
 
+-- a row with nothing in it
 abbrev pub empty_row : Row
 empty_row = record { runs = []; waits = []; wakes = [] }
 
@@ -26,10 +27,11 @@ empty_row = record { runs = []; waits = []; wakes = [] }
 abbrev pub Rows : Type 0
 Rows = List Row
 
+-- the row of a processor; empty if it does not exist
 abbrev pub row_of : Rows → ℕ → Row
 row_of rows processor = slice_index_or rows processor empty_row
 
--- stretches by when they begin, then by when they end, then by their tasks
+-- the order of stretches: by when they begin, then by when they end, then by their tasks
 abbrev pub stretch_cmp : Stretch → Stretch → Ordering
 stretch_cmp a b = ordering_then (nat_cmp a.from b.from) (ordering_then (nat_cmp a.to b.to) (nat_cmp a.task b.task))
 
@@ -38,26 +40,26 @@ pub record ArePutInOrder (given sorted : List Stretch) : Type 0 where
   pub same : IsPermutation given sorted
   pub order : IsSorted stretch_cmp sorted
 
--- a processor has a row: it is there, and is shown
+-- a processor has a row: it exists, and is shown
 pub record HasRow (w : Window) (rows : Rows) (number : ℕ) : Type 0 where
   pub exists : number < length rows
   pub shown : ShowsProcessor w number
 
--- a row in the picture: whose it is, the height at which its band begins, and what is drawn in it, the waits and the wakes in order
+-- a row in the picture: its processor, the height at which its band begins, and what is drawn in it, with waits and wakes in order
 pub record PlacedRow : Type 0 where
   pub number : ℕ
   pub top : ℕ
   pub row : Row
 
--- where the band of a row begins, below what ends at this height: a level for each of its wakes that stand one above another, and 4
+-- where the band of a row begins, below this height: the levels that its wakes need, and 4 more
 abbrev pub band_top : Setting → ℕ → List Stretch → ℕ
-band_top s edge wakes = counted edge (length (lanes_after (arrow_of s.extent) [] wakes) * level_height + 4)
+band_top s edge wakes = saturating_sum edge (length (lanes_after (arrow_of s.extent) [] wakes) * level_height + 4)
 
--- where it ends: below the band, the lanes of its waits, and a gap
+-- where a row ends: below the band, the lanes of its waits, and a gap
 abbrev pub row_end : PlacedRow → ℕ
-row_end p = counted p.top (band_height + (length (lanes_after (λ wait. wait) [] p.row.waits) * lane_height + row_gap))
+row_end p = saturating_sum p.top (band_height + (length (lanes_after (λ wait. wait) [] p.row.waits) * lane_height + row_gap))
 
--- the row of a processor with all that is held of it, below what ends at this height
+-- the row of a processor with all that is held of it, below this height
 pub record IsPlaced (s : Setting) (edge number : ℕ) (row : Row) (placed : PlacedRow) : Type 0 where
   pub of_processor : placed.number ≡ number
   pub below : placed.top ≡ band_top s edge placed.row.wakes
@@ -65,19 +67,19 @@ pub record IsPlaced (s : Setting) (edge number : ℕ) (row : Row) (placed : Plac
   pub waits_in_order : ArePutInOrder row.waits placed.row.waits
   pub wakes_in_order : ArePutInOrder row.wakes placed.row.wakes
 
--- the next row, below those before it, of which the last ends at `before`
+-- the next row, below the rows before it, the last of which ends at `before`
 pub record IsNextRow (s : Setting) (number : ℕ) (row : Row) (above : List PlacedRow) (before : ℕ) (placed : List PlacedRow) (edge : ℕ) : Type 0 where
   pub next : PlacedRow
   pub is_placed : IsPlaced s before number row next
   pub comes_last : placed ≡ above ++ next ∷ []
   pub ends : edge ≡ row_end next
 
--- no row comes
+-- no row is added
 pub record IsNoRow (above : List PlacedRow) (before : ℕ) (placed : List PlacedRow) (edge : ℕ) : Type 0 where
   pub placed_stay : placed ≡ above
   pub edge_stays : edge ≡ before
 
--- the rows of the processors below a number, one below another, of each that has one; the last ends at `edge`
+-- the rows of the processors below a number that have one, one below another; the last ends at `edge`
 unfoldable pub ArePlaced : Window → Setting → Rows → ℕ → List PlacedRow → ℕ → Type 0
 ArePlaced w s rows zero placed edge = (placed ≡ []) × (edge ≡ rows_edge)
 ArePlaced w s rows (suc number) placed edge =
@@ -92,14 +94,14 @@ top_at placed number = option_map (λ (p : PlacedRow). p.top) (find (λ (p : Pla
 abbrev pub row_text : Setting → PlacedRow → List ℕ
 row_text s p = shapes_text s p.number p.top p.row.runs p.row.waits p.row.wakes
 
--- the names upon its runs
+-- the names on the row's runs
 abbrev pub labels_text : Setting → PlacedRow → List ℕ
 labels_text s p = flat_map (label_text s p.top) p.row.runs
 
--- how many waits find no room, in all
+-- how many waits find no room, in all rows
 abbrev pub waits_left_out : List PlacedRow → ℕ
 waits_left_out placed = sum_by (λ (p : PlacedRow). left_out (λ wait. wait) [] p.row.waits) placed
 
--- how many wakes
+-- how many wakes find no room, in all rows
 abbrev pub wakes_left_out : Setting → List PlacedRow → ℕ
 wakes_left_out s placed = sum_by (λ (p : PlacedRow). left_out (arrow_of s.extent) [] p.row.wakes) placed

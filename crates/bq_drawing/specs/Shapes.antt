@@ -2,7 +2,7 @@
 use Rattle.std.specs.Prelude.{ℕ, ◌+◌, ◌-◌, ◌*◌, ◌/◌, ◌%◌, ◌^◌, List, [], ◌∷◌, ◌++◌, Option, Some, None, chars, codes, flat_map, if◌then◌else◌, length, min, nat_lt, unwrap_or}
 use Rattle.std.specs.Fmt.{decimal}
 use Rattle.std.specs.Option.{option_map}
-use Rattle.bq_parts.specs.Counts.{counted}
+use Rattle.bq_parts.specs.Counts.{saturating_sum}
 use Rattle.bq_report.specs.declared.extent.Extent.{Extent}
 use Rattle.bq_report.specs.Names.{NamedTasks, name_of}
 use Rattle.bq_report.specs.Rosters.{place_in}
@@ -14,7 +14,7 @@ use Rattle.bq_drawing.specs.Lanes.{lane_of, taken}
 use Rattle.bq_drawing.specs.Places.{arrow_time, band_height, hundredths, lane_height, left_edge, level_height, place_of, time_width, width_of}
 use Rattle.bq_drawing.specs.Titles.{amount_text, axis_step, shown_name, time_text, unit_name, unit_of_step}
 
--- what the shapes of a picture share: the time that it is drawn over, the unit of its times, the tasks of the trace, in order, and
+-- what the shapes of a picture share: the time that it is drawn over, the unit of its times, and the tasks of the trace, in order, with
 -- their names
 pub record Setting : Type 0 where
   pub extent : Extent
@@ -22,25 +22,25 @@ pub record Setting : Type 0 where
   pub tasks : List ℕ
   pub names : NamedTasks
 
--- that of a picture that is drawn over this time
+-- the setting of a picture that is drawn over this time
 abbrev pub drawn_in : Extent → List ℕ → NamedTasks → Setting
 drawn_in e tasks names = record { extent = e; unit = unit_of_step (axis_step e); tasks = tasks; names = names }
 
--- that which a frame tells
+-- the setting that a frame gives
 abbrev pub setting_of : Frame → Setting
 setting_of f = record { extent = f.scale.extent; unit = f.unit; tasks = f.roster.now; names = f.names.now }
 
--- the number of a task's colour: by its place among all tasks of the trace
+-- the number of a task's colour, by its place among all tasks of the trace
 abbrev pub colour_of : List ℕ → ℕ → ℕ
 colour_of tasks task = unwrap_or (place_in tasks task) 0 % 8
 
--- the whole name of a task, or its number where it has none
+-- the whole name of a task, or its number if it has none
 abbrev pub whole_name : Setting → ℕ → List ℕ
 whole_name s task = shown_name (2 ^ 64 - 1) s.names task
 
 -- ---- the band
 
--- the band in which the runs of a row lie, whose upper edge is at `top`
+-- the band in which the runs of a row are drawn; its upper edge is at `top`
 abbrev pub band_text : ℕ → List ℕ
 band_text top =
     codes "<rect class=\"band\" x=\"" ++ (decimal left_edge ++ (codes "\" y=\"" ++ (decimal top ++ (codes "\" width=\"" ++ (decimal time_width
@@ -49,7 +49,7 @@ band_text top =
 -- the name of a processor's row, in its band
 abbrev pub row_name : ℕ → ℕ → List ℕ
 row_name number top =
-    codes "<text class=\"cpu\" x=\"10\" y=\"" ++ (decimal (counted top 24) ++ (codes "\">cpu " ++ (decimal number ++ codes "</text>\n")))
+    codes "<text class=\"cpu\" x=\"10\" y=\"" ++ (decimal (saturating_sum top 24) ++ (codes "\">cpu " ++ (decimal number ++ codes "</text>\n")))
 
 -- ---- runs
 
@@ -60,19 +60,19 @@ rectangle_text s top run =
     ++ (codes "\" y=\"" ++ (decimal top ++ (codes "\" width=\"" ++ (hundredths (width_of s.extent run.from run.to)
     ++ (codes "\" height=\"" ++ (decimal band_height ++ codes "\" rx=\"2\"/>")))))))))
 
--- when a run is, and how long
+-- when a run begins and ends, and how long it is
 abbrev pub run_times : Setting → DrawnRun → List ℕ
 run_times s run =
     (codes " (" ++ (decimal run.task ++ (codes ") runs " ++ (amount_text s.unit run.from ++ (codes " to " ++ (amount_text s.unit run.to
     ++ (codes " " ++ (unit_name s.unit ++ codes ": "))))))))
     ++ time_text s.unit (run.to - run.from)
 
--- how long after its task's wake it began, if that is known
+-- how long after its task's wake a run began, if that is known
 abbrev pub latency_text : TimeUnit → Option ℕ → List ℕ
 latency_text unit None = []
 latency_text unit (Some latency) = codes ", " ++ (amount_text unit latency ++ (codes " " ++ (unit_name unit ++ codes " since its wake")))
 
--- how long its task waited for it
+-- how long the task waited for a run
 abbrev pub run_waits : Setting → DrawnRun → List ℕ
 run_waits s run =
     (codes ", after " ++ (amount_text s.unit run.waited ++ (codes " " ++ (unit_name s.unit ++ codes " of waiting"))))
@@ -88,61 +88,61 @@ run_text s top run = rectangle_text s top run ++ (run_title s run ++ codes "</g>
 
 -- ---- waits and wakes, in lanes
 
--- a shape in its lane, and nothing where it finds none
+-- a shape in its lane, or nothing if it found none
 abbrev pub shape_in : (ℕ → Stretch → List ℕ) → Option ℕ → Stretch → List ℕ
 shape_in draw None stretch = []
 shape_in draw (Some lane) stretch = draw lane stretch
 
--- shapes, one after another, each in the lane that it takes by the room that it needs; lanes are given by the moments from which
--- they are free
+-- shapes, one after another, each in the lane that it takes; `room` says how much room a shape needs, and a lane is given by the moment
+-- from which it is free
 unfoldable pub in_lanes : (Stretch → Stretch) → (ℕ → Stretch → List ℕ) → List ℕ → List Stretch → List ℕ
 in_lanes room draw lanes [] = []
 in_lanes room draw lanes (stretch ∷ later) =
     shape_in draw (lane_of (room stretch) lanes) stretch
     ++ in_lanes room draw (taken (lane_of (room stretch) lanes) (room stretch).to lanes) later
 
--- where a wait in this lane is drawn, below the band whose upper edge is at `top`
+-- the height of a wait in this lane, below the band whose upper edge is at `top`
 abbrev pub wait_height : ℕ → ℕ → ℕ
-wait_height top lane = counted (lane * lane_height) (band_height + (top + 3))
+wait_height top lane = saturating_sum (lane * lane_height) (band_height + (top + 3))
 
--- its hatched rectangle, up to the name in its tooltip
+-- the hatched rectangle of a wait, up to the name in its tooltip
 abbrev pub hatched_text : Setting → ℕ → Stretch → List ℕ
 hatched_text s height wait =
     codes "<rect class=\"wait w" ++ (decimal (colour_of s.tasks wait.task) ++ (codes "\" x=\"" ++ (hundredths (place_of s.extent wait.from)
     ++ (codes "\" y=\"" ++ (decimal height ++ (codes "\" width=\"" ++ (hundredths (width_of s.extent wait.from wait.to)
     ++ codes "\" height=\"8\"><title>")))))))
 
--- when it is
+-- when a wait begins and ends
 abbrev pub wait_times : Setting → Stretch → List ℕ
 wait_times s wait =
     codes " waits " ++ (amount_text s.unit wait.from ++ (codes " to " ++ (amount_text s.unit wait.to ++ (codes " " ++ (unit_name s.unit
     ++ codes "</title></rect>\n")))))
 
--- a wait at this height: whose it is, and when
+-- a wait at this height, with the name of its task and when it is
 abbrev pub wait_text : Setting → ℕ → Stretch → List ℕ
 wait_text s height wait = hatched_text s height wait ++ (whole_name s wait.task ++ wait_times s wait)
 
--- where the arrow of a wake at this level ends, above the band whose upper edge is at `top`
+-- the height at which the arrow of a wake at this level ends, above the band whose upper edge is at `top`
 abbrev pub wake_height : ℕ → ℕ → ℕ
 wake_height top level = top - level * level_height
 
--- that arrow, up to the name in its tooltip
+-- the arrow of a wake, up to the name in its tooltip
 abbrev pub arrow_text : Setting → ℕ → Stretch → List ℕ
 arrow_text s end wake =
     codes "<path class=\"arrow c" ++ (decimal (colour_of s.tasks wake.task) ++ (codes "\" d=\"M" ++ (hundredths (place_of s.extent wake.from)
     ++ (codes " " ++ (decimal (end - 12) ++ codes "v11l-4 -6h8l-4 6\"><title>")))))
 
--- when it is
+-- when a wake happens
 abbrev pub wake_time : Setting → Stretch → List ℕ
 wake_time s wake = codes " is woken at " ++ (amount_text s.unit wake.from ++ (codes " " ++ (unit_name s.unit ++ codes "</title></path>\n")))
 
--- a wake whose arrow ends at this height: whose it is, and when
+-- a wake whose arrow ends at this height, with the name of its task and when it happens
 abbrev pub wake_text : Setting → ℕ → Stretch → List ℕ
 wake_text s end wake = arrow_text s end wake ++ (whole_name s wake.task ++ wake_time s wake)
 
--- a wake over the time over which its arrow is drawn
+-- a wake, made as long as its arrow is wide
 abbrev pub arrow_of : Extent → Stretch → Stretch
-arrow_of e wake = record wake { to = counted wake.from (arrow_time e) }
+arrow_of e wake = record wake { to = saturating_sum wake.from (arrow_time e) }
 
 -- a wait in its lane, below the band whose upper edge is at `top`
 abbrev pub wait_in : Setting → ℕ → ℕ → Stretch → List ℕ
@@ -156,35 +156,35 @@ wake_in s top level wake = wake_text s (wake_height top level) wake
 abbrev pub waits_text : Setting → ℕ → List Stretch → List ℕ
 waits_text s top waits = in_lanes (λ wait. wait) (wait_in s top) [] waits
 
--- its wakes, one after another; each needs room for its arrow
+-- the wakes of a row, one after another; each needs room for its arrow
 abbrev pub wakes_text : Setting → ℕ → List Stretch → List ℕ
 wakes_text s top wakes = in_lanes (arrow_of s.extent) (wake_in s top) [] wakes
 
--- what is drawn in the row of a processor whose band has its upper edge at `top`: the band and the name, then its runs, its waits and
--- its wakes, each in order
+-- what is drawn in the row of a processor whose band has its upper edge at `top`: the band and the name, then the runs, the waits and the
+-- wakes, each in order
 abbrev pub shapes_text : Setting → ℕ → ℕ → List DrawnRun → List Stretch → List Stretch → List ℕ
 shapes_text s number top runs waits wakes =
     band_text top ++ (row_name number top ++ (flat_map (run_text s top) runs ++ (waits_text s top waits ++ wakes_text s top wakes)))
 
 -- ---- names upon runs
 
--- how many characters the name of a task has, or its number
+-- how many characters the name of a task has; 9 if it has no name
 abbrev pub name_length : NamedTasks → ℕ → ℕ
 name_length names task = unwrap_or (option_map (λ name. length (chars name)) (name_of names task)) 9
 
--- the width that the name needs, in hundredths: ten for each character, and ten more
+-- the width that a name needs, in hundredths: ten units for each character, and ten more
 abbrev pub label_width : NamedTasks → ℕ → ℕ
-label_width names task = counted (min (name_length names task * 1000) (2 ^ 64 - 1)) 1000
+label_width names task = saturating_sum (min (name_length names task * 1000) (2 ^ 64 - 1)) 1000
 
 -- the name of a run's task, around this place, in the band whose upper edge is at `top`
 abbrev pub name_upon : Setting → ℕ → ℕ → ℕ → List ℕ
 name_upon s task middle top =
     (codes "<text class=\"in l" ++ (decimal (colour_of s.tasks task) ++ (codes "\" x=\"" ++ (hundredths middle
-    ++ (codes "\" y=\"" ++ (decimal (counted top 24) ++ codes "\">"))))))
+    ++ (codes "\" y=\"" ++ (decimal (saturating_sum top 24) ++ codes "\">"))))))
     ++ (whole_name s task ++ codes "</text>\n")
 
--- the name upon a run, in its middle, where it is wide enough
+-- the name in the middle of a run, if the run is wide enough
 abbrev pub label_text : Setting → ℕ → DrawnRun → List ℕ
 label_text s top run =
     if nat_lt (width_of s.extent run.from run.to) (label_width s.names run.task) then []
-    else name_upon s run.task (counted (place_of s.extent run.from) (width_of s.extent run.from run.to / 2)) top
+    else name_upon s run.task (saturating_sum (place_of s.extent run.from) (width_of s.extent run.from run.to / 2)) top

@@ -3,7 +3,7 @@ use Rattle.std.specs.Prelude.{ℕ, List, Option, Some, None, bytes_eq, codes, if
 use Rattle.bq_drawing.specs.declared.theme.Theme.{Theme}
 use Rattle.bq_drawing.specs.declared.theme.Theme.TheVariants.{Light, Dark, Auto}
 
--- the theme of that name
+-- the theme of this name, if there is one
 abbrev pub theme_of : List ℕ → Option Theme
 theme_of word =
     if bytes_eq word (codes "light") then Some Light

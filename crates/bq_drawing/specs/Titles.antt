@@ -10,11 +10,11 @@ use Rattle.bq_drawing.specs.declared.unit.TimeUnit.{TimeUnit}
 use Rattle.bq_drawing.specs.declared.unit.TimeUnit.TheVariants.{Microseconds, Milliseconds, Nanoseconds, Seconds}
 use Rattle.bq_drawing.specs.Events.{label_of}
 
--- a character that XML can't hold
+-- whether XML cannot hold a character
 abbrev pub is_barred : ℕ → Bool
 is_barred c = nat_lt c 32 || ((nat_le 127 c && nat_lt c 160) || (c == 65534 || c == 65535))
 
--- what stands for a character that XML does not take as it is
+-- what replaces a character that XML does not take as it is
 abbrev pub in_place_of : ℕ → Option (List ℕ)
 in_place_of c =
     if c == 38 then Some (codes "&amp;")
@@ -31,11 +31,11 @@ xml_letter c = unwrap_or (in_place_of c) (encode_utf8 c)
 abbrev pub escaped : ℕ → List ℕ → List ℕ
 escaped most text = flat_map xml_letter (take most (chars text))
 
--- the name that a task has, cut after this many characters, or its number where it has none
+-- the name of a task, cut after this many characters, or its number if it has none
 abbrev pub shown_name : ℕ → NamedTasks → ℕ → List ℕ
 shown_name most names task = label_of task (option_map (escaped most) (name_of names task))
 
--- the unit of times whose axis has such steps
+-- the unit of times on an axis with steps of this length
 abbrev pub unit_of_step : ℕ → TimeUnit
 unit_of_step step =
     if nat_lt step 1000 then Nanoseconds
@@ -53,14 +53,14 @@ unit_length Microseconds = 1000
 unit_length Milliseconds = 1000000
 unit_length Seconds = 1000000000
 
--- how a unit is written behind a number
+-- how a unit is written after a number
 abbrev pub unit_name : TimeUnit → List ℕ
 unit_name Nanoseconds = codes "ns"
 unit_name Microseconds = codes "us"
 unit_name Milliseconds = codes "ms"
 unit_name Seconds = codes "s"
 
--- a time in a unit, without its name: to the microsecond, and in microseconds to the nanosecond; what is less is cut off
+-- a time in a unit, without the unit's name: to the microsecond, or in microseconds to the nanosecond; what is less is cut off
 abbrev pub amount_text : TimeUnit → ℕ → List ℕ
 amount_text Nanoseconds time = decimal time
 amount_text Microseconds time = decimal (time / 1000) ++ (codes "." ++ zeros 3 (time % 1000))

@@ -1,9 +1,9 @@
--- What is written of a picture's rows, while they are placed.
+-- What is written of a picture's rows while they are placed.
 use Rattle.std.specs.Prelude.{◌≡◌, ℕ, ◌⊎◌, List, [], ◌++◌, Some, flat_map, string_bytes}
 use Rattle.std.specs.BTreeMap.{Updates, get}
 use Rattle.std.specs.Ordering.{nat_cmp}
 use Rattle.bq_disc.specs.declared.limits.TheConstants.{PROCESSORS}
-use Rattle.bq_parts.specs.Counts.{counted}
+use Rattle.bq_parts.specs.Counts.{saturating_sum}
 use Rattle.bq_report.specs.declared.window.Window.{Window}
 use Rattle.bq_drawing.specs.declared.drawing.WrittenRows.{WrittenRows}
 use Rattle.bq_drawing.specs.declared.legend.Key.{Key}
@@ -16,7 +16,7 @@ use Rattle.bq_drawing.specs.Links.{links_text}
 use Rattle.bq_drawing.specs.Rows.{ArePlaced, HasRow, IsPlaced, PlacedRow, Row, Rows, labels_text, row_end, row_of, row_text, top_at, waits_left_out, wakes_left_out}
 use Rattle.bq_drawing.specs.Shapes.{Setting, arrow_of}
 
--- one more row is written, below those that are
+-- one more row is written, below the others
 pub record IsRowWritten (s : Setting) (number : ℕ) (row : Row) (old new : WrittenRows) : Type 0 where
   pub placed : PlacedRow
   pub is_placed : IsPlaced s old.bottom number row placed
@@ -25,8 +25,8 @@ pub record IsRowWritten (s : Setting) (number : ℕ) (row : Row) (old new : Writ
   pub links : new.links ≡ old.links
   pub bands : Updates nat_cmp old.bands new.bands number (Some placed.top)
   pub bottom : new.bottom ≡ row_end placed
-  pub waits : new.waits_left_out ≡ counted old.waits_left_out (left_out (λ wait. wait) [] placed.row.waits)
-  pub wakes : new.wakes_left_out ≡ counted old.wakes_left_out (left_out (arrow_of s.extent) [] placed.row.wakes)
+  pub waits : new.waits_left_out ≡ saturating_sum old.waits_left_out (left_out (λ wait. wait) [] placed.row.waits)
+  pub wakes : new.wakes_left_out ≡ saturating_sum old.wakes_left_out (left_out (arrow_of s.extent) [] placed.row.wakes)
 
 -- the row of a processor is written if it has one, and nothing otherwise
 abbrev pub IsRowWrittenIf : Window → Setting → Rows → ℕ → WrittenRows → WrittenRows → Type 0
@@ -40,10 +40,10 @@ pub record AreWritten (w : Window) (s : Setting) (rows : Rows) (number : ℕ) (w
   pub text : string_bytes written.text ≡ flat_map (row_text s) placed
   pub labels : string_bytes written.labels ≡ flat_map (labels_text s) placed
   pub bands : (q : ℕ) → get nat_cmp written.bands q ≡ top_at placed q
-  pub waits : written.waits_left_out ≡ counted 0 (waits_left_out placed)
-  pub wakes : written.wakes_left_out ≡ counted 0 (wakes_left_out s placed)
+  pub waits : written.waits_left_out ≡ saturating_sum 0 (waits_left_out placed)
+  pub wakes : written.wakes_left_out ≡ saturating_sum 0 (wakes_left_out s placed)
 
--- what a legend tells beside what is written
+-- what the legend explains besides the tasks, by the lines and the rows that are written
 abbrev pub key_beside : List Link → WrittenRows → Key
 key_beside links written = record {
   has_pulls = has_line Pull links;

@@ -10,10 +10,10 @@ use std::alloc::AllocError;
 /// How high the axis is below the rows, with its numbers and its name.
 pub const AXIS: usize = 48;
 
-/// How many lines it has at most.
+/// How many lines the axis has at most.
 const MOST: u8 = 12;
 
-/// The axis of time: lines at moments that are so far apart, from above the rows to below them.
+/// Adds the axis of time: lines at each multiple of `step` ns, from above the rows to below them, and the axis's name.
 pub fn write_axis(
     step: u64,
     frame: &Frame<'_>,
@@ -30,7 +30,7 @@ pub fn write_axis(
     write_axis_name(frame.unit.name(), bottom.saturating_add(42), text)
 }
 
-/// The moment of a line: so many steps after the first.
+/// The moment of a line: `number` steps after the first line.
 fn line_at(step: u64, number: u8, scale: &Scale) -> u64
     ensures { result ≡ line_at scale.now.extent step number }
 {
@@ -44,7 +44,7 @@ fn first_line(step: u64, scale: &Scale) -> u64
     scale.extent.from.div_ceil(step.max(1)).saturating_mul(step)
 }
 
-/// A line of the axis and its number, if its moment is drawn.
+/// Adds a line of the axis and its number, if the line's moment is drawn.
 fn write_mark(
     at: u64,
     frame: &Frame<'_>,
@@ -63,7 +63,7 @@ fn write_mark(
     write_grid_count(place, bottom.saturating_add(20), count, text)
 }
 
-/// A line of the axis.
+/// Adds a line of the axis.
 fn write_grid_line(
     place: Hundredths,
     top: usize,
@@ -75,7 +75,7 @@ fn write_grid_line(
     write!(text, "<path class=\"grid\" d=\"M{place} {top}V{bottom}\"/>")
 }
 
-/// The number at a line of the axis.
+/// Adds the number at a line of the axis.
 fn write_grid_count(
     place: Hundredths,
     line: usize,
@@ -90,7 +90,7 @@ fn write_grid_count(
     )
 }
 
-/// What the axis tells, by the name of its unit.
+/// Adds the name of the axis, with the name of its unit.
 fn write_axis_name(name: &str, line: usize, text: &mut String) -> Result<(), AllocError>
     ensures { OnOk result (string_bytes text.new ≡ string_bytes text.old ++ axis_name name.now line) }
 {

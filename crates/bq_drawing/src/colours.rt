@@ -1,32 +1,32 @@
 //! The colours of a picture, on a light page and on a dark one.
 
-/// How many tasks have a colour of their own. The next ones have these again.
+/// How many tasks have a colour of their own. The tasks after them use these colours again.
 pub const COLOURS: usize = 8;
 
-/// The place of the grey, in which the key is drawn.
+/// The place of the grey in which the key is drawn.
 pub const GREY: usize = 7;
 
-/// The colours of a page, as CSS writes them. By WCAG's measure an area of a task stands out from the page and from the band by
-/// 3 to 1, and a text from what is behind it by 4.5 to 1; `tests/pictures.py` computes it.
+/// The colours of a page, as CSS writes them. By WCAG's measure, the contrast between a task's area and the page or the band is at least
+/// 3 to 1, and the contrast between a text and what is behind it at least 4.5 to 1; `tests/pictures.py` computes it.
 #[derive(Clone, Copy)]
 pub struct Palette {
     /// The page.
     pub page: &'static str,
-    /// Where runs lie, and where none does.
+    /// The band of a row, where runs are drawn.
     pub band: &'static str,
     /// The lines of the axis.
     pub grid: &'static str,
-    /// What is written on the page.
+    /// Text on the page.
     pub ink: &'static str,
     /// The numbers and the words around the picture.
     pub faint: &'static str,
-    /// The tasks.
+    /// The colours of tasks.
     pub tasks: [&'static str; COLOURS],
-    /// What is written on the tasks.
+    /// The colours of text on tasks.
     pub letters: [&'static str; COLOURS],
 }
 
-/// On a light page.
+/// The colours on a light page.
 pub const LIGHT: Palette = Palette {
     page: "#ffffff",
     band: "#eef0f3",
@@ -41,7 +41,7 @@ pub const LIGHT: Palette = Palette {
     ],
 };
 
-/// On a dark page.
+/// The colours on a dark page.
 pub const DARK: Palette = Palette {
     page: "#0d1117",
     band: "#1c2128",

@@ -1,6 +1,6 @@
 //! What is drawn, and where.
 ghost use Rattle.std.specs.Prelude.{◌≡◌, ◌+◌, ◌*◌, ◌++◌, [], ◌∷◌, IfOk, OnOk, Some, flat_map, length, string_bytes};
-ghost use Rattle.bq_parts.specs.Counts.{counted};
+ghost use Rattle.bq_parts.specs.Counts.{saturating_sum};
 ghost use Rattle.std.specs.BTreeMap.{get};
 ghost use Rattle.std.specs.Ordering.{nat_cmp};
 ghost use Rattle.bq_drawing.specs.Holdings.{nothing_of, row_with_run, row_with_wait, row_with_wake, waking, with_link, with_run, with_stretch, with_wake};
@@ -33,16 +33,16 @@ use std::alloc::{AllocError, Global};
 use std::collections::{BTreeMap, BTreeSet};
 use std::marker::Model;
 
-/// Above the first row.
+/// The height above the first row.
 const TOP: usize = 84;
 
-/// Between a row and the next.
+/// The height between two rows.
 const GAP: usize = 24;
 
 /// How many steps of time an axis has at most.
 const STEPS: u16 = 10;
 
-/// What is drawn of a processor, as it came.
+/// What is drawn of a processor, in the order in which it came.
 #[derive(Drop)]
 pub struct ProcessorRow {
     runs: Vec<DrawnRun>,
@@ -58,7 +58,7 @@ impl Model for ProcessorRow {
     ghost view = { λ r. record { runs = r.runs.items; waits = r.waits.items; wakes = r.wakes.items } };
 }
 
-/// What is drawn. Contracts see what is held: the row of each processor, the lines between them, and the tasks that appear.
+/// What is drawn. Contracts see what is held: the row of each processor, the lines between rows, and the tasks that appear.
 #[derive(Drop)]
 pub struct Drawing {
     alloc: Global,
@@ -75,22 +75,22 @@ impl Model for Drawing {
     ghost view = { λ d. record { rows = d.rows.items; links = d.links.items; tasks = d.tasks.keys } };
 }
 
-/// What is written of a drawing, and how high it is.
+/// The text of a drawing, and how high the drawing is.
 #[derive(Drop)]
 pub struct Written {
     pub text: String,
     pub height: usize,
 }
 
-/// The rows as far as they are written.
+/// The rows that are written so far.
 #[derive(Drop)]
 struct WrittenRows {
     text: String,
-    /// What leads from one row to another.
+    /// The lines between rows.
     links: String,
-    /// The names in the runs, which stand above that.
+    /// The names on the runs, which are drawn over the lines between rows.
     labels: String,
-    /// Where the band of each processor begins that is shown.
+    /// Where the band of each shown processor begins.
     bands: BTreeMap<u8, usize>,
     /// Where the last row ends.
     bottom: usize,
@@ -102,14 +102,14 @@ struct WrittenRows {
 #[derive(Drop)]
 struct Shapes {
     text: String,
-    /// In how many lanes they lie.
+    /// How many lanes they take.
     lanes: usize,
-    /// How many found no room.
+    /// How many of them found no lane.
     left_out: usize,
 }
 
 impl Drawing {
-    /// Nothing, of no processor.
+    /// A drawing of nothing, without processors.
     pub fn new(alloc: Global) -> Drawing
         ensures { result ≡ nothing_of 0 }
     {
@@ -121,7 +121,7 @@ impl Drawing {
         }
     }
 
-    /// Nothing, of this many processors.
+    /// A drawing of nothing, with this many processors.
     pub fn of(alloc: Global, processors: usize) -> Result<Drawing, AllocError>
         ensures { IfOk result (λ d. d ≡ nothing_of processors) }
     {
@@ -137,7 +137,7 @@ impl Drawing {
         })
     }
 
-    /// The part of a run that began so.
+    /// Adds the shown part of a run. `start` is how the run began.
     pub fn push_run(&mut self, start: &Start, part: &Slice) -> Result<(), AllocError>
         ensures { OnOk result (self.new ≡ with_run (Some start.now) (Some part.now) self.old) }
     {
@@ -148,7 +148,7 @@ impl Drawing {
         Ok(())
     }
 
-    /// A wait at a processor.
+    /// Adds a wait at a processor.
     pub fn push_wait(&mut self, processor: u8, wait: Stretch) -> Result<(), AllocError>
         ensures { OnOk result (self.new ≡ with_stretch processor wait self.old) }
     {
@@ -159,7 +159,7 @@ impl Drawing {
         Ok(())
     }
 
-    /// A wake, at the processor where its task was placed.
+    /// Adds a wake, at the processor where its task was placed.
     pub fn push_wake(&mut self, wake: &Wake) -> Result<(), AllocError>
         ensures { OnOk result (self.new ≡ with_wake (Some wake.now) self.old) }
     {
@@ -170,7 +170,7 @@ impl Drawing {
         Ok(())
     }
 
-    /// A pull or a migration.
+    /// Adds a pull or a migration.
     pub fn push_link(&mut self, link: Link) -> Result<(), AllocError>
         ensures { OnOk result (self.new ≡ with_link link self.old) }
     {
@@ -179,7 +179,7 @@ impl Drawing {
         Ok(())
     }
 
-    /// All of the picture within its root. Waits and wakes are drawn in the order in which they begin.
+    /// The whole picture within its root. Waits and wakes are drawn in the order in which they begin.
     pub fn write(
         &self,
         window: &Window,
@@ -211,11 +211,11 @@ impl Drawing {
         Ok(Written { text, height })
     }
 
-    /// The legend below the rows, and how high the picture is with it.
+    /// The legend below the rows, and how high the picture is together with it.
     fn legend(&self, rows: &WrittenRows, frame: &Frame<'_>) -> Result<Written, AllocError>
         ensures text { IfOk result (λ legend. string_bytes legend.text ≡ legend_text (setting_of frame.now)
             (tasks_shown frame.now.roster.now self.now.tasks) (key_beside self.now.links rows.now) (legend_top rows.now.bottom)) }
-        ensures height { IfOk result (λ legend. legend.height ≡ counted (legend_top rows.now.bottom)
+        ensures height { IfOk result (λ legend. legend.height ≡ saturating_sum (legend_top rows.now.bottom)
             (legend_height (length (tasks_shown frame.now.roster.now self.now.tasks)) (key_beside self.now.links rows.now))) }
     {
         let tasks = self.tasks_shown(frame.roster)?;
@@ -227,7 +227,7 @@ impl Drawing {
         Ok(Written { text, height })
     }
 
-    /// The tasks that appear, by their places.
+    /// The tasks that appear, in the order in which they were admitted.
     fn tasks_shown(&self, roster: &Roster) -> Result<Vec<u16>, AllocError>
         ensures { IfOk result (λ tasks. tasks.items ≡ tasks_shown roster.now self.now.tasks) }
     {
@@ -239,7 +239,7 @@ impl Drawing {
         Ok(tasks)
     }
 
-    /// Adds a task, if it appears.
+    /// Adds a task to the list, if it appears in the drawing.
     fn push_if_shown(&self, task: u16, tasks: &mut Vec<u16>) -> Result<(), AllocError>
         ensures { OnOk result (tasks.new.items ≡ tasks.old.items ++ tasks_shown (task ∷ []) self.now.tasks) }
     {
@@ -250,7 +250,7 @@ impl Drawing {
         Ok(())
     }
 
-    /// What the legend tells besides the tasks.
+    /// What the legend explains besides the tasks.
     fn key(&self, rows: &WrittenRows) -> Key
         ensures { result ≡ key_beside self.now.links rows.now }
     {
@@ -262,14 +262,14 @@ impl Drawing {
         }
     }
 
-    /// Whether there is a line of a kind.
+    /// Whether there is a line of this kind.
     fn has_link(&self, kind: LinkKind) -> bool
         ensures { result ≡ has_line kind self.now.links }
     {
         self.links.iter().any(|link| link.kind.is(kind))
     }
 
-    /// The rows of the window, and what leads from one to another.
+    /// The rows of the window, and the lines between them.
     fn write_rows(&self, window: &Window, frame: &Frame<'_>) -> Result<WrittenRows, AllocError>
         ensures { IfOk result (AreDrawn window.now (setting_of frame.now) self.now) }
     {
@@ -290,7 +290,7 @@ impl Drawing {
         Ok(rows)
     }
 
-    /// The row of a processor, if it is there and is shown.
+    /// Adds the row of a processor, if it exists and is shown.
     fn write_row(
         &self,
         number: u8,
@@ -311,7 +311,7 @@ impl Drawing {
 }
 
 impl Drawing {
-    /// Draws all of a kind that leads from one row to another.
+    /// Draws all lines of this kind between rows.
     fn write_links(
         &self,
         kind: LinkKind,
@@ -330,7 +330,7 @@ impl Drawing {
 }
 
 impl WrittenRows {
-    /// Draws what leads from one row to another, if it is of this kind, where both are shown.
+    /// Draws a line between two rows, if the line is of this kind and both rows are shown.
     fn write_link(
         &mut self,
         kind: LinkKind,
@@ -354,7 +354,7 @@ impl WrittenRows {
 }
 
 impl ProcessorRow {
-    /// Nothing.
+    /// A row with nothing in it.
     fn new(alloc: Global) -> ProcessorRow
         ensures { result ≡ empty_row }
     {
@@ -390,7 +390,7 @@ impl ProcessorRow {
         Ok(())
     }
 
-    /// The names upon the runs.
+    /// Adds the names on the runs.
     fn write_labels(
         &self,
         top: usize,
@@ -405,7 +405,7 @@ impl ProcessorRow {
         Ok(())
     }
 
-    /// Draws the row below those that are written.
+    /// Draws the row below the rows that are written.
     fn write(
         &self,
         alloc: Global,
@@ -443,32 +443,32 @@ fn in_order(alloc: Global, given: &[Stretch]) -> Result<Vec<Stretch>, AllocError
     Ok(sorted)
 }
 
-/// Where the band of a row begins, below this height, with this many levels of wakes above it.
+/// Where the band of a row begins that is below this height and has this many levels of wakes above it.
 fn band_top(bottom: usize, levels: usize) -> usize
-    ensures { result ≡ counted bottom (levels * level_height + 4) }
+    ensures { result ≡ saturating_sum bottom (levels * level_height + 4) }
 {
     bottom
         .saturating_add(levels.saturating_mul(LEVEL))
         .saturating_add(4)
 }
 
-/// Where a row ends, with this many lanes of waits below its band.
+/// Where a row ends whose band begins at `top` and has this many lanes of waits below it.
 fn row_end(top: usize, lanes: usize) -> usize
-    ensures { result ≡ counted top (band_height + (lanes * lane_height + row_gap)) }
+    ensures { result ≡ saturating_sum top (band_height + (lanes * lane_height + row_gap)) }
 {
     top.saturating_add(BAND)
         .saturating_add(lanes.saturating_mul(LANE))
         .saturating_add(GAP)
 }
 
-/// Where the legend begins, below rows that end there.
+/// Where the legend begins, below rows that end at this height.
 fn legend_top(bottom: usize) -> usize
     ensures { result ≡ legend_top bottom }
 {
     bottom.saturating_add(AXIS).saturating_add(GAP)
 }
 
-/// How many wakes stand one above another.
+/// How many levels the wakes need, so that no two arrows overlap.
 fn levels(alloc: Global, wakes: &[Stretch], frame: &Frame<'_>) -> Result<usize, AllocError>
     ensures { IfOk result (λ levels. levels ≡ length (lanes_after (arrow_of frame.now.scale.extent) [] wakes.now)) }
 {
@@ -504,7 +504,7 @@ fn draw_waits(
 ) -> Result<Shapes, AllocError>
     ensures text { IfOk result (λ drawn. string_bytes drawn.text ≡ waits_text (setting_of frame.now) top waits.now) }
     ensures lanes { IfOk result (λ drawn. drawn.lanes ≡ length (lanes_after (λ wait. wait) [] waits.now)) }
-    ensures left_out { IfOk result (λ drawn. drawn.left_out ≡ counted 0 (left_out (λ wait. wait) [] waits.now)) }
+    ensures left_out { IfOk result (λ drawn. drawn.left_out ≡ saturating_sum 0 (left_out (λ wait. wait) [] waits.now)) }
 {
     let mut lanes = Lanes::new(alloc);
     let mut text = String::new(alloc);
@@ -522,7 +522,7 @@ fn draw_waits(
     })
 }
 
-/// Draws the wakes above the runs, those that would lie upon each other one above another.
+/// Draws the wakes above the runs. Wakes that would overlap are drawn one above another.
 fn draw_wakes(
     alloc: Global,
     wakes: &[Stretch],
@@ -530,7 +530,7 @@ fn draw_wakes(
     frame: &Frame<'_>,
 ) -> Result<Shapes, AllocError>
     ensures text { IfOk result (λ drawn. string_bytes drawn.text ≡ wakes_text (setting_of frame.now) top wakes.now) }
-    ensures left_out { IfOk result (λ drawn. drawn.left_out ≡ counted 0 (left_out (arrow_of frame.now.scale.extent) [] wakes.now)) }
+    ensures left_out { IfOk result (λ drawn. drawn.left_out ≡ saturating_sum 0 (left_out (arrow_of frame.now.scale.extent) [] wakes.now)) }
 {
     let mut lanes = Lanes::new(alloc);
     let mut text = String::new(alloc);
@@ -548,7 +548,7 @@ fn draw_wakes(
     })
 }
 
-/// One for what finds no lane.
+/// 1 if a stretch found no lane, otherwise 0.
 fn without_lane(lane: Option<usize>) -> usize
     ensures { result ≡ without_lane lane }
 {
@@ -558,7 +558,7 @@ fn without_lane(lane: Option<usize>) -> usize
     }
 }
 
-/// Draws a wait in its lane, if it has one.
+/// Draws a wait in its lane, if it found one.
 fn write_wait_in(
     lane: Option<usize>,
     wait: &Stretch,
@@ -574,7 +574,7 @@ fn write_wait_in(
     }
 }
 
-/// Draws a wake at its level, if it has one.
+/// Draws a wake at its level, if it found one.
 fn write_wake_in(
     level: Option<usize>,
     wake: &Stretch,
@@ -590,7 +590,7 @@ fn write_wake_in(
     }
 }
 
-/// A wake over the time over which its arrow is drawn.
+/// A wake, made as long as its arrow is wide.
 fn drawn_wake(wake: &Stretch, frame: &Frame<'_>) -> Stretch
     ensures { result ≡ arrow_of frame.now.scale.extent wake.now }
 {

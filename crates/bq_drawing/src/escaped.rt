@@ -4,7 +4,7 @@ ghost use Rattle.bq_drawing.specs.Titles.{escaped, in_place_of, xml_letter};
 
 use std::alloc::AllocError;
 
-/// Adds a text as XML writes it, cut after this many characters. A character that XML can't hold is shown as `?`.
+/// Adds a text as XML writes it, cut after this many characters. A character that XML cannot hold is shown as `?`.
 ///
 /// `a<b` is `a&lt;b`.
 pub fn write_escaped(given: &str, most: usize, text: &mut String) -> Result<(), AllocError>
@@ -26,7 +26,7 @@ fn write_letter(letter: char, text: &mut String) -> Result<(), AllocError>
     }
 }
 
-/// What stands for a character that XML does not take as it is.
+/// What replaces a character that XML does not take as it is. `None` if XML takes it.
 fn in_place_of(c: char) -> Option<&'static str>
     ensures { option_map (λ place. place.now) result ≡ in_place_of c }
 {

@@ -8,10 +8,10 @@ use bq_report::Micros;
 use bq_schedule::{ClockReading, Decision, Slice};
 use std::alloc::{AllocError, Global};
 
-/// How many processors' tracks there are before those of their events.
+/// The first number of the events' tracks. The tracks of runs have the numbers of their processors.
 pub const EVENTS: u64 = 64;
 
-/// A track by its name, and its place among all.
+/// Adds a track with its name and its place among all tracks.
 fn write_track(track: u128, name: &str, place: u128, text: &mut String) -> Result<(), AllocError>
     ensures { OnOk result (string_bytes text.new ≡ string_bytes text.old ++ track_text track name.now place) }
 {
@@ -21,7 +21,7 @@ fn write_track(track: u128, name: &str, place: u128, text: &mut String) -> Resul
     )
 }
 
-/// The two tracks of a processor.
+/// Adds the two tracks of a processor.
 pub fn write_tracks(alloc: Global, processor: u64, text: &mut String) -> Result<(), AllocError>
     ensures { OnOk result (string_bytes text.new ≡ string_bytes text.old ++ tracks_text processor) }
 {
@@ -32,7 +32,7 @@ pub fn write_tracks(alloc: Global, processor: u64, text: &mut String) -> Result<
     write_track(u128::from(EVENTS) + runs, name.as_str(), runs * 2 + 1, text)
 }
 
-/// The event of a run, with this name and these arguments, each JSON already.
+/// Adds the event of a run. The name and the arguments are JSON already.
 pub fn write_run_event(
     run: &Slice,
     name: &str,
@@ -50,7 +50,7 @@ pub fn write_run_event(
     )
 }
 
-/// A slice of a nanosecond, the least that the format can have.
+/// Adds a slice of one nanosecond, the shortest that the format can have.
 pub fn write_mark(
     kind: &str,
     name: &str,
@@ -68,14 +68,14 @@ pub fn write_mark(
     )
 }
 
-/// The arguments of a mark: a task, and a processor by what it is to it.
+/// The arguments of a mark: a task, and a processor under the name that says how it is related.
 pub fn task_args(alloc: Global, task: u16, name: &str, processor: u8) -> Result<String, AllocError>
     ensures { IfOk result (λ text. string_bytes text ≡ task_args task name.now processor) }
 {
     format!(in alloc; "{{\"task\":{task},\"{name}\":{processor}}}")
 }
 
-/// The beginning of the arrow of that number.
+/// Adds the beginning of the arrow with this number.
 pub fn write_beginning(
     kind: &str,
     arrow: u64,
@@ -92,7 +92,7 @@ pub fn write_beginning(
     )
 }
 
-/// The end of the arrow of that number, at the beginning of a run.
+/// Adds the end of the arrow with this number, at the beginning of a run.
 pub fn write_end(kind: &str, arrow: u64, run: &Slice, text: &mut String) -> Result<(), AllocError>
     ensures { OnOk result (string_bytes text.new ≡ string_bytes text.old ++ end_text kind.now arrow run.now) }
 {
@@ -104,7 +104,7 @@ pub fn write_end(kind: &str, arrow: u64, run: &Slice, text: &mut String) -> Resu
     )
 }
 
-/// The instant of a policy's answer that was overruled.
+/// Adds the instant at which a policy's answer was overruled.
 pub fn write_overruled(
     decision: &Decision,
     reading: &ClockReading,
@@ -123,7 +123,7 @@ pub fn write_overruled(
     )
 }
 
-/// This many runnable tasks at a processor.
+/// Adds how many tasks are runnable at a processor.
 pub fn write_counter(
     reading: &ClockReading,
     count: u64,

@@ -10,7 +10,7 @@ use crate::unit::{Amount, TimeUnit};
 use bq_report::{Names, Roster};
 use std::alloc::AllocError;
 
-/// What the shapes of a picture share: where a moment lies, the unit of each time, and the colours and the names of tasks.
+/// What the shapes of a picture share: where a moment is, the unit of times, and the colours and the names of tasks.
 #[derive(Clone, Copy)]
 pub struct Frame<'a> {
     pub scale: Scale,
@@ -20,14 +20,14 @@ pub struct Frame<'a> {
 }
 
 impl Frame<'_> {
-    /// The number of a task's colour: by its place among all tasks of the trace, whichever of them are shown.
+    /// The number of a task's colour, by its place among all tasks of the trace, whether these are shown or not.
     pub fn colour(&self, task: u16) -> usize
         ensures { result ≡ colour_of self.now.roster.now task }
     {
         self.roster.place(task).unwrap_or(0) % COLOURS
     }
 
-    /// A time in the picture's unit.
+    /// A time, to be written in the picture's unit.
     pub fn amount(&self, time: u64) -> Amount
         ensures { result ≡ record { time = time; unit = self.now.unit } }
     {
@@ -35,7 +35,7 @@ impl Frame<'_> {
         Amount { time, unit }
     }
 
-    /// Adds the name of a task, cut after this many characters, or its number.
+    /// Adds the name of a task, cut after this many characters, or its number if it has no name.
     pub fn write_name(&self, task: u16, most: usize, text: &mut String) -> Result<(), AllocError>
         ensures { OnOk result (string_bytes text.new ≡ string_bytes text.old ++ shown_name most self.now.names.now task) }
     {
@@ -45,7 +45,7 @@ impl Frame<'_> {
         }
     }
 
-    /// How many hundredths the name of a task needs where it stands upon a run.
+    /// How wide the name of a task is on a run, in hundredths of a unit.
     pub fn label_width(&self, task: u16) -> u64
         ensures { result ≡ label_width self.now.names.now task }
     {
@@ -54,7 +54,7 @@ impl Frame<'_> {
             .saturating_add(1000)
     }
 
-    /// How many characters the name has.
+    /// How many characters the name of a task has. 9 if it has no name: then its number is shown.
     fn name_length(&self, task: u16) -> u64
         ensures { result ≡ name_length self.now.names.now task }
     {

@@ -1,4 +1,4 @@
-//! What stands above a picture: its title, the discipline, and the time that it is drawn over.
+//! The heading of a picture: its title, the discipline, and the time that it is drawn over.
 ghost use Rattle.std.specs.Prelude.{◌≡◌, ◌++◌, OnOk, string_bytes};
 ghost use Rattle.bq_drawing.specs.Headings.{discipline, heading_text, rule_text, span_text, times_text, title_text};
 ghost use Rattle.bq_drawing.specs.Shapes.{setting_of};
@@ -12,17 +12,17 @@ use std::alloc::AllocError;
 /// How many characters of a title are written above the picture.
 const MOST: usize = 90;
 
-/// What stands above a picture.
+/// The heading above a picture.
 #[derive(Clone, Copy)]
 pub struct Heading<'a> {
-    /// What the picture is called.
+    /// The title of the picture.
     pub title: &'a str,
-    /// How its processors choose, once that is known.
+    /// The rule by which processors choose, once it is known.
     pub rule: Option<Rule>,
 }
 
 impl Heading<'_> {
-    /// The title, and below it the discipline and the time that the picture is drawn over.
+    /// Adds the title, and below it the discipline and the time that the picture is drawn over.
     pub fn write(&self, frame: &Frame<'_>, text: &mut String) -> Result<(), AllocError>
         ensures { OnOk result (string_bytes text.new ≡ string_bytes text.old ++ heading_text (setting_of frame.now) self.now.title.now self.now.rule) }
     {
@@ -31,7 +31,7 @@ impl Heading<'_> {
     }
 }
 
-/// The title, cut.
+/// Adds the title, cut if it is long.
 fn write_title(title: &str, text: &mut String) -> Result<(), AllocError>
     ensures { OnOk result (string_bytes text.new ≡ string_bytes text.old ++ title_text title.now) }
 {
@@ -40,7 +40,7 @@ fn write_title(title: &str, text: &mut String) -> Result<(), AllocError>
     text.push_str("</text>\n")
 }
 
-/// The line below it: the discipline and the time.
+/// Adds the line below the title: the discipline and the time.
 fn write_span(rule: Option<Rule>, frame: &Frame<'_>, text: &mut String) -> Result<(), AllocError>
     ensures { OnOk result (string_bytes text.new ≡ string_bytes text.old ++ span_text (setting_of frame.now) rule) }
 {
@@ -49,7 +49,7 @@ fn write_span(rule: Option<Rule>, frame: &Frame<'_>, text: &mut String) -> Resul
     write_times(frame, text)
 }
 
-/// The discipline, once it is known.
+/// Adds the discipline, if it is known.
 fn write_rule(rule: Option<Rule>, text: &mut String) -> Result<(), AllocError>
     ensures { OnOk result (string_bytes text.new ≡ string_bytes text.old ++ rule_text rule) }
 {
@@ -60,7 +60,7 @@ fn write_rule(rule: Option<Rule>, text: &mut String) -> Result<(), AllocError>
     write!(text, "{discipline}, ")
 }
 
-/// The time that the picture is drawn over.
+/// Adds the time that the picture is drawn over.
 fn write_times(frame: &Frame<'_>, text: &mut String) -> Result<(), AllocError>
     ensures { OnOk result (string_bytes text.new ≡ string_bytes text.old ++ times_text (setting_of frame.now)) }
 {

@@ -1,35 +1,35 @@
-//! What the events of a trace need to know of those before them.
+//! What the events of a trace need to know of the events before them.
 ghost use Rattle.std.specs.Prelude.{◌≡◌, IfOk};
-ghost use Rattle.bq_drawing.specs.Histories.{after_count, after_run, after_start, after_wake, arrow_if, arrows_to, last_run, next_arrow, told_count, untold, wake_arrow};
+ghost use Rattle.bq_drawing.specs.Histories.{after_count, after_run, after_start, after_wake, arrow_if, arrows_to, last_run, next_arrow, written_count, empty_past, wake_arrow};
 
 use bq_disc::limits::TASKS;
 use bq_schedule::Slice;
 use std::alloc::{AllocError, Global};
 use std::marker::Model;
 
-/// The arrows that end at the beginning of a run, by their numbers.
+/// The numbers of the arrows that end at the beginning of a run.
 #[derive(Clone, Copy)]
 pub struct Arrows {
     pub wake: Option<u64>,
     pub migration: Option<u64>,
 }
 
-/// None.
+/// A run without arrows.
 const NO_ARROWS: Arrows = Arrows {
     wake: None,
     migration: None,
 };
 
-/// What the events of a trace need to know of those before them.
+/// What the events of a trace need to know of the events before them.
 #[derive(Drop)]
 pub struct History {
-    /// For each processor the arrows that end where the run that goes on began.
+    /// For each processor, the arrows that end at the beginning of its current run.
     ends: Vec<Arrows>,
-    /// For each processor how many tasks were runnable when it was told last.
+    /// For each processor, how many tasks were runnable when the count was last written.
     counts: Vec<u64>,
-    /// For each task that was woken and has not run since: the arrow of that wake.
+    /// For each task that was woken and has not run since: the arrow of that wake, if it is shown.
     woken: Vec<Option<u64>>,
-    /// The last run of each task that has ceased to run, as far as it is shown.
+    /// For each task, its last run that ended, if it is shown.
     runs: Vec<Option<Slice>>,
     /// How many arrows have begun.
     arrows: u64,
@@ -44,9 +44,9 @@ impl Model for History {
 }
 
 impl History {
-    /// Nothing has been told, of no processor and no task.
+    /// A history of nothing, without processors and tasks.
     pub fn new(alloc: Global) -> History
-        ensures { result ≡ untold 0 0 }
+        ensures { result ≡ empty_past 0 0 }
     {
         History {
             ends: Vec::new(alloc),
@@ -57,9 +57,9 @@ impl History {
         }
     }
 
-    /// Nothing has been told, of this many processors and of every task.
+    /// A history of nothing, with this many processors and with every task.
     pub fn of(alloc: Global, processors: usize) -> Result<History, AllocError>
-        ensures { IfOk result (λ h. h ≡ untold processors TASKS) }
+        ensures { IfOk result (λ h. h ≡ empty_past processors TASKS) }
     {
         let mut ends = Vec::with_capacity(alloc, processors)?;
         let mut counts = Vec::with_capacity(alloc, processors)?;
@@ -89,7 +89,7 @@ impl History {
         self.arrows.saturating_add(1)
     }
 
-    /// The number of the next arrow if an arrow begins, else None.
+    /// The number of the next arrow if an arrow begins, otherwise `None`.
     fn arrow_if(&self, begins: bool) -> Option<u64>
         ensures { result ≡ arrow_if begins self.now }
     {
@@ -100,7 +100,7 @@ impl History {
         }
     }
 
-    /// A task was woken; the arrow of its wake begins if that is shown.
+    /// A task was woken. If `begins`, the arrow of its wake begins.
     pub fn keep_wake(&mut self, task: u16, begins: bool)
         ensures { self.new ≡ after_wake task begins self.old }
     {
@@ -111,7 +111,7 @@ impl History {
         }
     }
 
-    /// The arrow that leads to a task's next run from its wake.
+    /// The arrow from a task's wake to its next run, if there is one.
     fn wake_arrow(&self, task: u16) -> Option<u64>
         ensures { result ≡ wake_arrow self.now task }
     {
@@ -121,7 +121,7 @@ impl History {
         }
     }
 
-    /// A task began to run at a processor; an arrow leads there from its last run, if that is so.
+    /// A task started at a processor. If `begins`, an arrow leads there from the task's last run.
     pub fn keep_start(&mut self, processor: u8, task: u16, begins: bool)
         ensures { self.new ≡ after_start processor task begins self.old }
     {
@@ -136,7 +136,7 @@ impl History {
         }
     }
 
-    /// The arrows that lead to the run at a processor.
+    /// The arrows that end at the beginning of a processor's current run.
     pub fn arrows_to(&self, processor: u8) -> Arrows
         ensures { result ≡ arrows_to self.now processor }
     {
@@ -146,7 +146,7 @@ impl History {
         }
     }
 
-    /// A run of a task is over, of which this part is shown.
+    /// A run of a task ended. `part` is the shown part of it, if any.
     pub fn keep_run(&mut self, task: u16, part: Option<Slice>)
         ensures { self.new ≡ after_run task part self.old }
     {
@@ -155,7 +155,7 @@ impl History {
         }
     }
 
-    /// The last run of a task that is over, as far as it is shown.
+    /// The shown part of a task's last run that ended, if any.
     pub fn last_run(&self, task: u16) -> Option<Slice>
         ensures { result ≡ last_run self.now task }
     {
@@ -165,14 +165,14 @@ impl History {
         }
     }
 
-    /// How many tasks were runnable at a processor when it was told last, if the processor is there.
-    pub fn told_count(&self, processor: u8) -> Option<u64>
-        ensures { result ≡ told_count self.now processor }
+    /// How many tasks were runnable at a processor when the count was last written. `None` if the processor does not exist.
+    pub fn written_count(&self, processor: u8) -> Option<u64>
+        ensures { result ≡ written_count self.now processor }
     {
         self.counts.get(usize::from(processor)).copied()
     }
 
-    /// So many are told.
+    /// Notes the count that is written for a processor.
     pub fn keep_count(&mut self, processor: u8, count: u64)
         ensures { self.new ≡ after_count processor count self.old }
     {

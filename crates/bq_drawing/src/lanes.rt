@@ -1,14 +1,14 @@
-//! Stretches of time side by side.
+//! Stretches of time, side by side in lanes.
 ghost use Rattle.std.specs.Prelude.{◌≡◌, ◌<◌, IfOk, IfSome, [], length, nat_le};
 ghost use Rattle.bq_drawing.specs.Lanes.{first_free, lane_of, taken};
 
 use std::alloc::{AllocError, Global};
 use std::marker::Model;
 
-/// How many stretches are drawn one above another. Where there are more at a time, the rest are left out.
+/// How many stretches are drawn one above another. If there are more at a time, the rest are left out.
 pub const LANES: usize = 16;
 
-/// A stretch of time that a task takes up at a processor.
+/// A stretch of time of a task at a processor.
 #[derive(Clone, Copy, PartialEq, Eq, PartialOrd, Ord)]
 pub struct Stretch {
     pub from: u64,
@@ -31,7 +31,7 @@ impl Model for Lanes {
 }
 
 impl Lanes {
-    /// No lane is there yet.
+    /// No lanes yet.
     pub fn new(alloc: Global) -> Lanes
         ensures { result ≡ [] }
     {
@@ -47,8 +47,8 @@ impl Lanes {
         self.free.len()
     }
 
-    /// The first lane that is free where a stretch begins, which it takes; one more where none is. `None` where all are taken.
-    /// Stretches come in the order in which they begin.
+    /// The first lane that is free when a stretch begins. The stretch takes it. If no lane is free it takes a new one, and `None` if all
+    /// are taken. Stretches must come in the order in which they begin.
     pub fn take(&mut self, stretch: &Stretch) -> Result<Option<usize>, AllocError>
         ensures lane { IfOk result (λ lane. lane ≡ lane_of stretch.now self.old) }
         ensures taken { IfOk result (λ lane. self.new ≡ taken lane stretch.now.to self.old) }
@@ -75,7 +75,7 @@ impl Lanes {
     }
 }
 
-/// Whether what lasts until a moment is over at another.
+/// Whether something that lasts until one moment is over at another.
 fn is_over(until: u64, at: u64) -> bool
     ensures { result ≡ nat_le until at }
 {

@@ -1,4 +1,4 @@
-//! The legend: the tasks with their colours, what the shapes are, and what found no room.
+//! The legend: the tasks with their colours, what the shapes mean, and what found no room.
 ghost use Rattle.std.specs.Prelude.{◌≡◌, ◌++◌, OnOk, string_bytes};
 ghost use Rattle.bq_drawing.specs.Legends.{entry_text, key_text, key_top, leaves_out, left_out_text, legend_height, legend_text, migration_key, number_text, pull_key, short_name, swatch_text, text_if, wait_key, wake_key};
 ghost use Rattle.bq_drawing.specs.Shapes.{setting_of};
@@ -9,19 +9,19 @@ use crate::lanes::LANES;
 use crate::scale::LEFT;
 use std::alloc::AllocError;
 
-/// How many tasks stand in a line of the legend.
+/// How many tasks are in a line of the legend.
 const ABREAST: usize = 4;
 
-/// How wide a task is in it.
+/// How wide a task is in the legend.
 const COLUMN: usize = 270;
 
-/// How high a line of it is.
+/// How high a line of the legend is.
 pub const LINE: usize = 28;
 
-/// How many characters of a name stand in it.
+/// How many characters of a name are in the legend.
 const SHORT: usize = 18;
 
-/// What the legend tells besides the tasks.
+/// What the legend explains besides the tasks.
 #[derive(Clone, Copy)]
 pub struct Key {
     /// Whether a pull is drawn.
@@ -43,7 +43,7 @@ impl Key {
     }
 }
 
-/// How high the legend of this many tasks is.
+/// How high the legend of this many tasks is, with this key.
 pub fn legend_height(tasks: usize, key: &Key) -> usize
     ensures { result ≡ legend_height tasks key.now }
 {
@@ -54,7 +54,7 @@ pub fn legend_height(tasks: usize, key: &Key) -> usize
         .saturating_mul(LINE)
 }
 
-/// The legend of these tasks, from this height on.
+/// Adds the legend of these tasks, from this height on.
 pub fn write_legend(
     tasks: &[u16],
     key: &Key,
@@ -72,7 +72,7 @@ pub fn write_legend(
     write_left_out(key, top.saturating_add(LINE).saturating_add(14), text)
 }
 
-/// Where the key stands, below this many tasks.
+/// The height of the key, below this many tasks.
 fn key_top(tasks: usize, first: usize) -> usize
     ensures { result ≡ key_top tasks first }
 {
@@ -82,7 +82,7 @@ fn key_top(tasks: usize, first: usize) -> usize
         .saturating_add(first)
 }
 
-/// A task at its place among those of the legend.
+/// Adds a task at its place in the legend.
 fn write_entry(
     place: usize,
     task: u16,
@@ -98,7 +98,7 @@ fn write_entry(
     write_short_name(task, frame, text)
 }
 
-/// A colour of the legend, and where the name beside it begins.
+/// Adds a colour of the legend, and the beginning of the name beside it.
 fn write_swatch(colour: usize, left: usize, top: usize, text: &mut String) -> Result<(), AllocError>
     ensures { OnOk result (string_bytes text.new ≡ string_bytes text.old ++ swatch_text colour left top) }
 {
@@ -111,7 +111,7 @@ fn write_swatch(colour: usize, left: usize, top: usize, text: &mut String) -> Re
     write!(text, "<text x=\"{right}\" y=\"{line}\">")
 }
 
-/// The name of a task in the legend, and its number.
+/// Adds the name of a task in the legend, and its number.
 fn write_short_name(task: u16, frame: &Frame<'_>, text: &mut String) -> Result<(), AllocError>
     ensures { OnOk result (string_bytes text.new ≡ string_bytes text.old ++ short_name (setting_of frame.now) task) }
 {
@@ -120,7 +120,7 @@ fn write_short_name(task: u16, frame: &Frame<'_>, text: &mut String) -> Result<(
     text.push_str("</text>\n")
 }
 
-/// The number of a task behind its name, if it has one.
+/// Adds the number of a task after its name, if it has one.
 fn write_number(is_named: bool, task: u16, text: &mut String) -> Result<(), AllocError>
     ensures { OnOk result (string_bytes text.new ≡ string_bytes text.old ++ number_text is_named task) }
 {
@@ -130,7 +130,7 @@ fn write_number(is_named: bool, task: u16, text: &mut String) -> Result<(), Allo
     write!(text, " ({task})")
 }
 
-/// What the shapes are.
+/// Adds what the shapes mean.
 fn write_key(key: &Key, top: usize, text: &mut String) -> Result<(), AllocError>
     ensures { OnOk result (string_bytes text.new ≡ string_bytes text.old ++ key_text key.now top) }
 {
@@ -143,7 +143,7 @@ fn write_key(key: &Key, top: usize, text: &mut String) -> Result<(), AllocError>
     write!(text, "\n")
 }
 
-/// What hatches are.
+/// Adds what hatches mean.
 fn write_wait_key(bar: usize, line: usize, text: &mut String) -> Result<(), AllocError>
     ensures { OnOk result (string_bytes text.new ≡ string_bytes text.old ++ wait_key bar line) }
 {
@@ -157,7 +157,7 @@ fn write_wait_key(bar: usize, line: usize, text: &mut String) -> Result<(), Allo
     )
 }
 
-/// What arrows above a row are.
+/// Adds what arrows above a row mean.
 fn write_wake_key(begin: usize, line: usize, text: &mut String) -> Result<(), AllocError>
     ensures { OnOk result (string_bytes text.new ≡ string_bytes text.old ++ wake_key begin line) }
 {
@@ -171,7 +171,7 @@ fn write_wake_key(begin: usize, line: usize, text: &mut String) -> Result<(), Al
     )
 }
 
-/// What arrows between rows are, if there are any.
+/// Adds what arrows between rows mean, if there are any.
 fn write_pull_key(
     has_pulls: bool,
     height: usize,
@@ -193,7 +193,7 @@ fn write_pull_key(
     )
 }
 
-/// What dashed lines between rows are, if there are any.
+/// Adds what dashed lines between rows mean, if there are any.
 fn write_migration_key(
     has_migrations: bool,
     height: usize,
@@ -215,7 +215,7 @@ fn write_migration_key(
     )
 }
 
-/// What found no room, if anything did.
+/// Adds how much found no room, if anything did not.
 fn write_left_out(key: &Key, line: usize, text: &mut String) -> Result<(), AllocError>
     ensures { OnOk result (string_bytes text.new ≡ string_bytes text.old ++ text_if (leaves_out key.now) (left_out_text key.now line)) }
 {

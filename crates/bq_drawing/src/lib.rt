@@ -1,6 +1,6 @@
 //! The forms in which a schedule is shown as a picture: SVG, and the trace format that ui.perfetto.dev opens.
-//! Promises that a form only adds to its text, and shows what lies in its window, cut at its edges.
-//! Stands on bq_report for windows, names and the order of tasks.
+//! Promises that a form only adds to its text, and shows what is in its window, cut at the window's edges.
+//! Builds on bq_report for windows, names and the order of tasks.
 #![tactic(auto)]
 
 pub mod axis;

@@ -1,4 +1,4 @@
-//! What leads from one row to another: pulls, and migrations.
+//! The lines between rows: pulls and migrations.
 ghost use Rattle.std.specs.Prelude.{◌≡◌, ◌++◌, OnOk, string_bytes};
 ghost use Rattle.bq_drawing.specs.declared.links.LinkKind.TheVariants.{Migration, Pull};
 ghost use Rattle.bq_drawing.specs.Links.{act_text, dot_text, ends_at, enters_at, halo_text, head_text, height_left, leaves_at, line_text, link_between, link_title, name_head, same_kind};
@@ -14,7 +14,7 @@ use std::alloc::AllocError;
 pub enum LinkKind {
     /// A task that waited at one processor was pulled by another.
     Pull,
-    /// A task began to run at another processor than the one where it ran last.
+    /// A task started at another processor than the one where it ran last.
     Migration,
 }
 
@@ -34,7 +34,7 @@ pub struct Link {
     pub to: Spot,
 }
 
-/// The ends of a line, each by its place and its height.
+/// The ends of a line, each with its place and its height.
 #[derive(Clone, Copy)]
 struct Line {
     left: Hundredths,
@@ -45,7 +45,7 @@ struct Line {
 }
 
 impl LinkKind {
-    /// Whether it is the same as another.
+    /// Whether both are the same kind.
     pub fn is(self, other: LinkKind) -> bool
         ensures { result ≡ same_kind self other }
     {
@@ -58,7 +58,7 @@ impl LinkKind {
 }
 
 impl Link {
-    /// Draws the line between bands that begin at these heights.
+    /// Draws the line between two bands that begin at these heights.
     pub fn write(
         &self,
         top_from: usize,
@@ -83,7 +83,7 @@ impl Link {
         self.write_title(frame, text)
     }
 
-    /// The height at which a line from one height to another enters a picture that begins at a moment.
+    /// The height at which a line between two heights enters a picture that begins at a moment.
     fn enters_at(&self, begin: usize, end: usize, first: u64) -> usize
         ensures { result ≡ enters_at self.now begin end first }
     {
@@ -98,7 +98,7 @@ impl Link {
         }
     }
 
-    /// How much of the height between its ends is left from a moment on.
+    /// How much of the height between the line's ends is left from a moment on.
     fn height_left(&self, begin: usize, end: usize, first: u64) -> usize
         ensures { result ≡ height_left self.now begin end first }
     {
@@ -108,7 +108,7 @@ impl Link {
         height as usize
     }
 
-    /// The tooltip.
+    /// Adds the tooltip of the line.
     fn write_title(&self, frame: &Frame<'_>, text: &mut String) -> Result<(), AllocError>
         ensures { OnOk result (string_bytes text.new ≡ string_bytes text.old ++ link_title (setting_of frame.now) self.now) }
     {
@@ -120,7 +120,7 @@ impl Link {
     }
 }
 
-/// The height at which a line leaves its band.
+/// The height at which a line leaves its band: at the edge that is nearer to the other band.
 fn leaves_at(top_from: usize, top_to: usize) -> usize
     ensures { result ≡ leaves_at top_from top_to }
 {
@@ -131,7 +131,7 @@ fn leaves_at(top_from: usize, top_to: usize) -> usize
     }
 }
 
-/// The height at which it ends.
+/// The height at which a line ends: at the nearer edge of the other band.
 fn ends_at(top_from: usize, top_to: usize) -> usize
     ensures { result ≡ ends_at top_from top_to }
 {
@@ -142,7 +142,7 @@ fn ends_at(top_from: usize, top_to: usize) -> usize
     }
 }
 
-/// The beginning of a tooltip, with the name of its task.
+/// Adds the beginning of a tooltip, with the name of the task.
 fn write_name_head(task: u16, frame: &Frame<'_>, text: &mut String) -> Result<(), AllocError>
     ensures { OnOk result (string_bytes text.new ≡ string_bytes text.old ++ name_head (setting_of frame.now) task) }
 {
@@ -150,7 +150,7 @@ fn write_name_head(task: u16, frame: &Frame<'_>, text: &mut String) -> Result<()
     frame.write_name(task, usize::MAX, text)
 }
 
-/// What a line tells.
+/// Adds what a line means.
 fn write_act(kind: LinkKind, from: u8, to: u8, text: &mut String) -> Result<(), AllocError>
     ensures { OnOk result (string_bytes text.new ≡ string_bytes text.old ++ act_text kind from to) }
 {
@@ -160,7 +160,7 @@ fn write_act(kind: LinkKind, from: u8, to: u8, text: &mut String) -> Result<(), 
     }
 }
 
-/// A wider line in the colour of the page.
+/// Adds a wider line in the colour of the page, which is drawn below the line.
 fn write_halo(line: &Line, text: &mut String) -> Result<(), AllocError>
     ensures { OnOk result (string_bytes text.new
         ≡ string_bytes text.old ++ halo_text line.now.left.0 line.now.begin line.now.right.0 line.now.end) }
@@ -178,7 +178,7 @@ fn write_halo(line: &Line, text: &mut String) -> Result<(), AllocError>
     )
 }
 
-/// A line in a colour, and its end.
+/// Adds a line in a colour, and its end.
 fn write_line(
     kind: LinkKind,
     colour: usize,
@@ -194,7 +194,7 @@ fn write_line(
     }
 }
 
-/// An arrow.
+/// Adds an arrow.
 fn write_arrow_line(colour: usize, line: &Line, text: &mut String) -> Result<(), AllocError>
     ensures { OnOk result (string_bytes text.new
         ≡ string_bytes text.old ++ line_text Pull colour line.now.left.0 line.now.begin line.now.right.0 line.now.end line.now.is_down) }
@@ -213,7 +213,7 @@ fn write_arrow_line(colour: usize, line: &Line, text: &mut String) -> Result<(),
     write_head(colour, right, end, is_down, text)
 }
 
-/// A dashed line to a dot.
+/// Adds a dashed line to a dot.
 fn write_dashed_line(colour: usize, line: &Line, text: &mut String) -> Result<(), AllocError>
     ensures { OnOk result (string_bytes text.new
         ≡ string_bytes text.old ++ line_text Migration colour line.now.left.0 line.now.begin line.now.right.0 line.now.end line.now.is_down) }
@@ -232,7 +232,7 @@ fn write_dashed_line(colour: usize, line: &Line, text: &mut String) -> Result<()
     write_dot(colour, right, end, text)
 }
 
-/// The head of an arrow that ends there.
+/// Adds the head of an arrow that ends at this place.
 fn write_head(
     colour: usize,
     place: Hundredths,
@@ -255,7 +255,7 @@ fn write_head(
     }
 }
 
-/// A dot.
+/// Adds a dot.
 fn write_dot(
     colour: usize,
     place: Hundredths,

@@ -1,22 +1,22 @@
-//! How a picture looks, and what stands above it.
+//! The theme and the title of a picture.
 ghost use Rattle.std.specs.Prelude.{◌≡◌};
 ghost use Rattle.bq_drawing.specs.Headings.{title_of};
 
 use crate::theme::Theme;
 
-/// How a picture looks, and what stands above it.
+/// The theme and the title of a picture.
 #[derive(Drop)]
 pub struct Look {
     pub theme: Theme,
-    /// What the picture is called, where it has a name of its own.
+    /// The title of the picture, if it has its own.
     pub title: Option<String>,
 }
 
-/// What a picture is called that has no name of its own.
+/// The title of a picture that has no title of its own.
 const UNTITLED: &str = "Schedule";
 
 impl Look {
-    /// What the picture is called.
+    /// The title of the picture.
     pub fn title(&self) -> &str
         ensures { result.now ≡ title_of self.now }
     {

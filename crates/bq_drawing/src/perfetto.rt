@@ -9,7 +9,7 @@ ghost use Rattle.bq_report.specs.Reports.{Adds};
 ghost use Rattle.bq_report.specs.Timehist.{IsShownMigration, IsShownWake};
 ghost use Rattle.bq_report.specs.Windows.{IsShownPart};
 ghost use Rattle.bq_drawing.specs.Events.{act_name, json_text, label_of, run_name, run_object};
-ghost use Rattle.bq_drawing.specs.Histories.{next_arrow, untold};
+ghost use Rattle.bq_drawing.specs.Histories.{next_arrow, empty_past};
 ghost use Rattle.bq_drawing.specs.Runs.{run_on};
 ghost use Rattle.bq_drawing.specs.Perfetto.{IsPerfettoHead, IsPerfettoOf, IsPerfettoRunner, IsPerfettoTail, ShowsChange, IsShownDecision, IsShownPull, IsShownReading, ShowsMoment, left_run, past_reading, past_start, past_stop, past_wake, perfetto_count, perfetto_end, perfetto_ends, perfetto_ends_if, perfetto_migration, perfetto_overruled, perfetto_pull, perfetto_reading, perfetto_run, perfetto_wake};
 
@@ -28,14 +28,15 @@ use bq_schedule::{
 use serde_json::{Value, json};
 use std::alloc::{AllocError, Global};
 
-/// Two tracks a processor. On one a slice is a run. On the other, that of its events, a slice of a nanosecond is a wake that ended
-/// there or a pull by it, and an instant is an answer of a policy that was overruled. An arrow leads from each wake to the task's
-/// first run after it: from the wake, and not from the task that runs there, since a timer may have woken it. An arrow leads from
-/// the end of a run to the task's next one, where that is at another processor. A counter has the tasks that are runnable at each
-/// processor.
+/// Two tracks for each processor. On one track a slice is a run. On the other, the track of events, a slice of one nanosecond is a wake
+/// that ended there or a pull by the processor, and an instant is a policy's answer that was overruled.
 ///
-/// It is streamed. The events of a track stand in the order of their times, save the beginnings of a migration's arrow, which is
-/// known only later.
+/// An arrow leads from each wake to the task's first run after it. It begins at the wake and not at the task that runs there, because a
+/// timer may have woken the task. An arrow leads from the end of a run to the task's next run, if that is at another processor. A
+/// counter shows how many tasks are runnable at each processor.
+///
+/// The form is streamed. The events of a track are in the order of their times, except for the beginning of a migration's arrow, which
+/// is known only later.
 #[derive(Drop)]
 pub struct Perfetto {
     alloc: Global,
@@ -43,7 +44,7 @@ pub struct Perfetto {
     history: History,
 }
 
-/// What of a change is shown.
+/// The parts of a change that are shown.
 #[derive(Clone, Copy)]
 struct ShownParts {
     overruled: Option<Decision>,
@@ -55,10 +56,10 @@ struct ShownParts {
 }
 
 impl Perfetto {
-    /// What is in the window.
+    /// A form for what is in the window.
     pub fn new(alloc: Global, window: Window) -> Perfetto
         ensures window { result.window ≡ window }
-        ensures history { result.history ≡ untold 0 0 }
+        ensures history { result.history ≡ empty_past 0 0 }
     {
         Perfetto {
             alloc,
@@ -67,7 +68,7 @@ impl Perfetto {
         }
     }
 
-    /// A wake, and the beginning of its arrow, if it is shown.
+    /// Adds a wake and the beginning of its arrow, if the wake is shown.
     fn take_wake(
         &mut self,
         wake: Option<Wake>,
@@ -86,7 +87,7 @@ impl Perfetto {
         write_wake(self.alloc, shown, arrow, names, text)
     }
 
-    /// The run that ends, as far as it is shown.
+    /// Adds the shown part of the run that ends.
     fn take_stop(
         &mut self,
         stop: Option<Stop>,
@@ -107,7 +108,7 @@ impl Perfetto {
         Ok(())
     }
 
-    /// The beginning of the arrow of a migration by which a run begins.
+    /// Adds the beginning of the arrow to a run that is a migration.
     fn take_start(
         &mut self,
         start: Option<Start>,
@@ -127,7 +128,7 @@ impl Perfetto {
         write_migration(arrow, run, text)
     }
 
-    /// How many tasks are runnable at a processor, where that has changed.
+    /// Adds how many tasks are runnable at a processor, if the number has changed.
     fn take_reading(
         &mut self,
         reading: Option<ClockReading>,
@@ -141,13 +142,13 @@ impl Perfetto {
         let Some(reading) = reading else {
             return Ok(());
         };
-        let told = self.history.told_count(reading.processor);
+        let reported = self.history.written_count(reading.processor);
         let count = schedule.processor(reading.processor).runnable;
         self.history.keep_count(reading.processor, count);
-        write_count(&reading, count, told, text)
+        write_count(&reading, count, reported, text)
     }
 
-    /// The run from whose end an arrow leads to a migration.
+    /// The run from whose end an arrow leads to a migration, if it is shown.
     fn left_run(&self, migration: Option<Start>) -> Option<Slice>
         ensures { result ≡ left_run self.now.history migration }
     {
@@ -155,7 +156,7 @@ impl Perfetto {
         self.history.last_run(start.task)
     }
 
-    /// The part of a run that is shown, and the ends of the arrows that lead to it where it is shown from its beginning on.
+    /// Adds the shown part of a run. If it is shown from its beginning, adds the ends of the arrows that lead to it.
     fn write_run(
         &self,
         start: Option<Start>,
@@ -177,7 +178,7 @@ impl Perfetto {
         write_ends_if(run.from == start.at, arrows, &run, text)
     }
 
-    /// What is written of the run that goes on at a processor.
+    /// Adds the shown part of the run that goes on at a processor.
     fn write_runner(
         &self,
         figures: &ProcessorFigures,
@@ -194,7 +195,7 @@ impl Perfetto {
     }
 }
 
-/// What of a change is shown in a window.
+/// The parts of a change that a window shows.
 fn shown_of(window: &Window, change: &Change) -> ShownParts
     ensures { ShowsChange window.now change.now result }
 {
@@ -208,7 +209,7 @@ fn shown_of(window: &Window, change: &Change) -> ShownParts
     }
 }
 
-/// A decision, if a policy's answer was overruled by it and that is shown.
+/// The decision, if it overruled a policy's answer and is shown.
 fn shown_decision(
     window: &Window,
     decision: Option<Decision>,
@@ -226,7 +227,7 @@ fn shown_decision(
     }
 }
 
-/// A wake, if it is shown.
+/// The wake, if it is shown.
 fn shown_wake(window: &Window, wake: Option<Wake>) -> Option<Wake>
     ensures { IsShownWake window.now wake result }
 {
@@ -238,7 +239,7 @@ fn shown_wake(window: &Window, wake: Option<Wake>) -> Option<Wake>
     }
 }
 
-/// A pull, if it is shown.
+/// The pull, if it is shown.
 fn shown_pull(window: &Window, pull: Option<PulledTask>) -> Option<PulledTask>
     ensures { IsShownPull window.now pull result }
 {
@@ -250,7 +251,7 @@ fn shown_pull(window: &Window, pull: Option<PulledTask>) -> Option<PulledTask>
     }
 }
 
-/// How a task began to run at another processor than before, if that is shown.
+/// The start of a task on another processor than before, if it is shown.
 fn shown_migration(window: &Window, start: Option<Start>) -> Option<Start>
     ensures { IsShownMigration window.now start result }
 {
@@ -262,7 +263,7 @@ fn shown_migration(window: &Window, start: Option<Start>) -> Option<Start>
     }
 }
 
-/// A reading of a clock, if it is shown.
+/// The reading of a clock, if it is shown.
 fn shown_reading(window: &Window, reading: Option<ClockReading>) -> Option<ClockReading>
     ensures { IsShownReading window.now reading result }
 {
@@ -283,7 +284,7 @@ fn shows_moment(window: &Window, reading: &ClockReading) -> bool
         && window.shows_processor(reading.processor)
 }
 
-/// The name of a task, or its number where it has none.
+/// The name of a task, or its number if it has none.
 fn label(alloc: Global, task: u16, names: &Names) -> Result<String, AllocError>
     ensures { IfOk result (λ text. string_bytes text ≡ label_of task (name_of names.now task)) }
 {
@@ -347,7 +348,7 @@ fn run_value(
     })
 }
 
-/// The instant of an answer that was overruled, if there is one.
+/// Adds the instant of an answer that was overruled, if there is one.
 fn write_decision(
     decision: Option<Decision>,
     reading: Option<ClockReading>,
@@ -361,7 +362,7 @@ fn write_decision(
     }
 }
 
-/// A wake, if there is one, and the beginning of its arrow.
+/// Adds a wake and the beginning of its arrow, if there is a wake.
 fn write_wake(
     alloc: Global,
     wake: Option<Wake>,
@@ -381,7 +382,7 @@ fn write_wake(
     write_beginning("wake", arrow, track, wake.at, text)
 }
 
-/// A pull, if there is one.
+/// Adds a pull, if there is one.
 fn write_pull(
     alloc: Global,
     pull: Option<PulledTask>,
@@ -399,7 +400,7 @@ fn write_pull(
     write_mark("pull", name.as_str(), track, pull.at, args.as_str(), text)
 }
 
-/// The ends of the arrows that lead to a run, where it is shown from its beginning on.
+/// Adds the ends of the arrows that lead to a run, if the run is shown from its beginning.
 fn write_ends_if(
     is_whole: bool,
     arrows: Arrows,
@@ -415,7 +416,7 @@ fn write_ends_if(
     }
 }
 
-/// The ends of the arrows that lead to a run.
+/// Adds the ends of the arrows that lead to a run.
 fn write_ends(arrows: Arrows, run: &Slice, text: &mut String) -> Result<(), AllocError>
     ensures { OnOk result (string_bytes text.new ≡ string_bytes text.old ++ perfetto_ends arrows run.now) }
 {
@@ -423,7 +424,7 @@ fn write_ends(arrows: Arrows, run: &Slice, text: &mut String) -> Result<(), Allo
     write_end_if("migration", arrows.migration, run, text)
 }
 
-/// The end of an arrow at the beginning of a run, if there is one.
+/// Adds the end of an arrow at the beginning of a run, if there is an arrow.
 fn write_end_if(
     kind: &str,
     arrow: Option<u64>,
@@ -438,7 +439,7 @@ fn write_end_if(
     }
 }
 
-/// The beginning of a migration's arrow, in the last nanosecond of the run that it leads from, if there is one.
+/// Adds the beginning of a migration's arrow, in the last nanosecond of the run that it leads from, if there is such a run.
 fn write_migration(arrow: u64, run: Option<Slice>, text: &mut String) -> Result<(), AllocError>
     ensures { OnOk result (string_bytes text.new ≡ string_bytes text.old ++ perfetto_migration arrow run) }
 {
@@ -450,18 +451,18 @@ fn write_migration(arrow: u64, run: Option<Slice>, text: &mut String) -> Result<
     write_beginning("migration", arrow, track, at, text)
 }
 
-/// How many tasks are runnable at a processor that is there, if another number was told last.
+/// Adds how many tasks are runnable at a processor, if the processor exists and the number differs from the one written last.
 fn write_count(
     reading: &ClockReading,
     count: u64,
-    told: Option<u64>,
+    reported: Option<u64>,
     text: &mut String,
 ) -> Result<(), AllocError>
     ensures { OnOk result (string_bytes text.new
-        ≡ string_bytes text.old ++ perfetto_count reading.now.processor reading.now.to count told) }
+        ≡ string_bytes text.old ++ perfetto_count reading.now.processor reading.now.to count reported) }
 {
-    match told {
-        Some(told) if told != count => write_counter(reading, count, text),
+    match reported {
+        Some(reported) if reported != count => write_counter(reading, count, text),
         _ => Ok(()),
     }
 }
@@ -474,7 +475,7 @@ impl ScheduleForm for Perfetto {
         text: &mut String,
     ) -> Result<(), AllocError>
         ensures head { OnOk result (Adds (IsPerfettoHead (length schedule.now.processors)) (string_bytes text.old) (string_bytes text.new)) }
-        ensures history { OnOk result (self.new ≡ record self.old { history = untold (length schedule.now.processors) TASKS }) }
+        ensures history { OnOk result (self.new ≡ record self.old { history = empty_past (length schedule.now.processors) TASKS }) }
         ensures window { self.new.window ≡ self.old.window }
     {
         self.history = History::of(self.alloc, schedule.processors())?;
@@ -520,7 +521,7 @@ impl ScheduleForm for Perfetto {
     }
 }
 
-/// What stands before all events, and the tracks of this many processors.
+/// Adds the text before all events, and the tracks of this many processors.
 fn write_head(alloc: Global, processors: usize, text: &mut String) -> Result<(), AllocError>
     ensures { OnOk result (Adds (IsPerfettoHead processors) (string_bytes text.old) (string_bytes text.new)) }
 {
@@ -531,13 +532,13 @@ fn write_head(alloc: Global, processors: usize, text: &mut String) -> Result<(),
     Ok(())
 }
 
-/// What stands behind all events.
+/// Adds the text after all events.
 fn write_tail(text: &mut String) -> Result<(), AllocError>
     ensures { OnOk result (string_bytes text.new ≡ string_bytes text.old ++ codes "\n]}\n") }
 {
     text.push_str("\n]}\n")
 }
 
-/// What stands before all events.
+/// The text before all events.
 const HEAD: &str =
     "{\"displayTimeUnit\":\"ns\",\"traceEvents\":[\n{\"ph\":\"M\",\"pid\":0,\"name\":\"process_name\",\"args\":{\"name\":\"bqsim\"}}";

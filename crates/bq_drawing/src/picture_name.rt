@@ -1,4 +1,4 @@
-//! The name of a picture, by which its styles are its own.
+//! The name of a picture, which keeps its styles apart from others on a page.
 ghost use Rattle.std.specs.Prelude.{◌≡◌, Some};
 ghost use Rattle.bq_drawing.specs.Frames.{hash_of, mixed, name_text, theme_letter};
 
@@ -8,13 +8,13 @@ use std::fmt;
 /// The hash of nothing.
 const BASIS: u32 = 0x811c_9dc5;
 
-/// The name of a picture, a class of its root: each rule of its styles and each id begins with it, so that neither changes anything
-/// else on a page. It is made from what the picture shows, so that two pictures on a page have two names.
+/// The name of a picture, a class of its root. Each rule of its styles and each id begins with the name, so that neither changes anything
+/// else on a page. The name is made from what the picture shows, so that different pictures on a page have different names.
 #[derive(Clone, Copy)]
 pub struct PictureName(u32);
 
 impl PictureName {
-    /// The name for what is drawn in a theme: by the hash of Fowler, Noll and Vo (FNV-1a) of 32 bits.
+    /// The name for what is drawn in a theme. It is the 32-bit hash of Fowler, Noll and Vo (FNV-1a).
     pub fn of(theme: Theme, drawn: &str) -> PictureName
         ensures { result.0 ≡ hash_of theme drawn.now }
     {
@@ -38,7 +38,7 @@ fn theme_letter(theme: Theme) -> u8
     }
 }
 
-/// The hash with a byte more.
+/// The hash after one more byte.
 fn mixed(hash: u32, byte: u8) -> u32
     ensures { result ≡ mixed hash byte }
 {

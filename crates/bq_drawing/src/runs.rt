@@ -1,10 +1,10 @@
-//! Runs, by how they began.
+//! Runs, from their starts.
 ghost use Rattle.std.specs.Prelude.{◌≡◌};
 ghost use Rattle.bq_drawing.specs.Runs.{ended_run, run_on, run_to};
 
 use bq_schedule::{ProcessorFigures, Slice, Start, Stop};
 
-/// A run that began so and is over at a moment.
+/// A run with this start that ends at a moment.
 fn run_to(at: u64, start: &Start) -> Slice
     ensures { result ≡ run_to at start.now }
 {
@@ -16,7 +16,7 @@ fn run_to(at: u64, start: &Start) -> Slice
     }
 }
 
-/// The run that a change ends.
+/// The run that a change ends, if it ends one.
 pub fn ended_run(stop: Option<Stop>) -> Option<Slice>
     ensures { result ≡ ended_run stop }
 {
@@ -24,7 +24,7 @@ pub fn ended_run(stop: Option<Stop>) -> Option<Slice>
     Some(run_to(stop.at, &stop.start))
 }
 
-/// The run that goes on at a processor, as far as its clock was read.
+/// The run that goes on at a processor, up to the last reading of its clock.
 pub fn run_on(figures: &ProcessorFigures) -> Option<Slice>
     ensures { result ≡ run_on figures.now }
 {

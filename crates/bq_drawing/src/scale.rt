@@ -1,4 +1,4 @@
-//! Where a moment lies in the picture.
+//! Where a moment is in the picture.
 ghost use Rattle.std.specs.Prelude.{◌≡◌, Some};
 ghost use Rattle.bq_drawing.specs.Places.{arrow_time, hundredths, place_of, width_of};
 
@@ -28,7 +28,7 @@ pub const WIDTH: u64 = 1080;
 /// How wide the arrow of a wake is.
 const ARROW: u64 = 9;
 
-/// How far it lies from the left edge.
+/// How far the stretch of time is from the left edge.
 pub const LEFT: u64 = 72;
 
 /// How wide the picture is.
@@ -41,7 +41,7 @@ pub struct Scale {
 }
 
 impl Scale {
-    /// How far a moment lies from the left edge.
+    /// How far a moment is from the left edge.
     pub fn place(&self, time: u64) -> Hundredths
         ensures { result.0 ≡ place_of self.now.extent time }
     {
@@ -51,7 +51,7 @@ impl Scale {
         Hundredths(LEFT * 100 + part as u64)
     }
 
-    /// How wide the stretch between two moments is drawn, and no less than can be seen.
+    /// How wide the stretch between two moments is drawn: at least as wide as can be seen.
     pub fn width(&self, from: u64, to: u64) -> Hundredths
         ensures { result.0 ≡ width_of self.now.extent from to }
     {
@@ -60,7 +60,7 @@ impl Scale {
         Hundredths(end.saturating_sub(begin).max(40))
     }
 
-    /// How long the time is over which the arrow of a wake is drawn.
+    /// The time that the arrow of a wake covers, in nanoseconds.
     pub fn arrow(&self) -> u64
         ensures { result ≡ arrow_time self.now.extent }
     {

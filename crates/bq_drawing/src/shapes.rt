@@ -17,7 +17,7 @@ pub const LANE: usize = 12;
 /// How high a wake is drawn, with the space below it.
 pub const LEVEL: usize = 13;
 
-/// The part of a run that is shown, and how the run began.
+/// The shown part of a run, and how the run began.
 #[derive(Clone, Copy)]
 pub struct DrawnRun {
     pub task: u16,
@@ -30,7 +30,7 @@ pub struct DrawnRun {
 impl DrawnRun {
     ghost use Rattle.bq_drawing.specs.Holdings.{drawn_run};
 
-    /// This part of a run that began so.
+    /// This part of a run with this start.
     pub fn of(start: &Start, part: &Slice) -> DrawnRun
         ensures { result ≡ drawn_run start.now part.now }
     {
@@ -44,7 +44,7 @@ impl DrawnRun {
     }
 }
 
-/// The name of a row, and the band in which its runs lie.
+/// Adds the name of a row, and the band in which its runs are drawn.
 pub fn write_row_name(number: u8, top: usize, text: &mut String) -> Result<(), AllocError>
     ensures { OnOk result (string_bytes text.new ≡ string_bytes text.old ++ (band_text top ++ row_name number top)) }
 {
@@ -59,7 +59,7 @@ pub fn write_row_name(number: u8, top: usize, text: &mut String) -> Result<(), A
     )
 }
 
-/// A run, with all of it in a tooltip.
+/// Adds a run, with a tooltip that says all of it.
 pub fn write_run(
     alloc: Global,
     run: &DrawnRun,
@@ -74,7 +74,7 @@ pub fn write_run(
     write_title(title.as_str(), text)
 }
 
-/// The rectangle of a run.
+/// Adds the rectangle of a run.
 fn write_rectangle(
     run: &DrawnRun,
     top: usize,
@@ -92,14 +92,14 @@ fn write_rectangle(
     )
 }
 
-/// A tooltip, and the end of what it is about.
+/// Adds a tooltip, and the end of the group that it belongs to.
 fn write_title(title: &str, text: &mut String) -> Result<(), AllocError>
     ensures { OnOk result (string_bytes text.new ≡ string_bytes text.old ++ (title.now ++ codes "</g>\n")) }
 {
     write!(text, "{title}</g>\n")
 }
 
-/// The name of a run's task upon it, where there is room.
+/// Adds the name of a run's task on the run, if there is room.
 pub fn write_label(
     run: &DrawnRun,
     top: usize,
@@ -117,7 +117,7 @@ pub fn write_label(
     write_run_name(run.task, middle, top, frame, labels)
 }
 
-/// The name of a run's task, around this place.
+/// Adds the name of a run's task, around this place.
 fn write_run_name(
     task: u16,
     middle: Hundredths,
@@ -150,7 +150,7 @@ fn run_title(alloc: Global, run: &DrawnRun, frame: &Frame<'_>) -> Result<String,
     Ok(text)
 }
 
-/// When a run is.
+/// Adds when a run begins and ends, and how long it is.
 fn write_run_times(run: &DrawnRun, frame: &Frame<'_>, text: &mut String) -> Result<(), AllocError>
     ensures { OnOk result (string_bytes text.new ≡ string_bytes text.old ++ run_times (setting_of frame.now) run.now) }
 {
@@ -163,7 +163,7 @@ fn write_run_times(run: &DrawnRun, frame: &Frame<'_>, text: &mut String) -> Resu
     write!(text, "{length} {unit}")
 }
 
-/// How long its task waited for a run.
+/// Adds how long the task waited for a run.
 fn write_run_waits(run: &DrawnRun, frame: &Frame<'_>, text: &mut String) -> Result<(), AllocError>
     ensures { OnOk result (string_bytes text.new ≡ string_bytes text.old ++ run_waits (setting_of frame.now) run.now) }
 {
@@ -173,7 +173,7 @@ fn write_run_waits(run: &DrawnRun, frame: &Frame<'_>, text: &mut String) -> Resu
     write_latency(run.latency, frame, text)
 }
 
-/// How long after its wake a run began, if that is known.
+/// Adds how long after its wake a run began, if that is known.
 fn write_latency(
     latency: Option<u64>,
     frame: &Frame<'_>,
@@ -189,7 +189,7 @@ fn write_latency(
     write!(text, ", {latency} {unit} since its wake")
 }
 
-/// Where a wait in this lane is drawn, below the band at this height.
+/// The height of a wait in this lane, below the band that begins at `top`.
 pub fn wait_height(top: usize, lane: usize) -> usize
     ensures { result ≡ wait_height top lane }
 {
@@ -199,7 +199,7 @@ pub fn wait_height(top: usize, lane: usize) -> usize
         .saturating_add(3)
 }
 
-/// A wait, hatched.
+/// Adds a wait, hatched.
 pub fn write_wait(
     wait: &Stretch,
     height: usize,
@@ -213,7 +213,7 @@ pub fn write_wait(
     write_wait_times(wait, frame, text)
 }
 
-/// The hatched rectangle of a wait, up to the name in its tooltip.
+/// Adds the hatched rectangle of a wait, up to the name in its tooltip.
 fn write_hatched(
     wait: &Stretch,
     height: usize,
@@ -231,7 +231,7 @@ fn write_hatched(
     )
 }
 
-/// When a wait is.
+/// Adds when a wait begins and ends.
 fn write_wait_times(wait: &Stretch, frame: &Frame<'_>, text: &mut String) -> Result<(), AllocError>
     ensures { OnOk result (string_bytes text.new ≡ string_bytes text.old ++ wait_times (setting_of frame.now) wait.now) }
 {
@@ -241,14 +241,14 @@ fn write_wait_times(wait: &Stretch, frame: &Frame<'_>, text: &mut String) -> Res
     write!(text, " waits {from} to {to} {unit}</title></rect>\n")
 }
 
-/// Where the arrow of a wake at this level ends, above the band at this height.
+/// The height at which the arrow of a wake at this level ends, above the band that begins at `top`.
 pub fn wake_height(top: usize, level: usize) -> usize
     ensures { result ≡ wake_height top level }
 {
     top.saturating_sub(level.saturating_mul(LEVEL))
 }
 
-/// A wake, as an arrow that ends at this height.
+/// Adds a wake, as an arrow that ends at this height.
 pub fn write_wake(
     wake: &Stretch,
     end: usize,
@@ -262,7 +262,7 @@ pub fn write_wake(
     write_wake_time(wake, frame, text)
 }
 
-/// The arrow of a wake, up to the name in its tooltip.
+/// Adds the arrow of a wake, up to the name in its tooltip.
 fn write_arrow(
     wake: &Stretch,
     end: usize,
@@ -280,7 +280,7 @@ fn write_arrow(
     )
 }
 
-/// When a wake is.
+/// Adds when a wake happens.
 fn write_wake_time(wake: &Stretch, frame: &Frame<'_>, text: &mut String) -> Result<(), AllocError>
     ensures { OnOk result (string_bytes text.new ≡ string_bytes text.old ++ wake_time (setting_of frame.now) wake.now) }
 {

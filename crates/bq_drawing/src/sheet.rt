@@ -5,7 +5,7 @@ use crate::picture_name::PictureName;
 use crate::theme::Theme;
 use std::alloc::AllocError;
 
-/// The styles: those of the shapes, and the colours of a theme.
+/// Adds the styles of the shapes, and the colours of a theme.
 pub fn write_styles(name: PictureName, theme: Theme, text: &mut String) -> Result<(), AllocError> {
     text.push_str("<style>\n")?;
     match theme {
@@ -41,7 +41,7 @@ const SHAPES: [&str; 13] = [
     ".dashed{stroke-dasharray:6 4}",
 ];
 
-/// The colours of a theme.
+/// Adds the colours of a theme.
 fn write_colours(
     name: PictureName,
     palette: &Palette,
@@ -84,7 +84,7 @@ fn write_stroke(
     write!(text, ".{name} {what}{{stroke:{colour};fill:none}}\n")
 }
 
-/// The colour of tasks, of what is hatched in it.
+/// Adds the colour of tasks, and of what is hatched in it.
 fn write_task(
     name: PictureName,
     place: usize,
@@ -98,7 +98,7 @@ fn write_task(
     )
 }
 
-/// The colour of what is written on tasks of a colour, with an edge in that colour, so that no line runs through it.
+/// Adds the colour of text on tasks of one colour. The text has an edge in that colour, so that no line runs through it.
 fn write_letters(
     name: PictureName,
     place: usize,
@@ -109,7 +109,7 @@ fn write_letters(
     write!(text, ".{name} .l{place}{{fill:{colour};stroke:{edge}}}\n")
 }
 
-/// The hatches of the colours, and the page.
+/// Adds the hatches of the colours, and the page.
 pub fn write_hatches(name: PictureName, text: &mut String) -> Result<(), AllocError> {
     text.push_str("<defs>\n")?;
     for place in 0..COLOURS {
@@ -119,7 +119,7 @@ pub fn write_hatches(name: PictureName, text: &mut String) -> Result<(), AllocEr
     text.push_str("</defs>\n<rect class=\"page\" width=\"100%\" height=\"100%\"/>\n")
 }
 
-/// The beginning of the hatch of a colour.
+/// Adds the beginning of the hatch of a colour.
 fn write_hatch(name: PictureName, place: usize, text: &mut String) -> Result<(), AllocError> {
     write!(
         text,
@@ -127,7 +127,7 @@ fn write_hatch(name: PictureName, place: usize, text: &mut String) -> Result<(),
     )
 }
 
-/// What stands in the hatch of a colour.
+/// Adds what is inside the hatch of a colour.
 fn write_hatch_lines(place: usize, text: &mut String) -> Result<(), AllocError> {
     write!(
         text,

@@ -28,9 +28,9 @@ use bq_words::Rule;
 use std::alloc::{AllocError, Global};
 use std::collections::BTreeMap;
 
-/// A picture: a row a processor, the runs in the colours of their tasks, below them the waits, hatched, above them the wakes, and
-/// between rows the pulls and the migrations, over an axis of time. It is a file of its own, for a browser or a slide, and changes
-/// nothing else on a page that it is put into. It holds the runs, since the scale depends on where the trace ends.
+/// A picture: a row for each processor, over an axis of time. A row has the runs in the colours of their tasks, the waits below them,
+/// hatched, and the wakes above them. Between rows are the pulls and the migrations. The picture is a file of its own, for a browser or a
+/// slide, and changes nothing else on a page that it is put into. It holds the runs, because the scale depends on where the trace ends.
 #[derive(Drop)]
 pub struct Svg {
     alloc: Global,
@@ -39,12 +39,12 @@ pub struct Svg {
     rule: Option<Rule>,
     roster: Roster,
     drawing: Drawing,
-    /// When each task last ceased to run.
+    /// When each task last stopped running.
     stops: BTreeMap<u16, u64>,
 }
 
 impl Svg {
-    /// The picture of what is in the window.
+    /// A picture of what is in the window.
     pub fn new(alloc: Global, window: Window, look: Look) -> Svg
         ensures window { result.window ≡ window }
         ensures none { (result.drawing ≡ nothing_of 0) × (result.roster ≡ []) }
@@ -60,14 +60,14 @@ impl Svg {
         }
     }
 
-    /// The picture names the discipline by which the processors choose.
+    /// Sets the rule by which the processors choose, which the picture names.
     pub fn under(&mut self, rule: Rule)
         ensures { self.new ≡ record self.old { rule = self.new.rule } }
     {
         self.rule = Some(rule);
     }
 
-    /// Holds the part of a run that is shown, if there is a run.
+    /// Holds the shown part of a run, if there is one.
     fn hold_run(&mut self, start: Option<Start>, run: Option<Slice>) -> Result<(), AllocError>
         ensures run { OnOk result (HoldsRun self.old.window start run self.old.drawing self.new.drawing) }
         ensures same { self.new ≡ record self.old { drawing = self.new.drawing } }
@@ -79,7 +79,7 @@ impl Svg {
         }
     }
 
-    /// Holds the part of a wait that is shown, if there is a wait.
+    /// Holds the shown part of a wait, if there is one.
     fn hold_wait(&mut self, wait: Option<Slice>) -> Result<(), AllocError>
         ensures wait { OnOk result (HoldsWait self.old.window wait self.old.drawing self.new.drawing) }
         ensures same { self.new ≡ record self.old { drawing = self.new.drawing } }
@@ -97,7 +97,7 @@ impl Svg {
         }
     }
 
-    /// Holds a run that is over, as far as it is shown, and when it ended.
+    /// Holds the shown part of a run that ended, and notes when it ended.
     fn hold_stop(&mut self, stop: Option<Stop>) -> Result<(), AllocError>
         ensures run { OnOk result (HoldsRun self.old.window (option_map (λ s. s.start) stop) (ended_run stop) self.old.drawing self.new.drawing) }
         ensures stops { OnOk result (self.new.stops.entries ≡ with_stop stop self.old.stops.entries) }
@@ -118,7 +118,7 @@ impl Svg {
         Ok(())
     }
 
-    /// Holds the wait before a run that began, and that its task has migrated, if it has.
+    /// Holds the wait before a run that began, and the migration of its task, if there is one.
     fn hold_start(&mut self, start: Option<Start>) -> Result<(), AllocError>
         ensures start { OnOk result (HoldsStart self.old.window self.old.stops.entries start self.old.drawing self.new.drawing) }
         ensures same { self.new ≡ record self.old { drawing = self.new.drawing } }
@@ -128,7 +128,7 @@ impl Svg {
         self.hold_link(line)
     }
 
-    /// The line of a run, if its task ran on another processor before.
+    /// The line to a run, if its task ran on another processor before.
     fn migration_link(&self, start: Option<Start>) -> Option<Link>
         ensures { result ≡ migration_link self.now.stops.entries start }
     {
@@ -151,7 +151,7 @@ impl Svg {
         })
     }
 
-    /// When the task of a run last ceased to run.
+    /// When the task of a start last stopped running.
     fn left_at(&self, start: &Start) -> u64
         ensures { result ≡ left_at self.now.stops.entries start.now }
     {
@@ -167,7 +167,7 @@ impl Svg {
         self.hold_link(pulled_link(pull))
     }
 
-    /// Holds a pull or a migration that is shown: it ends in the window, and both of its processors are shown.
+    /// Holds a pull or a migration, if it is shown: it ends in the window, and both of its processors are shown.
     fn hold_link(&mut self, link: Option<Link>) -> Result<(), AllocError>
         ensures link { OnOk result (HoldsLink self.old.window link self.old.drawing self.new.drawing) }
         ensures same { self.new ≡ record self.old { drawing = self.new.drawing } }
@@ -184,7 +184,7 @@ impl Svg {
         self.drawing.push_link(link)
     }
 
-    /// Holds a wake, if there is one that is shown.
+    /// Holds a wake, if there is one and it is shown.
     fn hold_wake(&mut self, wake: Option<Wake>) -> Result<(), AllocError>
         ensures wake { OnOk result (HoldsWake self.old.window wake self.old.drawing self.new.drawing) }
         ensures same { self.new ≡ record self.old { drawing = self.new.drawing } }
@@ -198,7 +198,7 @@ impl Svg {
         self.drawing.push_wake(&wake)
     }
 
-    /// Holds the runs that go on, as far as they are shown.
+    /// Holds the shown parts of the runs that still go on.
     fn hold_runners(&mut self, schedule: &Schedule) -> Result<(), AllocError>
         ensures runs { OnOk result (HoldsRunners self.old.window schedule.now 64 self.old.drawing self.new.drawing) }
         ensures same { self.new ≡ record self.old { drawing = self.new.drawing } }
@@ -210,7 +210,7 @@ impl Svg {
         Ok(())
     }
 
-    /// Holds the waits that are not over, as far as they are shown.
+    /// Holds the shown parts of the waits that still go on.
     fn hold_waiting(&mut self, schedule: &Schedule) -> Result<(), AllocError>
         ensures waits { OnOk result (HoldsWaiting self.old.window schedule.now TASKS self.old.drawing self.new.drawing) }
         ensures same { self.new ≡ record self.old { drawing = self.new.drawing } }
@@ -221,7 +221,7 @@ impl Svg {
         Ok(())
     }
 
-    /// Writes the picture of what is held.
+    /// Adds the picture of what is held.
     fn write(&self, extent: Extent, names: &Names, text: &mut String) -> Result<(), AllocError>
         ensures { OnOk result (Adds (IsPicture self.now.window self.now.look (drawn_in extent self.now.roster names.now) self.now.rule self.now.drawing)
             (string_bytes text.old) (string_bytes text.new)) }
@@ -240,14 +240,14 @@ impl Svg {
     }
 }
 
-/// The end of the root.
+/// Adds the end of the root.
 fn write_end(text: &mut String) -> Result<(), AllocError>
     ensures { OnOk result (string_bytes text.new ≡ string_bytes text.old ++ codes "</svg>\n") }
 {
     text.push_str("</svg>\n")
 }
 
-/// What a picture is drawn over: the extent of the schedule in the window, or a nanosecond where no time passes.
+/// The time that a picture is drawn over: the extent of the schedule in the window, or one nanosecond if no time passes.
 fn drawn_over(schedule: &Schedule, window: &Window) -> Extent
     ensures { IsDrawnOver window.now schedule.now result }
 {
@@ -257,7 +257,7 @@ fn drawn_over(schedule: &Schedule, window: &Window) -> Extent
     }
 }
 
-/// What stands before all that is drawn: the root with its name, its title, its styles and its hatches.
+/// The text before all that is drawn: the root with its name, its title, its styles and its hatches.
 fn head_of(alloc: Global, look: &Look, drawn: &Written) -> Result<String, AllocError>
     ensures { IfOk result (λ head. IsHead look.now (string_bytes drawn.now.text) drawn.now.height (string_bytes head)) }
 {
@@ -278,7 +278,7 @@ fn styles_of(alloc: Global, name: PictureName, theme: Theme) -> Result<String, A
     Ok(text)
 }
 
-/// The beginning of the root.
+/// Adds the beginning of the root.
 fn write_root(name: PictureName, height: usize, text: &mut String) -> Result<(), AllocError>
     ensures { OnOk result (string_bytes text.new ≡ string_bytes text.old ++ root_text (name_text name.0) height) }
 {
@@ -289,7 +289,7 @@ fn write_root(name: PictureName, height: usize, text: &mut String) -> Result<(),
     write!(text, " viewBox=\"0 0 {PAGE} {height}\" role=\"img\">\n")
 }
 
-/// The name of the picture for a reader that does not see it.
+/// Adds the name of the picture for a reader who does not see it.
 fn write_root_title(title: &str, text: &mut String) -> Result<(), AllocError>
     ensures { OnOk result (string_bytes text.new ≡ string_bytes text.old ++ root_title title.now) }
 {
@@ -298,7 +298,7 @@ fn write_root_title(title: &str, text: &mut String) -> Result<(), AllocError>
     text.push_str("</title>\n")
 }
 
-/// How the run began that is over.
+/// The start of a run that ended, if one did.
 fn start_of(stop: Option<Stop>) -> Option<Start>
     ensures { result ≡ option_map (λ s. s.start) stop }
 {
@@ -306,7 +306,7 @@ fn start_of(stop: Option<Stop>) -> Option<Start>
     Some(stop.start)
 }
 
-/// The wait before a run that began so.
+/// The wait before a run with this start.
 fn wait_before(start: Option<Start>) -> Option<Slice>
     ensures { result ≡ option_map wait_before start }
 {
@@ -319,7 +319,7 @@ fn wait_before(start: Option<Start>) -> Option<Slice>
     })
 }
 
-/// The wait that a pull ended, where the task was taken from.
+/// The wait that a pull ended, at the processor that the task was taken from.
 fn wait_ended(pull: Option<PulledTask>) -> Option<Slice>
     ensures { result ≡ option_map wait_ended pull }
 {
@@ -351,7 +351,7 @@ fn pulled_link(pull: Option<PulledTask>) -> Option<Link>
     })
 }
 
-/// The wait of a task that is not over, if it waits.
+/// The wait of a task that still goes on, if it waits.
 fn wait_of(schedule: &Schedule, id: u16) -> Option<Slice>
     ensures { result ≡ wait_at schedule.now id (task_of schedule.now id).place }
 {
@@ -369,7 +369,7 @@ fn wait_of(schedule: &Schedule, id: u16) -> Option<Slice>
     })
 }
 
-/// Whether what runs is this task.
+/// Whether the running task is this one.
 fn runs(running: Option<Start>, task: u16) -> bool
     ensures { result ≡ is_this task (option_map (λ s. s.task) running) }
 {

@@ -7,11 +7,11 @@ ghost use Rattle.bq_drawing.specs.Themes.{theme_of};
 pub enum Theme {
     Light,
     Dark,
-    /// As the reader's system is.
+    /// As the reader's system is: light or dark.
     Auto,
 }
 
-/// A text that ends with the words for themes that come behind `light`.
+/// `before`, followed by the words for themes other than `light`.
 #[macro_export]
 macro_rules! with_themes {
     ($before:literal) => {
@@ -20,7 +20,7 @@ macro_rules! with_themes {
 }
 
 impl Theme {
-    /// The theme of that name.
+    /// The theme of this name, if there is one.
     pub fn of_word(word: &str) -> Option<Theme>
         ensures { result ≡ theme_of word.now }
     {

@@ -4,7 +4,7 @@ ghost use Rattle.bq_drawing.specs.Titles.{amount_text, unit_length, unit_name, u
 
 use std::fmt;
 
-/// The unit in which a picture tells each of its times. Each step of its axis is a whole number of it.
+/// The unit in which a picture writes all its times. Each step of its axis is a whole number of this unit.
 #[derive(Clone, Copy)]
 pub enum TimeUnit {
     Nanoseconds,
@@ -14,7 +14,7 @@ pub enum TimeUnit {
 }
 
 impl TimeUnit {
-    /// That of an axis with such steps.
+    /// The unit of an axis with steps of this length.
     pub fn of_step(step: u64) -> TimeUnit
         ensures { result ≡ unit_of_step step }
     {
@@ -29,7 +29,7 @@ impl TimeUnit {
         }
     }
 
-    /// How many nanoseconds it has.
+    /// How many nanoseconds the unit has.
     pub fn length(self) -> u64
         ensures value { result ≡ unit_length self }
         ensures some { 0 < result }
@@ -42,7 +42,7 @@ impl TimeUnit {
         }
     }
 
-    /// How it is written behind a number.
+    /// How the unit is written after a number.
     pub fn name(self) -> &'static str
         ensures { result.now ≡ unit_name self }
     {
@@ -55,7 +55,7 @@ impl TimeUnit {
     }
 }
 
-/// A time in a unit, without its name: to the microsecond, and in microseconds to the nanosecond. What is less is cut off.
+/// A time in a unit, without the unit's name: to the microsecond, or in microseconds to the nanosecond. What is less is cut off.
 ///
 /// 1,234,567 ns are `1.234` in milliseconds, `1234.567` in microseconds and `0.001234` in seconds.
 #[derive(Clone, Copy)]

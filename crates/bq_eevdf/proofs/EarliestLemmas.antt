@@ -10,10 +10,13 @@ use Rattle.bq_eevdf.specs.Eevdf.{eligible, earliest, is_eligible}
 use Rattle.bq_eevdf.specs.EarliestChoice.{ChoiceIsEarliest}
 
 abbrev IsEarliest : List Task → Task → Type 0
-IsEarliest xs t = Contains xs t × IsTrue (is_eligible xs t) × ((u : Task) → Contains xs u → IsTrue (is_eligible xs u) → due_before u t ≡ false)
+IsEarliest xs t =
+    Contains xs t × IsTrue (is_eligible xs t) × ((u : Task) → Contains xs u → IsTrue (is_eligible xs u) → due_before u t ≡ false)
 
 -- of the eligible: one of them, before which none of them comes
-of_eligible : (xs : List Task) (o : Option Task) → IfSome o (Contains (eligible xs)) → IfSome o (λ t. (u : Task) → Contains (eligible xs) u → due_before u t ≡ false) → IfSome o (IsEarliest xs)
+of_eligible : (xs : List Task) (o : Option Task) → IfSome o (Contains (eligible xs))
+    → IfSome o (λ t. (u : Task) → Contains (eligible xs) u → due_before u t ≡ false)
+    → IfSome o (IsEarliest xs)
 of_eligible xs None h k = tt
 of_eligible xs (Some t) h k =
     let c = Contains-filter (is_eligible xs) xs t h in
@@ -21,4 +24,6 @@ of_eligible xs (Some t) h k =
 
 -- it is an eligible member, and no eligible member comes before it
 pub choice_is_earliest : ChoiceIsEarliest
-choice_is_earliest xs = of_eligible xs (earliest xs) (first_by-member due_before (eligible xs)) (first_by-least due_before due_before-IsOrder (eligible xs))
+choice_is_earliest xs =
+    of_eligible xs (earliest xs) (first_by-member due_before (eligible xs))
+    (first_by-least due_before due_before-IsOrder (eligible xs))

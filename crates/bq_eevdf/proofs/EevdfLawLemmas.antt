@@ -15,7 +15,10 @@ pub least_is_eligible : LeastIsEligible
 least_is_eligible xs t c h = least_at_most_mean xs t h
 
 -- when the first eligible task is due, where one more that is eligible is considered
-pub earliest_with : (t : Task) (xs : List Task) (all : Totals) (queued : Option Deadline) → all ≡ sums_of (t ∷ xs) → is_at_most_mean all.weight all.moment t ≡ true → queued ≡ first_due (filter (is_at_most_mean all.weight all.moment) xs) → Some (earliest_of (due_of t) queued) ≡ first_due (eligible (t ∷ xs))
+pub earliest_with : (t : Task) (xs : List Task) (all : Totals) (queued : Option Deadline)
+    → all ≡ sums_of (t ∷ xs) → is_at_most_mean all.weight all.moment t ≡ true
+    → queued ≡ first_due (filter (is_at_most_mean all.weight all.moment) xs)
+    → Some (earliest_of (due_of t) queued) ≡ first_due (eligible (t ∷ xs))
 earliest_with t xs all queued sums here first =
     let test = rw sums at here in
     let rest = rw sums at first in

@@ -4,7 +4,7 @@ use Rattle.bq_disc.specs.Tasks.{Task}
 use Rattle.bq_disc.specs.Dues.{due_before}
 use Rattle.bq_eevdf.specs.Eevdf.{eevdf, is_eligible}
 
--- the choice of some tasks is one of them and eligible, and none of them that is eligible comes before it by (deadline, id)
+-- the choice is one of the given tasks and eligible, and none of the eligible ones comes before it by (deadline, id)
 abbrev pub ChoiceIsEarliest : Type 0
 ChoiceIsEarliest =
     (xs : List Task) →

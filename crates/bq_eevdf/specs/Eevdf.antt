@@ -6,10 +6,11 @@ use Rattle.bq_disc.specs.Tasks.{Task, first_by}
 use Rattle.bq_disc.specs.Dues.{due_before}
 use Rattle.bq_disc.specs.Discipline.{Discipline}
 
--- a task whose lag is at least 0 among those that are considered: its v is at most their weighted mean
+-- whether a task's lag is at least 0 among the tasks considered: its v is at most their weighted mean
 abbrev pub is_eligible : List Task → Task → Bool
 is_eligible xs t = is_at_most_mean (total_weight xs) (weighted_sum xs) t
 
+-- the eligible ones of some tasks
 abbrev pub eligible : List Task → List Task
 eligible xs = filter (is_eligible xs) xs
 
@@ -17,10 +18,12 @@ eligible xs = filter (is_eligible xs) xs
 abbrev pub earliest : List Task → Option Task
 earliest xs = first_by due_before (eligible xs)
 
+-- whether a task was chosen and it is not the current one
 abbrev pub is_other : Option Task → Task → Bool
 is_other None current = false
 is_other (Some t) current = not (t.id == current.id)
 
+-- EEVDF as a discipline
 abbrev pub eevdf : Discipline
 eevdf = record {
   choice = λ xs. earliest xs;

@@ -4,6 +4,6 @@ use Rattle.bq_disc.specs.Tasks.{Task}
 use Rattle.bq_disc.specs.Totals.{NoneBelow}
 use Rattle.bq_eevdf.specs.Eevdf.{is_eligible}
 
--- the member of least v is eligible
+-- the task of least v of a list is eligible
 abbrev pub LeastIsEligible : Type 0
 LeastIsEligible = (xs : List Task) (t : Task) → Contains xs t → NoneBelow t.v xs → IsTrue (is_eligible xs t)

@@ -13,18 +13,19 @@ use bq_tree::{Sums, Tree};
 
 /// The rule of earliest eligible virtual deadline first (sched-eevdf.rst; Stoica and Abdel-Wahab 1995, section 3).
 ///
-/// With the weights w_i and virtual runtimes v_i of the tasks considered, their mean is V = sum(w_i v_i) / sum(w_i), and
-/// the lag of a task is w_i (V - v_i): the time that it is owed. It is eligible where that is at least 0, so where
-/// v_i <= V, which is sum(w_j) v_i <= sum(w_j v_j): no division, and nothing is rounded. Of the eligible tasks the one of
-/// least (deadline, id) runs. The mark is V rounded down. A woken task enters with its lag, held within the virtual time
-/// of one slice; a deadline lies one slice's virtual time after v at entry, and again once v has reached it.
+/// With the weights w_i and virtual runtimes v_i of the tasks considered, their mean is V = sum(w_i v_i) / sum(w_i). The lag
+/// of a task is w_i (V - v_i): the time that it is owed. A task is eligible if its lag is at least 0. That is v_i <= V, or
+/// without a division sum(w_j) v_i <= sum(w_j v_j), so nothing is rounded. Of the eligible tasks, the one of least
+/// (deadline, id) runs. The mark is V rounded down; with no task it stays as it was. A woken task enters as far from the mark
+/// as it left it (`rel`, a distance in v), but no further than one slice's virtual time. A task's deadline is one slice's
+/// virtual time after its v when it enters. It is set so again whenever v has reached it.
 #[derive(Clone, Copy)]
 pub struct Eevdf;
 
 /// The run queue under EEVDF, on a balanced tree.
 pub type EevdfQueue = RuledQueue<Tree<Sums>, Eevdf>;
 
-/// What a queue's tasks and one more have together.
+/// The totals of the queue's tasks and the current task; `queue` has the totals of the queue's.
 fn considered(current: Option<&Node>, mut queue: Totals) -> Totals
     requires few { queue.count ≤ 2 ^ 16 }
     requires bounds { HasBounds queue }
@@ -37,7 +38,7 @@ fn considered(current: Option<&Node>, mut queue: Totals) -> Totals
     queue
 }
 
-/// When the first of the eligible tasks is due, of a queue's and of one more.
+/// The earliest deadline of the eligible tasks, of the queue's and the current task.
 fn earliest<T: Timeline>(current: Option<&Node>, queue: &T) -> Option<Deadline>
     ensures { result ≡ first_due (eligible (present (option_map (λ n. task_of n.now) current.entry) (T.tasks queue.now))) }
 {
@@ -52,7 +53,7 @@ fn earliest<T: Timeline>(current: Option<&Node>, queue: &T) -> Option<Deadline>
     Some(node.entity.due().earliest(queued))
 }
 
-/// Whether a task was chosen, and not the current one.
+/// Whether a task was chosen and it is not the current one.
 fn is_other(chosen: Option<u16>, current: &Node) -> bool
     ensures { (o : Option Task) → chosen ≡ option_map (λ (t : Task). t.id) o → result ≡ is_other o (task_of current.now) }
 {

@@ -4,7 +4,7 @@ use Rattle.std.specs.Prelude.{OnOk}
 use Rattle.bq_workload.specs.Soundness.{first_flaw}
 use Rattle.bq_workload.specs.declared.workload.Workload.{Workload}
 use Rattle.bq_simulate.specs.Simulations.{Accepted, IsFollowed}
-use Rattle.bq_trace.specs.TraceEvents.{Gets, TraceEvent, TakesAll, Told}
+use Rattle.bq_trace.specs.TraceEvents.{Gets, TraceEvent, TakesAll, Reported}
 use Rattle.bq_experiment.specs.Limits.{IsLonger, PassesOn, event_count, events_in}
 use Rattle.bq_experiment.specs.declared.limited.Limited.{Limited}
 
@@ -18,8 +18,11 @@ passes_nothing takes old new n traced why same over = record {
 }
 
 -- what is let through is what its sink takes
-pub OnOk-passes : {S T E : Type 0} (takes : S → ℕ → TraceEvent → S → Type 0) (old new : Limited S) (n : ℕ) (traced : TraceEvent) (r : Result T E)
-    → old.is_over ≡ false → new.is_over ≡ false → old.left ≡ event_count traced + new.left → OnOk r (takes old.sink n traced new.sink) → OnOk r (PassesOn takes old n traced new)
+pub OnOk-passes : {S T E : Type 0} (takes : S → ℕ → TraceEvent → S → Type 0) (old new : Limited S)
+    (n : ℕ) (traced : TraceEvent) (r : Result T E)
+    → old.is_over ≡ false → new.is_over ≡ false → old.left ≡ event_count traced + new.left
+    → OnOk r (takes old.sink n traced new.sink)
+    → OnOk r (PassesOn takes old n traced new)
 OnOk-passes takes old new n traced (Ok x) was is left taken = record {
   within = λ not. (taken, left, was);
   over = λ over. absurd (true≢false (sym over ∙ is));
@@ -28,8 +31,9 @@ OnOk-passes takes old new n traced (Ok x) was is left taken = record {
 OnOk-passes takes old new n traced (Err e) was is left taken = tt
 
 -- a limit that is not passed has let all of it through, and that many events fewer are left
-pub lets_through : {S : Type 0} (takes : S → ℕ → TraceEvent → S → Type 0) (old new : Limited S) (told : Told) → TakesAll (PassesOn takes) old told new → new.is_over ≡ false
-    → TakesAll takes old.sink told new.sink × (old.left ≡ events_in told + new.left) × (old.is_over ≡ false)
+pub lets_through : {S : Type 0} (takes : S → ℕ → TraceEvent → S → Type 0) (old new : Limited S) (reported : Reported)
+    → TakesAll (PassesOn takes) old reported new → new.is_over ≡ false
+    → TakesAll takes old.sink reported new.sink × (old.left ≡ events_in reported + new.left) × (old.is_over ≡ false)
 lets_through {S} takes old new [] h not =
     let same : new.left ≡ old.left = ap (λ (l : Limited S). l.left) h in
     (ap (λ (l : Limited S). l.sink) h, omega (arith, same), sym (ap (λ (l : Limited S). l.is_over) h) ∙ not)
@@ -41,8 +45,9 @@ lets_through takes old new ((n, x) ∷ more) h not =
     ((h.0.sink, here.0, rest.0), omega (arith, left, later), here.2)
 
 -- a limit that is passed got more events than were left
-pub more_came : {S : Type 0} (takes : S → ℕ → TraceEvent → S → Type 0) (old new : Limited S) (told : Told) → TakesAll (PassesOn takes) old told new
-    → old.is_over ≡ false → new.is_over ≡ true → old.left < events_in told
+pub more_came : {S : Type 0} (takes : S → ℕ → TraceEvent → S → Type 0) (old new : Limited S) (reported : Reported)
+    → TakesAll (PassesOn takes) old reported new → old.is_over ≡ false → new.is_over ≡ true
+    → old.left < events_in reported
 more_came {S} takes old new [] h not over = absurd (true≢false (sym over ∙ ap (λ (l : Limited S). l.is_over) h ∙ not))
 more_came takes old new ((n, x) ∷ more) h not over = of h.0.is_over refl (λ within. more_came takes h.0 new more h.2 within over)
   where
@@ -56,8 +61,11 @@ more_came takes old new ((n, x) ∷ more) h not over = of h.0.is_over refl (λ w
       | inr few ↦ omega (arith, few)
     ]
 
--- so what came is longer
-pub longer : {S : Type 0} (takes : S → ℕ → TraceEvent → S → Type 0) (old new : Limited S) (policies : List Accepted) (w : Workload) → first_flaw w ≡ None
-    → old.is_over ≡ false → new.is_over ≡ true → Gets (PassesOn takes) old new (IsFollowed true policies w) → IsLonger policies w old.left
+-- where a limit is passed, more came than it lets through
+pub longer : {S : Type 0} (takes : S → ℕ → TraceEvent → S → Type 0) (old new : Limited S)
+    (policies : List Accepted) (w : Workload)
+    → first_flaw w ≡ None → old.is_over ≡ false → new.is_over ≡ true
+    → Gets (PassesOn takes) old new (IsFollowed true policies w)
+    → IsLonger policies w old.left
 longer takes old new policies w sound not over g =
-    record { told = g.told; sound = sound; followed = g.holds; many = more_came takes old new g.told g.taken not over }
+    record { reported = g.reported; sound = sound; followed = g.holds; many = more_came takes old new g.reported g.taken not over }

@@ -22,22 +22,24 @@ use Rattle.bq_timeline.specs.Comments.{Rests}
 use Rattle.bq_timeline.specs.declared.viewer.Viewer.{Viewer}
 use Rattle.bq_lines.specs.Bytes.{is_allowed}
 use Rattle.bq_lines.specs.Lines.{reading_of, reading_of_words}
-use Rattle.bq_lines.specs.declared.command.LineReading.TheVariants as says
+use Rattle.bq_lines.specs.declared.command.LineReading.TheVariants as reads
 use Rattle.bq_simulate.proofs.LineLawLemmas.{allowed_whole}
 use Rattle.bq_simulate.proofs.NumberWordLemmas.{plain_decimal, short_decimal}
 use Rattle.bq_simulate.proofs.PlainWordLemmas.{allowed-spaced}
-use Rattle.bq_simulate.specs.Retelling.{IsComment}
-use Rattle.bq_simulate.specs.Texts.{ByHook, told_lines}
+use Rattle.bq_simulate.specs.Replays.{IsComment}
+use Rattle.bq_simulate.specs.Texts.{ByHook, reported_lines}
 use Rattle.bq_words.specs.Words.{is_space, words}
 use Rattle.bq_experiment.specs.Names.{LearnsAll, comment_by, comment_of, comments_by, comments_from, comments_of, name_in, names_in, names_of, plain_name, plain_of}
 use Rattle.bq_experiment.specs.Traces.{skipped}
 
 -- the comments of some tasks, and of those behind them
-comments_by-append : (spell : List ℕ → List ℕ) (task : ℕ) (xs ys : List (List ℕ)) → comments_by spell task (xs ++ ys) ≡ comments_by spell task xs ++ comments_by spell (task + length xs) ys
+comments_by-append : (spell : List ℕ → List ℕ) (task : ℕ) (xs ys : List (List ℕ))
+    → comments_by spell task (xs ++ ys) ≡ comments_by spell task xs ++ comments_by spell (task + length xs) ys
 comments_by-append spell task [] ys = ap (λ n. comments_by spell n ys) (omega arith)
 comments_by-append spell task (x ∷ xs) ys =
     let behind : (task + 1) + length xs ≡ task + length (x ∷ xs) = omega arith in
-    ap (λ l. comment_by spell task x ∷ l) (comments_by-append spell (task + 1) xs ys) ∙ ap (λ n. comment_by spell task x ∷ (comments_by spell (task + 1) xs ++ comments_by spell n ys)) behind
+    ap (λ l. comment_by spell task x ∷ l) (comments_by-append spell (task + 1) xs ys)
+    ∙ ap (λ n. comment_by spell task x ∷ (comments_by spell (task + 1) xs ++ comments_by spell n ys)) behind
 
 -- there is one for each
 pub length-comments_by : (spell : List ℕ → List ℕ) (task : ℕ) (names : List (List ℕ)) → length (comments_by spell task names) ≡ length names
@@ -45,23 +47,31 @@ length-comments_by spell task [] = refl
 length-comments_by spell task (name ∷ names) = let h = length-comments_by spell (task + 1) names in omega arith
 
 -- one task more is named
-pub comments-more : (spell : List ℕ → List ℕ) (names : List (String Global)) (task : ℕ) (name : String Global) → task < length names
-    → comments_by spell 0 (map string_bytes (take (task + 1) names)) ≡ comments_by spell 0 (map string_bytes (take task names)) ++ comment_by spell task (string_bytes (get_or names task name)) ∷ []
+pub comments-more : (spell : List ℕ → List ℕ) (names : List (String Global)) (task : ℕ) (name : String Global)
+    → task < length names
+    → comments_by spell 0 (map string_bytes (take (task + 1) names))
+    ≡ comments_by spell 0 (map string_bytes (take task names)) ++ comment_by spell task (string_bytes (get_or names task name)) ∷ []
 comments-more spell names task name low =
     let before = map string_bytes (take task names) in
     let so_far : 0 + length before ≡ task = simp (length-map, length-take) (omega arith) in
-    ap (comments_by spell 0) (map_more string_bytes names task name low) ∙ comments_by-append spell 0 before (string_bytes (get_or names task name) ∷ [])
+    ap (comments_by spell 0) (map_more string_bytes names task name low)
+    ∙ comments_by-append spell 0 before (string_bytes (get_or names task name) ∷ [])
     ∙ ap (λ n. comments_by spell 0 before ++ comment_by spell n (string_bytes (get_or names task name)) ∷ []) so_far
 
 -- one more comment is reported
-pub told-more : (names : List (String Global)) (task : ℕ) (name : String Global) (line : List ℕ) → task < length names → line ≡ comment_of task (string_bytes (get_or names task name))
-    → map skipped (comments_from 0 (map string_bytes (take task names))) ++ skipped line ∷ [] ≡ map skipped (comments_from 0 (map string_bytes (take (task + 1) names)))
-told-more names task name line low is =
+pub reported-more : (names : List (String Global)) (task : ℕ) (name : String Global) (line : List ℕ)
+    → task < length names → line ≡ comment_of task (string_bytes (get_or names task name))
+    → map skipped (comments_from 0 (map string_bytes (take task names))) ++ skipped line ∷ []
+    ≡ map skipped (comments_from 0 (map string_bytes (take (task + 1) names)))
+reported-more names task name line low is =
     let before = comments_from 0 (map string_bytes (take task names)) in
-    ap (λ l. map skipped before ++ skipped l ∷ []) is ∙ sym (ap (map skipped) (comments-more plain_name names task name low) ∙ map-append skipped before (comment_of task (string_bytes (get_or names task name)) ∷ []))
+    ap (λ l. map skipped before ++ skipped l ∷ []) is
+    ∙ sym (ap (map skipped) (comments-more plain_name names task name low)
+    ∙ map-append skipped before (comment_of task (string_bytes (get_or names task name)) ∷ []))
 
 -- one comment more is learnt from
-pub learns_more : (xs : List (List ℕ)) (comment : List ℕ) (old mid new : NamedTasks) → LearnsAll xs old mid → Learns comment mid new → LearnsAll (xs ++ comment ∷ []) old new
+pub learns_more : (xs : List (List ℕ)) (comment : List ℕ) (old mid new : NamedTasks)
+    → LearnsAll xs old mid → Learns comment mid new → LearnsAll (xs ++ comment ∷ []) old new
 learns_more [] comment old mid new h k = (new, subst (λ (n : NamedTasks). Learns comment n new) h k, refl)
 learns_more (x ∷ xs) comment old mid new h k = (h.0, h.1, learns_more xs comment h.0 mid new h.2 k)
 
@@ -109,7 +119,7 @@ bytes_ascii (b ∷ bs) h zero = byte_ascii b (and_parts (is_allowed b) (list_all
 bytes_ascii (b ∷ bs) h (suc i) = bytes_ascii bs (and_parts (is_allowed b) (list_all is_allowed bs) h).1 i
 
 -- its first word is `#`
-first_word : (task : ℕ) (name : List ℕ) → reading_of_words (words (comment_of task name)) ≡ says.Skipped
+first_word : (task : ℕ) (name : List ℕ) → reading_of_words (words (comment_of task name)) ≡ reads.Skipped
 first_word task name =
     let rest = codes "task " ++ (decimal task ++ (codes " " ++ plain_name name)) in
     let parts = slice_split_at is_space (codes "#") 32 rest (All-from_recursion (λ b. is_space b ≡ false) (codes "#") (refl, tt)) refl in
@@ -128,7 +138,8 @@ short_comment task name fits short =
     let plain = plain_short name in
     let begins : length (codes "# task ") ≡ 7 = refl in
     let blank : length (codes " ") ≡ 1 = refl in
-    let whole : length (comment_of task name) ≡ length (codes "# task ") + (length (decimal task) + (length (codes " ") + length (plain_name name))) =
+    let whole : length (comment_of task name)
+    ≡ length (codes "# task ") + (length (decimal task) + (length (codes " ") + length (plain_name name))) =
     length-parts (codes "# task ") (decimal task) (codes " ") (plain_name name) in
     omega (arith, short, number, plain, whole, begins, blank)
 
@@ -139,19 +150,23 @@ is_comment task name fits short =
     let allowed = allowed_comment task name fits in
     let room = short_comment task name fits short in
     let fit : ltb 131072 (length (comment_of task name)) ≡ false = grind (arith, nat_tests) in
-    record { whole = allowed_whole (comment_of task name) allowed; says = rw (fit, allowed) (first_word task name) }
+    record { whole = allowed_whole (comment_of task name) allowed; reads = rw (fit, allowed) (first_word task name) }
 
-are_comments_from : (task : ℕ) (names : List (List ℕ)) → task + length names ≤ 2 ^ 64 → AllByRecursion IsShort names → AllByRecursion IsComment (comments_from task names)
+are_comments_from : (task : ℕ) (names : List (List ℕ)) → task + length names ≤ 2 ^ 64 → AllByRecursion IsShort names
+    → AllByRecursion IsComment (comments_from task names)
 are_comments_from task [] few short = tt
-are_comments_from task (name ∷ names) few short = (is_comment task name (omega arith) short.0, are_comments_from (task + 1) names (omega arith) short.1)
+are_comments_from task (name ∷ names) few short =
+    (is_comment task name (omega arith) short.0, are_comments_from (task + 1) names (omega arith) short.1)
 
 -- each of them is written
-lines_from : (images : ByHook) (task : ℕ) (names : List (List ℕ)) → task + length names ≤ 2 ^ 64 → told_lines images (map skipped (comments_from task names)) ≡ comments_from task names
+lines_from : (images : ByHook) (task : ℕ) (names : List (List ℕ))
+    → task + length names ≤ 2 ^ 64
+    → reported_lines images (map skipped (comments_from task names)) ≡ comments_from task names
 lines_from images task [] few = refl
 lines_from images task (name ∷ names) few =
     let line = comment_of task name in
     let utf8 : IsUtf8 line = IsUtf8-from_ascii line (bytes_ascii line (allowed_comment task name (omega arith))) in
-    ap (λ b. cond b (line ∷ []) [] ++ told_lines images (map skipped (comments_from (task + 1) names))) (is_utf8-from_IsUtf8 line utf8)
+    ap (λ b. cond b (line ∷ []) [] ++ reported_lines images (map skipped (comments_from (task + 1) names))) (is_utf8-from_IsUtf8 line utf8)
     ∙ ap (λ l. line ∷ l) (lines_from images (task + 1) names (omega arith))
 
 -- there is a name for each task
@@ -160,7 +175,8 @@ length-names_of [] = refl
 length-names_of (kind ∷ kinds) =
     let mine = length-map-range_with_len (name_in kind) 0 kind.count in
     let others = length-names_of kinds in
-    let parts : length (names_of (kind ∷ kinds)) ≡ length (names_in kind) + length (names_of kinds) = length-append (names_in kind) (names_of kinds) in
+    let parts : length (names_of (kind ∷ kinds)) ≡ length (names_in kind) + length (names_of kinds) =
+    length-append (names_in kind) (names_of kinds) in
     let sum : tasks_in (kind ∷ kinds) ≡ kind.count + tasks_in kinds = sum_by-cons (λ (k : TaskKind). k.count) kind kinds in
     omega (arith, mine, others, parts, sum)
 
@@ -176,26 +192,35 @@ short_name_in kind number named fits = of (kind.count == 1)
     of false =
         let digits = short_decimal number fits in
         let dash : length (codes "-") ≡ 1 = refl in
-        let whole : length (string_bytes kind.name ++ (codes "-" ++ decimal number)) ≡ length (string_bytes kind.name) + (length (codes "-") + length (decimal number)) = simp length-append refl in
+        let whole : length (string_bytes kind.name ++ (codes "-" ++ decimal number))
+        ≡ length (string_bytes kind.name) + (length (codes "-") + length (decimal number)) = simp length-append refl in
         omega (arith, named, digits, whole, dash)
 
-short_names_in : (kind : TaskKind) (first count : ℕ) → length (string_bytes kind.name) ≤ 1024 → first + count ≤ 1024 → AllByRecursion IsShort (map (name_in kind) (range_with_len first count))
+short_names_in : (kind : TaskKind) (first count : ℕ) → length (string_bytes kind.name) ≤ 1024 → first + count ≤ 1024
+    → AllByRecursion IsShort (map (name_in kind) (range_with_len first count))
 short_names_in kind first zero named few = tt
-short_names_in kind first (suc count) named few = (short_name_in kind first named (omega arith), short_names_in kind (first + 1) count named (omega arith))
+short_names_in kind first (suc count) named few =
+    (short_name_in kind first named (omega arith), short_names_in kind (first + 1) count named (omega arith))
 
-short_names_of : (kinds : List TaskKind) → AllByRecursion (λ (kind : TaskKind). length (string_bytes kind.name) ≤ 1024) kinds → tasks_in kinds ≤ 1024 → AllByRecursion IsShort (names_of kinds)
+short_names_of : (kinds : List TaskKind) → AllByRecursion (λ (kind : TaskKind). length (string_bytes kind.name) ≤ 1024) kinds
+    → tasks_in kinds ≤ 1024
+    → AllByRecursion IsShort (names_of kinds)
 short_names_of [] named few = tt
 short_names_of (kind ∷ kinds) named few =
     let sum : tasks_in (kind ∷ kinds) ≡ kind.count + tasks_in kinds = sum_by-cons (λ (k : TaskKind). k.count) kind kinds in
-    all_both IsShort (names_in kind) (names_of kinds) (short_names_in kind 0 kind.count named.0 (omega arith)) (short_names_of kinds named.1 (omega arith))
+    all_both IsShort (names_in kind) (names_of kinds) (short_names_in kind 0 kind.count named.0 (omega arith))
+    (short_names_of kinds named.1 (omega arith))
 
 few_names : (w : Workload) → first_flaw w ≡ None → 0 + length (names_of w.tasks.items) ≤ 2 ^ 64
 few_names w sound = let few = sound-few w sound in let same = length-names_of w.tasks.items in omega (arith, few, same)
 
 -- the lines that tell the comments of a workload without a flaw are these comments
-pub lines_named : (images : ByHook) (w : Workload) → first_flaw w ≡ None → told_lines images (map skipped (comments_of w)) ≡ comments_of w
+pub lines_named : (images : ByHook) (w : Workload) → first_flaw w ≡ None
+    → reported_lines images (map skipped (comments_of w)) ≡ comments_of w
 lines_named images w sound = lines_from images 0 (names_of w.tasks.items) (few_names w sound)
 
 -- each of them is a comment of a trace
 pub are_comments : (w : Workload) → first_flaw w ≡ None → AllByRecursion IsComment (comments_of w)
-are_comments w sound = are_comments_from 0 (names_of w.tasks.items) (few_names w sound) (short_names_of w.tasks.items (sound-named w sound) (sound-few w sound))
+are_comments w sound =
+    are_comments_from 0 (names_of w.tasks.items) (few_names w sound)
+    (short_names_of w.tasks.items (sound-named w sound) (sound-few w sound))

@@ -5,7 +5,7 @@ use Rattle.std.specs.Option.{option_map}
 use Rattle.bq_hooks.specs.declared.hook.Hook.{Hook}
 use Rattle.bq_hooks.specs.declared.hook.Hook.TheVariants.{Place, Preempt, Pull}
 use Rattle.bq_parts.specs.Refusals.{same_hook}
-use Rattle.bq_simulate.specs.Retelling.{AreOfImages, IsOfImage}
+use Rattle.bq_simulate.specs.Replays.{AreOfImages, IsLoadedFromImage}
 use Rattle.bq_simulate.specs.Texts.{ByHook}
 use Rattle.bq_simulate.specs.Simulations.{Accepted}
 use Rattle.bq_experiment.specs.Standing.{Adds, AreOfTheirImages, Standing, image_for}
@@ -16,47 +16,66 @@ itself Preempt = refl
 itself Pull = refl
 
 -- an image that is there stays
-stays_by : (here : Bool) (image : Option (List ℕ)) (old new : Option (List ℕ)) (bytes : List ℕ) → (old ≡ Some bytes → new ≡ Some bytes) → cond here image old ≡ Some bytes → cond here image new ≡ Some bytes
+stays_by : (here : Bool) (image : Option (List ℕ)) (old new : Option (List ℕ)) (bytes : List ℕ)
+    → (old ≡ Some bytes → new ≡ Some bytes) → cond here image old ≡ Some bytes
+    → cond here image new ≡ Some bytes
 stays_by true image old new bytes f there = there
 stays_by false image old new bytes f there = f there
 
-stays : (images : List (Hook × List ℕ)) (more : Hook × List ℕ) (hook : Hook) (bytes : List ℕ) → image_for images hook ≡ Some bytes → image_for (images ++ more ∷ []) hook ≡ Some bytes
+stays : (images : List (Hook × List ℕ)) (more : Hook × List ℕ) (hook : Hook) (bytes : List ℕ)
+    → image_for images hook ≡ Some bytes → image_for (images ++ more ∷ []) hook ≡ Some bytes
 stays [] more hook bytes there = cc
 stays ((place, image) ∷ images) more hook bytes there =
-    stays_by (same_hook place hook) (Some image) (image_for images hook) (image_for (images ++ more ∷ []) hook) bytes (stays images more hook bytes) there
+    stays_by (same_hook place hook) (Some image) (image_for images hook) (image_for (images ++ more ∷ []) hook)
+    bytes (stays images more hook bytes) there
 
 -- one that comes to a hook at which none was is there
-comes_by : (here : Bool) (image : List ℕ) (old new : Option (List ℕ)) (bytes : List ℕ) → (old ≡ None → new ≡ Some bytes) → cond here (Some image) old ≡ None → cond here (Some image) new ≡ Some bytes
+comes_by : (here : Bool) (image : List ℕ) (old new : Option (List ℕ)) (bytes : List ℕ)
+    → (old ≡ None → new ≡ Some bytes) → cond here (Some image) old ≡ None
+    → cond here (Some image) new ≡ Some bytes
 comes_by true image old new bytes f free = cc
 comes_by false image old new bytes f free = f free
 
-comes : (images : List (Hook × List ℕ)) (hook : Hook) (bytes : List ℕ) → image_for images hook ≡ None → image_for (images ++ (hook, bytes) ∷ []) hook ≡ Some bytes
+comes : (images : List (Hook × List ℕ)) (hook : Hook) (bytes : List ℕ)
+    → image_for images hook ≡ None → image_for (images ++ (hook, bytes) ∷ []) hook ≡ Some bytes
 comes [] hook bytes free = rw (itself hook) refl
 comes ((place, image) ∷ images) hook bytes free =
-    comes_by (same_hook place hook) image (image_for images hook) (image_for (images ++ (hook, bytes) ∷ []) hook) bytes (comes images hook bytes) free
+    comes_by (same_hook place hook) image (image_for images hook) (image_for (images ++ (hook, bytes) ∷ []) hook) bytes
+    (comes images hook bytes) free
 
 -- a policy that is that of its image is that of the image when it stands there
-of_image : (image : Option (List ℕ)) (bytes : List ℕ) (policy : Accepted) → image ≡ Some bytes → IsOfImage (Some bytes) policy → IsOfImage image policy
-of_image image bytes policy is h = subst (λ (i : Option (List ℕ)). IsOfImage i policy) (sym is) h
+of_image : (image : Option (List ℕ)) (bytes : List ℕ) (policy : Accepted)
+    → image ≡ Some bytes → IsLoadedFromImage (Some bytes) policy → IsLoadedFromImage image policy
+of_image image bytes policy is h = subst (λ (i : Option (List ℕ)). IsLoadedFromImage i policy) (sym is) h
 
-stay : (images : List (Hook × List ℕ)) (more : Hook × List ℕ) (policies : List Accepted) → AreOfImages (image_for images) policies → AreOfImages (image_for (images ++ more ∷ [])) policies
+stay : (images : List (Hook × List ℕ)) (more : Hook × List ℕ) (policies : List Accepted)
+    → AreOfImages (image_for images) policies → AreOfImages (image_for (images ++ more ∷ [])) policies
 stay images more [] h = tt
 stay images more (policy ∷ policies) h =
-    let one = h.0 in
-    (record { bytes = one.bytes; there = stays images more policy.hook one.bytes one.there; each = one.each; loads = one.loads }, stay images more policies h.1)
+    let one = h.0 in (
+      record { bytes = one.bytes; there = stays images more policy.hook one.bytes one.there; each = one.each; loads = one.loads },
+      stay images more policies h.1,
+    )
 
-push : (images : ByHook) (policies : List Accepted) (policy : Accepted) → AreOfImages images policies → IsOfImage (images policy.hook) policy → AreOfImages images (policies ++ policy ∷ [])
+push : (images : ByHook) (policies : List Accepted) (policy : Accepted)
+    → AreOfImages images policies → IsLoadedFromImage (images policy.hook) policy
+    → AreOfImages images (policies ++ policy ∷ [])
 push images [] policy h one = (one, tt)
 push images (p ∷ policies) policy h one = (h.0, push images policies policy h.1 one)
 
 -- one policy and its image more, for a hook at which none was
-pub AreOfTheirImages-adds : (hook : Hook) (image : List ℕ) (policy : Accepted) (old new : Standing) → Adds hook image policy old new → policy.hook ≡ hook → image_for old.images hook ≡ None
-    → IsOfImage (Some image) policy → AreOfTheirImages old → AreOfTheirImages new
+pub AreOfTheirImages-adds : (hook : Hook) (image : List ℕ) (policy : Accepted) (old new : Standing)
+    → Adds hook image policy old new → policy.hook ≡ hook → image_for old.images hook ≡ None
+    → IsLoadedFromImage (Some image) policy → AreOfTheirImages old
+    → AreOfTheirImages new
 AreOfTheirImages-adds hook image policy old new adds at free of h =
     let more = old.images ++ (hook, image) ∷ [] in
     let there : image_for more policy.hook ≡ Some image = ap (image_for more) at ∙ comes old.images hook image free in
-    let all = push (image_for more) old.loaded policy (stay old.images (hook, image) old.loaded h) (of_image (image_for more policy.hook) image policy there of) in
-    subst (λ (l : List Accepted). AreOfImages (image_for new.images) l) (sym adds.loaded) (subst (λ (i : List (Hook × List ℕ)). AreOfImages (image_for i) (old.loaded ++ policy ∷ [])) (sym adds.images) all)
+    let all =
+    push (image_for more) old.loaded policy (stay old.images (hook, image) old.loaded h)
+    (of_image (image_for more policy.hook) image policy there of) in
+    subst (λ (l : List Accepted). AreOfImages (image_for new.images) l) (sym adds.loaded)
+    (subst (λ (i : List (Hook × List ℕ)). AreOfImages (image_for i) (old.loaded ++ policy ∷ [])) (sym adds.images) all)
 
 -- what stood there before some more came
 pub front_as_before : {A : Type 0} (count : ℕ) (xs ys : List A) → count ≡ length xs → take count (xs ++ ys) ≡ xs

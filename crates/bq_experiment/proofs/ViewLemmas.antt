@@ -7,7 +7,7 @@ use Rattle.bq_workload.specs.declared.workload.Workload.{Workload}
 use Rattle.bq_parts.specs.declared.event.Event.{Event}
 use Rattle.bq_simulate.specs.Chronicles.{events_of}
 use Rattle.bq_simulate.specs.Drives.{Drives}
-use Rattle.bq_simulate.specs.Faults.{TellsNoOther, flaw_told}
+use Rattle.bq_simulate.specs.Faults.{ReportsNoOther, reported_flaw}
 use Rattle.bq_simulate.specs.Simulations.{Accepted, IsSimulation}
 use Rattle.bq_simulate.specs.declared.driver.Driver.{Driver}
 use Rattle.bq_simulate.specs.declared.fault.SimulateFault.{SimulateFault}
@@ -15,89 +15,102 @@ use Rattle.bq_timeline.specs.Timelines.{Keeps}
 use Rattle.bq_timeline.specs.Watching.{schedule_after, troubles_after}
 use Rattle.bq_timeline.specs.declared.viewer.Viewer.{Viewer}
 use Rattle.bq_timeline.proofs.WatchLemmas.{Takes, takes_all, troubles_after-append}
-use Rattle.bq_trace.specs.TraceEvents.{Gets, TraceEvent, TakesAll, Told}
+use Rattle.bq_trace.specs.TraceEvents.{Gets, TraceEvent, TakesAll, Reported}
 use Rattle.bq_experiment.specs.Faults.{IsStopped}
 use Rattle.bq_experiment.specs.Limits.{PassesOn, events_in}
 use Rattle.bq_experiment.specs.Passing.{TakesAndPasses}
 use Rattle.bq_experiment.specs.Views.{IsViewed}
 use Rattle.bq_experiment.specs.declared.fault.RunFault.{RunFault}
 use Rattle.bq_experiment.specs.declared.fault.RunFault.TheVariants as fault
-use Rattle.bq_experiment.specs.declared.below.Below.{Below}
+use Rattle.bq_experiment.specs.declared.offset_viewer.OffsetViewer.{OffsetViewer}
 use Rattle.bq_experiment.specs.declared.limited.Limited.{Limited}
 use Rattle.bq_experiment.specs.declared.passing.Passing.{Passing}
 use Rattle.bq_experiment.proofs.LimitLemmas.{lets_through}
 use Rattle.bq_streams.specs.Counts.{inner_of}
 
 -- a viewer further below takes an event
-abbrev pub TakesBelow : Below → ℕ → TraceEvent → Below → Type 0
-TakesBelow old n traced new = (new.above ≡ old.above) × Keeps old.viewer traced new.viewer
+abbrev pub TakesByOffset : OffsetViewer → ℕ → TraceEvent → OffsetViewer → Type 0
+TakesByOffset old n traced new = (new.offset ≡ old.offset) × Keeps old.viewer traced new.viewer
 
 -- the text of a viewer that is not written yet
-abbrev pub pending : Below → List ℕ
+abbrev pub pending : OffsetViewer → List ℕ
 pending below = string_bytes below.viewer.screen.text
 
 -- clearing leaves the schedule and the troubles
-abbrev pub Clears : Below → Below → Type 0
+abbrev pub Clears : OffsetViewer → OffsetViewer → Type 0
 Clears old new = (new.viewer.schedule ≡ old.viewer.schedule) × (new.viewer.troubles ≡ old.viewer.troubles)
 
 -- what it takes its viewer takes, whatever is passed on
-keeps_one : (old new : Below) (was now : Option (List ℕ)) (n : ℕ) (traced : TraceEvent) → TakesAndPasses TakesBelow pending Clears old was n traced new now → Keeps old.viewer traced new.viewer
+keeps_one : (old new : OffsetViewer) (was now : Option (List ℕ)) (n : ℕ) (traced : TraceEvent)
+    → TakesAndPasses TakesByOffset pending Clears old was n traced new now
+    → Keeps old.viewer traced new.viewer
 keeps_one old new was now n traced h = elim h.passed [
-  | inl same ↦ (ap (λ (l : Below). l.viewer.schedule) same.0 ∙ h.taken.1.0, ap (λ (l : Below). l.viewer.troubles) same.0 ∙ h.taken.1.1)
+  | inl same ↦ (
+    ap (λ (l : OffsetViewer). l.viewer.schedule) same.0 ∙ h.taken.1.0,
+    ap (λ (l : OffsetViewer). l.viewer.troubles) same.0 ∙ h.taken.1.1,
+  )
   | inr emptied ↦ (emptied.cleared.0 ∙ h.taken.1.0, emptied.cleared.1 ∙ h.taken.1.1)
 ]
 
--- and so it is with all of it
-pub viewer_takes : {P : Type 0} (sink : P → Below) (got : P → Option (List ℕ)) (old new : P) (told : Told)
-    → TakesAll (λ o n x w. TakesAndPasses TakesBelow pending Clears (sink o) (got o) n x (sink w) (got w)) old told new → TakesAll Takes (sink old).viewer told (sink new).viewer
+-- all that it takes its viewer takes, whatever is passed on
+pub viewer_takes : {P : Type 0} (sink : P → OffsetViewer) (got : P → Option (List ℕ)) (old new : P) (reported : Reported)
+    → TakesAll (λ o n x w. TakesAndPasses TakesByOffset pending Clears (sink o) (got o) n x (sink w) (got w)) old reported new
+    → TakesAll Takes (sink old).viewer reported (sink new).viewer
 viewer_takes {P} sink got old new [] h = ap (λ (p : P). (sink p).viewer) h
 viewer_takes sink got old new ((n, traced) ∷ more) h =
     ((sink h.0).viewer, keeps_one (sink old) (sink h.0) (got old) (got h.0) n traced h.1, viewer_takes sink got h.0 new more h.2)
 
 -- events that are done, of which none is refused, are no trouble
-troubles_driven : (n : ℕ) (d : Driver) (events : List Event) (told : Told) (e : Driver) → Drives d events told e → troubles_after n told ≡ n
-troubles_driven n d [] told e h = ap (troubles_after n) h.0
-troubles_driven n d (event ∷ events) told e (reply, mid, first, more, does, drives, whole) =
-    ap (troubles_after n) whole ∙ troubles_after-append n first more ∙ ap (λ k. troubles_after k more) (ap (troubles_after n) does.happens.tells)
+troubles_driven : (n : ℕ) (d : Driver) (events : List Event) (reported : Reported) (e : Driver)
+    → Drives d events reported e → troubles_after n reported ≡ n
+troubles_driven n d [] reported e h = ap (troubles_after n) h.0
+troubles_driven n d (event ∷ events) reported e (reply, mid, first, more, does, drives, whole) =
+    ap (troubles_after n) whole ∙ troubles_after-append n first more
+    ∙ ap (λ k. troubles_after k more) (ap (troubles_after n) does.happens.reports)
     ∙ troubles_driven n mid events more e drives
 
--- nor is any line of a simulation
-troubles_simulated : (policies : List Accepted) (w : Workload) (told : Told) → IsSimulation policies w told → troubles_after 0 told ≡ 0
-troubles_simulated policies w told s =
-    ap (troubles_after 0) s.whole ∙ troubles_after-append 0 s.first s.more ∙ ap (λ k. troubles_after k s.more) (ap (troubles_after 0) s.starts.tells)
+-- no line of a simulation is trouble
+troubles_simulated : (policies : List Accepted) (w : Workload) (reported : Reported)
+    → IsSimulation policies w reported → troubles_after 0 reported ≡ 0
+troubles_simulated policies w reported s =
+    ap (troubles_after 0) s.whole ∙ troubles_after-append 0 s.first s.more
+    ∙ ap (λ k. troubles_after k s.more) (ap (troubles_after 0) s.starts.reports)
     ∙ troubles_driven 0 s.opening (events_of s.deeds) s.more s.closing s.drives
 
 -- where a simulation is refused for the first flaw, no other is reported
-pub no_other : (w : Workload) (why : SimulateFault) → flaw_told why ≡ first_flaw w → TellsNoOther w why
-no_other w why is = of (flaw_told why) is
+pub no_other : (w : Workload) (why : SimulateFault) → reported_flaw why ≡ first_flaw w → ReportsNoOther w why
+no_other w why is = of (reported_flaw why) is
   where
-    of : (told : Option Unsound) → told ≡ first_flaw w → IfSome told (λ flaw. first_flaw w ≡ Some flaw)
+    of : (reported : Option Unsound) → reported ≡ first_flaw w → IfSome reported (λ flaw. first_flaw w ≡ Some flaw)
     of None h = tt
     of (Some flaw) h = sym h
 
 -- what holds of a simulation's fault holds of why a run was stopped by it
-pub IsStopped-by : (P : SimulateFault → Type 0) (why : SimulateFault) (e : RunFault) (failures : ℕ) → P why → IsStopped (λ (told : SimulateFault). told ≡ why) e failures → IsStopped P e failures
-IsStopped-by P why (fault.Simulation told) failures h k = (subst P (sym k.0) h, k.1)
+pub IsStopped-by : (P : SimulateFault → Type 0) (why : SimulateFault) (e : RunFault) (failures : ℕ)
+    → P why → IsStopped (λ (reported : SimulateFault). reported ≡ why) e failures → IsStopped P e failures
+IsStopped-by P why (fault.Simulation reported) failures h k = (subst P (sym k.0) h, k.1)
 IsStopped-by P why fault.Write failures h k = k
 IsStopped-by P why fault.Events failures h k = (subst P (sym k.0) h, k.1)
 
 -- a viewer that took a simulation has viewed it
-pub views_simulation : (old new : Viewer) (policies : List Accepted) (w : Workload) (told : Told) (most left : ℕ) → old.schedule ≡ None → old.troubles ≡ 0 → first_flaw w ≡ None
-    → TakesAll Takes old told new → IsSimulation policies w told → most ≡ events_in told + left → IsViewed policies w most new
-views_simulation old new policies w told most left empty zero sound taken simulation limit =
-    let all = takes_all old new told taken in
+pub views_simulation : (old new : Viewer) (policies : List Accepted) (w : Workload) (reported : Reported) (most left : ℕ)
+    → old.schedule ≡ None → old.troubles ≡ 0 → first_flaw w ≡ None → TakesAll Takes old reported new
+    → IsSimulation policies w reported → most ≡ events_in reported + left
+    → IsViewed policies w most new
+views_simulation old new policies w reported most left empty zero sound taken simulation limit =
+    let all = takes_all old new reported taken in
     record {
-      told = told;
+      reported = reported;
       sound = sound;
       few = omega (arith, limit);
       simulation = simulation;
-      schedule = all.0 ∙ ap (λ s. schedule_after s told) empty;
-      clean = all.1 ∙ ap (λ n. troubles_after n told) zero ∙ troubles_simulated policies w told simulation;
+      schedule = all.0 ∙ ap (λ s. schedule_after s reported) empty;
+      clean = all.1 ∙ ap (λ n. troubles_after n reported) zero ∙ troubles_simulated policies w reported simulation;
     }
 
 -- a viewer and what its text is passed on to
 abbrev pub ViewedRun : Type 0 → Type 0 → Type 0
-ViewedRun W E = Passing Below W E
+ViewedRun W E = Passing OffsetViewer W E
 
 -- what its output has
 abbrev pub got : {W E : Type 0} → (W → Option (List ℕ)) → ViewedRun W E → Option (List ℕ)
@@ -105,12 +118,17 @@ got contents run = contents (inner_of run.output)
 
 -- what it takes, and passes on
 abbrev pub TakesRun : {W E : Type 0} → (W → Option (List ℕ)) → ViewedRun W E → ℕ → TraceEvent → ViewedRun W E → Type 0
-TakesRun contents old n traced new = TakesAndPasses TakesBelow pending Clears old.sink (got contents old) n traced new.sink (got contents new)
+TakesRun contents old n traced new =
+    TakesAndPasses TakesByOffset pending Clears old.sink (got contents old) n traced new.sink (got contents new)
 
 -- where its limit is not passed, the viewer has viewed the simulation that came
-pub run_viewed : {W E : Type 0} (contents : W → Option (List ℕ)) (old new : Limited (ViewedRun W E)) (policies : List Accepted) (w : Workload) → Gets (PassesOn (TakesRun contents)) old new (IsSimulation policies w)
-    → new.is_over ≡ false → old.sink.sink.viewer.schedule ≡ None → old.sink.sink.viewer.troubles ≡ 0 → first_flaw w ≡ None → IsViewed policies w old.left new.sink.sink.viewer
+pub run_viewed : {W E : Type 0} (contents : W → Option (List ℕ)) (old new : Limited (ViewedRun W E))
+    (policies : List Accepted) (w : Workload)
+    → Gets (PassesOn (TakesRun contents)) old new (IsSimulation policies w) → new.is_over ≡ false
+    → old.sink.sink.viewer.schedule ≡ None → old.sink.sink.viewer.troubles ≡ 0 → first_flaw w ≡ None
+    → IsViewed policies w old.left new.sink.sink.viewer
 run_viewed {W} {E} contents old new policies w g not empty zero sound =
-    let through = lets_through (TakesRun contents) old new g.told g.taken not in
-    let taken = viewer_takes (λ (r : ViewedRun W E). r.sink) (got contents) old.sink new.sink g.told through.0 in
-    views_simulation old.sink.sink.viewer new.sink.sink.viewer policies w g.told old.left new.left empty zero sound taken g.holds through.1
+    let through = lets_through (TakesRun contents) old new g.reported g.taken not in
+    let taken = viewer_takes (λ (r : ViewedRun W E). r.sink) (got contents) old.sink new.sink g.reported through.0 in
+    views_simulation old.sink.sink.viewer new.sink.sink.viewer policies w g.reported old.left new.left
+    empty zero sound taken g.holds through.1

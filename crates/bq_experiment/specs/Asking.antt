@@ -1,10 +1,10 @@
 -- What the words of `simulate` ask for.
-use Rattle.std.specs.Prelude.{◌≡◌, ℕ, Bool, true, false, ◌&&◌, ◌||◌, nat_le, List, Option, Some, None, String, if◌then◌else◌, codes, is_some, option_and_then, option_map}
+use Rattle.std.specs.Prelude.{◌≡◌, ℕ, Bool, true, false, ◌&&◌, ◌||◌, nat_le, List, [], Option, Some, None, String, if◌then◌else◌, codes, is_some, option_and_then, option_map}
 use Rattle.std.specs.Global.{Global}
 use Rattle.bq_workload.specs.Lengths.{longest}
 use Rattle.bq_words.specs.Quantities.{size_of, decimal_of}
-use Rattle.bq_policy_check.specs.Saying.{option_bytes}
-use Rattle.bq_timeline.specs.Settings.{AsksFor, IsNoSettings, asked_or, form_asked}
+use Rattle.bq_policy_check.specs.Given.{option_bytes}
+use Rattle.bq_timeline.specs.Settings.{AsksFor, IsNoSettings, asked_or, form_asked, option_refused as option_unset, word_refused as word_unset}
 use Rattle.bq_timeline.specs.declared.settings.Words.{Words}
 use Rattle.bq_words.specs.Sizes.{rule_of}
 use Rattle.bq_workload.specs.Durations.{duration_with_unit}
@@ -16,7 +16,7 @@ use Rattle.bq_experiment.specs.declared.asked.AskedFault.TheVariants as fault
 use Rattle.bq_experiment.specs.declared.words.MachineWords.{MachineWords}
 use Rattle.bq_experiment.specs.declared.words.StudyWords.{StudyWords}
 
--- a change, where a word asks for one
+-- a change, if a word asks for one
 abbrev pub change_asked : {A : Type 0} → (List ℕ → Option A) → Option (String Global) → Option (Option A)
 change_asked read word = asked_or None (λ w. option_map Some (read w)) word
 
@@ -52,7 +52,7 @@ abbrev pub chooses_part : Words → Bool
 chooses_part w =
     is_some w.from || (is_some w.to || (is_some w.cpus || (is_some w.tasks || (is_some w.width || (is_some w.theme || is_some w.title)))))
 
--- a trace, which is written whole, where the form is called so, else what a timeline shows by these words
+-- a trace, which is written whole, if the form is `trace`; otherwise what a timeline shows by these words
 abbrev pub AskToShow : StudyWords → ShownAs → Type 0
 AskToShow w Trace = NamesTrace w × (chooses_part w.shown ≡ false)
 AskToShow w (Timeline settings) = (¬ NamesTrace w) × AsksFor w.shown settings
@@ -63,3 +63,23 @@ IsNotShown w fault.WholeTrace = NamesTrace w × (chooses_part w.shown ≡ true)
 IsNotShown w fault.Form = (¬ NamesTrace w) × (form_asked w.shown ≡ None)
 IsNotShown w (fault.Settings why) = (¬ NamesTrace w) × IsNoSettings w.shown why
 IsNotShown w other = ⊥
+
+-- the word that a fault refuses; none if the fault is not that of one word
+abbrev pub word_refused : StudyWords → AskedFault → Option (String Global)
+word_refused w fault.Discipline = w.machine.discipline
+word_refused w fault.Processors = w.machine.processors
+word_refused w fault.Duration = w.machine.duration
+word_refused w fault.Seed = w.machine.seed
+word_refused w fault.Form = w.shown.form
+word_refused w fault.WholeTrace = None
+word_refused w (fault.Settings why) = word_unset w.shown why
+
+-- the option of the word that a fault refuses
+abbrev pub option_refused : AskedFault → List ℕ
+option_refused fault.Discipline = codes "discipline"
+option_refused fault.Processors = codes "processors"
+option_refused fault.Duration = codes "duration"
+option_refused fault.Seed = codes "seed"
+option_refused fault.Form = codes "as"
+option_refused fault.WholeTrace = []
+option_refused (fault.Settings why) = option_unset why

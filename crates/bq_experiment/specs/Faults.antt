@@ -3,7 +3,7 @@ use Rattle.std.specs.Prelude.{◌≡◌, ℕ, List, None}
 use Rattle.bq_streams.specs.Counts.{HasRisen}
 use Rattle.bq_workload.specs.Soundness.{first_flaw}
 use Rattle.bq_workload.specs.declared.workload.Workload.{Workload}
-use Rattle.bq_simulate.specs.Faults.{TellsNoOther}
+use Rattle.bq_simulate.specs.Faults.{ReportsNoOther}
 use Rattle.bq_simulate.specs.Order.{IsCutOff}
 use Rattle.bq_simulate.specs.Simulations.{Accepted}
 use Rattle.bq_simulate.specs.declared.fault.SimulateFault.{SimulateFault}
@@ -12,20 +12,20 @@ use Rattle.bq_experiment.specs.Limits.{IsLonger}
 use Rattle.bq_experiment.specs.declared.fault.RunFault.{RunFault}
 use Rattle.bq_experiment.specs.declared.fault.RunFault.TheVariants.{Simulation, Write, Events}
 
--- The writer's own fault comes only if it has failed, and any other only if it has not. A fault of the simulation has this property, also
--- that of a sink which has enough.
+-- The writer's own fault comes only if it has failed, and any other fault only if it has not. A fault of the simulation has this
+-- property; so has the fault of a sink that has enough.
 abbrev pub IsStopped : (SimulateFault → Type 0) → RunFault → ℕ → Type 0
 IsStopped P (Simulation why) failures = P why × (failures ≡ 0)
 IsStopped P Write failures = HasRisen 0 failures
 IsStopped P Events failures = P Enough × (failures ≡ 0)
 
--- No other flaw is reported than the first of the workload. One without a flaw is followed to its end, unless it is cut off as a simulation
--- may be; and a sink of that many events has enough only where there are more.
+-- A flaw that is reported is the first of the workload. A workload without a flaw is followed to its end, unless it is cut off
+-- as a simulation may be. A sink of this many events has enough only if there are more.
 pub record IsNoEnd (policies : List Accepted) (w : Workload) (most : ℕ) (why : SimulateFault) : Type 0 where
-  pub flaw : TellsNoOther w why
+  pub flaw : ReportsNoOther w why
   pub ends : first_flaw w ≡ None → IsCutOff w why
   pub longer : why ≡ Enough → IsLonger policies w most
 
--- so it is with a run of these policies, cut off after that many events
+-- a run of these policies stopped with this fault, cut off after this many events
 abbrev pub IsRunFault : List Accepted → Workload → ℕ → RunFault → ℕ → Type 0
 IsRunFault policies w most why failures = IsStopped (IsNoEnd policies w most) why failures

@@ -1,9 +1,9 @@
--- How many of a machine's events a run has, and what a limit lets through.
+-- The number of a machine's events in a run, and what a limit lets through.
 use Rattle.std.specs.Prelude.{◌≡◌, ◌⊎◌, ◌<◌, ℕ, ◌+◌, List, [], ◌∷◌, None, true, false}
 use Rattle.bq_workload.specs.Soundness.{first_flaw}
 use Rattle.bq_workload.specs.declared.workload.Workload.{Workload}
 use Rattle.bq_simulate.specs.Simulations.{Accepted, IsFollowed}
-use Rattle.bq_trace.specs.TraceEvents.{TraceEvent, Told, Comes}
+use Rattle.bq_trace.specs.TraceEvents.{TraceEvent, Reported, Comes}
 use Rattle.bq_experiment.specs.declared.limited.Limited.{Limited}
 
 -- a machine's event that comes counts as one, and nothing else does
@@ -12,7 +12,7 @@ event_count (Comes event m) = 1
 event_count traced = 0
 
 -- how many events all of it tells
-abbrev pub events_in : Told → ℕ
+abbrev pub events_in : Reported → ℕ
 events_in [] = 0
 events_in ((n, traced) ∷ more) = event_count traced + events_in more
 
@@ -25,7 +25,7 @@ pub record PassesOn {S : Type 0} (takes : S → ℕ → TraceEvent → S → Typ
 
 -- The workload has no flaw, and a simulation of it with these policies has more events than that, or its beginning has.
 pub record IsLonger (policies : List Accepted) (w : Workload) (most : ℕ) : Type 0 where
-  pub told : Told
+  pub reported : Reported
   pub sound : first_flaw w ≡ None
-  pub followed : IsFollowed true policies w told
-  pub many : most < events_in told
+  pub followed : IsFollowed true policies w reported
+  pub many : most < events_in reported

@@ -9,7 +9,7 @@ use Rattle.bq_workload.specs.declared.workload.Workload.{Workload}
 use Rattle.bq_report.specs.Names.{Learns, NamedTasks}
 use Rattle.bq_timeline.specs.Called.{shown_letter}
 
--- the name of a task, by its number among those of its kind: the kind's, with that number where the kind has several
+-- the name of a task, by its number among the tasks of its kind: the kind's name, with the number if the kind has several tasks
 abbrev pub name_in : TaskKind → ℕ → List ℕ
 name_in kind number = if kind.count == 1 then string_bytes kind.name else string_bytes kind.name ++ (codes "-" ++ decimal number)
 
@@ -21,7 +21,7 @@ names_in kind = map (name_in kind) (range_with_len 0 kind.count)
 abbrev pub names_of : List TaskKind → List (List ℕ)
 names_of kinds = flat_map names_in kinds
 
--- a character as a line of a trace can have it: as it is, or `?`
+-- a letter as a line of a trace can have it: unchanged, or as `?`
 abbrev pub plain_of : ℕ → ℕ
 plain_of letter = if is_ascii_graphic letter || letter == 32 then letter else 63
 
@@ -29,7 +29,7 @@ plain_of letter = if is_ascii_graphic letter || letter == 32 then letter else 63
 abbrev pub plain_name : List ℕ → List ℕ
 plain_name name = map plain_of (chars name)
 
--- a name as a form shows it: a control character stands as `?`
+-- a name as a form shows it: a control character becomes `?`
 abbrev pub shown_name : List ℕ → List ℕ
 shown_name name = encodes (map shown_letter (chars name))
 
@@ -46,6 +46,7 @@ comments_by spell task (name ∷ names) = comment_by spell task name ∷ comment
 abbrev pub comment_of : ℕ → List ℕ → List ℕ
 comment_of = comment_by plain_name
 
+-- the comments that name the tasks from a number on, in letters that a trace can have
 abbrev pub comments_from : ℕ → List (List ℕ) → List (List ℕ)
 comments_from = comments_by plain_name
 
@@ -53,7 +54,7 @@ comments_from = comments_by plain_name
 abbrev pub comments_of : Workload → List (List ℕ)
 comments_of w = comments_from 0 (names_of w.tasks.items)
 
--- those that name them to a viewer
+-- the comments that name the tasks to a viewer
 abbrev pub shown_comments : Workload → List (List ℕ)
 shown_comments w = comments_by shown_name 0 (names_of w.tasks.items)
 

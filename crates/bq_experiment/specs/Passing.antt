@@ -9,7 +9,7 @@ pub record Empties {S : Type 0} (pending : S → List ℕ) (Clears : S → S →
   pub empty : pending new ≡ []
   pub added : Appends was now (pending old)
 
--- so it is, or nothing has changed
+-- the pending bytes went to the output, or nothing has changed
 abbrev pub IsPassedOn : {S : Type 0} → (S → List ℕ) → (S → S → Type 0) → S → Option (List ℕ) → S → Option (List ℕ) → Type 0
 IsPassedOn pending Clears old was new now = ((new ≡ old) × (now ≡ was)) ⊎ Empties pending Clears old was new now
 

@@ -3,7 +3,7 @@ use Rattle.std.specs.Prelude.{◌≡◌, ℕ, List, [], ◌∷◌, ◌++◌, Som
 use Rattle.std.specs.Global.{Global}
 use Rattle.bq_hooks.specs.declared.hook.Hook.{Hook}
 use Rattle.bq_parts.specs.Refusals.{same_hook}
-use Rattle.bq_simulate.specs.Retelling.{AreOfImages}
+use Rattle.bq_simulate.specs.Replays.{AreOfImages}
 use Rattle.bq_simulate.specs.Texts.{ByHook}
 use Rattle.bq_simulate.specs.Simulations.{Accepted}
 
@@ -25,10 +25,11 @@ AreOfTheirImages s = AreOfImages (image_for s.images) s.loaded
 abbrev pub with_bytes : Hook × Vec ℕ Global → Hook × List ℕ
 with_bytes image = (image.0, image.1.items)
 
+-- these policies, with the bytes of their images
 abbrev pub standing : List Accepted → List (Hook × Vec ℕ Global) → Standing
 standing loaded images = record { loaded = loaded; images = map with_bytes images }
 
--- one policy more stands there, and one image more at this hook
+-- one more policy is there, and one more image at this hook
 pub record Adds (hook : Hook) (image : List ℕ) (policy : Accepted) (old new : Standing) : Type 0 where
   pub loaded : new.loaded ≡ old.loaded ++ policy ∷ []
   pub images : new.images ≡ old.images ++ (hook, image) ∷ []

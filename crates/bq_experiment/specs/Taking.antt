@@ -13,10 +13,10 @@ use Rattle.bq_policy_file.specs.declared.fault.PolicyFault.TheVariants as file
 use Rattle.bq_policy_file.specs.declared.head.Head.{Head}
 use Rattle.bq_policy_file.specs.declared.mark.Key.{Key}
 use Rattle.bq_policy_file.specs.declared.policy_source.PolicySource.{PolicySource}
-use Rattle.bq_simulate.specs.Retelling.{IsOfImage}
+use Rattle.bq_simulate.specs.Replays.{IsLoadedFromImage}
 use Rattle.bq_experiment.specs.Standing.{Adds, Standing, image_for}
 use Rattle.bq_experiment.specs.declared.policies.AttachFault.{AttachFault}
-use Rattle.bq_experiment.specs.declared.policies.AttachFault.TheVariants as told
+use Rattle.bq_experiment.specs.declared.policies.AttachFault.TheVariants as attach
 use Rattle.bq_simulate.specs.Simulations.{Accepted}
 
 -- a hook is asked for, or none, and nothing beside it
@@ -25,12 +25,12 @@ pub record Asks (hook : Option Hook) (asked : Head) : Type 0 where
   pub maps : asked.maps ≡ None
   pub format : asked.format ≡ None
 
--- where that is asked for, a file is read as this policy
+-- a file is read as this policy, for the hook that is asked for, if any
 abbrev pub IsRead : Option Hook → List ℕ → PolicySource → Type 0
 IsRead hook file policy = (asked : Head) × Asks hook asked × IsPolicy file asked policy
 
 -- A policy that was read so is taken at this hook, at which no image was: its image is added, and what is loaded of it.
-pub record Takes (Reads : PolicySource → Type 0) (hook : Hook) (old new : Standing) : Type 0 where
+pub record Attaches (Reads : PolicySource → Type 0) (hook : Hook) (old new : Standing) : Type 0 where
   pub read : PolicySource
   pub reads : Reads read
   pub hook_is : read.form.hook ≡ hook
@@ -38,16 +38,16 @@ pub record Takes (Reads : PolicySource → Type 0) (hook : Hook) (old new : Stan
   pub image : List ℕ
   pub spells : IsImage image read.form.version hook read.form.shapes.items (spelling read.insns.items)
   pub policy : Accepted
-  pub of : IsOfImage (Some image) policy
+  pub of : IsLoadedFromImage (Some image) policy
   pub adds : Adds hook image policy old new
 
 -- a policy that was read so is for a hook at which an image was
-abbrev pub IsSecond : (PolicySource → Type 0) → Standing → Type 0
-IsSecond Reads s = (read : PolicySource) × Reads read × IsSome (image_for s.images read.form.hook)
+abbrev pub IsSecondForHook : (PolicySource → Type 0) → Standing → Type 0
+IsSecondForHook Reads s = (read : PolicySource) × Reads read × IsSome (image_for s.images read.form.hook)
 
--- where that is asked for, a file is refused for this fault
-abbrev pub IsNone : Option Hook → List ℕ → FileFault → Type 0
-IsNone hook file named = (asked : Head) × Asks hook asked × IsPolicyFault file asked named
+-- a file is refused for this fault, for the hook that is asked for, if any
+abbrev pub IsFileRefusal : Option Hook → List ℕ → FileFault → Type 0
+IsFileRefusal hook file named = (asked : Head) × Asks hook asked × IsPolicyFault file asked named
 
 -- the image of a policy that was read so is not loaded, for this fault
 pub record IsUnaccepted (Reads : PolicySource → Type 0) (named : LoadFault) : Type 0 where
@@ -58,24 +58,24 @@ pub record IsUnaccepted (Reads : PolicySource → Type 0) (named : LoadFault) : 
   pub unloaded : IsUnloaded image named
   pub other : named ≢ load.OutOfMemory
 
--- Why a file is not taken: it holds a policy for a hook at which an image was, it disagrees with what was asked for, it is no policy by its words,
--- or its program is not accepted. Lack of memory says nothing of it.
-abbrev pub IsTold : (PolicySource → Type 0) → (FileFault → Type 0) → Standing → AttachFault → Type 0
-IsTold Reads Refuses s told.Twice = IsSecond Reads s
-IsTold Reads Refuses s told.Hook = (key : Key) × Refuses (Disagrees key)
-IsTold Reads Refuses s (told.File words) = (named : FileFault) × Refuses named × (named ≢ file.OutOfMemory)
-IsTold Reads Refuses s (told.Program named) = IsUnaccepted Reads named
-IsTold Reads Refuses s told.OutOfMemory = Unit {0}
+-- Why a file is not taken: its hook has an image already, it disagrees with what was asked for, its words are no policy, or its
+-- program is not accepted. If memory runs out, nothing is said of the file.
+abbrev pub IsAttachFault : (PolicySource → Type 0) → (FileFault → Type 0) → Standing → AttachFault → Type 0
+IsAttachFault Reads Refuses s attach.Twice = IsSecondForHook Reads s
+IsAttachFault Reads Refuses s attach.Hook = (key : Key) × Refuses (Disagrees key)
+IsAttachFault Reads Refuses s (attach.File words) = (named : FileFault) × Refuses named × (named ≢ file.OutOfMemory)
+IsAttachFault Reads Refuses s (attach.Program named) = IsUnaccepted Reads named
+IsAttachFault Reads Refuses s attach.OutOfMemory = Unit {0}
 
 -- what is reported of a refused file
-abbrev pub IsToldOf : FileFault → AttachFault → Type 0
-IsToldOf (Disagrees key) said = said ≡ told.Hook
-IsToldOf named (told.File words) = named ≢ file.OutOfMemory
-IsToldOf named told.OutOfMemory = Unit {0}
-IsToldOf named said = ⊥
+abbrev pub IsFaultOfFile : FileFault → AttachFault → Type 0
+IsFaultOfFile (Disagrees key) stated = stated ≡ attach.Hook
+IsFaultOfFile named (attach.File words) = named ≢ file.OutOfMemory
+IsFaultOfFile named attach.OutOfMemory = Unit {0}
+IsFaultOfFile named stated = ⊥
 
 -- what is reported of an image that is not loaded
-abbrev pub IsToldOfImage : List ℕ → AttachFault → Type 0
-IsToldOfImage image (told.Program named) = IsUnloaded image named × (named ≢ load.OutOfMemory)
-IsToldOfImage image told.OutOfMemory = Unit {0}
-IsToldOfImage image said = ⊥
+abbrev pub IsFaultOfImage : List ℕ → AttachFault → Type 0
+IsFaultOfImage image (attach.Program named) = IsUnloaded image named × (named ≢ load.OutOfMemory)
+IsFaultOfImage image attach.OutOfMemory = Unit {0}
+IsFaultOfImage image stated = ⊥

@@ -1,4 +1,4 @@
--- A workload that is run before a viewer.
+-- The simulation of a workload with a viewer as its sink.
 use Rattle.std.specs.Prelude.{◌≡◌, ◌≤◌, ℕ, List, ◌++◌, None}
 use Rattle.bq_workload.specs.Soundness.{first_flaw}
 use Rattle.bq_workload.specs.declared.workload.Workload.{Workload}
@@ -6,17 +6,17 @@ use Rattle.bq_simulate.specs.Simulations.{Accepted, IsSimulation}
 use Rattle.bq_timeline.specs.Notes.{last_notes}
 use Rattle.bq_timeline.specs.Watching.{schedule_after}
 use Rattle.bq_timeline.specs.declared.viewer.Viewer.{Viewer}
-use Rattle.bq_trace.specs.TraceEvents.{Told}
+use Rattle.bq_trace.specs.TraceEvents.{Reported}
 use Rattle.bq_experiment.specs.Limits.{events_in}
 
 -- The workload has no flaw. The viewer has the schedule of a simulation of it with these policies, of at most this many events, and has
 -- counted no line of it as bad or refused.
 pub record IsViewed (policies : List Accepted) (w : Workload) (most : ℕ) (viewer : Viewer) : Type 0 where
-  pub told : Told
+  pub reported : Reported
   pub sound : first_flaw w ≡ None
-  pub few : events_in told ≤ most
-  pub simulation : IsSimulation policies w told
-  pub schedule : viewer.schedule ≡ schedule_after None told
+  pub few : events_in reported ≤ most
+  pub simulation : IsSimulation policies w reported
+  pub schedule : viewer.schedule ≡ schedule_after None reported
   pub clean : viewer.troubles ≡ 0
 
 -- What goes to standard error ends with the last notes at the schedule that a viewer has of it.

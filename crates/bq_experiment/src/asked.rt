@@ -1,12 +1,13 @@
 //! What a simulation is asked for, by the words of its options.
-ghost use Rattle.std.specs.Prelude.{◌≡◌, ◌↔◌, IfErr, IfOk, IsTrue, Some, codes};
+ghost use Rattle.std.specs.Prelude.{◌≡◌, ◌↔◌, IfErr, IfNone, IfOk, IfSome, IsTrue, None, Some, codes};
 ghost use Rattle.bq_words.specs.Quantities.{size_of, decimal_of};
-ghost use Rattle.bq_policy_check.specs.Saying.{option_bytes};
+ghost use Rattle.bq_policy_check.specs.Given.{option_bytes};
 ghost use Rattle.bq_words.specs.Sizes.{rule_of};
-ghost use Rattle.bq_experiment.specs.Asking.{AskForChanges, AskToShow, IsNoChange, IsNotShown, change_asked, chooses_part, time_in};
+ghost use Rattle.bq_timeline.specs.Settings.{text_of};
+ghost use Rattle.bq_experiment.specs.Asking.{AskForChanges, AskToShow, IsNoChange, IsNotShown, change_asked, chooses_part, option_refused, time_in, word_refused};
 
 use crate::words::StudyWords;
-use bq_timeline::{Settings, SettingsFault, Words, with_forms};
+use bq_timeline::{RefusedWord, Settings, SettingsFault, Words, with_forms, word_after};
 use bq_words::quantities::{decimal, size};
 use bq_words::{ProcessorCount, Rule, with_rules, with_sizes, with_units};
 use bq_workload::duration_with_unit;
@@ -15,7 +16,7 @@ use bq_workload_file::Changes;
 use std::alloc::Global;
 use thiserror::Error;
 
-/// How a simulation is shown.
+/// The form in which a simulation is shown.
 #[derive(Drop)]
 pub enum ShownAs {
     /// As a trace.
@@ -25,21 +26,21 @@ pub enum ShownAs {
 }
 
 /// What a word for the discipline has to be.
-const RULES: &str = with_rules!("--discipline: a discipline is ");
+const RULES: &str = with_rules!("a discipline is ");
 
 /// What a word for the number of processors has to be.
-const SIZES: &str = with_sizes!("--processors: a number of processors is ");
+const SIZES: &str = with_sizes!("a number of processors is ");
 
 /// What a word for the form has to be.
-const FORMS: &str = with_forms!("--as: a form is trace, report, ");
+const FORMS: &str = with_forms!("a form is trace, report, ");
 
 /// What a word for the duration has to be, up to the number of the longest.
 const DURATION: &str = with_units!(
-    "--duration: a duration is a number and ",
+    "a duration is a number and ",
     ", as 1500us, 1.5ms or 2s, from 1ns to "
 );
 
-/// Why words ask for no simulation.
+/// Why words ask for no simulation. A fault of one word says only what is right; `AskedFault::refused` answers the word.
 #[derive(Clone, Copy, Debug, PartialEq, Eq, Error)]
 pub enum AskedFault {
     #[error("{words}", words = RULES)]
@@ -48,7 +49,7 @@ pub enum AskedFault {
     Processors,
     #[error("{words}{longest}ns", words = DURATION, longest = LONGEST)]
     Duration,
-    #[error("--seed: a seed is a whole number below 2^64")]
+    #[error("a seed is a whole number below 2^64")]
     Seed,
     #[error("{words}", words = FORMS)]
     Form,
@@ -58,8 +59,32 @@ pub enum AskedFault {
     Settings(SettingsFault),
 }
 
+impl AskedFault {
+    /// The word that the fault refuses, and its option. `None` if the fault is not that of one word.
+    pub fn refused<'a>(self, words: &'a StudyWords) -> Option<RefusedWord<'a>>
+        ensures word { IfSome result (λ r. text_of (word_refused words.now self) ≡ Some r.word.now) }
+        ensures none { IfNone result (word_refused words.now self ≡ None) }
+        ensures option { IfSome result (λ r. r.option.now ≡ option_refused self) }
+    {
+        let machine = &words.machine;
+        match self {
+            AskedFault::Discipline => word_after(
+                "discipline",
+                &machine.discipline,
+                with_rules!(""),
+            ),
+            AskedFault::Processors => word_after("processors", &machine.processors, ""),
+            AskedFault::Duration => word_after("duration", &machine.duration, ""),
+            AskedFault::Seed => word_after("seed", &machine.seed, ""),
+            AskedFault::Form => word_after("as", &words.shown.form, with_forms!("trace, report, ")),
+            AskedFault::WholeTrace => None,
+            AskedFault::Settings(fault) => fault.refused(&words.shown),
+        }
+    }
+}
+
 impl ShownAs {
-    /// How the words want it shown: in a report, unless they say otherwise.
+    /// Answers the form that the words ask for: a report, unless they say otherwise.
     pub fn of(alloc: Global, words: &StudyWords) -> Result<ShownAs, AskedFault>
         ensures asked { IfOk result (AskToShow words.now) }
         ensures fault { IfErr result (IsNotShown words.now) }
@@ -78,7 +103,7 @@ impl ShownAs {
     }
 }
 
-/// Whether a form is called a trace.
+/// Answers whether a form is `trace`.
 fn names_trace(form: &Option<String>) -> bool
     ensures { IsTrue result ↔ (option_bytes form.now ≡ Some (codes "trace")) }
 {
@@ -88,7 +113,7 @@ fn names_trace(form: &Option<String>) -> bool
     }
 }
 
-/// Whether the words choose what is shown, and how: a stretch of time, processors, tasks, a width, a theme or a title.
+/// Answers whether the words choose what is shown, and how: a stretch of time, processors, tasks, a width, a theme or a title.
 fn chooses_part(words: &Words) -> bool
     ensures { result ≡ chooses_part words.now }
 {

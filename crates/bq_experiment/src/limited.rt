@@ -13,7 +13,7 @@ pub struct Limited<S> {
     pub sink: S,
     /// How many more machine events it may pass on.
     pub left: u64,
-    /// Whether one more came.
+    /// Whether one event more came.
     pub is_over: bool,
 }
 

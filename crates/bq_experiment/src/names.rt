@@ -12,7 +12,7 @@ use bq_trace::{Sink, TraceEvent};
 use bq_workload::{TaskKind, Workload};
 use std::alloc::{AllocError, Global};
 
-/// The name of each task. The tasks of a kind are numbered from 0, where it has several.
+/// Answers the name of each task. The tasks of a kind are numbered from 0 if it has several.
 pub fn task_names(alloc: Global, workload: &Workload) -> Result<Vec<String>, AllocError>
     ensures { IfOk result (λ names. map string_bytes names.items ≡ names_of workload.now.tasks.items) }
 {
@@ -33,7 +33,7 @@ fn add_names(alloc: Global, kind: &TaskKind, names: &mut Vec<String>) -> Result<
     Ok(())
 }
 
-/// The name of a task, by its number among those of its kind.
+/// Answers the name of a task, by its number among the tasks of its kind.
 fn task_name(alloc: Global, kind: &TaskKind, number: u16) -> Result<String, AllocError>
     ensures { IfOk result (λ name. string_bytes name ≡ name_in kind.now number) }
 {
@@ -46,12 +46,12 @@ fn task_name(alloc: Global, kind: &TaskKind, number: u16) -> Result<String, Allo
 }
 
 /// Tells a sink the name of each task, by the comment that names one in a trace. Answers how many lines of a trace that takes.
-pub fn tell_names<S: Sink>(
+pub fn report_names<S: Sink>(
     alloc: Global,
     workload: &Workload,
     sink: &mut S,
 ) -> Result<u64, AllocError>
-    ensures told { OnOk result (TakesAll S.takes sink.old (map skipped (comments_of workload.now)) sink.new) }
+    ensures reported { OnOk result (TakesAll S.takes sink.old (map skipped (comments_of workload.now)) sink.new) }
     ensures lines { IfOk result (λ lines. lines ≡ length (comments_of workload.now)) }
 {
     let names = task_names(alloc, workload)?;
@@ -106,7 +106,7 @@ fn shown_comments(alloc: Global, workload: &Workload) -> Result<Vec<String>, All
     Ok(comments)
 }
 
-/// The name as a form shows it: a control character stands as `?`.
+/// Answers the name as a form shows it: a control character becomes `?`.
 pub fn shown_name(alloc: Global, name: &str) -> Result<String, AllocError>
     ensures { IfOk result (λ text. string_bytes text ≡ shown_name name.now) }
 {
@@ -117,7 +117,7 @@ pub fn shown_name(alloc: Global, name: &str) -> Result<String, AllocError>
     Ok(text)
 }
 
-/// The name as a line of a trace can have it: a character that is no printable ASCII stands as `?`.
+/// Answers the name as a line of a trace can have it: a character that is no printable ASCII becomes `?`.
 pub fn plain(alloc: Global, name: &str) -> Result<String, AllocError>
     ensures { IfOk result (λ text. string_bytes text ≡ plain_name name.now) }
 {

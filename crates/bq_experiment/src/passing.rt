@@ -79,7 +79,7 @@ impl<S: Texts, W: Write, E: Write> Passing<'_, S, W, E> {
         ensures { OnOk result (Empties S.pending S.clears self.old.sink (W.contents (inner_of self.old.output)) self.new.sink (W.contents (inner_of self.new.output))) }
     {
         let _ = self.errors.write_all(self.sink.notes().as_bytes());
-        // A sink can fail only by `AllocError`. `is_failed` tells a failed write from lack of memory.
+        // A sink can fail only by `AllocError`. `is_failed` tells a failed write from memory that ran out.
         if self.write_text().is_err() {
             return Err(AllocError);
         }

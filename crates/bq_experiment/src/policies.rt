@@ -1,12 +1,12 @@
-//! The policies that stand at the hooks of all processors.
+//! The policies at the hooks of all processors.
 ghost use Rattle.std.specs.Prelude.{◌≡◌, ℕ, List, [], Some, None, IfOk, IfErr, OnOk, OnErr};
 ghost use Rattle.std.specs.Borrow.{Bor};
 ghost use Rattle.std.specs.Option.{option_map};
 ghost use Rattle.bq_policy_file.specs.Files.{IsPolicy, IsPolicyFault};
-ghost use Rattle.bq_simulate.specs.Retelling.{IsOfImage};
+ghost use Rattle.bq_simulate.specs.Replays.{IsLoadedFromImage};
 ghost use Rattle.bq_simulate.specs.Texts.{image_at};
 ghost use Rattle.bq_experiment.specs.Standing.{Adds, AreOfTheirImages, image_for};
-ghost use Rattle.bq_experiment.specs.Taking.{IsNone, IsRead, IsTold, IsToldOf, IsToldOfImage, Takes};
+ghost use Rattle.bq_experiment.specs.Taking.{IsFileRefusal, IsRead, IsAttachFault, IsFaultOfFile, IsFaultOfImage, Attaches};
 
 use bq_hooks::Hook;
 use bq_installed::Policy;
@@ -53,7 +53,7 @@ impl Model for Policies {
 }
 
 impl Policies {
-    /// No policy stands anywhere.
+    /// No policy at any hook.
     pub fn new(alloc: Global) -> Policies
         ensures loaded { result.loaded ≡ [] }
         ensures images { result.images ≡ [] }
@@ -72,12 +72,12 @@ impl Policies {
         self.loaded.as_slice()
     }
 
-    /// Takes the policy for this hook that a file holds: an image, the hex of one, or an assembler text whose head says what
-    /// it leaves out. A second policy for a hook is refused. If the policy is not taken, all is as it was.
+    /// Takes the policy for this hook that a file holds: an image, the hex of one, or an assembler text. Marks at the head of a
+    /// text say its maps and its format. A second policy for a hook is refused. If the policy is not taken, all is as it was.
     pub fn add(&mut self, alloc: Global, hook: Hook, file: &[u8]) -> Result<(), AttachFault>
-        ensures taken { OnOk result (Takes (IsRead (Some hook) file.now) hook self.old self.new) }
+        ensures taken { OnOk result (Attaches (IsRead (Some hook) file.now) hook self.old self.new) }
         ensures refused { OnErr result (self.new ≡ self.old) }
-        ensures told { IfErr result (IsTold (IsRead (Some hook) file.now) (IsNone (Some hook) file.now) self.old) }
+        ensures reported { IfErr result (IsAttachFault (IsRead (Some hook) file.now) (IsFileRefusal (Some hook) file.now) self.old) }
     {
         let mut asked = Head::nothing();
         asked.hook = Some(hook);
@@ -85,23 +85,23 @@ impl Policies {
     }
 
     /// Takes the policy that a file holds, as `add` does, for the hook that the file says.
-    pub fn add_as_said(&mut self, alloc: Global, file: &[u8]) -> Result<(), AttachFault>
-        ensures taken { OnOk result ((hook : Hook) × Takes (IsRead None file.now) hook self.old self.new) }
+    pub fn add_by_head(&mut self, alloc: Global, file: &[u8]) -> Result<(), AttachFault>
+        ensures taken { OnOk result ((hook : Hook) × Attaches (IsRead None file.now) hook self.old self.new) }
         ensures refused { OnErr result (self.new ≡ self.old) }
-        ensures told { IfErr result (IsTold (IsRead None file.now) (IsNone None file.now) self.old) }
+        ensures reported { IfErr result (IsAttachFault (IsRead None file.now) (IsFileRefusal None file.now) self.old) }
     {
         self.take(alloc, &Head::nothing(), file)
     }
 
     /// Takes the policy of a file that agrees with what was asked for.
     fn take(&mut self, alloc: Global, asked: &Head, file: &[u8]) -> Result<(), AttachFault>
-        ensures taken { OnOk result ((hook : Hook) × Takes (IsPolicy file.now asked.now) hook self.old self.new) }
+        ensures taken { OnOk result ((hook : Hook) × Attaches (IsPolicy file.now asked.now) hook self.old self.new) }
         ensures refused { OnErr result (self.new ≡ self.old) }
-        ensures told { IfErr result (IsTold (IsPolicy file.now asked.now) (IsPolicyFault file.now asked.now) self.old) }
+        ensures reported { IfErr result (IsAttachFault (IsPolicy file.now asked.now) (IsPolicyFault file.now asked.now) self.old) }
     {
         let read = match read_policy(alloc, file, asked) {
             Ok(read) => read,
-            Err(fault) => return Err(told(alloc, file, fault)),
+            Err(fault) => return Err(reported(alloc, file, fault)),
         };
         if self.image_at(read.form.hook).is_some() {
             return Err(AttachFault::Twice);
@@ -113,7 +113,7 @@ impl Policies {
 
     /// Keeps a policy and its image, for a hook at which none is.
     fn keep(&mut self, hook: Hook, image: Vec<u8>, policy: Policy) -> Result<(), AttachFault>
-        requires of { IsOfImage (Some image.items) policy }
+        requires of { IsLoadedFromImage (Some image.items) policy }
         requires hook { policy.hook ≡ hook }
         requires free { image_for self.old.images hook ≡ None }
         ensures adds { OnOk result (Adds hook image.items policy self.old self.new) }
@@ -176,8 +176,8 @@ impl<T: Drop> From<AllocFailed<T>> for AttachFault {
 }
 
 /// Why the file is no policy for the hook, in words.
-fn told(alloc: Global, file: &[u8], fault: PolicyFault) -> AttachFault
-    ensures { IsToldOf fault result }
+fn reported(alloc: Global, file: &[u8], fault: PolicyFault) -> AttachFault
+    ensures { IsFaultOfFile fault result }
 {
     let why = match fault {
         PolicyFault::Disagrees(_) => return AttachFault::Hook,
@@ -193,8 +193,8 @@ fn told(alloc: Global, file: &[u8], fault: PolicyFault) -> AttachFault
 
 /// The policy of an image.
 fn policy_of(alloc: Global, image: &[u8]) -> Result<Policy, AttachFault>
-    ensures of { IfOk result (IsOfImage (Some image.now)) }
-    ensures told { IfErr result (IsToldOfImage image.now) }
+    ensures of { IfOk result (IsLoadedFromImage (Some image.now)) }
+    ensures reported { IfErr result (IsFaultOfImage image.now) }
 {
     let program = match load(alloc, image) {
         Ok(program) => program,

@@ -1,10 +1,10 @@
-//! How far one run is.
+//! The progress of one run.
 
 use bq_console::{Done, EVENTS, Progress};
 use bq_parts::Event;
 use bq_workload::Workload;
 
-/// How far a run is, by the times of its events.
+/// The progress of a run, by the times of its events.
 #[derive(Drop)]
 pub struct RunProgress<'a> {
     progress: &'a Progress<'a>,
@@ -38,7 +38,7 @@ impl<'a> RunProgress<'a> {
         }
     }
 
-    /// How much of its time has passed, in percent.
+    /// Answers how much of its time has passed, in percent.
     fn percent(&self) -> u64 {
         self.now.saturating_mul(100) / self.duration.max(1)
     }

@@ -1,7 +1,7 @@
 //! One run of a workload, and what is written of it.
 ghost use Rattle.std.specs.Prelude.{◌≡◌, ◌≢◌, [], false, true, IfErr, IfOk, None, OnOk, string_bytes};
 ghost use Rattle.bq_streams.specs.Counts.{failures_of, inner_of};
-ghost use Rattle.bq_simulate.specs.Faults.{TellsNoOther};
+ghost use Rattle.bq_simulate.specs.Faults.{ReportsNoOther};
 ghost use Rattle.bq_simulate.specs.Order.{IsCutOff};
 ghost use Rattle.bq_simulate.specs.Simulations.{HasEnough, IsFollowed, IsSimulation};
 ghost use Rattle.bq_simulate.specs.Texts.{image_at};
@@ -15,10 +15,10 @@ ghost use Rattle.bq_experiment.specs.Views.{AreNotesOf, IsViewed};
 ghost use Rattle.bq_experiment.specs.declared.asked.ShownAs.TheVariants as shown_as;
 
 use crate::asked::ShownAs;
-use crate::below::Below;
 use crate::fault::RunFault;
 use crate::limited::Limited;
-use crate::names::{show_names, tell_names};
+use crate::names::{report_names, show_names};
+use crate::offset_viewer::OffsetViewer;
 use crate::passing::Passing;
 use crate::policies::Policies;
 use crate::run_progress::RunProgress;
@@ -33,7 +33,7 @@ use bq_workload::{Workload, soundness};
 use std::alloc::{AllocError, Global};
 use std::io::Write;
 
-/// Where a run is written: its text, its notes, and how far it is.
+/// The streams to which a run is written: its text, its notes, and its progress.
 #[derive(Drop)]
 pub struct Streams<'a, W, E> {
     pub output: W,
@@ -68,8 +68,9 @@ pub fn run_as<W: Write + Drop, E: Write + Drop>(
     // After a run that came to its end no write has failed: the first failure ends a run.
     ensures writes { OnOk result.outcome (failures_of result.output ≡ 0) }
 
-    // Each fault has its cause. Where a flaw is reported, it is the first that the workload has. The simulation of a workload without
-    // one fails only for memory, or where 64 bits do not count the bound of its steps; and only a longer run is cut off.
+    // Each fault has its cause. A flaw that is reported is the first of the workload. The simulation of a workload without a
+    // flaw fails only if memory runs out, or if 64 bits do not count the bound of its steps. Only a run with more events is cut
+    // off.
     ensures fault { IfErr result.outcome (λ e. IsRunFault policies.now.loaded workload.now most e (failures_of result.output)) }
 {
     match shown {
@@ -142,7 +143,7 @@ fn write_trace<W: Write, E: Write>(
     ensures writes { OnOk result (failures_of run.new.sink.output ≡ 0) }
     ensures fault { IfErr result (λ e. IsRunFault policies.now.loaded workload.now run.old.left e (failures_of run.new.sink.output)) }
 {
-    match simulate_before(alloc, workload, policies, run) {
+    match simulate_into(alloc, workload, policies, run) {
         Ok(()) => {}
         Err(fault) => return Err(write_rest(run, fault)),
     }
@@ -153,29 +154,29 @@ fn write_trace<W: Write, E: Write>(
 }
 
 /// Simulates the workload before a sink, which gets the names of the tasks first.
-fn simulate_before<S: Sink + Enough>(
+fn simulate_into<S: Sink + Enough>(
     alloc: Global,
     workload: &Workload,
     policies: &Policies,
     sink: &mut S,
 ) -> Result<(), SimulateFault>
-    ensures told { OnOk result (Gets S.takes sink.old sink.new (IsNamed workload.now (IsSimulation policies.now.loaded workload.now))) }
+    ensures reported { OnOk result (Gets S.takes sink.old sink.new (IsNamed workload.now (IsSimulation policies.now.loaded workload.now))) }
     ensures wants { OnOk result (S.sated sink.new ≡ false) }
     ensures enough { IfErr result (λ e. e ≡ why.Enough → (first_flaw workload.now ≡ None)
         × HasEnough S.takes S.sated (IsNamed workload.now (IsFollowed true policies.now.loaded workload.now)) sink.old sink.new) }
     ensures sound { OnOk result (first_flaw workload.now ≡ None) }
     ensures of_images { OnOk result (AreOfTheirImages policies.now) }
-    ensures flaw { IfErr result (TellsNoOther workload.now) }
+    ensures flaw { IfErr result (ReportsNoOther workload.now) }
     ensures ends { first_flaw workload.now ≡ None → IfErr result (IsCutOff workload.now) }
-    ensures untold { first_flaw workload.now ≢ None → sink.new ≡ sink.old }
+    ensures unreported { first_flaw workload.now ≢ None → sink.new ≡ sink.old }
 {
     soundness(workload).map_err(SimulateFault::Unsound)?;
-    tell_names(alloc, workload, sink)?;
+    report_names(alloc, workload, sink)?;
     simulate(alloc, workload, policies.loaded(), sink)?;
     Ok(())
 }
 
-/// The fault of a run, by the fault of its simulation. Where the run was cut off, what has come is written first.
+/// Answers the fault of a run, by the fault of its simulation. If the run was cut off, what has come is written first.
 fn write_rest<S: Texts, W: Write, E: Write>(
     run: &mut RunSink<'_, S, W, E>,
     fault: SimulateFault,
@@ -208,7 +209,7 @@ fn as_timeline<W: Write + Drop, E: Write + Drop>(
     ensures fault { IfErr result.outcome (λ e. IsRunFault policies.now.loaded workload.now most e (failures_of result.output)) }
 {
     let viewer = Viewer::new(alloc, settings);
-    let mut run = sink_of_run(workload, Below { viewer, above: 0 }, most, streams);
+    let mut run = sink_of_run(workload, OffsetViewer { viewer, offset: 0 }, most, streams);
     let outcome = write_timeline(alloc, workload, policies, &mut run);
     let passing = run.sink;
     Ran {
@@ -222,7 +223,7 @@ fn write_timeline<W: Write, E: Write>(
     alloc: Global,
     workload: &Workload,
     policies: &Policies,
-    run: &mut RunSink<'_, Below, W, E>,
+    run: &mut RunSink<'_, OffsetViewer, W, E>,
 ) -> Result<String, RunFault>
     requires schedule { run.old.sink.sink.viewer.schedule ≡ None }
     requires troubles { run.old.sink.sink.viewer.troubles ≡ 0 }
@@ -246,7 +247,7 @@ fn view<W: Write, E: Write>(
     alloc: Global,
     workload: &Workload,
     policies: &Policies,
-    run: &mut RunSink<'_, Below, W, E>,
+    run: &mut RunSink<'_, OffsetViewer, W, E>,
 ) -> Result<String, SimulateFault>
     requires schedule { run.old.sink.sink.viewer.schedule ≡ None }
     requires troubles { run.old.sink.sink.viewer.troubles ≡ 0 }
@@ -254,7 +255,7 @@ fn view<W: Write, E: Write>(
     ensures notes { IfOk result (λ notes. AreNotesOf policies.now.loaded workload.now run.old.left (string_bytes notes)) }
     ensures fault { IfErr result (IsNoEnd policies.now.loaded workload.now run.old.left) }
 {
-    watch(alloc, workload, policies, run)?;
+    feed_viewer(alloc, workload, policies, run)?;
     let passing = &mut run.sink;
     let below = &mut passing.sink;
     below.viewer.end()?;
@@ -262,11 +263,11 @@ fn view<W: Write, E: Write>(
 }
 
 /// Runs the simulation before the viewer, which is not ended yet.
-fn watch<W: Write, E: Write>(
+fn feed_viewer<W: Write, E: Write>(
     alloc: Global,
     workload: &Workload,
     policies: &Policies,
-    run: &mut RunSink<'_, Below, W, E>,
+    run: &mut RunSink<'_, OffsetViewer, W, E>,
 ) -> Result<(), SimulateFault>
     requires schedule { run.old.sink.sink.viewer.schedule ≡ None }
     requires troubles { run.old.sink.sink.viewer.troubles ≡ 0 }
@@ -284,10 +285,14 @@ fn watch<W: Write, E: Write>(
 }
 
 /// Names the tasks to the viewer. From then on each line number is higher by the number of these comments.
-fn name_tasks(alloc: Global, workload: &Workload, below: &mut Below) -> Result<(), AllocError>
+fn name_tasks(
+    alloc: Global,
+    workload: &Workload,
+    below: &mut OffsetViewer,
+) -> Result<(), AllocError>
     ensures schedule { below.new.viewer.schedule ≡ below.old.viewer.schedule }
     ensures troubles { below.new.viewer.troubles ≡ below.old.viewer.troubles }
 {
-    below.above = show_names(alloc, workload, &mut below.viewer)?;
+    below.offset = show_names(alloc, workload, &mut below.viewer)?;
     Ok(())
 }

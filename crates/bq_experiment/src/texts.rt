@@ -1,7 +1,7 @@
 //! Sinks that make texts, which are written as they come.
 ghost use Rattle.std.specs.Prelude.{◌≡◌, ℕ, List, [], string_bytes};
 
-use crate::below::Below;
+use crate::offset_viewer::OffsetViewer;
 use bq_simulate::TraceWriter;
 
 /// What makes a text for the output, and notes for standard error, of what it gets.
@@ -43,7 +43,7 @@ impl Texts for TraceWriter<'_> {
     }
 }
 
-impl Texts for Below {
+impl Texts for OffsetViewer {
     ghost pending = { λ s. string_bytes s.viewer.screen.text };
 
     ghost clears = { λ old new. (new.viewer.schedule ≡ old.viewer.schedule) × (new.viewer.troubles ≡ old.viewer.troubles) };

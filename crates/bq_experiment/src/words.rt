@@ -6,12 +6,12 @@ use bq_timeline::Words;
 #[derive(Drop)]
 pub struct StudyWords {
     pub machine: MachineWords,
-    /// How many seeds it is run with.
+    /// The number of seeds with which it is run.
     pub seeds: Option<String>,
     pub hooks: HookWords,
     /// What it is compared with: files of policies, or `none`.
     pub against: Vec<String>,
-    /// How it is shown, and the file of the workload.
+    /// The form in which it is shown, and the file of the workload.
     pub shown: Words,
 }
 

@@ -136,7 +136,7 @@ fn all_hold(rt: &impl Abort, schedule: &mut Schedule, steps: &[Step], facts: &[(
 }
 
 /// A schedule takes the steps in turn. After each the facts of its number hold, counted from 0.
-pub fn tells(
+pub fn reports(
     rt: &impl Abort,
     alloc: Global,
     processors: u8,

@@ -84,7 +84,7 @@ fn files_taken(rt: HostRuntime) {
 }
 
 /// Why the file is refused among no policies, which leaves none.
-fn said_by(alloc: Global, policies: &mut Policies, file: &[u8]) -> Result<String, Fail> {
+fn printed_by(alloc: Global, policies: &mut Policies, file: &[u8]) -> Result<String, Fail> {
     match policies.add(alloc, Hook::Preempt, file) {
         Err(fault) if policies.loaded().is_empty() => Ok(format!(in alloc; "{fault}")?),
         _ => Err(Fail::from("it was taken")),
@@ -92,16 +92,16 @@ fn said_by(alloc: Global, policies: &mut Policies, file: &[u8]) -> Result<String
 }
 
 /// Why the file is refused.
-fn said(alloc: Global, file: &[u8]) -> Result<String, Fail> {
+fn printed(alloc: Global, file: &[u8]) -> Result<String, Fail> {
     let mut policies = Policies::new(alloc);
-    said_by(alloc, &mut policies, file)
+    printed_by(alloc, &mut policies, file)
 }
 
 #[test]
 fn files_refused(rt: HostRuntime) -> Result<(), Fail> {
     for (file, words) in &REFUSED {
-        let said = said(rt.alloc(), file.as_bytes())?;
-        holds(&rt, said.as_str() == *words, said.as_str(), words);
+        let printed = printed(rt.alloc(), file.as_bytes())?;
+        holds(&rt, printed.as_str() == *words, printed.as_str(), words);
     }
     Ok(())
 }

@@ -189,7 +189,7 @@ static REFUSED: [(&str, &str); 38] = [
 ];
 
 /// What is said of a text.
-fn said(alloc: Global, text: &str) -> Result<String, Fail> {
+fn printed(alloc: Global, text: &str) -> Result<String, Fail> {
     match read(alloc, text, Changes::NONE) {
         Ok(_) => Err(Fail::from("the text was taken")),
         Err(fault) => Ok(format!(in alloc; "{fault}")?),
@@ -198,9 +198,14 @@ fn said(alloc: Global, text: &str) -> Result<String, Fail> {
 
 #[test]
 fn what_is_wrong_is_named(rt: HostRuntime) -> Result<(), Fail> {
-    for (text, told) in &REFUSED {
-        let said = said(rt.alloc(), text)?;
-        holds(&rt, said.as_str() == *told, said.as_str(), told);
+    for (text, reported) in &REFUSED {
+        let printed = printed(rt.alloc(), text)?;
+        holds(
+            &rt,
+            printed.as_str() == *reported,
+            printed.as_str(),
+            reported,
+        );
     }
     Ok(())
 }
@@ -223,9 +228,9 @@ fn a_name_has_at_most_1024_bytes(rt: HostRuntime) -> Result<(), Fail> {
     holds(&rt, is_taken, text.as_str(), "taken");
     name.push('n')?;
     let text = of_name(alloc, name.as_str())?;
-    let said = said(alloc, text.as_str())?;
+    let printed = printed(alloc, text.as_str())?;
     let wanted = ": [[task]] 1: name: it has more than 1024 bytes";
-    holds(&rt, said.as_str() == wanted, said.as_str(), wanted);
+    holds(&rt, printed.as_str() == wanted, printed.as_str(), wanted);
     Ok(())
 }
 
@@ -239,8 +244,13 @@ static NO_TOML: [(&str, &str); 3] = [
 #[test]
 fn no_toml_is_named_by_line_and_column(rt: HostRuntime) -> Result<(), Fail> {
     for (text, place) in &NO_TOML {
-        let said = said(rt.alloc(), text)?;
-        holds(&rt, said.as_str().starts_with(*place), said.as_str(), place);
+        let printed = printed(rt.alloc(), text)?;
+        holds(
+            &rt,
+            printed.as_str().starts_with(*place),
+            printed.as_str(),
+            place,
+        );
     }
     Ok(())
 }

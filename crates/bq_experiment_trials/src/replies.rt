@@ -417,7 +417,7 @@ fn noted_unwritten(alloc: Global, trace: &str) -> Result<String, Fail> {
 #[test]
 fn notes_come_before_rows(rt: HostRuntime) -> Result<(), Fail> {
     let noted = noted_unwritten(rt.alloc(), "machine cfs 1\ntock 0 1\n")?;
-    let wanted = "line 2: tock is no command\n";
+    let wanted = "line 2: tock is no command; did you mean tick?\n";
     holds(&rt, noted.as_str() == wanted, noted.as_str(), wanted);
     Ok(())
 }

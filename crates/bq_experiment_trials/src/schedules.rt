@@ -1,7 +1,7 @@
 //! Schedules worked by hand: each event with the answer that the rules of docs/SCHEDULING.md give it, and what that tells.
 
 use crate::cases::holds;
-use crate::facts::{Fact, tells};
+use crate::facts::{Fact, reports};
 use crate::steps::Step;
 use bq_hooks::{By, Hook};
 use bq_schedule::{
@@ -67,7 +67,7 @@ static TWO_CLIENTS_FACTS: [(usize, Fact); 14] = [
 
 #[test]
 fn two_clients(rt: HostRuntime) -> Result<(), AllocError> {
-    tells(&rt, rt.alloc(), 1, &TWO_CLIENTS, &TWO_CLIENTS_FACTS)
+    reports(&rt, rt.alloc(), 1, &TWO_CLIENTS, &TWO_CLIENTS_FACTS)
 }
 
 /// The first client begins to run.
@@ -168,7 +168,7 @@ static SHARES_BY_WEIGHT_FACTS: [(usize, Fact); 12] = [
 
 #[test]
 fn shares_by_weight(rt: HostRuntime) -> Result<(), AllocError> {
-    tells(
+    reports(
         &rt,
         rt.alloc(),
         1,
@@ -220,7 +220,7 @@ static TWO_PROCESSORS_FACTS: [(usize, Fact); 9] = [
 
 #[test]
 fn two_processors(rt: HostRuntime) -> Result<(), AllocError> {
-    tells(&rt, rt.alloc(), 2, &TWO_PROCESSORS, &TWO_PROCESSORS_FACTS)
+    reports(&rt, rt.alloc(), 2, &TWO_PROCESSORS, &TWO_PROCESSORS_FACTS)
 }
 
 /// Task 1 runs for the first time, and task 2 where it was pulled to.
@@ -305,7 +305,7 @@ static BACK_REFUSED_OVERRULED_FACTS: [(usize, Fact); 10] = [
 
 #[test]
 fn back_refused_overruled(rt: HostRuntime) -> Result<(), AllocError> {
-    tells(
+    reports(
         &rt,
         rt.alloc(),
         1,
@@ -335,7 +335,7 @@ static NOBODY_IS_THERE_FACTS: [(usize, Fact); 3] = [
 
 #[test]
 fn nobody_is_there(rt: HostRuntime) -> Result<(), AllocError> {
-    tells(&rt, rt.alloc(), 1, &NOBODY_IS_THERE, &NOBODY_IS_THERE_FACTS)
+    reports(&rt, rt.alloc(), 1, &NOBODY_IS_THERE, &NOBODY_IS_THERE_FACTS)
 }
 
 /// Latencies, and the percentiles of them. Nearest rank: of ten numbers the 50th percentile is the fifth, the 95th and the 99th are the

@@ -232,7 +232,7 @@ fn compared_here<T: Threads + Sync>(
 /// The policy that lets each run to its end.
 fn to_the_end(alloc: Global) -> Result<Policies, Fail> {
     let mut policies = Policies::new(alloc);
-    match policies.add_as_said(alloc, TO_THE_END.as_bytes()) {
+    match policies.add_by_head(alloc, TO_THE_END.as_bytes()) {
         Ok(()) => Ok(policies),
         Err(_) => Err(Fail::from("it is no policy")),
     }

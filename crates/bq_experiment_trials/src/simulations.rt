@@ -156,7 +156,7 @@ fn is_simulated(rt: &impl Abort, alloc: Global, workload: &Workload, row: &Row) 
 }
 
 #[test]
-fn simulations_are_told_and_counted(rt: HostRuntime) -> Result<(), Fail> {
+fn simulations_are_reported_and_counted(rt: HostRuntime) -> Result<(), Fail> {
     for row in &SIMULATED {
         let workload = workload_of(rt.alloc(), row)?;
         is_simulated(&rt, rt.alloc(), &workload, row);

@@ -145,7 +145,7 @@ fn named(alloc: Global, comment: &[u8]) -> Result<Names, AllocError> {
 }
 
 /// Shows the three tasks in a form, where a comment names one.
-fn tells_three<F: ScheduleForm>(
+fn reports_three<F: ScheduleForm>(
     alloc: Global,
     form: &mut F,
     text: &mut String,
@@ -165,12 +165,12 @@ pub fn shown<F: ScheduleForm>(
     comment: &[u8],
 ) -> Result<String, AllocError> {
     let mut text = String::new(alloc);
-    tells_three(alloc, &mut form, &mut text, by, comment)?;
+    reports_three(alloc, &mut form, &mut text, by, comment)?;
     Ok(text)
 }
 
 /// Shows these steps on two processors in a form, without its begin and its end.
-fn tells<F: ScheduleForm>(
+fn reports<F: ScheduleForm>(
     alloc: Global,
     form: &mut F,
     text: &mut String,
@@ -188,12 +188,12 @@ pub fn shown_between<F: ScheduleForm>(
     steps: &[Step],
 ) -> Result<String, AllocError> {
     let mut text = String::new(alloc);
-    tells(alloc, &mut form, &mut text, steps)?;
+    reports(alloc, &mut form, &mut text, steps)?;
     Ok(text)
 }
 
 /// Shows these steps on two processors in a form, from its begin to its end.
-fn tells_all<F: ScheduleForm>(
+fn reports_all<F: ScheduleForm>(
     alloc: Global,
     form: &mut F,
     text: &mut String,
@@ -213,7 +213,7 @@ pub fn shown_all<F: ScheduleForm>(
     steps: &[Step],
 ) -> Result<String, AllocError> {
     let mut text = String::new(alloc);
-    tells_all(alloc, &mut form, &mut text, steps)?;
+    reports_all(alloc, &mut form, &mut text, steps)?;
     Ok(text)
 }
 

@@ -123,7 +123,7 @@ fn is_example(rt: &impl Abort, workload: &Workload) {
 }
 
 #[test]
-fn the_example_says_its_machine_and_its_tasks(rt: HostRuntime) -> Result<(), Fail> {
+fn the_example_states_its_machine_and_its_tasks(rt: HostRuntime) -> Result<(), Fail> {
     let workload = taken(rt.alloc(), EXAMPLE, Changes::NONE)?;
     is_example(&rt, &workload);
     Ok(())

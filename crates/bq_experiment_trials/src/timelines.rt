@@ -30,7 +30,7 @@ struct Row {
 
 /// What was written, what is noted, and whether no line was bad or refused.
 #[derive(Drop)]
-struct Told {
+struct Reported {
     written: Vec<u8>,
     notes: String,
     is_clean: bool,
@@ -74,7 +74,7 @@ pub fn settings_of(alloc: Global, form: &str, to: Option<&str>) -> Result<Settin
 }
 
 /// What a word of `--cpus` comes to: the processors as bits, or why it is refused.
-fn told_of_cpus(alloc: Global, word: &str) -> Result<String, Fail> {
+fn reported_of_cpus(alloc: Global, word: &str) -> Result<String, Fail> {
     let words = words_of(alloc, None, None, Some(word))?;
     match Settings::of(alloc, &words) {
         Ok(settings) => Ok(settings.window.processors.to_string(alloc)?),
@@ -89,14 +89,14 @@ pub fn text_of(alloc: Global, bytes: &Vec<u8>) -> Result<String, Fail> {
 }
 
 /// What a row's form shows of its trace.
-fn shown(alloc: Global, row: &Row) -> Result<Told, Fail> {
+fn shown(alloc: Global, row: &Row) -> Result<Reported, Fail> {
     let settings = settings_of(alloc, row.form, row.to)?;
     let mut input = Counted::new(row.trace.as_bytes());
     let mut output = Counted::new(Vec::new(alloc));
     let mut notes = Vec::new(alloc);
     let outcome = show(alloc, settings, &mut input, &mut output, &mut notes)?;
     notes.extend_from_slice(outcome.notes.as_bytes())?;
-    Ok(Told {
+    Ok(Reported {
         written: output.into_inner(),
         notes: text_of(alloc, &notes)?,
         is_clean: outcome.clean,
@@ -123,7 +123,7 @@ fn fits(text: &str, wanted: &Text) -> bool {
 }
 
 /// A row's form shows what it says.
-fn is_shown(rt: &impl Abort, row: &Row, shown: &Told) {
+fn is_shown(rt: &impl Abort, row: &Row, shown: &Reported) {
     let text = from_utf8(shown.written.as_slice()).unwrap_or("no text");
     let notes = shown.notes.as_str();
     let wanted = row.notes.unwrap_or(notes);
@@ -290,7 +290,9 @@ ninth is pulled: 10 >= 0 + 2, and of those that may go it has the greatest (v, i
         to: None,
         trace: "machine cfs 1\ntick 0\n",
         text: Text::Parts(&[]),
-        notes: Some("line 2: tick takes another number of words: 2\nlines bad or refused: 1\n"),
+        notes: Some(
+            "line 2: tick takes 2 words, and has one word: tick <processor> <now>\nlines bad or refused: 1\n",
+        ),
         is_clean: Some(false),
     },
     // what policies answered
@@ -373,7 +375,7 @@ static BAD: [(&str, &str); 13] = [
         "block is no hook (place, preempt or pull)",
     ),
     ("counter 64", "64 does not fit a counter's number (0 to 63)"),
-    ("draw 1", "draw takes another number of words: 0"),
+    ("draw 1", "draw takes no word, and has one word: draw"),
     // what is no number does not pass for one that is too great
     ("tick abc 0", "abc is no number"),
     ("tick 0 1x", "1x is no number"),
@@ -389,10 +391,10 @@ static BAD: [(&str, &str); 13] = [
 ];
 
 #[test]
-fn bad_lines_say_why(rt: HostRuntime) -> Result<(), Fail> {
+fn bad_lines_state_why(rt: HostRuntime) -> Result<(), Fail> {
     for (line, because) in &BAD {
-        let said = why_bad(Some(line.as_bytes()), true).to_string(rt.alloc())?;
-        holds(&rt, said.as_str() == *because, said.as_str(), because);
+        let printed = why_bad(Some(line.as_bytes()), true).to_string(rt.alloc())?;
+        holds(&rt, printed.as_str() == *because, printed.as_str(), because);
     }
     Ok(())
 }
@@ -410,7 +412,7 @@ static TIMES: [(&str, Option<u64>); 8] = [
 ];
 
 /// Why a word names no processors.
-const NO_PROCESSORS: &str = "--cpus: processors are numbers from 0 to 63 and ranges, as 0-3 or 0,2";
+const NO_PROCESSORS: &str = "processors are numbers from 0 to 63 and ranges, as 0-3 or 0,2";
 
 /// Words of `--cpus`, and what they come to: bits, or why they are refused.
 static SETS: [(&str, &str); 4] = [
@@ -442,8 +444,8 @@ fn words_are_times_sets_and_widths(rt: HostRuntime) -> Result<(), Fail> {
         );
     }
     for (word, wanted) in &SETS {
-        let told = told_of_cpus(rt.alloc(), word)?;
-        holds(&rt, told.as_str() == *wanted, told.as_str(), wanted);
+        let reported = reported_of_cpus(rt.alloc(), word)?;
+        holds(&rt, reported.as_str() == *wanted, reported.as_str(), wanted);
     }
     for (word, columns) in &WIDTHS {
         holds(&rt, width(word) == *columns, "another width", word);
@@ -497,7 +499,7 @@ static NOTED: [(Option<&str>, Option<&str>, Option<&str>, &str, &str); 12] = [
         None,
         Some("3-9,99"),
         EEVDF,
-        "--tasks: the trace has none of these tasks\n",
+        "--tasks: there is no task with such a number\n",
     ),
     (None, None, Some("2-9"), EEVDF, ""),
     // task 1 is called long, and task 2 short
@@ -514,7 +516,7 @@ static NOTED: [(Option<&str>, Option<&str>, Option<&str>, &str, &str); 12] = [
         None,
         Some("other"),
         EEVDF,
-        "--tasks: no task is called other\n--tasks: the trace has none of these tasks\n",
+        "--tasks: no task is called other\n",
     ),
     // one processor is there
     (
@@ -530,7 +532,7 @@ static NOTED: [(Option<&str>, Option<&str>, Option<&str>, &str, &str); 12] = [
         Some("7"),
         Some("7"),
         EEVDF,
-        "--tasks: the trace has none of these tasks\n--cpus: the machine has none of these processors; how many it has: 1\n",
+        "--tasks: there is no task with such a number\n--cpus: the machine has none of these processors; how many it has: 1\n",
     ),
     // no machine is there
     (

@@ -47,7 +47,7 @@ fault_here slots Frame slot fault = record { insn = fault.insn; here = fault.her
 fault_here slots Helper slot fault = record { insn = _; here = fault.here }
 fault_here slots Counters slot fault = record { insn = fault.insn; here = fault.here }
 
--- so does one that is refused
+-- an instruction that is refused begins at its slot
 pub refused_here : (p : Subject) (slot : ℕ) (named : Cause) → IsVerdictOn p (refused.At slot named) → IsStart p.slots slot
 refused_here p slot (cause.Graph named) is = fault_here p.slots named slot is.1.0
 refused_here p slot (cause.State obligation) is =
@@ -55,7 +55,8 @@ refused_here p slot (cause.State obligation) is =
     record { insn = unproven.insn; here = unproven.here }
 
 -- where it is refused for what is not shown of the states, the control graph has no fault
-pub refused_faultless : (p : Subject) (slot : ℕ) (named : Cause) → IsVerdictOn p (refused.At slot named) → IsOfState named → IsFaultless p.slots
+pub refused_faultless : (p : Subject) (slot : ℕ) (named : Cause)
+    → IsVerdictOn p (refused.At slot named) → IsOfState named → IsFaultless p.slots
 refused_faultless p slot (cause.Graph named) is of = absurd of
 refused_faultless p slot (cause.State obligation) is of = is.0
 
@@ -66,13 +67,16 @@ finds_state p slot insn (cause.Graph named) need known of contains is = absurd o
 finds_state p slot insn (cause.State obligation) need known of contains is = (contains, is)
 
 nothing_made : (slots : List (Option Insn)) (slot : ℕ) (made : List Made) → made ≡ [] → AreMade slots slot [] made
-nothing_made slots slot made none one there = absurd (let less = (subst (λ (l : List Made). Contains l one) none there).1 in let no : ⊥ = omega arith in no)
+nothing_made slots slot made none one there =
+    absurd (let less = (subst (λ (l : List Made). Contains l one) none there).1 in let no : ⊥ = omega arith in no)
 
 -- a refusal for a fault of the control graph
-pub refusal_of_graph : {E : Type 0} (p : PolicySource) (slot : ℕ) (named : GraphCause) (place : Place) (r : Result Refusal E) → IsPlace (spread p.insns.items) slot place
-    → IfOk r (λ refusal. refusal.place ≡ place) → IfOk r (λ refusal. refusal.cause ≡ cause.Graph named)
+pub refusal_of_graph : {E : Type 0} (p : PolicySource) (slot : ℕ) (named : GraphCause) (place : Place) (r : Result Refusal E)
+    → IsPlace (spread p.insns.items) slot place → IfOk r (λ refusal. refusal.place ≡ place)
+    → IfOk r (λ refusal. refusal.cause ≡ cause.Graph named)
     → IfOk r (λ refusal. (p : PolicySource) (slot : ℕ) → IsFinding p slot place.insn (cause.Graph named) refusal.finding)
-    → IfOk r (λ refusal. refusal.trail.made.items ≡ []) → IfOk r (IsRefusalOf p slot (cause.Graph named))
+    → IfOk r (λ refusal. refusal.trail.made.items ≡ [])
+    → IfOk r (IsRefusalOf p slot (cause.Graph named))
 refusal_of_graph p slot named place (Err e) at same is finds none = tt
 refusal_of_graph p slot named place (Ok refusal) at same is finds none = record {
   place = subst (λ (q : Place). IsPlace (spread p.insns.items) slot q) (sym same) at;
@@ -84,16 +88,22 @@ refusal_of_graph p slot named place (Ok refusal) at same is finds none = record 
 }
 
 -- a refusal for what is not shown of the states
-pub refusal_of_state : {E : Type 0} (p : PolicySource) (slot : ℕ) (named : Cause) (slots : List (Option Insn)) → slots ≡ spread p.insns.items → (place : Place) (r : Result Refusal E) → IsPlace (spread p.insns.items) slot place
+pub refusal_of_state : {E : Type 0} (p : PolicySource) (slot : ℕ) (named : Cause) (slots : List (Option Insn))
+    → slots ≡ spread p.insns.items → (place : Place) (r : Result Refusal E) → IsPlace (spread p.insns.items) slot place
     → IfOk r (λ refusal. refusal.place ≡ place) → IfOk r (λ refusal. refusal.cause ≡ named)
     → IfOk r (λ refusal. IsFinding p place.slot place.insn named refusal.finding)
-    → IfOk r (λ refusal. (asked : List Bool) × AreAsked refusal.finding asked × AreMade slots place.slot asked refusal.trail.made.items) → IfOk r (IsRefusalOf p slot named)
+    → IfOk r (λ refusal. (asked : List Bool) × AreAsked refusal.finding asked × AreMade slots place.slot asked refusal.trail.made.items)
+    → IfOk r (IsRefusalOf p slot named)
 refusal_of_state p slot named slots laid place (Err e) at same is finds made = tt
 refusal_of_state p slot named slots laid place (Ok refusal) at same is finds made = record {
   place = subst (λ (q : Place). IsPlace (spread p.insns.items) slot q) (sym same) at;
   cause_is = is;
-  finds = subst (λ (q : Place). IsFinding p slot q.insn named refusal.finding) (sym same) (subst (λ (n : ℕ). IsFinding p n place.insn named refusal.finding) at.slot_is finds);
+  finds =
+      subst (λ (q : Place). IsFinding p slot q.insn named refusal.finding) (sym same)
+      (subst (λ (n : ℕ). IsFinding p n place.insn named refusal.finding) at.slot_is finds);
   asked = made.0;
   are_asked = made.1;
-  made = subst (λ (n : ℕ). AreMade (spread p.insns.items) n made.0 refusal.trail.made.items) at.slot_is (subst (λ (s : List (Option Insn)). AreMade s place.slot made.0 refusal.trail.made.items) laid made.2);
+  made =
+      subst (λ (n : ℕ). AreMade (spread p.insns.items) n made.0 refusal.trail.made.items) at.slot_is
+      (subst (λ (s : List (Option Insn)). AreMade s place.slot made.0 refusal.trail.made.items) laid made.2);
 }

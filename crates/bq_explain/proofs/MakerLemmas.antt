@@ -9,13 +9,14 @@ use Rattle.bq_insn.proofs.OptionLemmas.{some_none}
 use Rattle.bq_bpf.specs.Steps.{instruction_at}
 use Rattle.bq_verify.specs.Edges.{IsEdge}
 use Rattle.bq_verify.specs.Paths.{IsPath, end_of}
-use Rattle.bq_verify.specs.Passes.{IsOf, IsSound, LeadsOut}
+use Rattle.bq_verify.specs.Passes.{IsAmongTargets, IsSound, LeadsOut}
 use Rattle.bq_verify.specs.declared.edges.Targets.{Targets}
-use Rattle.bq_explain.specs.Makers.{AreLeading, AreSparing, IsMaker, IsPart, SparingWay}
-use Rattle.bq_explain.specs.declared.makers.Part.TheVariants.{Off, Makes, Leads}
+use Rattle.bq_explain.specs.Makers.{AreLeading, AreSparing, IsMaker, HasRole, SparingWay}
+use Rattle.bq_explain.specs.declared.makers.Role.TheVariants.{Off, Makes, Leads}
 use Rattle.bq_verify.specs.Straight.{spares}
 
--- the slots from that one on are gone through: the list has those that lead to the slot and spare the register, and the others are those that made it
+-- the slots from that one on are gone through: the list has those that lead to the slot and spare the register, and
+-- the others are those that made it
 pub record IsSwept (slots : List (Option Insn)) (register slot from : ℕ) (leading : List Bool) (makers : List ℕ) : Type 0 where
   pub room : length leading ≡ length slots
   pub are : AreLeading slots register slot from leading
@@ -30,7 +31,9 @@ record FirstStep (slots : List (Option Insn)) (register from to : ℕ) : Type 0 
   way : SparingWay slots register next to
 
 module _ (slots : List (Option Insn)) (register slot : ℕ) where
-  first_by : (from : ℕ) (rest : List ℕ) → from ≢ slot → IsPath slots from rest → end_of from rest ≡ slot → AreSparing slots register from rest → FirstStep slots register from slot
+  first_by : (from : ℕ) (rest : List ℕ) → from ≢ slot → IsPath slots from rest → end_of from rest ≡ slot
+      → AreSparing slots register from rest
+      → FirstStep slots register from slot
   first_by from [] other path ends sparing = absurd (other ends)
   first_by from (next ∷ rest) other path ends sparing = record {
     next = next;
@@ -44,8 +47,11 @@ module _ (slots : List (Option Insn)) (register slot : ℕ) where
   first_step from lt way = first_by from way.rest (omega arith) way.is_path way.ends way.sparing
 
   -- a way goes on by a step before it
-  step_before : (from next : ℕ) → IsEdge slots from next → spares register (instruction_at slots from) ≡ true → SparingWay slots register next slot → SparingWay slots register from slot
-  step_before from next edge spared way = record { rest = next ∷ way.rest; is_path = (edge, way.is_path); ends = way.ends; sparing = (spared, way.sparing) }
+  step_before : (from next : ℕ) → IsEdge slots from next → spares register (instruction_at slots from) ≡ true
+      → SparingWay slots register next slot
+      → SparingWay slots register from slot
+  step_before from next edge spared way =
+      record { rest = next ∷ way.rest; is_path = (edge, way.is_path); ends = way.ends; sparing = (spared, way.sparing) }
 
   -- a slot leads to itself
   stays : SparingWay slots register slot slot
@@ -55,7 +61,7 @@ module _ (slots : List (Option Insn)) (register slot : ℕ) where
   no_way : (from : ℕ) → from < slot → spares register (instruction_at slots from) ≡ false → SparingWay slots register from slot → ⊥
   no_way from lt writes way = let spared = (first_step from lt way).spared in cc
 
-  -- and what begins one makes nothing
+  -- the slot at which a sparing way begins makes nothing of the register
   no_maker : (from : ℕ) → from < slot → SparingWay slots register from slot → IsMaker slots register slot from → ⊥
   no_maker from lt way maker = no_way from lt maker.writes way
 
@@ -76,7 +82,7 @@ module _ (slots : List (Option Insn)) (register slot : ℕ) where
       edge_leads next edge way = let later = (sound.forward here next edge).0 in (are next (omega arith)).1 way
 
       -- where no instruction begins, no way does
-      pub part_none : instruction_at slots here ≡ None → IsPart slots register slot here Off
+      pub part_none : instruction_at slots here ≡ None → HasRole slots register slot here Off
       part_none none = (
         (λ way. let step = first_step here lt way in some_none _ _ step.edge.here none),
         (λ maker. some_none _ _ maker.edge.here none),
@@ -84,19 +90,26 @@ module _ (slots : List (Option Insn)) (register slot : ℕ) where
 
       module _ (targets : Targets) (out : LeadsOut slots here targets) where
         -- where none of the targets leads on, the slot is on no way
-        pub part_off : ((k : ℕ) → IsOf targets k → slice_index_or leading k false ≡ true → ⊥) → IsPart slots register slot here Off
+        pub part_off : ((k : ℕ) → IsAmongTargets targets k → slice_index_or leading k false ≡ true → ⊥)
+            → HasRole slots register slot here Off
         part_off none = (
-          (λ way. let step = first_step here lt way in none step.next (out.each step.next step.edge) (edge_leads step.next step.edge step.way)),
+          (λ way.
+              let step = first_step here lt way in
+              none step.next (out.each step.next step.edge) (edge_leads step.next step.edge step.way)),
           (λ maker. none maker.next (out.each maker.next maker.edge) (edge_leads maker.next maker.edge maker.way)),
         )
 
-        later : (k : ℕ) → IsOf targets k → here + 1 ≤ k
+        later : (k : ℕ) → IsAmongTargets targets k → here + 1 ≤ k
         later k of = let lt = (sound.forward here k (out.only k of)).0 in omega arith
 
-        pub part_makes : (k : ℕ) → IsOf targets k → slice_index_or leading k false ≡ true → spares register (instruction_at slots here) ≡ false → IsPart slots register slot here Makes
+        pub part_makes : (k : ℕ) → IsAmongTargets targets k → slice_index_or leading k false ≡ true
+            → spares register (instruction_at slots here) ≡ false
+            → HasRole slots register slot here Makes
         part_makes k of leads writes = record { writes = writes; next = k; edge = out.only k of; way = (are k (later k of)).0 leads }
 
-        pub part_leads : (k : ℕ) → IsOf targets k → slice_index_or leading k false ≡ true → spares register (instruction_at slots here) ≡ true → IsPart slots register slot here Leads
+        pub part_leads : (k : ℕ) → IsAmongTargets targets k → slice_index_or leading k false ≡ true
+            → spares register (instruction_at slots here) ≡ true
+            → HasRole slots register slot here Leads
         part_leads k of leads spared = step_before here k (out.only k of) spared ((are k (later k of)).0 leads)
 
       at_or_behind : (k : ℕ) (P : ℕ → Type 0) → here ≤ k → P here → (here + 1 ≤ k → P k) → P k
@@ -107,11 +120,15 @@ module _ (slots : List (Option Insn)) (register slot : ℕ) where
           by (inr (_, other)) = behind (omega arith)
 
       -- the list stays right where no way begins
-      pub leading_off : slice_index_or leading here false ≡ false → (SparingWay slots register here slot → ⊥) → AreLeading slots register slot here leading
-      leading_off unset none k le = at_or_behind k (λ k. (slice_index_or leading k false ≡ true) ↔ SparingWay slots register k slot) le ((λ set. absurd cc), (λ way. absurd (none way))) (are k)
+      pub leading_off : slice_index_or leading here false ≡ false → (SparingWay slots register here slot → ⊥)
+          → AreLeading slots register slot here leading
+      leading_off unset none k le =
+          at_or_behind k (λ k. (slice_index_or leading k false ≡ true) ↔ SparingWay slots register k slot) le
+          ((λ set. absurd cc), (λ way. absurd (none way))) (are k)
 
-      -- and is right where one does and is added
-      pub leading_on : here < length leading → SparingWay slots register here slot → AreLeading slots register slot here (slice_set leading here true)
+      -- the list stays right where a way begins at a slot and the slot is added
+      pub leading_on : here < length leading → SparingWay slots register here slot
+          → AreLeading slots register slot here (slice_set leading here true)
       leading_on inside way k le =
           at_or_behind k (λ k. (slice_index_or (slice_set leading here true) k false ≡ true) ↔ SparingWay slots register k slot) le
           ((λ _. way), (λ _. get_or-set_same leading here true false inside))
@@ -120,13 +137,17 @@ module _ (slots : List (Option Insn)) (register slot : ℕ) where
           ((λ set. (are k behind).0 (sym same ∙ set)), (λ way. same ∙ (are k behind).1 way)))
 
       module _ (inside : here < length slots) (makers : List ℕ) (swept : IsSwept slots register slot (here + 1) leading makers) where
-        still : (k : ℕ) → here ≤ k → IsMaker slots register slot k → (IsMaker slots register slot here → Contains makers k) → Contains makers k
-        still k le maker at = at_or_behind k (λ k. IsMaker slots register slot k → (IsMaker slots register slot here → Contains makers k) → Contains makers k) le (λ maker at. at maker) (λ behind maker at. (swept.made k).1 (behind, maker)) maker at
+        still : (k : ℕ) → here ≤ k → IsMaker slots register slot k → (IsMaker slots register slot here → Contains makers k)
+            → Contains makers k
+        still k le maker at =
+            at_or_behind k
+            (λ k. IsMaker slots register slot k → (IsMaker slots register slot here → Contains makers k) → Contains makers k)
+            le (λ maker at. at maker) (λ behind maker at. (swept.made k).1 (behind, maker)) maker at
 
         earlier : (k : ℕ) → Contains makers k → (here ≤ k) × IsMaker slots register slot k
         earlier k there = let was = (swept.made k).0 there in (omega (arith, was.0), was.1)
 
-        pub swept_off : IsPart slots register slot here Off → IsSwept slots register slot here leading makers
+        pub swept_off : HasRole slots register slot here Off → IsSwept slots register slot here leading makers
         swept_off part = record {
           room = swept.room;
           are = leading_off (swept.blank here (omega arith)) part.0;
@@ -134,23 +155,31 @@ module _ (slots : List (Option Insn)) (register slot : ℕ) where
           made = λ k. ((λ there. earlier k there), (λ is. still k is.0 is.1 (λ maker. absurd (part.1 maker))));
         }
 
-        pub swept_makes : IsPart slots register slot here Makes → IsSwept slots register slot here leading (makers ++ here ∷ [])
+        pub swept_makes : HasRole slots register slot here Makes → IsSwept slots register slot here leading (makers ++ here ∷ [])
         swept_makes part = record {
           room = swept.room;
           are = leading_off (swept.blank here (omega arith)) (no_way here lt part.writes);
           blank = λ k less. swept.blank k (omega arith);
-          made = λ k. ((λ there. by k (Contains-push_cases makers here k there)), (λ is. at_or_behind k (λ k. IsMaker slots register slot k → Contains (makers ++ here ∷ []) k) is.0 (λ _. Contains-push makers here) (λ behind maker. Contains-append_left makers (here ∷ []) k ((swept.made k).1 (behind, maker))) is.1));
+          made = λ k. (
+            (λ there. by k (Contains-push_cases makers here k there)),
+            (λ is.
+                at_or_behind k (λ k. IsMaker slots register slot k → Contains (makers ++ here ∷ []) k) is.0
+                (λ _. Contains-push makers here)
+                (λ behind maker. Contains-append_left makers (here ∷ []) k ((swept.made k).1 (behind, maker))) is.1),
+          );
         }
           where
             by : (k : ℕ) → Contains makers k ⊎ (here ≡ k) → (here ≤ k) × IsMaker slots register slot k
             by k (inl there) = earlier k there
             by k (inr same) = (omega arith, subst (λ (n : ℕ). IsMaker slots register slot n) same part)
 
-        pub swept_leads : IsPart slots register slot here Leads → IsSwept slots register slot here (slice_set leading here true) makers
+        pub swept_leads : HasRole slots register slot here Leads → IsSwept slots register slot here (slice_set leading here true) makers
         swept_leads part = record {
           room = length_set_is ∙ swept.room;
           are = leading_on (rw swept.room inside) part;
-          blank = λ k less. let other : k ≢ here = omega arith in get_or-set_other leading here k true false other ∙ swept.blank k (omega arith);
+          blank = λ k less.
+              let other : k ≢ here = omega arith in
+              get_or-set_other leading here k true false other ∙ swept.blank k (omega arith);
           made = λ k. ((λ there. earlier k there), (λ is. still k is.0 is.1 (λ maker. absurd (no_maker here lt part maker))));
         }
           where
@@ -158,7 +187,9 @@ module _ (slots : List (Option Insn)) (register slot : ℕ) where
             length_set_is = length-set leading here true
 
     -- at first only the slot itself leads
-    pub swept_first : (leading : List Bool) → slot < length slots → length leading ≡ length slots → ((k : ℕ) → slice_index_or leading k false ≡ false) → IsSwept slots register slot slot (slice_set leading slot true) []
+    pub swept_first : (leading : List Bool) → slot < length slots → length leading ≡ length slots
+        → ((k : ℕ) → slice_index_or leading k false ≡ false)
+        → IsSwept slots register slot slot (slice_set leading slot true) []
     swept_first leading inside room blank = record {
       room = length-set leading slot true ∙ room;
       are = λ k le. by k le (eqb_tells k slot);
@@ -166,8 +197,11 @@ module _ (slots : List (Option Insn)) (register slot : ℕ) where
       made = λ k. ((λ there. absurd (empty k there)), (λ is. absurd (behind k is.0 is.1)));
     }
       where
-        by : (k : ℕ) → slot ≤ k → {b : Bool} → ((b ≡ true) × (k ≡ slot)) ⊎ ((b ≡ false) × (k ≢ slot)) → (slice_index_or (slice_set leading slot true) k false ≡ true) ↔ SparingWay slots register k slot
-        by k le (inl (_, same)) = subst (λ (n : ℕ). (slice_index_or (slice_set leading slot true) n false ≡ true) ↔ SparingWay slots register n slot) (sym same) ((λ _. stays), (λ _. get_or-set_same leading slot true false (rw room inside)))
+        by : (k : ℕ) → slot ≤ k → {b : Bool} → ((b ≡ true) × (k ≡ slot)) ⊎ ((b ≡ false) × (k ≢ slot))
+            → (slice_index_or (slice_set leading slot true) k false ≡ true) ↔ SparingWay slots register k slot
+        by k le (inl (_, same)) =
+            subst (λ (n : ℕ). (slice_index_or (slice_set leading slot true) n false ≡ true) ↔ SparingWay slots register n slot)
+            (sym same) ((λ _. stays), (λ _. get_or-set_same leading slot true false (rw room inside)))
         by k le (inr (_, other)) =
             let unset = get_or-set_other leading slot k true false other ∙ blank k in
             ((λ set. absurd cc), (λ way. absurd (let less = way_rises k way in let no : ⊥ = omega arith in no)))
@@ -176,8 +210,10 @@ module _ (slots : List (Option Insn)) (register slot : ℕ) where
         empty k there = let less = there.1 in omega arith
 
         behind : (k : ℕ) → slot ≤ k → IsMaker slots register slot k → ⊥
-        behind k le maker = let later = (sound.forward k maker.next maker.edge).0 in let less = way_rises maker.next maker.way in omega arith
+        behind k le maker =
+            let later = (sound.forward k maker.next maker.edge).0 in let less = way_rises maker.next maker.way in omega arith
 
     -- at last the makers are all found
-    pub swept_last : (leading : List Bool) (makers : List ℕ) → IsSwept slots register slot 0 leading makers → (k : ℕ) → Contains makers k ↔ IsMaker slots register slot k
+    pub swept_last : (leading : List Bool) (makers : List ℕ) → IsSwept slots register slot 0 leading makers
+        → (k : ℕ) → Contains makers k ↔ IsMaker slots register slot k
     swept_last leading makers swept k = ((λ there. ((swept.made k).0 there).1), (λ maker. (swept.made k).1 (omega arith, maker)))

@@ -1,21 +1,25 @@
 -- The text of a refusal by its parts.
 use Rattle.std.proofs.Common.{◌≡◌, ◌∙◌, ◌++◌, ℕ, List, ap, append_assoc, sym}
 use Rattle.bq_policy_file.specs.declared.policy_source.PolicySource.{PolicySource}
-use Rattle.bq_explain.specs.Explained.{TellsFinding, TellsRefusal}
-use Rattle.bq_explain.specs.TrailTexts.{EndsWith, TellsTrail, place_line}
+use Rattle.bq_explain.specs.Explained.{DescribesFinding, DescribesRefusal}
+use Rattle.bq_explain.specs.TrailTexts.{EndsWith, DescribesTrail, place_line}
 use Rattle.bq_explain.specs.declared.refusal.Refusal.{Refusal}
 
 -- the parts make the whole
-pub tells_refusal : (p : PolicySource) (refusal : Refusal) (line at found after text : List ℕ) → EndsWith (place_line refusal.place) at → TellsFinding p refusal.place.insn refusal.finding found → TellsTrail p.form.shapes.items refusal.trail after → text ≡ line ++ (at ++ (found ++ after)) → TellsRefusal p refusal text
-tells_refusal p refusal line at found after text (named, ends) finding trail is =
+pub describes_refusal : (p : PolicySource) (refusal : Refusal) (line at found after text : List ℕ)
+    → EndsWith (place_line refusal.place) at → DescribesFinding p refusal.place.insn refusal.finding found
+    → DescribesTrail p.form.shapes.items refusal.trail after → text ≡ line ++ (at ++ (found ++ after))
+    → DescribesRefusal p refusal text
+describes_refusal p refusal line at found after text (named, ends) finding trail is =
     let place = place_line refusal.place in
     record {
       before = line ++ named;
       found = found;
-      tells_finding = finding;
+      describes_finding = finding;
       after = after;
-      tells_trail = trail;
+      describes_trail = trail;
       text_is =
-          is ∙ ap (λ (t : List ℕ). line ++ (t ++ (found ++ after))) ends ∙ ap (λ (t : List ℕ). line ++ t) (append_assoc named place (found ++ after))
+          is ∙ ap (λ (t : List ℕ). line ++ (t ++ (found ++ after))) ends
+          ∙ ap (λ (t : List ℕ). line ++ t) (append_assoc named place (found ++ after))
           ∙ sym (append_assoc line named (place ++ (found ++ after)));
     }

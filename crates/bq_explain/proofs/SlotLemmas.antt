@@ -12,7 +12,9 @@ shifted [] a b = refl
 shifted (x ∷ front) a b = shifted front a b
 
 -- an instruction begins behind the slots of those before it
-pub stands_behind : (insns : List Insn) (index : ℕ) (insn : Insn) → slice_get insns index ≡ Some insn → instruction_at (spread insns) (length (spread (take index insns))) ≡ Some insn
+pub stands_behind : (insns : List Insn) (index : ℕ) (insn : Insn)
+    → slice_get insns index ≡ Some insn
+    → instruction_at (spread insns) (length (spread (take index insns))) ≡ Some insn
 stands_behind [] index insn is = absurd cc
 stands_behind (first ∷ rest) zero insn is = is
 stands_behind (first ∷ rest) (suc index) insn is =
@@ -25,12 +27,16 @@ slots_long (MapRef d i) = refl
 slots_long _ = refl
 
 -- behind one instruction more stand as many slots more as that takes
-pub slots_more : (insns : List Insn) (i : ℕ) (past : Insn) (at slots new : ℕ) → i < length insns → at ≡ length (spread (take i insns)) → slots ≡ slots_of (get_or insns i past) → new ≡ at + slots → new ≡ length (spread (take (i + 1) insns))
+pub slots_more : (insns : List Insn) (i : ℕ) (past : Insn) (at slots new : ℕ)
+    → i < length insns → at ≡ length (spread (take i insns)) → slots ≡ slots_of (get_or insns i past) → new ≡ at + slots
+    → new ≡ length (spread (take (i + 1) insns))
 slots_more insns i past at slots new lt before width is =
     let x : Insn = get_or insns i past in
     let more : List (Option Insn) = Some x ∷ replicate (slots_of x - 1) None in
-    let whole : spread (take i insns) ++ more ≡ spread (take (i + 1) insns) = spread_more insns i past (spread (take i insns)) (spread (take i insns) ++ more) lt refl refl in
+    let whole : spread (take i insns) ++ more ≡ spread (take (i + 1) insns) =
+    spread_more insns i past (spread (take i insns)) (spread (take i insns) ++ more) lt refl refl in
     let long : length more ≡ slots_of x = slots_long x in
-    let sum : length (spread (take i insns) ++ more) ≡ length (spread (take i insns)) + length more = length-append (spread (take i insns)) more in
+    let sum : length (spread (take i insns) ++ more) ≡ length (spread (take i insns)) + length more =
+    length-append (spread (take i insns)) more in
     let same : length (spread (take i insns) ++ more) ≡ length (spread (take (i + 1) insns)) = ap length whole in
     omega arith

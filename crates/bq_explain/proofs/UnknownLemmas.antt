@@ -2,11 +2,12 @@
 use Rattle.std.proofs.Common.{◌≡◌, ℕ, suc, zero, List, [], ◌∷◌, ◌++◌, Option, Some, None, slice_index_or, append-nil, refl, sym, ap, ◌∙◌, subst, inl, inr}
 use Rattle.std.specs.Prelude.{codes}
 use Rattle.bq_states.specs.declared.abstract_state.AbstractValue.{AbstractValue}
-use Rattle.bq_explain.specs.Telling.{AreNames, no_name, one_name, NamesUnknown}
+use Rattle.bq_explain.specs.DescribedStates.{AreNames, no_name, one_name, NamesUnknown}
 use Rattle.bq_explain.specs.Texts.{called_unknown, unknown_below, unknown_name, unknown_text}
 
 -- without a name nothing is said
-pub none_unknown : (names : List ℕ) (registers : List (Option AbstractValue)) → names ≡ unknown_below 11 registers → names ≡ [] → names ≡ unknown_text registers
+pub none_unknown : (names : List ℕ) (registers : List (Option AbstractValue))
+    → names ≡ unknown_below 11 registers → names ≡ [] → names ≡ unknown_text registers
 none_unknown names registers are none = none ∙ sym (ap called_unknown (sym are ∙ none))
 
 -- what is called unknown
@@ -15,11 +16,14 @@ called [] text some is = absurd (some refl)
 called (first ∷ rest) text some is = is
 
 -- names are reported, and that they are unknown
-pub some_unknown : (names text : List ℕ) (registers : List (Option AbstractValue)) → names ≡ unknown_below 11 registers → (names ≡ [] → ⊥) → text ≡ names ++ codes " unknown  " → text ≡ unknown_text registers
+pub some_unknown : (names text : List ℕ) (registers : List (Option AbstractValue))
+    → names ≡ unknown_below 11 registers → (names ≡ [] → ⊥) → text ≡ names ++ codes " unknown  "
+    → text ≡ unknown_text registers
 some_unknown names text registers are some is = called names text some is ∙ ap called_unknown are
 
 -- one register more
-one_more : (before : List ℕ) (register : ℕ) (known : Option AbstractValue) → AreNames before → AreNames (before ++ unknown_name register known)
+one_more : (before : List ℕ) (register : ℕ) (known : Option AbstractValue)
+    → AreNames before → AreNames (before ++ unknown_name register known)
 one_more before register None are = one_name before register are
 one_more before register (Some k) are = subst (λ (t : List ℕ). AreNames t) (sym (append-nil before)) are
 

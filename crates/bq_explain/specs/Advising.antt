@@ -13,10 +13,10 @@ GoesBy a GiveFirstMap = a ≡ argument.Map
 GoesBy a (Know missing) = Unit {0}
 GoesBy a other = ⊥
 
--- where advice names a register that is a pointer, it is that one
-abbrev pub IsOn : ℕ → Advice → Type 0
-IsOn r (Test register) = register ≡ r
-IsOn r (UseBefore register) = register ≡ r
-IsOn r (OtherSide register) = register ≡ r
-IsOn r (Compare register) = register ≡ r
-IsOn r other = Unit {0}
+-- if advice names a register that is a pointer, it is this one
+abbrev pub NamesRegister : ℕ → Advice → Type 0
+NamesRegister r (Test register) = register ≡ r
+NamesRegister r (UseBefore register) = register ≡ r
+NamesRegister r (OtherSide register) = register ≡ r
+NamesRegister r (Compare register) = register ≡ r
+NamesRegister r other = Unit {0}

@@ -1,4 +1,4 @@
--- How what is said of a policy begins.
+-- The first words that are said of a policy.
 use Rattle.std.specs.Prelude.{ℕ, List, [], ◌∷◌, ◌++◌, codes}
 use Rattle.std.specs.Fmt.{decimal}
 use Rattle.bq_insn.specs.declared.TheConstants.{SLOTS}
@@ -15,13 +15,13 @@ abbrev pub maps_text : List MapShape → List ℕ
 maps_text [] = codes "none"
 maps_text (first ∷ rest) = decimal first.value_size ++ (codes ":" ++ (decimal first.entries ++ more_maps rest))
 
--- of a policy that is accepted: its hook, its budget, its version and its maps
+-- the words on a policy that is accepted: its hook, its budget, its version and its maps
 abbrev pub accepted_words : PolicySource → ℕ → List ℕ
 accepted_words p budget =
     codes "accepted " ++ (hook_word p.form.hook ++ (codes " budget " ++ (decimal budget ++ (codes " of " ++ (decimal SLOTS ++ (codes ", version "
     ++ (decimal (version_number p.form.version) ++ (codes ", maps " ++ maps_text p.form.shapes.items))))))))
 
--- of a policy that is not, the whole line of the verdict
+-- the first words on a policy: those of an accepted one, or otherwise the whole line of the verdict
 abbrev pub first_words : PolicySource → Verdict → List ℕ
 first_words p (Accepted budget) = accepted_words p budget
 first_words p verdict = verdict_line p.form.hook verdict

@@ -16,13 +16,13 @@ use Rattle.bq_states.specs.declared.abstract_state.AbstractState.{AbstractState}
 use Rattle.bq_policy_file.specs.declared.policy_source.PolicySource.{PolicySource}
 use Rattle.bq_needs.specs.Arguments.{register_of}
 use Rattle.bq_needs.specs.Needs.{IsNeed}
-use Rattle.bq_needs.specs.Words.{TellsNeed}
+use Rattle.bq_needs.specs.Words.{DescribesNeed}
 use Rattle.bq_needs.specs.declared.needs.Need.{Need}
 use Rattle.bq_needs.specs.declared.needs.Need.TheVariants as need
 use Rattle.bq_explain.specs.Makers.{IsOnTrail}
-use Rattle.bq_explain.specs.Telling.{TellsState}
+use Rattle.bq_explain.specs.DescribedStates.{DescribesState}
 use Rattle.bq_explain.specs.Texts.{IsStateText}
-use Rattle.bq_explain.specs.TrailTexts.{TellsTrail, place_line}
+use Rattle.bq_explain.specs.TrailTexts.{DescribesTrail, place_line}
 use Rattle.bq_explain.specs.Verdicts.{IsRefusedPolicy, IsVerdict}
 use Rattle.bq_explain.specs.declared.explanation.Detail.{Detail}
 use Rattle.bq_explain.specs.declared.explanation.Detail.TheVariants as detail
@@ -39,7 +39,7 @@ use Rattle.bq_explain.specs.declared.trail.Made.{Made}
 use Rattle.bq_explain.specs.declared.verdict.Verdict.{Verdict}
 use Rattle.bq_explain.specs.declared.verdict.Verdict.TheVariants.{Accepted, Refused}
 
--- it is the place of the instruction at the slot
+-- the place is that of the instruction at the slot
 pub record IsPlace (slots : List (Option Insn)) (slot : ℕ) (place : Place) : Type 0 where
   pub slot_is : place.slot ≡ slot
   pub here : instruction_at slots slot ≡ Some place.insn
@@ -60,9 +60,9 @@ abbrev pub IsOfState : Cause → Type 0
 IsOfState (cause.State obligation) = Unit {0}
 IsOfState (cause.Graph named) = ⊥
 
--- what is found at an instruction: for a fault of the control graph, one of that cause; for what is not shown of the states, a need that what is known before
--- it does not give, where that holds in every run that comes there; and that nothing is known, where each instruction before finds what it needs, only if
--- no run comes there
+-- What is found at a refused instruction: a fault of the control graph, with that cause; or a need that the state known before
+-- the instruction does not meet, and that state holds in every run that comes there; or that nothing is known. The last is
+-- found only if no run comes there, provided that each instruction before finds what it needs.
 abbrev pub IsFinding : PolicySource → ℕ → Insn → Cause → Finding → Type 0
 IsFinding p slot insn (cause.Graph named) (finding.Graph wrong) = graph_cause_of wrong ≡ named
 IsFinding p slot insn (cause.State obligation) (finding.State need known) =
@@ -96,15 +96,15 @@ abbrev pub AreMade : List (Option Insn) → ℕ → List Bool → List Made → 
 AreMade slots slot asked made =
     (one : Made) → Contains made one → IsOnTrail slots slot asked one.register one.place.slot × (instruction_at slots one.place.slot ≡ Some one.place.insn)
 
--- it tells of that maker, and of the instruction there
-pub record IsOf (slots : List (Option Insn)) (maker : Maker) (made : Made) : Type 0 where
+-- what was made is of this maker: its register, its slot and the instruction there
+pub record IsMadeBy (slots : List (Option Insn)) (maker : Maker) (made : Made) : Type 0 where
   pub register_is : made.register ≡ maker.register
   pub slot_is : made.place.slot ≡ maker.slot
   pub insn_is : instruction_at slots made.place.slot ≡ Some made.place.insn
 
 -- each of them tells of one of the makers
 abbrev pub AreOf : List (Option Insn) → List Maker → List Made → Type 0
-AreOf slots makers made = (one : Made) → Contains made one → (maker : Maker) × Contains makers maker × IsOf slots maker one
+AreOf slots makers made = (one : Made) → Contains made one → (maker : Maker) × Contains makers maker × IsMadeBy slots maker one
 
 -- the instruction at the slot, what is found there, and instructions on the trail of registers of which that speaks
 pub record IsRefusalOf (p : PolicySource) (slot : ℕ) (named : Cause) (refusal : Refusal) : Type 0 where
@@ -124,7 +124,7 @@ IsDetail p (Refused slot named) other = ⊥
 IsDetail p limited (detail.Limited place) = Unit {0}
 IsDetail p limited other = ⊥
 
--- where the verdict is a refusal, it is the verifier's
+-- if the verdict is a refusal, it is the verifier's
 abbrev pub IsOfVerifier : PolicySource → Verdict → Type 0
 IsOfVerifier p (Refused slot named) = IsRefusedPolicy p slot named
 IsOfVerifier p other = Unit {0}
@@ -135,28 +135,29 @@ pub record Explains (p : PolicySource) (l : Limits) (e : Explanation) : Type 0 w
   pub is_detail : IsDetail p e.verdict e.detail
 
 -- a line tells the need, and behind it lines tell what is known: in each state of a program of these maps that this allows they are so
-pub record TellsNeedAndState (p : PolicySource) (insn : Insn) (need : Need) (known : AbstractState) (text : List ℕ) : Type 0 where
-  pub told : List ℕ
-  pub tells_need : TellsNeed p known insn need told
+pub record DescribesNeedAndState (p : PolicySource) (insn : Insn) (need : Need) (known : AbstractState) (text : List ℕ) : Type 0 where
+  pub described : List ℕ
+  pub describes_need : DescribesNeed p known insn need described
   pub lines : List ℕ
   pub are_state : IsStateText p.form.shapes.items known lines
-  pub hold : (f : Setting) (s : State) → f.shapes ≡ p.form.shapes.items → Allows f known s → TellsState f s lines
-  pub text_is : text ≡ codes "\n  " ++ (told ++ (codes "\n" ++ lines))
+  pub hold : (f : Setting) (s : State) → f.shapes ≡ p.form.shapes.items → Allows f known s → DescribesState f s lines
+  pub text_is : text ≡ codes "\n  " ++ (described ++ (codes "\n" ++ lines))
 
-abbrev pub TellsFinding : PolicySource → Insn → Finding → List ℕ → Type 0
-TellsFinding p insn (finding.State need known) text = TellsNeedAndState p insn need known text
-TellsFinding p insn other text = Unit {0}
+-- the text says what is found at an instruction
+abbrev pub DescribesFinding : PolicySource → Insn → Finding → List ℕ → Type 0
+DescribesFinding p insn (finding.State need known) text = DescribesNeedAndState p insn need known text
+DescribesFinding p insn other text = Unit {0}
 
 -- the line of the instruction that is refused, then what is found there, then where the registers come from, then advice
-pub record TellsRefusal (p : PolicySource) (refusal : Refusal) (text : List ℕ) : Type 0 where
+pub record DescribesRefusal (p : PolicySource) (refusal : Refusal) (text : List ℕ) : Type 0 where
   pub before : List ℕ
   pub found : List ℕ
-  pub tells_finding : TellsFinding p refusal.place.insn refusal.finding found
+  pub describes_finding : DescribesFinding p refusal.place.insn refusal.finding found
   pub after : List ℕ
-  pub tells_trail : TellsTrail p.form.shapes.items refusal.trail after
+  pub describes_trail : DescribesTrail p.form.shapes.items refusal.trail after
   pub text_is : text ≡ before ++ (place_line refusal.place ++ (found ++ after))
 
--- of a refusal the text tells what is found and where the registers come from
-abbrev pub TellsDetail : PolicySource → Detail → List ℕ → Type 0
-TellsDetail p (detail.Refused refusal) text = TellsRefusal p refusal text
-TellsDetail p other text = Unit {0}
+-- for a refusal the text says what is found and where the registers come from
+abbrev pub DescribesDetail : PolicySource → Detail → List ℕ → Type 0
+DescribesDetail p (detail.Refused refusal) text = DescribesRefusal p refusal text
+DescribesDetail p other text = Unit {0}

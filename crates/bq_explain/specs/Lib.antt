@@ -3,7 +3,7 @@ pub mod Beginnings
 pub mod Explained
 pub mod Makers
 pub mod Measures
-pub mod Telling
+pub mod DescribedStates
 pub mod Texts
 pub mod TrailTexts
 pub mod Verdicts

@@ -9,8 +9,8 @@ use Rattle.bq_verify.specs.Paths.{IsPath, end_of}
 use Rattle.bq_verify.specs.Straight.{spares}
 use Rattle.bq_needs.specs.Operands.{reads}
 use Rattle.bq_explain.specs.declared.makers.Maker.{Maker}
-use Rattle.bq_explain.specs.declared.makers.Part.{Part}
-use Rattle.bq_explain.specs.declared.makers.Part.TheVariants.{Off, Makes, Leads}
+use Rattle.bq_explain.specs.declared.makers.Role.{Role}
+use Rattle.bq_explain.specs.declared.makers.Role.TheVariants.{Off, Makes, Leads}
 
 -- no instruction on the path before its end writes the register
 abbrev pub AreSparing : List (Option Insn) → ℕ → ℕ → List ℕ → Type 0
@@ -24,8 +24,8 @@ pub record SparingWay (slots : List (Option Insn)) (register from to : ℕ) : Ty
   pub ends : end_of from rest ≡ to
   pub sparing : AreSparing slots register from rest
 
--- the instruction writes the register, and from it some way leads to the slot on which no later instruction writes it; a call answers in register 0 and
--- ends what registers 1 to 5 held
+-- The instruction writes the register, and from it some way leads to the slot on which no later instruction writes the register.
+-- A call answers in register 0 and ends what registers 1 to 5 held
 pub record IsMaker (slots : List (Option Insn)) (register slot made : ℕ) : Type 0 where
   pub writes : spares register (instruction_at slots made) ≡ false
   pub next : ℕ
@@ -45,10 +45,10 @@ pub data IsOnTrail (slots : List (Option Insn)) (slot : ℕ) (asked : List Bool)
       → ReadsAt slots later register → IsMaker slots register later made → IsOnTrail slots slot asked register made
 
 -- what the instruction at a slot is to the ways from it on which no later instruction writes the register before that slot
-abbrev pub IsPart : List (Option Insn) → ℕ → ℕ → ℕ → Part → Type 0
-IsPart slots register slot here Off = (SparingWay slots register here slot → ⊥) × (IsMaker slots register slot here → ⊥)
-IsPart slots register slot here Makes = IsMaker slots register slot here
-IsPart slots register slot here Leads = SparingWay slots register here slot
+abbrev pub HasRole : List (Option Insn) → ℕ → ℕ → ℕ → Role → Type 0
+HasRole slots register slot here Off = (SparingWay slots register here slot → ⊥) × (IsMaker slots register slot here → ⊥)
+HasRole slots register slot here Makes = IsMaker slots register slot here
+HasRole slots register slot here Leads = SparingWay slots register here slot
 
 -- from that slot on the list has exactly the slots from which a way leads to the other one that spares the register
 abbrev pub AreLeading : List (Option Insn) → ℕ → ℕ → ℕ → List Bool → Type 0
@@ -58,7 +58,7 @@ AreLeading slots register slot from leading = (k : ℕ) → from ≤ k → (slic
 abbrev pub AreOnTrail : List (Option Insn) → ℕ → List Bool → List Maker → Type 0
 AreOnTrail slots slot asked trail = (maker : Maker) → Contains trail maker → IsOnTrail slots slot asked maker.register maker.slot
 
--- it made one of the registers for the slot
+-- the instruction made one of the registers that are asked for at the slot
 pub record MakesAsked (slots : List (Option Insn)) (slot : ℕ) (asked : List Bool) (maker : Maker) : Type 0 where
   pub of_asked : slice_index_or asked maker.register false ≡ true
   pub makes : IsMaker slots maker.register slot maker.slot

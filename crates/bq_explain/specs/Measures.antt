@@ -1,4 +1,4 @@
--- How much a policy uses of what a keeper may limit.
+-- What a policy uses of the things that a keeper may limit.
 use Rattle.std.specs.Prelude.{ℕ, ◌*◌, List, length, count_by, sum_by, codes}
 use Rattle.bq_bpf.specs.Instructions.{asks_counter}
 use Rattle.bq_bpf.specs.declared.shape.MapShape.{MapShape}
@@ -10,7 +10,7 @@ use Rattle.bq_explain.specs.declared.measure.Measure.TheVariants.{Maps, MapBytes
 abbrev pub bytes_of : MapShape → ℕ
 bytes_of shape = shape.value_size * shape.entries
 
--- its maps, the bytes of their values, and its instructions that call a counter
+-- the number of a policy's maps, of the bytes of their values, or of its instructions that call a counter
 abbrev pub measure_of : PolicySource → Measure → ℕ
 measure_of p Maps = length p.form.shapes.items
 measure_of p MapBytes = sum_by bytes_of p.form.shapes.items

@@ -1,4 +1,4 @@
--- How what is known of registers and stack is printed.
+-- The words that say what is known of registers and stack.
 use Rattle.std.specs.Prelude.{◌≡◌, ℕ, zero, suc, ◌+◌, ◌-◌, ◌*◌, ◌<◌, ◌≤◌, ◌==◌, Bool, false, List, [], ◌∷◌, ◌++◌, ◌⊎◌, Option, Some, None, codes, slice_index_or, if◌then◌else◌}
 use Rattle.std.specs.Fmt.{decimal}
 use Rattle.bq_bpf.specs.Memory.{stack_size}
@@ -8,7 +8,7 @@ use Rattle.bq_states.specs.declared.abstract_state.AbstractState.{AbstractState}
 use Rattle.bq_needs.specs.Accesses.{AreSet}
 use Rattle.bq_needs.specs.Texts.{known_text}
 
--- of a register of which nothing is known nothing is printed
+-- a register and what is known of it; nothing is printed if nothing is known
 abbrev pub register_text : List MapShape → ℕ → Option AbstractValue → List ℕ
 register_text shapes register None = []
 register_text shapes register (Some k) = codes " r" ++ (decimal register ++ (codes " " ++ (known_text shapes k ++ codes "  ")))
@@ -18,17 +18,17 @@ abbrev pub registers_below : List MapShape → ℕ → List (Option AbstractValu
 registers_below shapes zero registers = []
 registers_below shapes (suc n) registers = registers_below shapes n registers ++ register_text shapes n (slice_index_or registers n None)
 
--- of a register of which nothing is known the name is printed
+-- the name of a register of which nothing is known; nothing is printed of others
 abbrev pub unknown_name : ℕ → Option AbstractValue → List ℕ
 unknown_name register None = codes " r" ++ decimal register
 unknown_name register (Some k) = []
 
--- those of the first registers, this many of them
+-- the names of the unknown registers among the first ones, this many
 abbrev pub unknown_below : ℕ → List (Option AbstractValue) → List ℕ
 unknown_below zero registers = []
 unknown_below (suc n) registers = unknown_below n registers ++ unknown_name n (slice_index_or registers n None)
 
--- names of registers, and that they are unknown; nothing where there is no name
+-- names of registers, and that they are unknown; nothing is printed if there is no name
 abbrev pub called_unknown : List ℕ → List ℕ
 called_unknown [] = []
 called_unknown (first ∷ rest) = (first ∷ rest) ++ codes " unknown  "
@@ -42,6 +42,7 @@ abbrev pub kept_text : List MapShape → ℕ → Option AbstractValue → List �
 kept_text shapes slot None = []
 kept_text shapes slot (Some k) = codes "  the 8 bytes at stack end - " ++ (decimal (stack_size - slot * 8) ++ (codes ": " ++ (known_text shapes k ++ codes "\n")))
 
+-- what is known of the first slots of the stack, this many
 abbrev pub kept_below : List MapShape → ℕ → List (Option AbstractValue) → List ℕ
 kept_below shapes zero slots = []
 kept_below shapes (suc n) slots = kept_below shapes n slots ++ kept_text shapes n (slice_index_or slots n None)
@@ -63,7 +64,7 @@ pub data AreRuns : List Bool → ℕ → List ℕ → Type 0 where
   one_run : (set : List Bool) (before : List ℕ) (first past : ℕ) → AreRuns set first before → first < past → past ≤ stack_size
       → AreSet set first past → EndsAt set past → AreRuns set past (before ++ run_text first past)
 
--- runs, or that it runs none
+-- the line on the stack: the runs of written bytes; or, if there are none, that nothing is known to be written
 abbrev pub stack_text : List ℕ → List ℕ
 stack_text [] = codes " stack: nothing known to be written\n"
 stack_text (first ∷ rest) = codes " stack:" ++ ((first ∷ rest) ++ codes " written\n")

@@ -1,4 +1,4 @@
--- How it is printed where registers come from.
+-- The words that say where registers come from.
 use Rattle.std.specs.Prelude.{◌≡◌, ℕ, zero, suc, ◌==◌, List, [], ◌++◌, Bool, true, false, Option, Some, None, codes, flat_map, not, slice_index_or}
 use Rattle.std.specs.Fmt.{decimal}
 use Rattle.bq_insn.specs.declared.Insn.{Insn}
@@ -13,16 +13,16 @@ use Rattle.bq_explain.specs.declared.place.Place.{Place}
 use Rattle.bq_explain.specs.declared.trail.Made.{Made}
 use Rattle.bq_explain.specs.declared.trail.Trail.{Trail}
 
--- a slot, behind the line of the text if there is one
+-- a slot, after the line of the text if there is one
 abbrev pub slot_text : Option ℕ → ℕ → List ℕ
 slot_text None slot = codes "slot " ++ decimal slot
 slot_text (Some line) slot = codes "line " ++ (decimal line ++ (codes ", slot " ++ decimal slot))
 
--- where an instruction stands, by its slot
+-- the place of an instruction, by its slot
 abbrev pub place_text : Place → List ℕ
 place_text place = slot_text place.line place.slot
 
--- where an instruction stands, and the instruction as a listing has it
+-- the place of an instruction, and the instruction as a listing has it
 abbrev pub place_line : Place → List ℕ
 place_line place = place_text place ++ (codes ":  " ++ line_body place.insn)
 
@@ -30,17 +30,17 @@ place_line place = place_text place ++ (codes ":  " ++ line_body place.insn)
 abbrev pub EndsWith : List ℕ → List ℕ → Type 0
 EndsWith end text = (before : List ℕ) × (text ≡ before ++ end)
 
--- the instruction is a call and the register none that it answers in
+-- of a register that the instruction writes: whether the instruction is a call, which leaves each but register 0 unset
 abbrev pub leaves_unset : Insn → ℕ → Bool
 leaves_unset (Call helper) register = not (register == 0)
 leaves_unset other register = false
 
--- that a register is unset, if it is
+-- the words that a register is unset, if it is
 abbrev pub unset_outcome : ℕ → Bool → List ℕ
 unset_outcome register false = []
 unset_outcome register true = codes "    r" ++ (decimal register ++ codes " then is unset")
 
--- what a register is behind the instruction that made it
+-- what a register is after the instruction that made it
 abbrev pub outcome_text : List MapShape → Insn → ℕ → Option AbstractValue → List ℕ
 outcome_text shapes insn register None = unset_outcome register (leaves_unset insn register)
 outcome_text shapes insn register (Some k) = codes "    r" ++ (decimal register ++ (codes " then is " ++ known_text shapes k))
@@ -55,7 +55,7 @@ abbrev pub unset_text : ℕ → Bool → List ℕ
 unset_text register false = []
 unset_text register true = codes "  r" ++ (decimal register ++ codes " is set by no instruction on some way from the start\n")
 
--- those of the first registers, this many of them
+-- the words on the unset registers among the first ones, this many
 abbrev pub unset_below : ℕ → List Bool → List ℕ
 unset_below zero unset = []
 unset_below (suc n) unset = unset_below n unset ++ unset_text n (slice_index_or unset n false)
@@ -64,7 +64,7 @@ unset_below (suc n) unset = unset_below n unset ++ unset_text n (slice_index_or 
 abbrev pub coming_text : List MapShape → Coming → List ℕ
 coming_text shapes coming = known_text shapes coming.known ++ (codes " on the way over " ++ place_text coming.place)
 
--- what a register is where ways meet
+-- the words on a register after ways meet
 abbrev pub met_text : List MapShape → Option AbstractValue → List ℕ
 met_text shapes None = codes "nothing is known of it"
 met_text shapes (Some k) = codes "it is " ++ known_text shapes k
@@ -80,6 +80,6 @@ abbrev pub trail_text : List MapShape → Trail → List ℕ
 trail_text shapes trail =
     flat_map (made_text shapes) trail.made.items ++ (unset_below 11 trail.unset ++ flat_map (meeting_text shapes) trail.meetings.items)
 
--- where the registers come from, and then the line of what helps
-abbrev pub TellsTrail : List MapShape → Trail → List ℕ → Type 0
-TellsTrail shapes trail text = (advice : List ℕ) × (text ≡ trail_text shapes trail ++ (codes "  helps: " ++ (advice ++ codes "\n")))
+-- the text says where the registers come from, and then on one line what helps
+abbrev pub DescribesTrail : List MapShape → Trail → List ℕ → Type 0
+DescribesTrail shapes trail text = (advice : List ℕ) × (text ≡ trail_text shapes trail ++ (codes "  helps: " ++ (advice ++ codes "\n")))

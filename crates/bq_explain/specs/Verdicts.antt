@@ -34,7 +34,7 @@ pub record IsAcceptedPolicy (p : PolicySource) (budget : ℕ) : Type 0 where
   pub accepted : IsAccepted (spread p.insns.items) p.form.shapes.items (context_of p.form) budget
   pub longest : IsGreatest (PathOut (spread p.insns.items) 0) budget
 
--- the verifier's verdict on the policy's program is that cause at that slot, which it is on no straight program
+-- the verifier refuses the policy's program at that slot for that cause; so the program is not straight
 pub record IsRefusedPolicy (p : PolicySource) (slot : ℕ) (cause : Cause) : Type 0 where
   pub refusal : IsVerdictOn (subject_in p) (refused.At slot cause)
   pub not_straight : ¬ (IsStraightProgram (subject_in p))
@@ -86,7 +86,7 @@ pub record KeepsMeasures (p : PolicySource) (l : Limits) : Type 0 where
   pub map_bytes : IsWithin (measure_of p MapBytes) l.map_bytes
   pub counters : IsWithin (measure_of p Counters) l.counters
 
--- it uses more of that measure than is allowed
+-- the policy uses more of a measure than is allowed
 pub record IsOver (p : PolicySource) (l : Limits) (over : Over) : Type 0 where
   pub most : most_of l over.measure ≡ Some over.most
   pub used : over.used ≡ measure_of p over.measure
@@ -98,7 +98,7 @@ KeepsBefore p l Maps = Unit {0}
 KeepsBefore p l MapBytes = IsWithin (measure_of p Maps) l.maps
 KeepsBefore p l Counters = IsWithin (measure_of p Maps) l.maps × IsWithin (measure_of p MapBytes) l.map_bytes
 
--- it uses more of that measure than is allowed, and of none before it
+-- the policy uses more of this measure than is allowed, and of no measure before it
 pub record IsFirstOver (p : PolicySource) (l : Limits) (over : Over) : Type 0 where
   pub is_over : IsOver p l over
   pub before : KeepsBefore p l over.measure
@@ -116,7 +116,8 @@ pub record KeepsLimits (p : PolicySource) (l : Limits) (budget : ℕ) : Type 0 w
   pub hook : AllowsHook l p.form.hook
   pub measures : KeepsMeasures p l
 
--- the verifier's answer, or the first of the limits that a program exceeds which it accepts
+-- the verifier's refusal; or, of a program that the verifier accepts, the first limit that it exceeds; or that it is accepted
+-- and exceeds none
 abbrev pub IsVerdict : PolicySource → Limits → Verdict → Type 0
 IsVerdict p l (Accepted budget) = IsAcceptedPolicy p budget × KeepsLimits p l budget
 IsVerdict p l (OverSteps budget most) = IsAcceptedPolicy p budget × (l.steps ≡ Some most) × (most < budget)
@@ -125,6 +126,7 @@ IsVerdict p l OtherHook = (budget : ℕ) × IsAcceptedWithin p l budget × (¬ (
 IsVerdict p l (Beyond over) = (budget : ℕ) × IsAcceptedWithin p l budget × AllowsHook l p.form.hook × IsFirstOver p l over
 IsVerdict p l (Refused slot cause) = IsRefusedPolicy p slot cause
 
+-- a verdict accepts the policy
 abbrev pub is_accepted : Verdict → Bool
 is_accepted (Accepted budget) = true
 is_accepted other = false

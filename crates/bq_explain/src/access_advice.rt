@@ -1,5 +1,5 @@
-//! What helps where an access is not shown to be within what its pointer points to.
-ghost use Rattle.bq_explain.specs.Advising.{IsOn};
+//! Advice for an access that is not shown to be within what its pointer points to.
+ghost use Rattle.bq_explain.specs.Advising.{NamesRegister};
 
 use crate::advice::Advice;
 use crate::trail::Trail;
@@ -9,7 +9,7 @@ use bq_needs::{Access, Lack};
 use bq_policy_file::PolicySource;
 use bq_states::abstract_state::{AbstractValue, ValueKind};
 
-/// How far a load reaches beyond the context.
+/// Two facts about a load beyond the context, by which its advice is chosen.
 #[derive(Clone, Copy)]
 pub struct Reach {
     /// Whether its pointer may be one of several.
@@ -18,9 +18,9 @@ pub struct Reach {
     pub is_in_second: bool,
 }
 
-/// Where an access of a map's value may begin.
+/// The places of a map's value at which an access may begin.
 #[derive(Clone, Copy)]
-pub struct Room {
+pub struct AccessRange {
     /// Whether its pointer may be one of several.
     pub is_range: bool,
     /// The last byte of the value at which it may begin.
@@ -29,7 +29,7 @@ pub struct Room {
     pub is_in_greatest: bool,
 }
 
-/// What helps against that lack of an access.
+/// Answers what helps if an access lacks this.
 pub(crate) fn access_advice(
     policy: &PolicySource,
     access: Access,
@@ -37,7 +37,7 @@ pub(crate) fn access_advice(
     lack: Lack,
     trail: &Trail,
 ) -> Advice
-    ensures { IsOn access.register result }
+    ensures { NamesRegister access.register result }
 {
     match lack {
         Lack::Number => number_advice(access.register, pointer, trail),
@@ -55,9 +55,10 @@ pub(crate) fn access_advice(
     }
 }
 
-/// What helps where the pointer is a number: where it is 0 and was the answer of a look-up, the access stands on the wrong side of the test.
+/// Answers what helps if the pointer is a number. If the number is 0 and was the answer of a look-up, the access is on the wrong
+/// side of the test.
 fn number_advice(register: u8, pointer: AbstractValue, trail: &Trail) -> Advice
-    ensures { IsOn register result }
+    ensures { NamesRegister register result }
 {
     if pointer.offset.hi > 0 {
         return Advice::UsePointer;
@@ -70,7 +71,7 @@ fn number_advice(register: u8, pointer: AbstractValue, trail: &Trail) -> Advice
     Advice::UsePointer
 }
 
-/// Whether it is known to be the answer of a look-up.
+/// Answers whether the word is known to be the answer of a look-up.
 fn is_answer(known: Option<AbstractValue>) -> bool {
     match known {
         Some(word) => matches!(word.kind, ValueKind::EntryOrNull(_)),
@@ -78,9 +79,9 @@ fn is_answer(known: Option<AbstractValue>) -> bool {
     }
 }
 
-/// What helps where the register is the answer of a look-up: a test, unless a number was added to it.
+/// Answers what helps if the register is the answer of a look-up: a test, unless a number was added to the answer.
 pub(crate) fn test_advice(register: u8, answer: AbstractValue) -> Advice
-    ensures { IsOn register result }
+    ensures { NamesRegister register result }
 {
     if is_answer_itself(answer) {
         Advice::Test(register)
@@ -89,17 +90,18 @@ pub(crate) fn test_advice(register: u8, answer: AbstractValue) -> Advice
     }
 }
 
-/// Whether nothing was added to the answer of a look-up, so that it may be tested.
+/// Answers whether nothing was added to the answer of a look-up, so that it may be tested.
 pub(crate) fn is_answer_itself(answer: AbstractValue) -> bool {
     answer.offset.hi == 0
 }
 
-/// Whether the pointer may be one of several.
+/// Answers whether the pointer may be one of several.
 fn is_range(pointer: AbstractValue) -> bool {
     pointer.offset.lo != pointer.offset.hi
 }
 
-/// Whether format 2 helps: all bytes of the load are in the context of its place policies, with each address that the pointer may have.
+/// Answers whether format 2 helps: all bytes of the load are in the context of its place policies, with each address that the
+/// pointer may have.
 fn is_in_second(policy: &PolicySource, access: Access, pointer: AbstractValue) -> bool {
     match (policy.form.hook, policy.form.version) {
         (Hook::Place, Version::First) => {
@@ -110,7 +112,7 @@ fn is_in_second(policy: &PolicySource, access: Access, pointer: AbstractValue) -
     }
 }
 
-/// Whether all bytes of the access are below the bound, with each address that the pointer may have.
+/// Answers whether all bytes of the access are below the bound, with each address that the pointer may have.
 fn is_within(access: Access, pointer: AbstractValue, bound: u64) -> bool {
     let further = i64::from(access.off).cast_unsigned();
     let lo = pointer.offset.lo.wrapping_add(further);
@@ -119,9 +121,9 @@ fn is_within(access: Access, pointer: AbstractValue, bound: u64) -> bool {
     lo <= hi && past <= bound
 }
 
-/// Where an access may begin of a value of this many bytes.
-fn room_of(access: Access, pointer: AbstractValue, size: u16) -> Room {
-    Room {
+/// Answers where in a value of this many bytes an access may begin.
+fn room_of(access: Access, pointer: AbstractValue, size: u16) -> AccessRange {
+    AccessRange {
         is_range: is_range(pointer),
         last: usize::from(size).saturating_sub(access.bytes),
         is_in_greatest: is_within(access, pointer, u64::from(GREATEST_SIZE)),

@@ -1,15 +1,15 @@
 //! What helps against each cause, as a value.
 ghost use Rattle.std.specs.Prelude.{◌≡◌, ◌==◌, ℕ, false, slice_index_or, true};
-ghost use Rattle.bq_explain.specs.Advising.{GoesBy, IsOn};
+ghost use Rattle.bq_explain.specs.Advising.{GoesBy, NamesRegister};
 ghost use Rattle.bq_explain.specs.declared.advice.Advice.TheVariants.{Know};
 ghost use Rattle.bq_explain.specs.declared.advice.Missing.{Missing as Lacking};
 
-use crate::access_advice::{Reach, Room, access_advice, is_answer_itself, test_advice};
+use crate::access_advice::{AccessRange, Reach, access_advice, is_answer_itself, test_advice};
 use crate::graph_fault::GraphFault;
 use crate::refusal::Finding;
 use crate::trail::Trail;
 use bq_bpf::shape::MAPS;
-use bq_insn::{Insn, Operation, Source, Width};
+use bq_insn::{Insn, Operation, REGISTERS, Source, Width};
 use bq_needs::{Argument, Need, Pointer, Registers, moves};
 use bq_policy_file::PolicySource;
 use bq_states::abstract_state::{AbstractState, AbstractValue, ValueKind};
@@ -34,7 +34,7 @@ pub enum Advice {
     CopyFrame,
     /// Call counters less often.
     FewerCalls,
-    /// Let something be known of registers.
+    /// Set these registers, or copy them before the call that unsets them; `Missing` says which.
     Know(Missing),
     /// Use a pointer.
     UsePointer,
@@ -55,7 +55,7 @@ pub enum Advice {
     /// Write these bytes of the stack first.
     WriteFirst,
     /// Stay in the value.
-    StayInValue(Room),
+    StayInValue(AccessRange),
     /// Store a pointer whole.
     StoreWhole,
     /// Compare that register, a look-up's answer, with 0.
@@ -72,10 +72,10 @@ pub enum Advice {
     Calculate,
     /// Count maps from 0.
     CountMaps,
-    /// Do with the maps that there may be.
+    /// Name a map by a lower number: a program has at most as many maps as `MAPS` says.
     FewMaps,
     /// Say the maps of a text, this many.
-    SayMaps(usize),
+    StateMaps(usize),
     /// Make an image with its maps, this many.
     MakeWithMaps(usize),
     /// Say a map, and give it to the helper.
@@ -84,7 +84,7 @@ pub enum Advice {
     GiveValue(u16),
     /// Give a helper that argument.
     Give(Argument),
-    /// Answer a number, where the answer is of that kind, or a number on some way only.
+    /// Make register 0 a number at the exit. It is of this kind now; `Number` is for one that is a number on some ways only.
     Answer(ValueKind),
     /// Read how the verifier works.
     Read,
@@ -99,11 +99,11 @@ pub struct Missing {
     pub called: Registers,
     /// No instruction sets them on some way from the start.
     pub unset: Registers,
-    /// They are of different kinds where ways meet.
+    /// The registers that hold words of different kinds after ways meet.
     pub mixed: Registers,
 }
 
-/// What helps where something is wrong with the control graph of a program of this many slots.
+/// Answers what helps if something is wrong with the control graph of a program of this many slots.
 pub(crate) fn graph_advice(fault: GraphFault, count: usize) -> Advice {
     match fault {
         GraphFault::JumpsBack(_) => Advice::JumpForward,
@@ -117,7 +117,7 @@ pub(crate) fn graph_advice(fault: GraphFault, count: usize) -> Advice {
     }
 }
 
-/// What helps where something is not shown of the states.
+/// Answers what helps if something is not shown of the states.
 pub(crate) fn state_advice(
     policy: &PolicySource,
     insn: Insn,
@@ -155,7 +155,7 @@ fn need_advice(
     }
 }
 
-/// What helps where the answer is a pointer: one that was moved before its test can't be followed.
+/// Answers what helps if the answer is a pointer: an answer of a look-up that was moved before its test can't be followed.
 fn answer_advice(answer: AbstractValue) -> Advice {
     match answer.kind {
         ValueKind::EntryOrNull(_) if !is_answer_itself(answer) => Advice::Answer(ValueKind::Number),
@@ -167,24 +167,25 @@ fn answer_advice(answer: AbstractValue) -> Advice {
 pub(crate) fn only(register: u8) -> Registers
     ensures { (r : ℕ) → slice_index_or result r false ≡ true → (register == r) ≡ true }
 {
-    let mut registers = [false; 11];
-    if register < 11 {
+    let mut registers = [false; REGISTERS];
+    if register < REGISTERS as u8 {
         registers[usize::from(register)] = true;
     }
     registers
 }
 
-/// What helps where nothing is known of these registers: a call left one unset, no instruction sets it on some way, or it is of two kinds.
+/// Answers what helps if nothing is known of these registers: a call left one unset, no instruction sets it on some way, or it
+/// holds words of two kinds.
 fn unknown_advice(registers: &Registers, trail: &Trail) -> Advice
     ensures { (missing : Lacking) × (result ≡ Know missing) }
 {
     let mut missing = Missing {
-        held: [false; 11],
-        called: [false; 11],
-        unset: [false; 11],
-        mixed: [false; 11],
+        held: [false; REGISTERS],
+        called: [false; REGISTERS],
+        unset: [false; REGISTERS],
+        mixed: [false; REGISTERS],
     };
-    for at in 0..11usize {
+    for at in 0..REGISTERS {
         let is_asked = registers[at];
         let is_called = trail.left.called[at];
         let is_held = trail.left.held[at];
@@ -197,17 +198,17 @@ fn unknown_advice(registers: &Registers, trail: &Trail) -> Advice
     Advice::Know(missing)
 }
 
-/// What helps where a map does not exist.
+/// Answers what helps if a map does not exist.
 fn map_advice(policy: &PolicySource, index: i32) -> Advice {
     match usize::try_from(index) {
         Err(_) => Advice::CountMaps,
         Ok(number) if number >= MAPS => Advice::FewMaps,
         Ok(number) if policy.lines.is_empty() => Advice::MakeWithMaps(number.saturating_add(1)),
-        Ok(number) => Advice::SayMaps(number.saturating_add(1)),
+        Ok(number) => Advice::StateMaps(number.saturating_add(1)),
     }
 }
 
-/// What helps where an argument of a helper is not what it wants; a register of two kinds is reported as such.
+/// Answers what helps if an argument of a helper is not what the helper wants; a register of two kinds is reported as such.
 fn argument_advice(
     policy: &PolicySource,
     state: &AbstractState,
@@ -218,7 +219,7 @@ fn argument_advice(
 {
     let register = argument.register();
     let at = usize::from(register);
-    let is_mixed = at < 11 && !trail.left.called[at] && !trail.unset[at];
+    let is_mixed = at < REGISTERS && !trail.left.called[at] && !trail.unset[at];
     if known(state, register).is_none() && is_mixed {
         return unknown_advice(&only(register), trail);
     }
@@ -229,7 +230,7 @@ fn argument_advice(
     }
 }
 
-/// What helps where the value of an update is not shown to be good: as many bytes as a value of the map has that r1 names.
+/// Answers what helps if the value of an update is not shown to be good: as many bytes as a value of the map in r1 has.
 fn value_advice(policy: &PolicySource, state: &AbstractState) -> Advice
     ensures { GoesBy Argument.Value result }
 {
@@ -245,9 +246,9 @@ fn value_advice(policy: &PolicySource, state: &AbstractState) -> Advice
     }
 }
 
-/// What helps where the instruction works on a pointer.
+/// Answers what helps if the instruction works on a pointer.
 fn pointer_advice(insn: Insn, pointer: Pointer, state: &AbstractState) -> Advice
-    ensures { IsOn pointer.register result }
+    ensures { NamesRegister pointer.register result }
 {
     match insn {
         Insn::StoreReg { .. } => Advice::StoreWhole,
@@ -263,9 +264,9 @@ fn pointer_advice(insn: Insn, pointer: Pointer, state: &AbstractState) -> Advice
     }
 }
 
-/// What helps where it compares one: only the answer of a look-up is compared, as it came, with 0.
+/// Answers what helps if the instruction compares a pointer: only the answer of a look-up is compared, unmoved, with 0.
 fn comparison_advice(pointer: Pointer) -> Advice
-    ensures { IsOn pointer.register result }
+    ensures { NamesRegister pointer.register result }
 {
     match pointer.known.kind {
         ValueKind::EntryOrNull(_) => {
@@ -279,9 +280,9 @@ fn comparison_advice(pointer: Pointer) -> Advice
     }
 }
 
-/// What helps where it calculates with one.
+/// Answers what helps if the instruction calculates with a pointer.
 fn arithmetic_advice(insn: Insn, pointer: Pointer, state: &AbstractState) -> Advice
-    ensures { IsOn pointer.register result }
+    ensures { NamesRegister pointer.register result }
 {
     if adds_pointers(insn, state) {
         return Advice::AddNumber;
@@ -295,7 +296,7 @@ fn arithmetic_advice(insn: Insn, pointer: Pointer, state: &AbstractState) -> Adv
     }
 }
 
-/// Whether it adds one pointer to another or takes it from it, in 64 bits.
+/// Answers whether the instruction adds one pointer to another or subtracts it, in 64 bits.
 fn adds_pointers(insn: Insn, state: &AbstractState) -> bool {
     match insn {
         Insn::Alu {
@@ -308,7 +309,7 @@ fn adds_pointers(insn: Insn, state: &AbstractState) -> bool {
     }
 }
 
-/// Whether it is known to be no number.
+/// Answers whether the word is known to be no number.
 fn is_pointer(known: Option<AbstractValue>) -> bool {
     match known {
         Some(word) => !matches!(word.kind, ValueKind::Number),

@@ -1,10 +1,11 @@
 //! What helps, in words.
-use crate::access_advice::{Reach, Room};
+use crate::access_advice::{AccessRange, Reach};
 use crate::advice::{Advice, Missing};
 use crate::summary::maps_text;
 use bq_bpf::shape::MAPS;
 use bq_bpf::{with_counters, with_helper, with_helpers, with_most_calls, with_stack_size};
 use bq_hooks::with_longer_context;
+use bq_insn::REGISTERS;
 use bq_needs::Argument;
 use bq_policy_file::PolicySource;
 use bq_states::abstract_state::ValueKind;
@@ -19,68 +20,185 @@ pub fn advice_text(
     match advice {
         Advice::Know(missing) => missing_text(alloc, &missing),
         Advice::StayInValue(room) => room_text(alloc, room),
-        Advice::ReadContext(reach) => String::from_str(alloc, reach_text(reach)),
         Advice::GiveValue(bytes) => value_text(alloc, bytes),
+        Advice::StateMaps(count) => text_maps_text(alloc, policy, count),
+        Advice::MakeWithMaps(count) => image_maps_text(alloc, policy, count),
+        Advice::FewMaps => few_maps_text(alloc),
+        Advice::OtherSide(register) => other_side_text(alloc, register),
+        Advice::Test(register) => test_text(alloc, register),
+        Advice::UseBefore(register) => use_before_text(alloc, register),
+        Advice::Compare(register) => compare_text(alloc, register),
+        Advice::CopyWhole { to, from } => copy_text(alloc, to, from),
+        Advice::ReadContext(reach) => String::from_str(alloc, reach_text(reach)),
         Advice::Give(argument) => String::from_str(alloc, argument_words(argument)),
         Advice::Answer(kind) => String::from_str(alloc, answer_words(kind)),
-        Advice::SayMaps(count) => {
-            let maps = maps_up_to(alloc, policy, count)?;
-            format!(in alloc;
-                "say the maps: a line ;@ maps {maps} in the text's head, or --maps {maps} if no line says them"
-            )
-        }
-        Advice::MakeWithMaps(count) => {
-            let hook = policy.form.hook.word();
-            let maps = maps_up_to(alloc, policy, count)?;
-            format!(in alloc;
-                "an image holds the shapes of its maps: make it from its text again, by bqsim asm --hook {hook} --maps {maps}"
-            )
-        }
-        Advice::FewMaps => format!(in alloc;
-            "a program has at most {MAPS} maps, and the number of the first is 0"
+        Advice::JumpForward => String::from_str(
+            alloc,
+            "jump to a later instruction, and write a loop out as often as it may run",
         ),
-        other => register_text(alloc, other),
+        Advice::CountSlots => String::from_str(
+            alloc,
+            "jump to a label, or count again: a wide instruction (lddw, ldmap) has two slots",
+        ),
+        Advice::PutThere => String::from_str(
+            alloc,
+            "put an instruction there, as exit: the program ends before it",
+        ),
+        Advice::End => String::from_str(alloc, "end with exit, or jump to one"),
+        Advice::TakeOut => String::from_str(
+            alloc,
+            "take the instruction out, or let a branch lead to it",
+        ),
+        Advice::CallAnother => String::from_str(alloc, with_helpers!("call one of these: ")),
+        Advice::CopyFrame => String::from_str(alloc, "copy it first: mov64 r2, r10, and change r2"),
+        Advice::FewerCalls => String::from_str(
+            alloc,
+            with_most_calls!(
+                "take calls out, from the ",
+                " on a way on: each way may have ",
+                ", and one call may add what several did"
+            ),
+        ),
+        Advice::UsePointer => String::from_str(
+            alloc,
+            "use a pointer: at the start r1 points to the context, r10 to the end of the stack",
+        ),
+        Advice::LookUp => String::from_str(
+            alloc,
+            with_helper!(
+                LOOKUP,
+                "look an entry up, by helper ",
+                ", test its answer (jeq64 r0, 0, label), and use that"
+            ),
+        ),
+        Advice::WriteElsewhere => String::from_str(
+            alloc,
+            "write to the stack, at r10 - 8 or below, or to an entry of a map, which keeps its value from run to run",
+        ),
+        Advice::StayOnStack => String::from_str(
+            alloc,
+            with_stack_size!(
+                "stay on the stack: it is the ",
+                " bytes below r10, the last of them at r10 - 1"
+            ),
+        ),
+        Advice::WriteFirst => String::from_str(
+            alloc,
+            "write each of these bytes first, on each way, by stores at known distances from r10, as stdw [r10-8], 0",
+        ),
+        Advice::StoreWhole => String::from_str(
+            alloc,
+            "store it by stxdw at r10 - 8, r10 - 16 or so on",
+        ),
+        Advice::LeaveComparison => String::from_str(
+            alloc,
+            "leave the comparison out: numbers are compared, and the answer of a look-up with the number 0",
+        ),
+        Advice::AddNothing => String::from_str(
+            alloc,
+            with_helper!(
+                LOOKUP,
+                "look an entry up, by helper ",
+                ", and add to the address of its value, after a test"
+            ),
+        ),
+        Advice::AddNumber => String::from_str(
+            alloc,
+            "add a number to a pointer, or take one from it: there is no sum or difference of two pointers",
+        ),
+        Advice::Calculate => String::from_str(
+            alloc,
+            "do arithmetic on numbers, and add the result to the pointer by add64",
+        ),
+        Advice::CountMaps => String::from_str(
+            alloc,
+            "maps are numbered from 0: ldmap r1, 0 names the first, which a line ;@ maps 8:1 says",
+        ),
+        Advice::GiveFirstMap => String::from_str(
+            alloc,
+            "give the policy a map (;@ maps 8:1 in the text's head, or --maps 8:1), and write ldmap r1, 0 just before the call",
+        ),
+        Advice::Read => String::from_str(alloc, "see docs/VERIFIER.md"),
     }
 }
 
-/// An advice on a register.
-fn register_text(alloc: Global, advice: Advice) -> Result<String, AllocError> {
-    match advice {
-        Advice::OtherSide(register) => format!(in alloc;
-            "here r{register} is 0: use it on the other side of its test, where it is an entry"
-        ),
-        Advice::Test(register) => format!(in alloc;
-            "test it first: jeq64 r{register}, 0, label, and use it on the other side"
-        ),
-        Advice::UseBefore(register) => format!(in alloc;
-            "use r{register} on the way where it is an entry, before the ways meet: an answer to which a number was added can't be tested"
-        ),
-        Advice::Compare(register) => format!(in alloc;
-            "compare it with the number 0, by jeq64 or jne64: jeq64 r{register}, 0, label"
-        ),
-        Advice::CopyWhole { to, from } => format!(in alloc;
-            "copy the whole pointer: mov64 r{to}, r{from}"
-        ),
-        other => String::from_str(alloc, plain_text(other)),
-    }
+/// Says how to give the maps of a text.
+fn text_maps_text(
+    alloc: Global,
+    policy: &PolicySource,
+    count: usize,
+) -> Result<String, AllocError> {
+    let maps = maps_up_to(alloc, policy, count)?;
+    format!(in alloc;
+        "say the maps: a line ;@ maps {maps} in the text's head, or --maps {maps} if no line says them"
+    )
 }
 
-/// What helps where nothing is known of registers, one after another.
+/// Says how to make an image with its maps.
+fn image_maps_text(
+    alloc: Global,
+    policy: &PolicySource,
+    count: usize,
+) -> Result<String, AllocError> {
+    let hook = policy.form.hook.word();
+    let maps = maps_up_to(alloc, policy, count)?;
+    format!(in alloc;
+        "an image holds the shapes of its maps: make it from its text again, by bqsim asm --hook {hook} --maps {maps}"
+    )
+}
+
+/// Says which numbers maps have.
+fn few_maps_text(alloc: Global) -> Result<String, AllocError> {
+    format!(in alloc; "a program has at most {MAPS} maps, and the number of the first is 0")
+}
+
+/// Says where a register that is 0 here is an entry.
+fn other_side_text(alloc: Global, register: u8) -> Result<String, AllocError> {
+    format!(in alloc;
+        "here r{register} is 0: use it on the other side of its test, where it is an entry"
+    )
+}
+
+/// Says how to test the answer of a look-up.
+fn test_text(alloc: Global, register: u8) -> Result<String, AllocError> {
+    format!(in alloc; "test it first: jeq64 r{register}, 0, label, and use it on the other side")
+}
+
+/// Says where to use an answer that cannot be tested any more.
+fn use_before_text(alloc: Global, register: u8) -> Result<String, AllocError> {
+    format!(in alloc;
+        "use r{register} on the way where it is an entry, before the ways meet: an answer to which a number was added can't be tested"
+    )
+}
+
+/// Says how to compare the answer of a look-up.
+fn compare_text(alloc: Global, register: u8) -> Result<String, AllocError> {
+    format!(in alloc;
+        "compare it with the number 0, by jeq64 or jne64: jeq64 r{register}, 0, label"
+    )
+}
+
+/// Says how to copy a whole pointer.
+fn copy_text(alloc: Global, to: u8, from: u8) -> Result<String, AllocError> {
+    format!(in alloc; "copy the whole pointer: mov64 r{to}, r{from}")
+}
+
+/// Says what helps if nothing is known of registers, for one after another.
 fn missing_text(alloc: Global, missing: &Missing) -> Result<String, AllocError> {
     let mut text = String::new(alloc);
-    for register in 0..11usize {
-        let told = lack_text(alloc, missing, register)?;
-        if !text.is_empty() && !told.is_empty() {
+    for register in 0..REGISTERS {
+        let described = lack_text(alloc, missing, register)?;
+        if !text.is_empty() && !described.is_empty() {
             text.push_str("; ")?;
         }
-        text.push_str(told.as_str())?;
+        text.push_str(described.as_str())?;
     }
     Ok(text)
 }
 
-/// What helps where nothing is known of that register; nothing if it is not one of them.
+/// Says what helps if nothing is known of this register; empty if it is not one of them.
 fn lack_text(alloc: Global, missing: &Missing, register: usize) -> Result<String, AllocError> {
-    if register >= 11 {
+    if register >= REGISTERS {
         return Ok(String::new(alloc));
     }
     if missing.called[register] {
@@ -121,8 +239,8 @@ fn maps_up_to(alloc: Global, policy: &PolicySource, count: usize) -> Result<Stri
     Ok(text)
 }
 
-/// Where an access of a value may begin.
-fn room_text(alloc: Global, room: Room) -> Result<String, AllocError> {
+/// Says where an access of a value may begin.
+fn room_text(alloc: Global, room: AccessRange) -> Result<String, AllocError> {
     let last = room.last;
     let larger = if room.is_in_greatest {
         ", or take a map of larger values"
@@ -143,7 +261,7 @@ fn room_text(alloc: Global, room: Room) -> Result<String, AllocError> {
     }
 }
 
-/// What helps where a load reaches beyond the context.
+/// Says what helps if a load reaches beyond the context.
 fn reach_text(reach: Reach) -> &'static str {
     match (reach.is_range, reach.is_in_second) {
         (true, true) => with_longer_context!(
@@ -163,7 +281,7 @@ fn reach_text(reach: Reach) -> &'static str {
     }
 }
 
-/// How a value of this many bytes is given: it stands on the stack, and the last 8 bytes there are left to the entry's number.
+/// Says how to give a value of this many bytes: on the stack, whose last 8 bytes are left for the entry's number.
 fn value_text(alloc: Global, bytes: u16) -> Result<String, AllocError> {
     let far = u32::from(bytes) + 8;
     format!(in alloc;
@@ -171,7 +289,7 @@ fn value_text(alloc: Global, bytes: u16) -> Result<String, AllocError> {
     )
 }
 
-/// How an argument is made what a helper wants.
+/// Says how to make an argument what a helper wants.
 fn argument_words(argument: Argument) -> &'static str {
     match argument {
         Argument::Map => {
@@ -190,7 +308,7 @@ fn argument_words(argument: Argument) -> &'static str {
     }
 }
 
-/// What helps where the answer is a pointer of that kind.
+/// Says what helps if the answer is a pointer of that kind.
 fn answer_words(kind: ValueKind) -> &'static str {
     match kind {
         ValueKind::Map(_) => {
@@ -203,74 +321,5 @@ fn answer_words(kind: ValueKind) -> &'static str {
         ValueKind::Context | ValueKind::Stack | ValueKind::Entry(_) => {
             "set r0 to a number on each way to the exit; a pointer is no answer, what it points to may be loaded"
         }
-    }
-}
-
-/// An advice that names no register.
-fn plain_text(advice: Advice) -> &'static str {
-    match advice {
-        Advice::JumpForward => {
-            "jump to a later instruction, and write a loop out as often as it may run"
-        }
-        Advice::CountSlots => {
-            "jump to a label, or count again: a wide instruction (lddw, ldmap) has two slots"
-        }
-        Advice::PutThere => "put an instruction there, as exit: the program ends before it",
-        Advice::End => "end with exit, or jump to one",
-        Advice::TakeOut => "take the instruction out, or let a branch lead to it",
-        Advice::CallAnother => with_helpers!("call one of these: "),
-        Advice::CopyFrame => "copy it first: mov64 r2, r10, and change r2",
-        Advice::FewerCalls => with_most_calls!(
-            "take calls out, from the ",
-            " on a way on: each way may have ",
-            ", and one call may add what several did"
-        ),
-        Advice::UsePointer => {
-            "use a pointer: at the start r1 points to the context, r10 to the end of the stack"
-        }
-        Advice::LookUp => with_helper!(
-            LOOKUP,
-            "look an entry up, by helper ",
-            ", test its answer (jeq64 r0, 0, label), and use that"
-        ),
-        Advice::WriteElsewhere => {
-            "write to the stack, at r10 - 8 or below, or to an entry of a map, which keeps its value from run to run"
-        }
-        _ => more_text(advice),
-    }
-}
-
-/// The rest of these.
-fn more_text(advice: Advice) -> &'static str {
-    match advice {
-        Advice::StayOnStack => with_stack_size!(
-            "stay on the stack: it is the ",
-            " bytes below r10, the last of them at r10 - 1"
-        ),
-        Advice::WriteFirst => {
-            "write each of these bytes first, on each way, by stores at known distances from r10, as stdw [r10-8], 0"
-        }
-        Advice::StoreWhole => "store it by stxdw at r10 - 8, r10 - 16 or so on",
-        Advice::LeaveComparison => {
-            "leave the comparison out: numbers are compared, and the answer of a look-up with the number 0"
-        }
-        Advice::AddNothing => with_helper!(
-            LOOKUP,
-            "look an entry up, by helper ",
-            ", and add to the address of its value, after a test"
-        ),
-        Advice::AddNumber => {
-            "add a number to a pointer, or take one from it: there is no sum or difference of two pointers"
-        }
-        Advice::Calculate => {
-            "do arithmetic on numbers, and add the result to the pointer by add64"
-        }
-        Advice::CountMaps => {
-            "maps are numbered from 0: ldmap r1, 0 names the first, which a line ;@ maps 8:1 says"
-        }
-        Advice::GiveFirstMap => {
-            "give the policy a map (;@ maps 8:1 in the text's head, or --maps 8:1), and write ldmap r1, 0 just before the call"
-        }
-        _ => "see docs/VERIFIER.md",
     }
 }

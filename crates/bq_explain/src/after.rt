@@ -1,4 +1,4 @@
-//! What is known of registers and stack after an instruction, on the way to one of the slots behind it.
+//! What is known of registers and stack after an instruction, on the way to one of the slots that follow it.
 ghost use Rattle.std.specs.Prelude.{◌<◌, ◌≤◌, ◌^◌, IsTrue, length};
 ghost use Rattle.bq_bpf.specs.Steps.{IsCounterCall};
 ghost use Rattle.bq_transfer.specs.Ready.{IsTransferred, WritesBelowFrame};
@@ -7,15 +7,15 @@ use bq_bpf::MapShape;
 use bq_bpf::instruction::{destination, is_counter_call};
 use bq_insn::{Condition, Insn, Source, Width};
 use bq_states::abstract_state::AbstractState;
+use bq_states::learnt::learn_branch;
 use bq_states::registers::{known, operand};
 use bq_states::relations::Relation;
-use bq_states::told::tell;
 use bq_transfer::counters::ask;
 use bq_transfer::sides::{right_side, side};
 use bq_transfer::transfer::transfer;
 use bq_verify::{KnownStates, PolicyForm};
 
-/// What is known on the step from one slot to another; None where no run takes it.
+/// Answers what is known on the step from one slot to another; None if no run takes it.
 pub(crate) fn known_after(
     form: &PolicyForm,
     slots: &[Option<Insn>],
@@ -36,7 +36,7 @@ pub(crate) fn known_after(
     None
 }
 
-/// Whether a run may go on by the instruction, to the next one or by its jump; if so, the state is the one after it.
+/// Answers whether a run may go on by the instruction, to the next one or by its jump; then the state is the one after it.
 fn comes(
     state: &mut AbstractState,
     shapes: &[MapShape],
@@ -58,7 +58,7 @@ fn comes(
     }
 }
 
-/// Which sides of a branch a run may take.
+/// The sides of a branch that a run may take.
 #[derive(Clone, Copy)]
 pub(crate) struct Sides {
     /// On to the next instruction.
@@ -117,7 +117,7 @@ fn test_of(insn: Insn) -> Option<Test> {
     }
 }
 
-/// Whether a run may pass the test that way; if so, the state is the one behind it.
+/// Answers whether a run may pass the test that way; then the state is the one after it.
 fn passes(state: &mut AbstractState, test: Test, is_taken: bool) -> bool {
     if test.dst >= 10 {
         return false;
@@ -137,11 +137,11 @@ fn passes(state: &mut AbstractState, test: Test, is_taken: bool) -> bool {
         cond: test.cond,
         goes: is_taken,
     };
-    tell(state, test.dst, test.src, there, right, relation);
+    learn_branch(state, test.dst, test.src, there, right, relation);
     true
 }
 
-/// Whether a run may pass an instruction after which only the next one runs; if so, the state is the one behind it.
+/// Answers whether a run may pass an instruction that only the next one can follow; then the state is the one after it.
 fn goes_on(state: &mut AbstractState, shapes: &[MapShape], context: usize, insn: Insn) -> bool
     requires context { context < 2 ^ 16 }
     requires few { length shapes.now ≤ 8 }
@@ -155,7 +155,7 @@ fn goes_on(state: &mut AbstractState, shapes: &[MapShape], context: usize, insn:
     false
 }
 
-/// Whether it is neither a jump nor an EXIT.
+/// Answers whether the instruction is neither a jump nor an EXIT.
 fn is_transferred(insn: Insn) -> bool
     ensures { IsTrue result → IsTransferred insn }
 {
@@ -174,7 +174,7 @@ fn is_transferred(insn: Insn) -> bool
     }
 }
 
-/// Whether it does not write register 10.
+/// Answers whether the instruction does not write register 10.
 fn spares_frame(insn: Insn) -> bool
     ensures { IsTrue result → WritesBelowFrame insn }
 {

@@ -26,12 +26,12 @@ pub enum Detail {
     Accepted(Summary),
     /// Of a policy that is safe and beyond a limit: the first call that is not allowed, if that is the limit.
     Limited(Option<Place>),
-    /// Of a policy that the verifier refuses: where and why.
+    /// The verifier refuses the policy: the place and the reason.
     Refused(Refusal),
 }
 
-/// The verdict on a policy, and what explains it. What it tells of registers and stack at the slot of a refusal holds in every run
-/// that comes there. The label of a jump at fault is taken from the bytes of the policy's file, where that is a text.
+/// Answers the verdict on a policy, and what explains it. What it says of registers and stack at the slot of a refusal holds in
+/// every run that comes there. The label of a jump at fault is taken from the bytes of the policy's file, if that is a text.
 pub fn explain(
     alloc: Global,
     policy: &PolicySource,

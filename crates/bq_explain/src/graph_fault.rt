@@ -73,11 +73,11 @@ fn called(insn: Insn) -> i32 {
 pub(crate) fn label_on(file: &[u8], line: Option<usize>) -> Option<&str> {
     let text = std::str::from_utf8(file).ok()?;
     let line = text.lines().nth(line?.checked_sub(1)?)?;
-    let said = match line.split_once(';') {
-        Some((said, _)) => said,
+    let written = match line.split_once(';') {
+        Some((written, _)) => written,
         None => line,
     };
-    let label = said
+    let label = written
         .split(is_between)
         .filter(|word| !word.is_empty())
         .last()?;
@@ -87,7 +87,7 @@ pub(crate) fn label_on(file: &[u8], line: Option<usize>) -> Option<&str> {
     Some(label)
 }
 
-/// Whether the letter stands between words of the assembler's language.
+/// Answers whether the letter separates words of the assembler's language.
 fn is_between(letter: char) -> bool {
     letter == ' ' || letter == '\t' || letter == ','
 }
@@ -99,25 +99,47 @@ pub(crate) fn graph_text(
     fault: GraphFault,
     label: Option<&str>,
 ) -> Result<String, AllocError> {
-    match fault {
-        GraphFault::JumpsOut(to) => {
-            let to = target_text(alloc, label, None, to)?;
-            format!(in alloc; "jumps to {to}, out of the program")
-        }
-        GraphFault::JumpsBack(to) => {
-            let line = match usize::try_from(to) {
-                Ok(slot) => line_at(policy, slot),
-                Err(_) => None,
-            };
-            let to = target_text(alloc, label, line, to)?;
-            format!(in alloc; "jumps back to {to}: a policy has no loops")
-        }
-        GraphFault::JumpsInside(to) => {
-            format!(in alloc; "jumps to slot {to}, into a wide instruction")
-        }
-        GraphFault::Helper(helper) => called_text(alloc, helper),
-        other => String::from_str(alloc, plain_text(other)),
-    }
+    let words = match fault {
+        GraphFault::JumpsOut(to) => return out_text(alloc, label, to),
+        GraphFault::JumpsBack(to) => return back_text(alloc, policy, label, to),
+        GraphFault::JumpsInside(to) => return inside_text(alloc, to),
+        GraphFault::Helper(helper) => return called_text(alloc, helper),
+        GraphFault::RunsOut => "goes on past the end of the program, where an exit is needed",
+        GraphFault::Unreached => "is on no way from the first instruction",
+        GraphFault::Frame => "writes r10, which is only read",
+        GraphFault::Calls => with_most_calls!(
+            "is at least the ",
+            " call of a counter on some way; ",
+            " are allowed"
+        ),
+    };
+    String::from_str(alloc, words)
+}
+
+/// A jump out of the program, to that slot.
+fn out_text(alloc: Global, label: Option<&str>, to: i64) -> Result<String, AllocError> {
+    let to = target_text(alloc, label, None, to)?;
+    format!(in alloc; "jumps to {to}, out of the program")
+}
+
+/// A jump back to that slot.
+fn back_text(
+    alloc: Global,
+    policy: &PolicySource,
+    label: Option<&str>,
+    to: i64,
+) -> Result<String, AllocError> {
+    let line = match usize::try_from(to) {
+        Ok(slot) => line_at(policy, slot),
+        Err(_) => None,
+    };
+    let to = target_text(alloc, label, line, to)?;
+    format!(in alloc; "jumps back to {to}: a policy has no loops")
+}
+
+/// A jump to that slot, the second one of a wide instruction.
+fn inside_text(alloc: Global, to: i64) -> Result<String, AllocError> {
+    format!(in alloc; "jumps to slot {to}, into a wide instruction")
 }
 
 /// The target of a jump: its label and the line of the instruction there, as far as there are any, and its slot.
@@ -141,19 +163,4 @@ fn target_text(
 fn called_text(alloc: Global, helper: i32) -> Result<String, AllocError> {
     let numbers = with_helper_numbers!("the helpers are ");
     format!(in alloc; "calls helper {helper}, which does not exist; {numbers}")
-}
-
-/// A fault that names no number.
-fn plain_text(fault: GraphFault) -> &'static str {
-    match fault {
-        GraphFault::RunsOut => "goes on past the end of the program, where an exit is needed",
-        GraphFault::Unreached => "is on no way from the first instruction",
-        GraphFault::Frame => "writes r10, which is only read",
-        GraphFault::Calls => with_most_calls!(
-            "is at least the ",
-            " call of a counter on some way; ",
-            " are allowed"
-        ),
-        _ => "is not shown to be safe",
-    }
 }

@@ -25,7 +25,7 @@ mod trail_words;
 mod verdict;
 mod ways;
 
-pub use access_advice::{Reach, Room};
+pub use access_advice::{AccessRange, Reach};
 pub use advice::{Advice, Missing};
 pub use advice_words::advice_text;
 pub use explanation::{Detail, Explanation, explain};
@@ -37,5 +37,5 @@ pub use place::{Place, index_at};
 pub use refusal::{Finding, Refusal};
 pub use summary::{Summary, maps_text};
 pub use text::{explanation_text, need_words};
-pub use trail::{Left, Made, Trail};
+pub use trail::{Clobbered, Made, Trail};
 pub use verdict::{Verdict, judge, verdict_line};

@@ -25,7 +25,7 @@ pub struct Limits {
     pub counters: Option<u32>,
 }
 
-/// A limit that a policy is beyond: it uses so much, where `most` is allowed.
+/// A limit that a policy exceeds: the policy uses `used`, and `most` is allowed.
 #[derive(Clone, Copy)]
 pub struct Over {
     pub measure: Measure,
@@ -55,7 +55,7 @@ impl Limits {
         }
     }
 
-    /// Whether a policy may be for that hook.
+    /// Answers whether a policy may be for that hook.
     pub(crate) fn allows(&self, hook: Hook) -> bool
         ensures { IsTrue result ↔ AllowsHook self.now hook }
     {
@@ -78,7 +78,7 @@ impl Limits {
         self.beyond(policy, Measure::Counters)
     }
 
-    /// The limit of that measure, where the policy is beyond it.
+    /// Answers the limit of that measure, if the policy exceeds it.
     fn beyond(&self, policy: &PolicySource, measure: Measure) -> Option<Over>
         ensures over { MatchOption result (IsWithin (measure_of policy.now measure) (most_of self.now measure)) (IsOver policy.now self.now) }
         ensures measure { IfSome result (λ over. over.measure ≡ measure) }
@@ -106,7 +106,7 @@ impl Limits {
         }
     }
 
-    /// The helper of the first instruction that calls one which may not be called.
+    /// The first helper that is called and may not be called.
     pub(crate) fn forbidden(&self, insns: &[Insn]) -> Option<i32>
         ensures { MatchOption result (All (CallsNoOther (allowed self.now)) insns.now) (IsCalledAgainst (allowed self.now) insns.now) }
     {
@@ -117,7 +117,7 @@ impl Limits {
     }
 }
 
-/// The helper of the first instruction that calls one beside these.
+/// The first helper that is called and is not one of these.
 fn called_against(helpers: &[i32], insns: &[Insn]) -> Option<i32>
     ensures { MatchOption result (All (CallsNoOther (Some helpers.now)) insns.now) (IsCalledAgainst (Some helpers.now) insns.now) }
 {

@@ -1,21 +1,21 @@
-//! Where a register's value comes from: the instructions that made it, by the ways of the control graph.
+//! The instructions that made a register's value, by the ways of the control graph.
 ghost use Rattle.std.specs.Prelude.{◌+◌, ◌⊎◌, Bool, List, ◌≡◌, ◌<◌, ◌≤◌, ◌↔◌, ℕ, All, Contains, IfOk, IfSome, IsTrue, MatchBool, OnOk, false, length, slice_index_or, Some, true};
-ghost use Rattle.bq_verify.specs.Passes.{IsOf, IsSound};
-ghost use Rattle.bq_explain.specs.Makers.{AreLeading, AreOnTrail, IsMaker, IsOnTrail, IsPart, MakesAsked};
+ghost use Rattle.bq_verify.specs.Passes.{IsAmongTargets, IsSound};
+ghost use Rattle.bq_explain.specs.Makers.{AreLeading, AreOnTrail, IsMaker, IsOnTrail, HasRole, MakesAsked};
 ghost use Rattle.bq_explain.specs.declared.makers.Maker.{Maker as Named};
 ghost use Rattle.bq_verify.specs.Straight.{spares};
 
 use crate::ways::{Ways, is_marked, reaching};
 use bq_bpf::instruction::destination;
-use bq_insn::{Insn, SLOTS};
+use bq_insn::{Insn, REGISTERS, SLOTS};
 use bq_needs::{Registers, read_registers};
 use bq_verify::edges::{Targets, instruction};
-use bq_verify::passes::targets;
+use bq_verify::graph_numbers::targets;
 use std::alloc::{AllocError, Global};
 
-/// What an instruction is to the ways to a slot on which no later one writes a register.
+/// What an instruction is to the ways from a writer of a register to a slot, on which no other instruction writes it.
 #[derive(Clone, Copy)]
-enum Part {
+enum Role {
     /// It is on none.
     Off,
     /// It begins one, for it writes the register.
@@ -24,7 +24,7 @@ enum Part {
     Leads,
 }
 
-/// Whether the instruction writes the register; a call answers in r0 and ends what r1 to r5 held.
+/// Answers whether the instruction writes the register; a call answers in r0 and ends what r1 to r5 held.
 pub(crate) fn writes(insn: Insn, register: u8) -> bool
     ensures { MatchBool result (spares register (Some insn) ≡ false) (spares register (Some insn) ≡ true) }
 {
@@ -34,7 +34,7 @@ pub(crate) fn writes(insn: Insn, register: u8) -> bool
     }
 }
 
-/// Whether that is the register.
+/// Answers whether the register that is written, if any, is this one.
 fn names(written: Option<u8>, register: u8) -> bool
     ensures { IsTrue result ↔ (written ≡ Some register) }
 {
@@ -44,7 +44,7 @@ fn names(written: Option<u8>, register: u8) -> bool
     }
 }
 
-/// Whether a way that spares the register leads on from the target, if there is one.
+/// Answers whether a way that spares the register leads on from the target, if there is one.
 fn leads(leading: &[bool], to: Option<usize>) -> bool
     requires { (k : ℕ) → to ≡ Some k → k < length leading.now }
     ensures { IsTrue result ↔ ((k : ℕ) × (to ≡ Some k) × (slice_index_or leading.now k false ≡ true)) }
@@ -55,15 +55,15 @@ fn leads(leading: &[bool], to: Option<usize>) -> bool
     }
 }
 
-/// Whether a way that spares the register leads on from one of the targets.
+/// Answers whether a way that spares the register leads on from one of the targets.
 fn lead_on(leading: &[bool], targets: Targets) -> bool
-    requires { (k : ℕ) → IsOf targets k → k < length leading.now }
-    ensures { IsTrue result ↔ ((k : ℕ) × IsOf targets k × (slice_index_or leading.now k false ≡ true)) }
+    requires { (k : ℕ) → IsAmongTargets targets k → k < length leading.now }
+    ensures { IsTrue result ↔ ((k : ℕ) × IsAmongTargets targets k × (slice_index_or leading.now k false ≡ true)) }
 {
     leads(leading, targets.next) || leads(leading, targets.jump)
 }
 
-/// The instructions that made the register for the slot, the nearest first.
+/// The instructions whose value the register may hold at the slot, the nearest first.
 pub(crate) fn makers(
     alloc: Global,
     slots: &[Option<Insn>],
@@ -98,34 +98,34 @@ fn swept(
     let mut makers = Vec::new(alloc);
     for done in 0..slot {
         let here = slot - 1 - done;
-        match part_of(slots, register, here, leading) {
-            Part::Off => {}
-            Part::Makes => makers.push(here)?,
-            Part::Leads => leading[here] = true,
+        match role_of(slots, register, here, leading) {
+            Role::Off => {}
+            Role::Makes => makers.push(here)?,
+            Role::Leads => leading[here] = true,
         }
     }
     Ok(makers)
 }
 
-/// What the instruction of a slot is, by the slots behind it from which a way leads on.
-fn part_of(slots: &[Option<Insn>], register: u8, here: usize, leading: &[bool]) -> Part
+/// What the instruction of slot `here` is to those ways; `leading` says of each later slot whether a way leads on from it.
+fn role_of(slots: &[Option<Insn>], register: u8, here: usize, leading: &[bool]) -> Role
     requires inside { here < length slots.now }
     requires short { length slots.now ≤ SLOTS }
     requires sound { IsSound slots.now }
     requires room { length leading.now ≡ length slots.now }
-    ensures { (slot : ℕ) → here < slot → AreLeading slots.now register slot (here + 1) leading.now → IsPart slots.now register slot here result }
+    ensures { (slot : ℕ) → here < slot → AreLeading slots.now register slot (here + 1) leading.now → HasRole slots.now register slot here result }
 {
     let Some(insn) = instruction(slots, here) else {
-        return Part::Off;
+        return Role::Off;
     };
     let targets = targets(slots, here, insn);
     if !lead_on(leading, targets) {
-        return Part::Off;
+        return Role::Off;
     }
     if writes(insn, register) {
-        Part::Makes
+        Role::Makes
     } else {
-        Part::Leads
+        Role::Leads
     }
 }
 
@@ -141,8 +141,8 @@ pub struct Maker {
 /// The most makers that a trail names.
 const MOST: usize = 6;
 
-/// The instructions that made the registers for the slot, the nearest first, and then those that made what these read; each on a way
-/// that a run may take.
+/// The instructions whose values the asked registers may hold at the slot, the nearest first, and then the instructions whose
+/// values those read, and so on; each on a way that a run may take.
 pub(crate) fn trail(
     alloc: Global,
     slots: &[Option<Insn>],
@@ -188,7 +188,7 @@ fn push_operands(
     push_makers(alloc, slots, ways, maker.slot, &read_registers(insn), trail)
 }
 
-/// The instructions that made the registers for the slot, as long as there is room.
+/// Adds the instructions whose values the registers may hold at the slot, as long as there is room.
 fn push_makers(
     alloc: Global,
     slots: &[Option<Insn>],
@@ -202,7 +202,7 @@ fn push_makers(
     requires sound { IsSound slots.now }
     ensures { OnOk result ((maker : Named) → Contains trail.new.items maker → Contains trail.old.items maker ⊎ MakesAsked slots.now slot asked.now maker) }
 {
-    for register in 0..11u8 {
+    for register in 0..REGISTERS as u8 {
         if asked[usize::from(register)] {
             let made = makers(alloc, slots, register, slot)?;
             let reaching = reaching(alloc, slots, ways, register, slot)?;
@@ -212,7 +212,7 @@ fn push_makers(
     Ok(())
 }
 
-/// Those of the makers of the register from which a run may come and that are not on the trail yet, as long as there is room.
+/// Adds the makers of the register from which a run may come and that are not on the trail yet, as long as there is room.
 fn push_named(
     register: u8,
     made: &[usize],
@@ -233,7 +233,7 @@ fn push_named(
     Ok(())
 }
 
-/// Whether the maker is one of these, or no run comes from it.
+/// Answers whether the maker is one of these, or no run comes from it.
 fn is_left_out(trail: &[Maker], reaching: &[bool], maker: Maker) -> bool {
     !is_marked(reaching, maker.slot)
         || trail.iter().any(|named| named.slot == maker.slot && named.register == maker.register)

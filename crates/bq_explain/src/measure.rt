@@ -1,4 +1,4 @@
-//! How much a policy uses of what a keeper may limit.
+//! What a policy uses of the things that a keeper may limit.
 ghost use Rattle.std.specs.Prelude.{◌≡◌, ◌≤◌, count_by, length, sum_by};
 ghost use Rattle.bq_bpf.specs.Instructions.{asks_counter};
 ghost use Rattle.bq_explain.specs.Measures.{bytes_of, measure_of, measure_word};
@@ -11,16 +11,16 @@ use bq_policy_file::PolicySource;
 /// What a keeper may limit, beside the steps of a run.
 #[derive(Clone, Copy)]
 pub enum Measure {
-    /// How many maps the policy has.
+    /// The number of maps of the policy.
     Maps,
-    /// How many bytes the values of all its maps have.
+    /// The number of bytes of the values of all its maps.
     MapBytes,
-    /// How many of its instructions call a counter.
+    /// The number of its instructions that call a counter.
     Counters,
 }
 
 impl Measure {
-    /// How much of it the policy uses.
+    /// Answers how much of the measure the policy uses.
     pub fn of(self, policy: &PolicySource) -> u64
         ensures { result ≡ measure_of policy.now self }
     {
@@ -75,7 +75,7 @@ fn map_bytes(shape: MapShape) -> u64
     u64::from(shape.value_size) * u64::from(shape.entries)
 }
 
-/// How many of the instructions call a counter.
+/// Answers how many of the instructions call a counter.
 pub(crate) fn counter_calls(insns: &[Insn]) -> usize
     ensures { result ≡ count_by asks_counter insns.now }
 {

@@ -1,4 +1,4 @@
-//! Where ways meet on which a register holds different words.
+//! The places where ways meet on which a register holds different words.
 ghost use Rattle.std.specs.Prelude.{◌<◌, ◌≤◌, length};
 ghost use Rattle.bq_verify.specs.Passes.{IsSound};
 ghost use Rattle.bq_explain.specs.Makers.{CanBeWalked};
@@ -13,7 +13,7 @@ use bq_states::abstract_state::{AbstractValue, ValueKind};
 use bq_states::places::shape_of;
 use bq_states::registers::known;
 use bq_verify::edges::instruction;
-use bq_verify::passes::targets;
+use bq_verify::graph_numbers::targets;
 use bq_verify::{KnownStates, PolicyForm};
 use std::alloc::{AllocError, Global};
 
@@ -24,7 +24,7 @@ const TRIED: usize = 4;
 #[derive(Clone, Copy)]
 pub struct Meeting {
     pub register: u8,
-    /// Where they meet.
+    /// The slot where they meet.
     pub slot: usize,
     /// What is known of the register there.
     pub known: Option<AbstractValue>,
@@ -34,14 +34,14 @@ pub struct Meeting {
     pub second: Coming,
 }
 
-/// A way into a slot: the instruction that it comes from, and what a register is known to be behind that.
+/// A way into a slot: the instruction that it comes from, and what a register is known to be after that instruction.
 #[derive(Clone, Copy)]
 pub struct Coming {
     pub place: Place,
     pub known: AbstractValue,
 }
 
-/// The last slot on the ways to that one, on which no instruction behind writes the register, where it comes with different words.
+/// Answers the last slot on the ways to this one at which the register comes with different words; no later instruction writes it.
 pub(crate) fn meeting_of(
     alloc: Global,
     policy: &PolicySource,
@@ -97,7 +97,7 @@ fn before(alloc: Global, slots: &[Option<Insn>], to: usize) -> Result<Vec<usize>
     Ok(from)
 }
 
-/// Whether control may go from the one slot to the other.
+/// Answers whether control may go from the first slot to the second.
 fn leads(slots: &[Option<Insn>], from: usize, to: usize) -> bool
     requires inside { from < length slots.now }
     requires short { length slots.now ≤ SLOTS }
@@ -110,7 +110,7 @@ fn leads(slots: &[Option<Insn>], from: usize, to: usize) -> bool
     is_to(targets.next, to) || is_to(targets.jump, to)
 }
 
-/// Whether that is the slot.
+/// Answers whether the target is this slot.
 fn is_to(target: Option<usize>, to: usize) -> bool {
     match target {
         Some(slot) => slot == to,
@@ -180,7 +180,7 @@ struct Both {
 }
 
 impl Both {
-    /// They meet at the slot, where that is known of the register.
+    /// The two ways meet at the slot, after which this is known of the register.
     fn meet(self, register: u8, slot: usize, known: Option<AbstractValue>) -> Meeting {
         Meeting {
             register,
@@ -192,14 +192,14 @@ impl Both {
     }
 }
 
-/// Whether not the same is known of two words; of maps of one shape it is.
+/// Answers whether different things are known of two words; maps of one shape make no difference.
 fn differ(shapes: &[MapShape], one: AbstractValue, other: AbstractValue) -> bool {
     !is_of_one_kind(shapes, one.kind, other.kind)
         || one.offset.lo != other.offset.lo
         || one.offset.hi != other.offset.hi
 }
 
-/// Whether both count from the same, or from the same of two maps of one shape.
+/// Answers whether both words count from one thing, or from like things of two maps of one shape.
 fn is_of_one_kind(shapes: &[MapShape], one: ValueKind, other: ValueKind) -> bool {
     match (one, other) {
         (ValueKind::Entry(map), ValueKind::Entry(like))

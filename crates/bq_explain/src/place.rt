@@ -1,7 +1,7 @@
-//! Where an instruction of a policy stands.
+//! The places of the instructions of a policy.
 ghost use Rattle.std.specs.Prelude.{◌≡◌, IfNone, IfOk, IfSome, Some, slice_get, string_bytes};
 ghost use Rattle.bq_insn.specs.Slots.{spread};
-ghost use Rattle.bq_insn.specs.declared.Insn.{Insn as Told};
+ghost use Rattle.bq_insn.specs.declared.Insn.{Insn as Reported};
 ghost use Rattle.bq_bpf.specs.Steps.{instruction_at};
 ghost use Rattle.bq_verify.specs.Edges.{IsStart};
 ghost use Rattle.bq_explain.specs.Explained.{IsPlace};
@@ -11,7 +11,7 @@ use bq_insn::Insn;
 use bq_policy_file::{PolicySource, instruction_text};
 use std::alloc::{AllocError, Global};
 
-/// Where an instruction stands, and what it is.
+/// The place of an instruction, and the instruction.
 #[derive(Clone, Copy)]
 pub struct Place {
     /// Its line, if the policy came as a text.
@@ -35,7 +35,7 @@ pub(crate) fn place_at(policy: &PolicySource, slots: &[Option<Insn>], slot: usiz
     Some(Place { line, slot, insn })
 }
 
-/// The line of the text on which the instruction at the slot stands.
+/// Answers the line of the text that has the instruction at the slot.
 pub(crate) fn line_at(policy: &PolicySource, slot: usize) -> Option<usize> {
     let index = index_at(policy.insns.as_slice(), slot)?;
     policy.lines.as_slice().get(index).copied()
@@ -58,7 +58,7 @@ pub(crate) fn call_of(policy: &PolicySource, helper: i32) -> Option<Place> {
     None
 }
 
-/// Whether the instruction calls the helper.
+/// Answers whether the instruction calls the helper.
 fn calls(insn: Insn, helper: i32) -> bool {
     match insn {
         Insn::Call { helper: called } => called == helper,
@@ -66,7 +66,7 @@ fn calls(insn: Insn, helper: i32) -> bool {
     }
 }
 
-/// The line of the text where the instruction stands, if there is a text, and its slot.
+/// Says the line of the text that has the instruction, if there is a text, and the instruction's slot.
 pub(crate) fn place_text(alloc: Global, place: &Place) -> Result<String, AllocError>
     ensures { IfOk result (λ text. string_bytes text ≡ place_text place.now) }
 {
@@ -77,7 +77,7 @@ pub(crate) fn place_text(alloc: Global, place: &Place) -> Result<String, AllocEr
     }
 }
 
-/// The place of an instruction, and the instruction as a listing has it, behind the file's name if there is one.
+/// The place of an instruction, and the instruction as a listing has it, after the file's name if there is one.
 pub(crate) fn instruction_line(
     alloc: Global,
     name: Option<&str>,
@@ -95,7 +95,7 @@ pub(crate) fn instruction_line(
 
 /// The index of the instruction that begins at the slot.
 pub fn index_at(insns: &[Insn], slot: usize) -> Option<usize>
-    ensures { IfSome result (λ index. (insn : Told) → slice_get insns.now index ≡ Some insn → instruction_at (spread insns.now) slot ≡ Some insn) }
+    ensures { IfSome result (λ index. (insn : Reported) → slice_get insns.now index ≡ Some insn → instruction_at (spread insns.now) slot ≡ Some insn) }
 {
     let mut at: usize = 0;
     for (index, insn) in insns.iter().enumerate() {

@@ -1,4 +1,4 @@
-//! Where the verifier refuses a policy, why, and what is known there.
+//! The refusal of a policy by the verifier: its place, its reason, and what is known there.
 ghost use Rattle.std.specs.Prelude.{◌≡◌, ◌<◌, ℕ, Bool, List, [], IfOk, false, length, slice_index_or, true};
 ghost use Rattle.bq_insn.specs.Slots.{spread};
 ghost use Rattle.bq_verify.specs.Faults.{IsFaultless};
@@ -12,7 +12,7 @@ use crate::advice::{Advice, graph_advice, only, state_advice};
 use crate::graph_fault::{GraphFault, graph_fault, label_on};
 use crate::place::{Place, place_at};
 use crate::trail::{Trail, no_trail, trail_of};
-use bq_insn::Insn;
+use bq_insn::{Insn, REGISTERS};
 use bq_needs::{Argument, Need, Registers, need_of};
 use bq_policy_file::PolicySource;
 use bq_states::abstract_state::AbstractState;
@@ -28,9 +28,9 @@ pub struct Refusal {
     pub cause: Cause,
     /// What is wrong there.
     pub finding: Finding,
-    /// The label that the instruction names, where it is a jump at fault of a policy that came as a text.
+    /// The label that the instruction names, if it is a jump at fault of a policy that came as a text.
     pub label: Option<String>,
-    /// Where the registers come from that matter to it.
+    /// Where the registers come from that matter to the finding.
     pub trail: Trail,
     /// What helps.
     pub advice: Advice,
@@ -41,7 +41,7 @@ pub struct Refusal {
 pub enum Finding {
     /// It has a fault by the control graph or by itself.
     Graph(GraphFault),
-    /// It needs what is not shown, and this is known of registers and stack before it.
+    /// The instruction needs what is not shown; this is known of registers and stack before it.
     State { need: Need, known: AbstractState },
     /// Nothing is known before it.
     Unknown,
@@ -162,7 +162,7 @@ fn asked_in(finding: Finding) -> Registers
 {
     match finding {
         Finding::State { need, .. } => asked_by(need),
-        Finding::Graph(_) | Finding::Unknown => [false; 11],
+        Finding::Graph(_) | Finding::Unknown => [false; REGISTERS],
     }
 }
 
@@ -176,6 +176,6 @@ fn asked_by(need: Need) -> Registers
         Need::Number(pointer) => only(pointer.register),
         Need::Argument { argument, .. } => only(argument.register()),
         Need::Answer(_) => only(0),
-        Need::Map(_) | Need::Unshown => [false; 11],
+        Need::Map(_) | Need::Unshown => [false; REGISTERS],
     }
 }

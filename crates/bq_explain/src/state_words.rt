@@ -2,12 +2,13 @@
 ghost use Rattle.std.specs.Prelude.{◌≡◌, ◌<◌, ◌≤◌, true, false, slice_index_or, IfOk, string_bytes};
 ghost use Rattle.bq_bpf.specs.Memory.{Setting, State, stack_size};
 ghost use Rattle.bq_states.specs.AbstractStates.{Contains};
-ghost use Rattle.bq_explain.specs.Telling.{TellsState};
+ghost use Rattle.bq_explain.specs.DescribedStates.{DescribesState};
 ghost use Rattle.bq_needs.specs.Accesses.{AreSet};
 ghost use Rattle.bq_explain.specs.Texts.{AreRuns, EndsAt, IsStackText, IsStateText, kept_below, kept_text, register_text, registers_below, run_text, unknown_below, unknown_name, unknown_text};
 
 use bq_bpf::MapShape;
 use bq_bpf::addresses::STACK_SIZE;
+use bq_insn::REGISTERS;
 use bq_needs::known_text;
 use bq_states::abstract_state::{AbstractState, AbstractValue};
 use std::alloc::{AllocError, Global};
@@ -17,14 +18,14 @@ const STACK: usize = STACK_SIZE as usize;
 
 /// One line with what each register is known to be and the stack's written bytes, and a line for each word that is kept there.
 /// It holds of every state of a program of such maps that the abstract state contains.
-#[tactic(auto, using(crate::proofs::StateTextLemmas::tells_state))]
+#[tactic(auto, using(crate::proofs::StateTextLemmas::describes_state))]
 pub(crate) fn state_text(
     alloc: Global,
     shapes: &[MapShape],
     state: &AbstractState,
 ) -> Result<String, AllocError>
     ensures text { IfOk result (λ text. IsStateText shapes.now state.now (string_bytes text)) }
-    ensures tells { IfOk result (λ text. (f : Setting) (s : State) → f.shapes ≡ shapes.now → Contains f state.now s → TellsState f s (string_bytes text)) }
+    ensures describes { IfOk result (λ text. (f : Setting) (s : State) → f.shapes ≡ shapes.now → Contains f state.now s → DescribesState f s (string_bytes text)) }
 {
     let text = lines_of(alloc, shapes, state)?;
     Ok(text)
@@ -48,12 +49,12 @@ fn registers_text(
     shapes: &[MapShape],
     state: &AbstractState,
 ) -> Result<String, AllocError>
-    ensures { IfOk result (λ text. string_bytes text ≡ registers_below shapes.now 11 state.now.registers) }
+    ensures { IfOk result (λ text. string_bytes text ≡ registers_below shapes.now REGISTERS state.now.registers) }
 {
     let mut text = String::new(alloc);
-    for number in 0..11usize {
-        let told = register_text(alloc, shapes, number, &state.registers[number])?;
-        text.push_str(told.as_str())?;
+    for number in 0..REGISTERS {
+        let described = register_text(alloc, shapes, number, &state.registers[number])?;
+        text.push_str(described.as_str())?;
     }
     Ok(text)
 }
@@ -70,13 +71,13 @@ fn register_text(
     match known {
         None => Ok(String::new(alloc)),
         Some(known) => {
-            let told = known_text(alloc, shapes, known)?;
-            format!(in alloc; " r{number} {told}  ")
+            let described = known_text(alloc, shapes, known)?;
+            format!(in alloc; " r{number} {described}  ")
         }
     }
 }
 
-/// The registers of which nothing is known, and that they are unknown; nothing where each is known.
+/// Says that the registers of which nothing is known are unknown; empty if each is known.
 #[tactic(auto, using(crate::proofs::UnknownLemmas::none_unknown, crate::proofs::UnknownLemmas::some_unknown))]
 fn unknown_text(alloc: Global, state: &AbstractState) -> Result<String, AllocError>
     ensures { IfOk result (λ text. string_bytes text ≡ unknown_text state.now.registers) }
@@ -90,10 +91,10 @@ fn unknown_text(alloc: Global, state: &AbstractState) -> Result<String, AllocErr
 
 /// The registers of which nothing is known, by their names.
 fn unknown_names(alloc: Global, state: &AbstractState) -> Result<String, AllocError>
-    ensures { IfOk result (λ text. string_bytes text ≡ unknown_below 11 state.now.registers) }
+    ensures { IfOk result (λ text. string_bytes text ≡ unknown_below REGISTERS state.now.registers) }
 {
     let mut text = String::new(alloc);
-    for number in 0..11usize {
+    for number in 0..REGISTERS {
         let name = unknown_name(alloc, number, &state.registers[number])?;
         text.push_str(name.as_str())?;
     }
@@ -127,7 +128,7 @@ fn stack_line(alloc: Global, state: &AbstractState) -> Result<String, AllocError
 }
 
 /// Each run of bytes that are set, by their distance from the stack's end.
-#[tactic(auto, using(crate::proofs::RunLemmas::none_yet, crate::proofs::RunLemmas::all_told, crate::proofs::RunLemmas::byte_in_last_run, crate::proofs::RunLemmas::byte_not_set, crate::proofs::RunLemmas::with_run))]
+#[tactic(auto, using(crate::proofs::RunLemmas::none_yet, crate::proofs::RunLemmas::all_described, crate::proofs::RunLemmas::byte_in_last_run, crate::proofs::RunLemmas::byte_not_set, crate::proofs::RunLemmas::with_run))]
 fn runs_text(alloc: Global, state: &AbstractState) -> Result<String, AllocError>
     ensures { IfOk result (λ text. AreRuns state.now.set stack_size (string_bytes text)) }
 {
@@ -188,8 +189,8 @@ fn kept_lines(
 {
     let mut text = String::new(alloc);
     for slot in 0..64usize {
-        let told = kept_line(alloc, shapes, slot, &state.kept[slot])?;
-        text.push_str(told.as_str())?;
+        let described = kept_line(alloc, shapes, slot, &state.kept[slot])?;
+        text.push_str(described.as_str())?;
     }
     Ok(text)
 }
@@ -207,9 +208,9 @@ fn kept_line(
     match known {
         None => Ok(String::new(alloc)),
         Some(known) => {
-            let told = known_text(alloc, shapes, known)?;
+            let described = known_text(alloc, shapes, known)?;
             let below = STACK - slot * 8;
-            format!(in alloc; "  the 8 bytes at stack end - {below}: {told}\n")
+            format!(in alloc; "  the 8 bytes at stack end - {below}: {described}\n")
         }
     }
 }

@@ -5,22 +5,18 @@ ghost use Rattle.bq_explain.specs.Beginnings.{accepted_words, maps_text};
 
 use crate::measure::counter_calls;
 use bq_bpf::MapShape;
-use bq_bpf::helper::{ADD_COUNTER, LOOKUP, NOW, PROCESSOR, READ_COUNTER, UPDATE};
 use bq_insn::{Insn, SLOTS};
 use bq_policy_file::{PolicySource, more_maps};
 use std::alloc::{AllocError, Global};
 
-/// The helpers that there are, by their numbers.
-const HELPERS: [i32; 6] = [LOOKUP, UPDATE, NOW, PROCESSOR, ADD_COUNTER, READ_COUNTER];
-
 /// What a program uses.
 #[derive(Drop)]
 pub struct Summary {
-    /// The helpers that it calls, by their numbers.
+    /// The numbers of the helpers that it calls, each once, the least first.
     pub helpers: Vec<i32>,
-    /// How many of its instructions call a counter.
+    /// The number of its instructions that call a counter.
     pub counters: usize,
-    /// How many slots it takes.
+    /// The number of slots that it takes.
     pub slots: usize,
 }
 
@@ -64,7 +60,7 @@ pub(crate) fn accepted_words(
     format!(in alloc; "accepted {hook} budget {budget} of {SLOTS}, version {version}, maps {maps}")
 }
 
-/// How many slots the instructions take.
+/// Answers how many slots the instructions take.
 fn slot_count(insns: &[Insn]) -> usize {
     let mut count: usize = 0;
     for insn in insns {
@@ -88,14 +84,16 @@ pub fn maps_text(alloc: Global, shapes: &[MapShape]) -> Result<String, AllocErro
     }
 }
 
-/// The helpers that are called, by their numbers.
+/// The numbers of the helpers that are called, each once, the least first.
 fn helpers_of(alloc: Global, insns: &[Insn]) -> Result<Vec<i32>, AllocError> {
     let mut helpers = Vec::new(alloc);
-    for number in HELPERS {
-        if calls(insns, number) {
-            helpers.push(number)?;
+    for insn in insns {
+        if let Insn::Call { helper } = insn {
+            helpers.push(*helper)?;
         }
     }
+    helpers.sort()?;
+    helpers.dedup();
     Ok(helpers)
 }
 
@@ -112,15 +110,4 @@ fn helpers_text(alloc: Global, helpers: &[i32]) -> Result<String, AllocError> {
         text.push_str("none")?;
     }
     Ok(text)
-}
-
-fn calls(insns: &[Insn], number: i32) -> bool {
-    for insn in insns {
-        if let Insn::Call { helper } = insn {
-            if *helper == number {
-                return true;
-            }
-        }
-    }
-    false
 }

@@ -2,8 +2,8 @@
 ghost use Rattle.std.specs.Prelude.{◌≡◌, IfOk, false, string_bytes};
 ghost use Rattle.bq_insn.specs.Appending.{StartsWith};
 ghost use Rattle.bq_explain.specs.Beginnings.{accepted_words, first_words};
-ghost use Rattle.bq_explain.specs.Explained.{TellsDetail, TellsRefusal};
-ghost use Rattle.bq_explain.specs.TrailTexts.{TellsTrail};
+ghost use Rattle.bq_explain.specs.Explained.{DescribesDetail, DescribesRefusal};
+ghost use Rattle.bq_explain.specs.TrailTexts.{DescribesTrail};
 ghost use Rattle.bq_explain.specs.Verdicts.{is_accepted};
 
 use crate::advice_words::advice_text;
@@ -20,8 +20,8 @@ use bq_needs::need_text;
 use bq_policy_file::PolicySource;
 use std::alloc::{AllocError, Global};
 
-/// The explanation, line by line; the first line is `accepted` or `refused` and why. The file's name, if there is one, stands before the
-/// place of the instruction that is at fault.
+/// Answers the explanation, line by line; the first line is `accepted` or `refused` and why. The file's name, if there is one,
+/// comes before the place of the instruction that is at fault.
 pub fn explanation_text(
     alloc: Global,
     policy: &PolicySource,
@@ -29,7 +29,7 @@ pub fn explanation_text(
     explanation: &Explanation,
 ) -> Result<String, AllocError>
     ensures begins { IfOk result (λ text. StartsWith (first_words policy.now explanation.now.verdict) (string_bytes text)) }
-    ensures tells { IfOk result (λ text. is_accepted explanation.now.verdict ≡ false → TellsDetail policy.now explanation.now.detail (string_bytes text)) }
+    ensures describes { IfOk result (λ text. is_accepted explanation.now.verdict ≡ false → DescribesDetail policy.now explanation.now.detail (string_bytes text)) }
 {
     match explanation.verdict {
         Verdict::Accepted { budget } => accepted_text(alloc, policy, budget, &explanation.detail),
@@ -55,7 +55,7 @@ fn accepted_text(
     }
 }
 
-/// What is said of a policy that is not, behind the line of its verdict.
+/// Answers what is said of a policy that is not accepted, after the line of its verdict.
 fn refused_text(
     alloc: Global,
     policy: &PolicySource,
@@ -65,7 +65,7 @@ fn refused_text(
     detail: &Detail,
 ) -> Result<String, AllocError>
     ensures begins { IfOk result (λ text. StartsWith (string_bytes line) (string_bytes text)) }
-    ensures tells { IfOk result (λ text. TellsDetail policy.now detail.now (string_bytes text)) }
+    ensures describes { IfOk result (λ text. DescribesDetail policy.now detail.now (string_bytes text)) }
 {
     match detail {
         Detail::Accepted(_) => Ok(line),
@@ -112,7 +112,7 @@ fn limit_text(
     }
 }
 
-/// What is said of a policy that the verifier refuses, behind the line of that.
+/// Answers what is said of a policy that the verifier refuses, after the line of its verdict.
 fn refusal_text(
     alloc: Global,
     policy: &PolicySource,
@@ -121,7 +121,7 @@ fn refusal_text(
     refusal: &Refusal,
 ) -> Result<String, AllocError>
     ensures begins { IfOk result (λ text. StartsWith (string_bytes line) (string_bytes text)) }
-    ensures tells { IfOk result (λ text. TellsRefusal policy.now refusal.now (string_bytes text)) }
+    ensures describes { IfOk result (λ text. DescribesRefusal policy.now refusal.now (string_bytes text)) }
 {
     let at = instruction_line(alloc, name, &refusal.place)?;
     let after = after_text(alloc, policy, refusal)?;
@@ -132,9 +132,9 @@ fn refusal_text(
         }
         Finding::Unknown => format!(in alloc; "{line}{at}\n  is not shown to be safe\n{after}"),
         Finding::State { need, known } => {
-            let told = need_text(alloc, policy, &known, refusal.place.insn, need)?;
+            let described = need_text(alloc, policy, &known, refusal.place.insn, need)?;
             let state = state_text(alloc, policy.form.shapes.as_slice(), &known)?;
-            format!(in alloc; "{line}{at}\n  {told}\n{state}{after}")
+            format!(in alloc; "{line}{at}\n  {described}\n{state}{after}")
         }
     }
 }
@@ -154,9 +154,9 @@ pub fn need_words(
     }
 }
 
-/// Where the registers come from, and what helps.
+/// Says where the registers come from, and what helps.
 fn after_text(alloc: Global, policy: &PolicySource, refusal: &Refusal) -> Result<String, AllocError>
-    ensures { IfOk result (λ text. TellsTrail policy.now.form.shapes.items refusal.now.trail (string_bytes text)) }
+    ensures { IfOk result (λ text. DescribesTrail policy.now.form.shapes.items refusal.now.trail (string_bytes text)) }
 {
     let trail = trail_text(alloc, policy.form.shapes.as_slice(), &refusal.trail)?;
     let help = advice_text(alloc, policy, refusal.advice)?;

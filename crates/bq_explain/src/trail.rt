@@ -1,7 +1,7 @@
 //! Where the registers come from that matter to a need: what made them, and where their ways meet.
 ghost use Rattle.std.specs.Prelude.{◌≡◌, ◌<◌, ◌≤◌, [], IfOk, IfSome, length};
 ghost use Rattle.bq_verify.specs.Passes.{IsSound};
-ghost use Rattle.bq_explain.specs.Explained.{AreMade, AreOf, IsOf};
+ghost use Rattle.bq_explain.specs.Explained.{AreMade, AreOf, IsMadeBy};
 ghost use Rattle.bq_explain.specs.Makers.{CanBeWalked};
 ghost use Rattle.bq_explain.specs.TrailTexts.{leaves_unset};
 
@@ -9,7 +9,7 @@ use crate::makers::{Maker, makers, trail};
 use crate::meeting::{Meeting, known_at, known_behind, meeting_of};
 use crate::place::{Place, place_at};
 use crate::ways::{Ways, is_marked, reaching, spares, ways_before};
-use bq_insn::{Insn, SLOTS};
+use bq_insn::{Insn, REGISTERS, SLOTS};
 use bq_needs::{Registers, read_registers};
 use bq_policy_file::PolicySource;
 use bq_states::abstract_state::AbstractValue;
@@ -19,7 +19,7 @@ use std::alloc::{AllocError, Global};
 /// The most places where ways meet that are named.
 const MEETINGS: usize = 3;
 
-/// The most calls of which it is asked what is known before them.
+/// For at most this many calls it is looked up what is known before them.
 const CALLS: usize = 4;
 
 /// Where registers come from.
@@ -27,20 +27,20 @@ const CALLS: usize = 4;
 pub struct Trail {
     /// The instructions that made them, the nearest first, and then those that made what these read; six at most.
     pub made: Vec<Made>,
-    /// Those of the registers that no instruction sets on some way from the start.
+    /// The registers among them that no instruction sets on some way from the start.
     pub unset: Registers,
-    /// Those of them that a call leaves unset on some way.
-    pub left: Left,
-    /// Where ways meet that bring different words into one of them, or into what a maker reads; three at most.
+    /// The registers among them that a call leaves unset on some way.
+    pub left: Clobbered,
+    /// The places where ways meet that bring different words into one of the registers, or into what a maker reads; three at most.
     pub meetings: Vec<Meeting>,
 }
 
 /// Registers that calls leave unset.
 #[derive(Clone, Copy)]
-pub struct Left {
+pub struct Clobbered {
     /// A call leaves them unset on some way.
     pub called: Registers,
-    /// And something is known of them before one.
+    /// Those of `called` of which something is known before such a call.
     pub held: Registers,
 }
 
@@ -49,12 +49,12 @@ pub struct Left {
 pub struct Made {
     pub place: Place,
     pub register: u8,
-    /// What is known of the register right behind it; None where a call leaves it unset.
+    /// What is known of the register after the instruction; None if a call leaves it unset.
     pub known: Option<AbstractValue>,
 }
 
 impl Made {
-    /// Whether it is a call, which left the register unset.
+    /// Answers whether a call left the register unset.
     pub fn is_unset(&self) -> bool
         ensures { result ≡ leaves_unset self.now.place.insn self.now.register }
     {
@@ -62,29 +62,29 @@ impl Made {
     }
 }
 
-/// Whether the instruction is a call that leaves the register unset, if it writes that.
+/// Answers whether the instruction is a call that leaves the register unset, if it writes the register.
 fn leaves_unset(insn: Insn, register: u8) -> bool
     ensures { result ≡ leaves_unset insn register }
 {
     matches!(insn, Insn::Call { .. }) && register != 0
 }
 
-/// Of nothing.
+/// A trail of nothing.
 pub(crate) fn no_trail(alloc: Global) -> Trail
     ensures { result.made.items ≡ [] }
 {
     Trail {
         made: Vec::new(alloc),
-        unset: [false; 11],
-        left: Left {
-            called: [false; 11],
-            held: [false; 11],
+        unset: [false; REGISTERS],
+        left: Clobbered {
+            called: [false; REGISTERS],
+            held: [false; REGISTERS],
         },
         meetings: Vec::new(alloc),
     }
 }
 
-/// Where the registers come from that are asked at the slot.
+/// Answers where the registers come from that are asked for at the slot.
 pub(crate) fn trail_of(
     alloc: Global,
     policy: &PolicySource,
@@ -142,7 +142,7 @@ fn made_of(
     states: &KnownStates,
     maker: Maker,
 ) -> Option<Made>
-    ensures { IfSome result (IsOf slots.now maker) }
+    ensures { IfSome result (IsMadeBy slots.now maker) }
 {
     let place = place_at(policy, slots, maker.slot)?;
     let next = maker.slot.saturating_add(place.insn.slots());
@@ -161,7 +161,7 @@ fn made_of(
     })
 }
 
-/// Those of the registers that no instruction sets on some way from the start; r1 and r10 are set there.
+/// Answers the registers that no instruction sets on some way from the start; r1 and r10 are set there.
 fn unset_from_start(
     alloc: Global,
     slots: &[Option<Insn>],
@@ -169,8 +169,8 @@ fn unset_from_start(
     slot: usize,
     asked: &Registers,
 ) -> Result<Registers, AllocError> {
-    let mut unset = [false; 11];
-    for register in 0..11u8 {
+    let mut unset = [false; REGISTERS];
+    for register in 0..REGISTERS as u8 {
         let at = usize::from(register);
         if asked[at] && register != 1 && register != 10 {
             let reaching = reaching(alloc, slots, ways, register, slot)?;
@@ -181,7 +181,7 @@ fn unset_from_start(
     Ok(unset)
 }
 
-/// Those of the registers that a call leaves unset on some way to the slot.
+/// Answers the registers that a call leaves unset on some way to the slot.
 fn left_by_calls(
     alloc: Global,
     slots: &[Option<Insn>],
@@ -189,15 +189,15 @@ fn left_by_calls(
     ways: &Ways,
     slot: usize,
     asked: &Registers,
-) -> Result<Left, AllocError>
+) -> Result<Clobbered, AllocError>
     requires walkable { CanBeWalked slots.now }
     requires inside { slot < length slots.now }
 {
-    let mut left = Left {
-        called: [false; 11],
-        held: [false; 11],
+    let mut left = Clobbered {
+        called: [false; REGISTERS],
+        held: [false; REGISTERS],
     };
-    for register in 0..11u8 {
+    for register in 0..REGISTERS as u8 {
         let at = usize::from(register);
         if asked[at] {
             let calls = calls_before(alloc, slots, ways, register, slot)?;
@@ -231,7 +231,7 @@ fn calls_before(
     Ok(calls)
 }
 
-/// Whether something is known of the register before one of the calls, of which the nearest are asked.
+/// Answers whether something is known of the register before one of the nearest calls.
 fn is_held(states: &KnownStates, calls: &[usize], register: u8) -> bool {
     for call in calls.iter().take(CALLS) {
         if known_at(states, *call, register).is_some() {
@@ -241,7 +241,7 @@ fn is_held(states: &KnownStates, calls: &[usize], register: u8) -> bool {
     false
 }
 
-/// Whether the instruction of the slot is a call that leaves the register unset.
+/// Answers whether the instruction at the slot is a call that leaves the register unset.
 fn is_call(slots: &[Option<Insn>], register: u8, slot: usize) -> bool {
     match slots.get(slot).copied() {
         Some(Some(insn)) => leaves_unset(insn, register),
@@ -274,7 +274,7 @@ fn meetings(
     Ok(meetings)
 }
 
-/// The registers that are asked of at a slot, if each has this many makers at least.
+/// Registers at a slot of which it is asked where their ways meet. Each has at least `makers` makers.
 #[derive(Clone, Copy)]
 struct Asked {
     slot: usize,
@@ -297,7 +297,7 @@ fn push_meetings(
     if asked.slot >= slots.len() {
         return Ok(());
     }
-    for register in 0..11u8 {
+    for register in 0..REGISTERS as u8 {
         if asked.registers[usize::from(register)] && meetings.len() < MEETINGS {
             let made = makers(alloc, slots, register, asked.slot)?;
             if made.len() >= asked.makers {

@@ -1,4 +1,4 @@
-//! Where registers come from in words.
+//! Where registers come from, in words.
 ghost use Rattle.std.specs.Prelude.{◌≡◌, IfOk, flat_map, string_bytes};
 ghost use Rattle.bq_explain.specs.TrailTexts.{coming_text, made_text, meeting_text, met_text, outcome_text, trail_text, unset_below, unset_text};
 
@@ -6,12 +6,14 @@ use crate::meeting::{Coming, Meeting};
 use crate::place::place_text;
 use crate::trail::{Made, Trail};
 use bq_bpf::MapShape;
+use bq_insn::REGISTERS;
 use bq_needs::{Registers, known_text};
 use bq_policy_file::instruction_text;
 use bq_states::abstract_state::AbstractValue;
 use std::alloc::{AllocError, Global};
 
-/// A line for each instruction that made a register, for each register that is unset on some way, and for each place where ways meet.
+/// Answers a line for each instruction that made a register, for each register that is unset on some way, and for each place
+/// where ways meet.
 pub(crate) fn trail_text(
     alloc: Global,
     shapes: &[MapShape],
@@ -39,10 +41,10 @@ fn made_lines(alloc: Global, shapes: &[MapShape], makers: &[Made]) -> Result<Str
 
 /// The registers that are unset on some way, a line for each.
 fn unset_lines(alloc: Global, unset: &Registers) -> Result<String, AllocError>
-    ensures { IfOk result (λ text. string_bytes text ≡ unset_below 11 unset.now) }
+    ensures { IfOk result (λ text. string_bytes text ≡ unset_below REGISTERS unset.now) }
 {
     let mut text = String::new(alloc);
-    for register in 0..11usize {
+    for register in 0..REGISTERS {
         let line = unset_text(alloc, register, unset[register])?;
         text.push_str(line.as_str())?;
     }
@@ -87,22 +89,22 @@ fn made_text(alloc: Global, shapes: &[MapShape], made: &Made) -> Result<String, 
     format!(in alloc; "  made at {place}:  {insn}{outcome}\n")
 }
 
-/// What the register is right behind it.
+/// Says what the register is after the instruction.
 fn outcome_text(alloc: Global, shapes: &[MapShape], made: &Made) -> Result<String, AllocError>
     ensures { IfOk result (λ text. string_bytes text ≡ outcome_text shapes.now made.now.place.insn made.now.register made.now.known) }
 {
     let register = made.register;
     match made.known {
         Some(known) => {
-            let told = known_text(alloc, shapes, &known)?;
-            format!(in alloc; "    r{register} then is {told}")
+            let described = known_text(alloc, shapes, &known)?;
+            format!(in alloc; "    r{register} then is {described}")
         }
         None if made.is_unset() => format!(in alloc; "    r{register} then is unset"),
         None => Ok(String::new(alloc)),
     }
 }
 
-/// Two ways that meet, with what the register is on each and where they meet.
+/// Says which two ways meet where, and what the register is on each.
 fn meeting_text(alloc: Global, shapes: &[MapShape], meeting: &Meeting) -> Result<String, AllocError>
     ensures { IfOk result (λ text. string_bytes text ≡ meeting_text shapes.now meeting.now) }
 {
@@ -125,7 +127,7 @@ fn coming_text(alloc: Global, shapes: &[MapShape], coming: &Coming) -> Result<St
     format!(in alloc; "{known} on the way over {place}")
 }
 
-/// What is known of it where the ways meet.
+/// Says what is known of the register after the ways meet.
 fn met_text(
     alloc: Global,
     shapes: &[MapShape],
@@ -135,8 +137,8 @@ fn met_text(
 {
     match known {
         Some(known) => {
-            let told = known_text(alloc, shapes, &known)?;
-            format!(in alloc; "it is {told}")
+            let described = known_text(alloc, shapes, &known)?;
+            format!(in alloc; "it is {described}")
         }
         None => String::from_str(alloc, "nothing is known of it"),
     }

@@ -15,7 +15,7 @@ use std::alloc::{AllocError, Global};
 pub enum Verdict {
     /// It is safe, and its runs of at most this many instructions are within the limits.
     Accepted { budget: u32 },
-    /// Its runs take up to `budget` instructions, where `most` are allowed.
+    /// Its runs take up to `budget` instructions, and only `most` are allowed.
     OverSteps { budget: u32, most: u32 },
     /// It calls a helper that is not allowed.
     Forbidden { helper: i32 },
@@ -30,7 +30,7 @@ pub enum Verdict {
 impl Verdict {
     ghost use Rattle.bq_explain.specs.Verdicts.{is_accepted};
 
-    /// Whether the policy may run.
+    /// Answers whether the policy may run.
     pub fn is_accepted(self) -> bool
         ensures { result ≡ is_accepted self }
     {

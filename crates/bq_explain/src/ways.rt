@@ -7,17 +7,17 @@ use crate::makers::writes;
 use bq_insn::Insn;
 use bq_verify::KnownStates;
 use bq_verify::edges::{Targets, instruction};
-use bq_verify::passes::targets;
+use bq_verify::graph_numbers::targets;
 use std::alloc::{AllocError, Global};
 
-/// Where runs may go from each slot: from one that no run comes to, nowhere.
+/// The slots to which runs may go from each slot; there are none from a slot that no run reaches.
 #[derive(Drop)]
 pub(crate) struct Ways {
     next: Vec<Option<usize>>,
     jump: Vec<Option<usize>>,
 }
 
-/// Where runs may go from each slot before that one.
+/// Answers where runs may go from each slot before this one.
 pub(crate) fn ways_before(
     alloc: Global,
     slots: &[Option<Insn>],
@@ -49,7 +49,7 @@ pub(crate) fn ways_before(
     Ok(ways)
 }
 
-/// Where runs may go from a slot that one comes to.
+/// Answers where runs may go from a slot that a run reaches.
 fn open_from(slots: &[Option<Insn>], states: &KnownStates, from: usize) -> Targets
     requires walkable { CanBeWalked slots.now }
     requires inside { from < length slots.now }
@@ -80,7 +80,7 @@ fn mark(list: &mut [bool], slot: Option<usize>) {
     }
 }
 
-/// Whether the slot is marked.
+/// Answers whether the slot is marked.
 pub(crate) fn is_marked(list: &[bool], slot: usize) -> bool {
     list.get(slot).copied() == Some(true)
 }
@@ -108,14 +108,14 @@ pub(crate) fn reaching(
     Ok(reaching)
 }
 
-/// Whether a run may go from the slot to one that is marked.
+/// Answers whether a run may go from the slot to one that is marked.
 fn leads(ways: &Ways, marked: &[bool], here: usize) -> bool {
     let next = ways.next.as_slice().get(here).copied().flatten();
     let jump = ways.jump.as_slice().get(here).copied().flatten();
     is_target(marked, next) || is_target(marked, jump)
 }
 
-/// Whether there is a target, and it is marked.
+/// Answers whether there is a target, and it is marked.
 fn is_target(marked: &[bool], target: Option<usize>) -> bool {
     match target {
         Some(slot) => is_marked(marked, slot),
@@ -123,7 +123,7 @@ fn is_target(marked: &[bool], target: Option<usize>) -> bool {
     }
 }
 
-/// Whether the instruction of the slot does not write the register.
+/// Answers whether the slot has no instruction that writes the register.
 pub(crate) fn spares(slots: &[Option<Insn>], register: u8, slot: usize) -> bool {
     match slots.get(slot).copied() {
         Some(Some(insn)) => !writes(insn, register),

@@ -49,7 +49,8 @@ IsBalanced-from_level E r p w l = record {
 
 -- The mean never falls
 
-moment_up_by : (d : Discipline) (p : Running) (now : ℕ) (o : Option Task) → p.current ≡ o → IsWellFormed p → weighted_v_at p ≤ weighted_v_at (ticked d p now)
+moment_up_by : (d : Discipline) (p : Running) (now : ℕ) (o : Option Task)
+    → p.current ≡ o → IsWellFormed p → weighted_v_at p ≤ weighted_v_at (ticked d p now)
 moment_up_by d p now None e w = omega (arith, weighted_sum-idle d p now e)
 moment_up_by d p now (Some t) e w =
     let f = current_present p.queue p.kept p.current p.last t e in
@@ -63,7 +64,8 @@ moment_up d p now w = moment_up_by d p now p.current refl w
 
 -- One that runs gets ahead by no more than its rise, less its own part in the mean
 
-ahead_more : (W w s M N E x y g most : ℕ) → W ≡ w + s → y ≡ x + g → g ≤ most → W * x ≤ M + E → N + w * x ≡ M + w * y → W * y ≤ N + (E + s * most)
+ahead_more : (W w s M N E x y g most : ℕ) → W ≡ w + s → y ≡ x + g → g ≤ most → W * x ≤ M + E → N + w * x ≡ M + w * y
+    → W * y ≤ N + (E + s * most)
 ahead_more W w s M N E x y g most split up le start moves =
     let a = ap (λ n. W * n) up in
     let b = ap (λ n. w * n) up in
@@ -71,7 +73,9 @@ ahead_more W w s M N E x y g most split up le start moves =
     let e = mul-le-mul_left s le in
     omega arith
 
-ahead_by : (E r : ℕ) (p : Running) (now i : ℕ) (t u : Task) → IsWellFormed p → IsLevel E r p → rise p now ≤ r → task_at i p ≡ Some t → Change eevdf p now i t u → weight_at p * u.v ≤ weighted_v_at (ticked eevdf p now) + most_ahead E r (weight_at p) t.weight
+ahead_by : (E r : ℕ) (p : Running) (now i : ℕ) (t u : Task) → IsWellFormed p → IsLevel E r p → rise p now ≤ r
+    → task_at i p ≡ Some t → Change eevdf p now i t u
+    → weight_at p * u.v ≤ weighted_v_at (ticked eevdf p now) + most_ahead E r (weight_at p) t.weight
 ahead_by E r p now i t u w l le f (Stays e z) =
     let v : u.v ≡ t.v = ap (λ (x : Task). x.v) e in
     let h = l.each i t f in
@@ -91,14 +95,17 @@ ahead_by E r p now i t u w l le f (Runs c e z) =
     let moves = weighted_sum-busy eevdf p now t c in
     let own = ap (λ (x : Task). t.weight * x.v) e in
     let sum : weighted_v_at (ticked eevdf p now) + t.weight * t.v ≡ weighted_v_at p + t.weight * u.v = omega arith in
-    let law = ahead_more (weight_at p) t.weight rest (weighted_v_at p) (weighted_v_at (ticked eevdf p now)) E t.v u.v (u.v - t.v) (vdelta_of r t.weight) split up few (l.runs t c) sum in
+    let law =
+    ahead_more (weight_at p) t.weight rest (weighted_v_at p) (weighted_v_at (ticked eevdf p now)) E t.v u.v (u.v - t.v)
+    (vdelta_of r t.weight) split up few (l.runs t c) sum in
     let less : weight_at p - t.weight ≡ rest = omega arith in
     rw less law
 
 eligible_ahead : (W M E : ℕ) (t : Task) → is_at_most_mean W M t ≡ true → W * t.v ≤ M + E
 eligible_ahead W M E t h = grind (arith, nat_tests)
 
-level_ticked : (E r : ℕ) (p : Running) (now : ℕ) → IsSound p → IsWellFormed p → IsLevel E r p → rise p now ≤ r → IsLevel E r (ticked eevdf p now)
+level_ticked : (E r : ℕ) (p : Running) (now : ℕ) → IsSound p → IsWellFormed p → IsLevel E r p → rise p now ≤ r
+    → IsLevel E r (ticked eevdf p now)
 level_ticked E r p now s w l le =
     let q = ticked eevdf p now in
     record {
@@ -114,16 +121,23 @@ level_ticked E r p now s w l le =
 -- where no task is ahead of the mean by more than E, the processor is balanced
 pub begins_balanced : BeginsBalanced
 begins_balanced E r p h = record {
-  current = IfSome-from (λ t. weight_at p * t.v ≤ weighted_v_at p + E) p.current (λ t e. of_each (λ x. weight_at p * x.v ≤ weighted_v_at p + E) p t.id t h (current_present p.queue p.kept p.current p.last t e));
-  each = All-weaker (λ x. weight_at p * x.v ≤ weighted_v_at p + E) (λ x. weight_at p * x.v ≤ weighted_v_at p + most_ahead E r (weight_at p) x.weight) (λ x k. omega arith) (present_at p) h;
+  current =
+      IfSome-from (λ t. weight_at p * t.v ≤ weighted_v_at p + E) p.current
+      (λ t e. of_each (λ x. weight_at p * x.v ≤ weighted_v_at p + E) p t.id t h (current_present p.queue p.kept p.current p.last t e));
+  each =
+      All-weaker (λ x. weight_at p * x.v ≤ weighted_v_at p + E)
+      (λ x. weight_at p * x.v ≤ weighted_v_at p + most_ahead E r (weight_at p) x.weight)
+      (λ x k. omega arith) (present_at p) h;
 }
 
 -- a Tick at which the clock rises by at most r keeps a processor sound and balanced
 pub stays_balanced : StaysBalanced
 stays_balanced E r p now s b le =
     let w = well_formed p s in
-    let next = well_formed_ticked eevdf p now w in
-    (well_formed_is_sound (ticked eevdf p now) next, IsBalanced-from_level E r (ticked eevdf p now) next (level_ticked E r p now s w (IsLevel-from_balanced E r p b) le))
+    let next = well_formed_ticked eevdf p now w in (
+      well_formed_is_sound (ticked eevdf p now) next,
+      IsBalanced-from_level E r (ticked eevdf p now) next (level_ticked E r p now s w (IsLevel-from_balanced E r p b) le),
+    )
 
 -- any number of Ticks at which the clock rises by at most r keep a processor sound and balanced
 pub history_stays_balanced : HistoryStaysBalanced

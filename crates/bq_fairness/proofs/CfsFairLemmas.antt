@@ -23,37 +23,52 @@ use Rattle.bq_fairness.proofs.SoundLemmas.{of_each, vdelta_of-le, IsWellFormed, 
 abbrev pub IsNearEach : List Task → Task → Type 0
 IsNearEach xs m = AllByRecursion (λ t. m.v ≤ t.v + 1000000) xs
 
-started_near : (q : List Task) (kept last : ℕ) → HasDistinctIds q → IfSome (decided cfs (idle_processor q kept last) None false).current (IsNearEach q)
+started_near : (q : List Task) (kept last : ℕ) → HasDistinctIds q
+    → IfSome (decided cfs (idle_processor q kept last) None false).current (IsNearEach q)
 started_near [] kept last d = tt
 started_near (x ∷ xs) kept last d =
     let m = former runs_before x (least xs) in
-    rw (least_is_found x xs d) (weaker_of_each (λ (t : Task). m.v ≤ t.v) (λ (t : Task). m.v ≤ t.v + 1000000) (λ t k. omega arith) (x ∷ xs) (none_below_least x xs))
+    rw (least_is_found x xs d)
+    (weaker_of_each (λ (t : Task). m.v ≤ t.v) (λ (t : Task). m.v ≤ t.v + 1000000) (λ t k. omega arith) (x ∷ xs) (none_below_least x xs))
 
-exchanged_near : (q : List Task) (kept last next : ℕ) (u m : Task) → next ≡ m.id → with_id m.id q ≡ Some m → IsNearEach (u ∷ q) m → IfSome (exchanged (busy_processor q kept u last) u (with_id next q)).current (IsNearEach (u ∷ q))
+exchanged_near : (q : List Task) (kept last next : ℕ) (u m : Task)
+    → next ≡ m.id → with_id m.id q ≡ Some m → IsNearEach (u ∷ q) m
+    → IfSome (exchanged (busy_processor q kept u last) u (with_id next q)).current (IsNearEach (u ∷ q))
 exchanged_near q kept last next u m e f h = rw (e, f) h
 
-switched_near : (q : List Task) (kept last : ℕ) (u : Task) → HasDistinctIds (u ∷ q) → own_preempt cfs q (Some u) ≡ true → IfSome (decided cfs (busy_processor q kept u last) (Some u) true).current (IsNearEach (u ∷ q))
+switched_near : (q : List Task) (kept last : ℕ) (u : Task) → HasDistinctIds (u ∷ q) → own_preempt cfs q (Some u) ≡ true
+    → IfSome (decided cfs (busy_processor q kept u last) (Some u) true).current (IsNearEach (u ∷ q))
 switched_near [] kept last u d e = cc
 switched_near (x ∷ xs) kept last u d e =
     let m = former runs_before x (least xs) in
     let lt : m.v + 1000000 < u.v = grind (arith, nat_tests) in
-    let near = weaker_of_each (λ (t : Task). m.v ≤ t.v) (λ (t : Task). m.v ≤ t.v + 1000000) (λ t k. omega arith) (x ∷ xs) (none_below_least x xs) in
-    exchanged_near (x ∷ xs) kept last (next_of cfs u (x ∷ xs)) u m (next_is_least u x xs (omega arith)) (least_is_found x xs d.1) (omega arith, near)
+    let near =
+    weaker_of_each (λ (t : Task). m.v ≤ t.v) (λ (t : Task). m.v ≤ t.v + 1000000) (λ t k. omega arith) (x ∷ xs)
+    (none_below_least x xs) in
+    exchanged_near (x ∷ xs) kept last (next_of cfs u (x ∷ xs)) u m (next_is_least u x xs (omega arith))
+    (least_is_found x xs d.1) (omega arith, near)
 
-decided_near : (q : List Task) (kept last : ℕ) (u : Task) (b : Bool) → HasDistinctIds (u ∷ q) → own_preempt cfs q (Some u) ≡ b → IfSome (decided cfs (busy_processor q kept u last) (Some u) b).current (IsNearEach (u ∷ q))
+decided_near : (q : List Task) (kept last : ℕ) (u : Task) (b : Bool)
+    → HasDistinctIds (u ∷ q) → own_preempt cfs q (Some u) ≡ b
+    → IfSome (decided cfs (busy_processor q kept u last) (Some u) b).current (IsNearEach (u ∷ q))
 decided_near q kept last u true d e = switched_near q kept last u d e
 decided_near q kept last u false d e = (omega arith, near_each u.v q e)
 
-runs_near_by : (q : List Task) (kept : ℕ) (o : Option Task) (last : ℕ) → (let p : Running = record { queue = q; kept = kept; current = o; last = last } in HasDistinctIds (present_at p) → IfSome (decided cfs p o (own_preempt cfs q o)).current (IsNearEach (present_at p)))
+runs_near_by : (q : List Task) (kept : ℕ) (o : Option Task) (last : ℕ)
+    → (let p : Running = record { queue = q; kept = kept; current = o; last = last } in
+    HasDistinctIds (present_at p) → IfSome (decided cfs p o (own_preempt cfs q o)).current (IsNearEach (present_at p)))
 runs_near_by q kept None last d = started_near q kept last d
 runs_near_by q kept (Some u) last d = decided_near q kept last u (own_preempt cfs q (Some u)) d refl
 
 -- the task that runs after a decision is so of all that are present
-pub runs_near_each : (p : Running) → HasDistinctIds (present_at p) → IfSome (decided cfs p p.current (own_preempt cfs p.queue p.current)).current (IsNearEach (present_at p))
+pub runs_near_each : (p : Running) → HasDistinctIds (present_at p)
+    → IfSome (decided cfs p p.current (own_preempt cfs p.queue p.current)).current (IsNearEach (present_at p))
 runs_near_each p d = runs_near_by p.queue p.kept p.current p.last d
 
 -- the task that runs after a Tick is at most 1,000,000 beyond each that is present
-pub runs_near : (p : Running) (now j : ℕ) (m t : Task) → HasDistinctIds (present_at p) → (ticked cfs p now).current ≡ Some m → task_at j (ticked cfs p now) ≡ Some t → m.v ≤ t.v + 1000000
+pub runs_near : (p : Running) (now j : ℕ) (m t : Task) → HasDistinctIds (present_at p) → (ticked cfs p now).current ≡ Some m
+    → task_at j (ticked cfs p now) ≡ Some t
+    → m.v ≤ t.v + 1000000
 runs_near p now j m t d e f =
     let c = charge cfs p now in
     let near = runs_near_by c.queue c.kept c.current c.last (charged_distinct cfs p now d) in
@@ -69,7 +84,9 @@ pub record IsFair (V r : ℕ) (p : Running) : Type 0 where
   pub each : (i j : ℕ) (u t : Task) → task_at i p ≡ Some u → task_at j p ≡ Some t → u.v ≤ max V (t.v + 1000000) + vdelta_of r u.weight
 
 -- a task that stays or runs, beside another that does
-one_beyond_by : (V r : ℕ) (p : Running) (now i j : ℕ) (t u b : Task) → IsWellFormed p → IsFair V r p → rise p now ≤ r → task_at i p ≡ Some t → task_at j p ≡ Some b → Change cfs p now i t u → u.v ≤ max V (b.v + 1000000) + vdelta_of r u.weight
+one_beyond_by : (V r : ℕ) (p : Running) (now i j : ℕ) (t u b : Task)
+    → IsWellFormed p → IsFair V r p → rise p now ≤ r → task_at i p ≡ Some t → task_at j p ≡ Some b → Change cfs p now i t u
+    → u.v ≤ max V (b.v + 1000000) + vdelta_of r u.weight
 one_beyond_by V r p now i j t u b w fair le f g (Stays e z) = rw e (fair.each i j t b f g)
 one_beyond_by V r p now i j t u b w fair le f g (Runs c e z) =
     let ch : Change cfs p now i t u = Runs c e z in
@@ -95,7 +112,8 @@ fair_ticked V r p now w fair le = record {
 }
 
 -- any number of Ticks at which the clock rises by at most r keep each task as near the others
-pub fair_history : (V r : ℕ) (p : Running) (nows : List ℕ) → IsWellFormed p → IsFair V r p → RisesByAtMost r cfs p nows → IsFair V r (history cfs p nows)
+pub fair_history : (V r : ℕ) (p : Running) (nows : List ℕ) → IsWellFormed p → IsFair V r p → RisesByAtMost r cfs p nows
+    → IsFair V r (history cfs p nows)
 fair_history V r p [] w fair le = fair
 fair_history V r p (now ∷ nows) w fair le =
     fair_history V r (ticked cfs p now) nows (well_formed_ticked cfs p now w) (fair_ticked V r p now w fair le.0) le.1
@@ -103,6 +121,8 @@ fair_history V r p (now ∷ nows) w fair le =
 -- where no v is beyond V
 pub fair_at_start : (V r : ℕ) (p : Running) → All (λ t. t.v ≤ V) (present_at p) → IsFair V r p
 fair_at_start V r p h = record {
-  runs = λ j m t e f. let le = of_each (λ (x : Task). x.v ≤ V) p m.id m h (current_present p.queue p.kept p.current p.last m e) in omega arith;
+  runs = λ j m t e f.
+      let le = of_each (λ (x : Task). x.v ≤ V) p m.id m h (current_present p.queue p.kept p.current p.last m e) in
+      omega arith;
   each = λ i j u t f g. let le = of_each (λ (x : Task). x.v ≤ V) p i u h f in omega arith;
 }

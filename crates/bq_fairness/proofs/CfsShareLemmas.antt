@@ -18,7 +18,8 @@ use Rattle.bq_fairness.proofs.CfsFairLemmas.{fair_history, fair_at_start}
 use Rattle.bq_fairness.proofs.WorkLemmas.{moves_the_sum, books_the_time}
 
 -- where none of some tasks is beyond N by more than one rise at its own weight
-pub weighted_sum_within : (N r : ℕ) (xs : List Task) → AllByRecursion (λ t. t.v ≤ N + vdelta_of r t.weight) xs → weighted_sum xs ≤ total_weight xs * N + 1024 * r * length xs
+pub weighted_sum_within : (N r : ℕ) (xs : List Task) → AllByRecursion (λ t. t.v ≤ N + vdelta_of r t.weight) xs
+    → weighted_sum xs ≤ total_weight xs * N + 1024 * r * length xs
 weighted_sum_within N r [] h = omega arith
 weighted_sum_within N r (x ∷ xs) h =
     let here = mul-le-mul_left x.weight h.0 in
@@ -46,7 +47,8 @@ cfs_serves_its_share V r p nows j b s room h le f =
     let moved = moves_the_sum cfs p nows s room in
     let m = rw (moved.0, moved.1, length-history cfs p nows) at sum in
     let v = u.2 in
-    share_by (weighted_v_at p) (weight_at p) N (max V (b.v + 1000000)) (booked cfs p nows) (served j cfs p nows) r (length (present_at p)) m (omega arith)
+    share_by (weighted_v_at p) (weight_at p) N (max V (b.v + 1000000)) (booked cfs p nows) (served j cfs p nows)
+    r (length (present_at p)) m (omega arith)
 
 -- where no v is below L, the weighted sum is at least L times the weights together
 pub least_under : (L : ℕ) (xs : List Task) → AllByRecursion (λ t. L ≤ t.v) xs → total_weight xs * L ≤ weighted_sum xs
@@ -56,7 +58,9 @@ least_under L (x ∷ xs) h =
     omega (arith, here, least_under L xs h.1)
 
 -- where a task was served nothing, the bound on what is booked is one on the time that passes
-pub waiting_by : (M W L S g most B A s r n c : ℕ) → s ≡ 0 → W * L ≤ M → most ≤ L + S + g → M + B ≤ W * (s + most) + 1024 * r * n → A ≤ B + c → A ≤ W * (S + g) + 1024 * r * n + c
+pub waiting_by : (M W L S g most B A s r n c : ℕ) → s ≡ 0 → W * L ≤ M → most ≤ L + S + g
+    → M + B ≤ W * (s + most) + 1024 * r * n → A ≤ B + c
+    → A ≤ W * (S + g) + 1024 * r * n + c
 waiting_by M W L S g most B A s r n c none low le h near =
     let nothing : s + most ≤ L + S + g = omega arith in
     let product = mul-le-mul_left W nothing in
@@ -72,4 +76,6 @@ cfs_waiting L S r p nows j b s room h le busy f none =
     let own = of_each range p j b h f in
     let share = cfs_serves_its_share V r p nows j b s room high le f in
     let near = books_the_time cfs p nows s busy in
-    waiting_by (weighted_v_at p) (weight_at p) L S 1000000 (max V (b.v + 1000000)) (booked cfs p nows) (1024 * elapsed cfs p nows) (served j cfs p nows) r (length (present_at p)) (88760 * length nows) none (least_under L (present_at p) (recursion_from_All (λ (x : Task). L ≤ x.v) (present_at p) low)) (omega arith) share near.1
+    waiting_by (weighted_v_at p) (weight_at p) L S 1000000 (max V (b.v + 1000000)) (booked cfs p nows)
+    (1024 * elapsed cfs p nows) (served j cfs p nows) r (length (present_at p)) (88760 * length nows) none
+    (least_under L (present_at p) (recursion_from_All (λ (x : Task). L ≤ x.v) (present_at p) low)) (omega arith) share near.1

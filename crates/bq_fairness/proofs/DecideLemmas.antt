@@ -12,7 +12,9 @@ pub record KeepsPresent (p q : Running) : Type 0 where
   pub distinct : HasDistinctIds (present_at q)
   pub last : q.last ≡ p.last
 
-decided_keeps : (d : Discipline) (q : List Task) (kept : ℕ) (o : Option Task) (last : ℕ) (b : Bool) → (let p : Running = record { queue = q; kept = kept; current = o; last = last } in HasDistinctIds (present_at p) → KeepsPresent p (decided d p o b))
+decided_keeps : (d : Discipline) (q : List Task) (kept : ℕ) (o : Option Task) (last : ℕ) (b : Bool)
+    → (let p : Running = record { queue = q; kept = kept; current = o; last = last } in
+    HasDistinctIds (present_at p) → KeepsPresent p (decided d p o b))
 decided_keeps d q kept None last b h = record {
   same = same_started q kept last (id_of (d.choice q));
   distinct = distinct_started q kept last (id_of (d.choice q)) h;

@@ -26,7 +26,7 @@ pub record IsDue (t : Task) : Type 0 where
   pub low : t.v ≤ t.deadline
   pub high : t.deadline ≤ t.v + vdelta_of t.slice t.weight
 
--- so is each that is present
+-- each task that is present is due no earlier than it stands, and no later than one slice from there
 abbrev pub EachIsDue : Running → Type 0
 EachIsDue p = (i : ℕ) (t : Task) → task_at i p ≡ Some t → IsDue t
 
@@ -35,7 +35,9 @@ record Dues (t u : Task) : Type 0 where
   due : IsDue u
   up : t.deadline ≤ u.deadline
 
-renewed_by_test : (x v slice weight deadline : ℕ) (b : Bool) → nat_le deadline v ≡ b → x ≤ deadline → deadline ≤ x + vdelta_of slice weight → x ≤ v → v ≤ 2 ^ 62 → (let new = cond b (advance_of v slice weight) deadline in (v ≤ new) × (new ≤ v + vdelta_of slice weight) × (deadline ≤ new))
+renewed_by_test : (x v slice weight deadline : ℕ) (b : Bool) → nat_le deadline v ≡ b → x ≤ deadline
+    → deadline ≤ x + vdelta_of slice weight → x ≤ v → v ≤ 2 ^ 62
+    → (let new = cond b (advance_of v slice weight) deadline in (v ≤ new) × (new ≤ v + vdelta_of slice weight) × (deadline ≤ new))
 renewed_by_test x v slice weight deadline true e low high up ends =
     let le : deadline ≤ v = grind (arith, nat_tests) in
     (omega arith, omega arith, omega arith)
@@ -76,7 +78,9 @@ lighter : (W M x y : ℕ) → W * x ≤ M → M < W * y → x ≤ y
 lighter W M x y h k = lighter_by W M x y (nat_le y x) refl h k
 
 -- it stands no later than one is due, be that one eligible or not
-before_due_by : (xs : List Task) (m t : Task) (b : Bool) → is_eligible xs t ≡ b → is_eligible xs m ≡ true → (b ≡ true → due_before t m ≡ false) → IsDue m → IsDue t → m.v ≤ t.deadline
+before_due_by : (xs : List Task) (m t : Task) (b : Bool) → is_eligible xs t ≡ b → is_eligible xs m ≡ true
+    → (b ≡ true → due_before t m ≡ false) → IsDue m → IsDue t
+    → m.v ≤ t.deadline
 before_due_by xs m t true e c first dm dt =
     let f = first refl in
     let low = dm.low in
@@ -92,13 +96,18 @@ before_due_by xs m t false e c first dm dt =
     omega arith
 
 -- the eligible task that is due first stands no later than any is due
-pub before_due : (xs : List Task) (m t : Task) (j : ℕ) → HasDistinctIds xs → earliest xs ≡ Some m → with_id j xs ≡ Some t → IsDue m → IsDue t → m.v ≤ t.deadline
+pub before_due : (xs : List Task) (m t : Task) (j : ℕ) → HasDistinctIds xs → earliest xs ≡ Some m
+    → with_id j xs ≡ Some t → IsDue m → IsDue t
+    → m.v ≤ t.deadline
 before_due xs m t j d e f dm dt =
     let c = Contains-with_id j xs t f in
-    before_due_by xs m t (is_eligible xs t) refl (earliest_is_eligible xs m d e) (λ k. none_is_due_before xs m e t (filter-Contains (is_eligible xs) xs t c.0 c.1 c.2 k)) dm dt
+    before_due_by xs m t (is_eligible xs t) refl (earliest_is_eligible xs m d e)
+    (λ k. none_is_due_before xs m e t (filter-Contains (is_eligible xs) xs t c.0 c.1 c.2 k)) dm dt
 
 -- after a Tick
-runs_before_due : (p : Running) (now j : ℕ) (m t : Task) → HasDistinctIds (present_at p) → EachIsDue (ticked eevdf p now) → (ticked eevdf p now).current ≡ Some m → task_at j (ticked eevdf p now) ≡ Some t → m.v ≤ t.deadline
+runs_before_due : (p : Running) (now j : ℕ) (m t : Task) → HasDistinctIds (present_at p) → EachIsDue (ticked eevdf p now)
+    → (ticked eevdf p now).current ≡ Some m → task_at j (ticked eevdf p now) ≡ Some t
+    → m.v ≤ t.deadline
 runs_before_due p now j m t d due e f =
     let c = charge eevdf p now in
     let q = ticked eevdf p now in
@@ -115,7 +124,10 @@ pub record IsTimely (V r : ℕ) (p : Running) : Type 0 where
   pub runs : (j : ℕ) (m t : Task) → p.current ≡ Some m → task_at j p ≡ Some t → m.v ≤ max V t.deadline
   pub each : (i j : ℕ) (u t : Task) → task_at i p ≡ Some u → task_at j p ≡ Some t → u.v ≤ max V t.deadline + vdelta_of r u.weight
 
-one_beyond_by : (V r : ℕ) (p : Running) (now i j : ℕ) (t u b : Task) → IsWellFormed p → IsTimely V r p → rise p now ≤ r → task_at i p ≡ Some t → task_at j p ≡ Some b → Change eevdf p now i t u → u.v ≤ max V b.deadline + vdelta_of r u.weight
+one_beyond_by : (V r : ℕ) (p : Running) (now i j : ℕ) (t u b : Task)
+    → IsWellFormed p → IsTimely V r p → rise p now ≤ r → task_at i p ≡ Some t → task_at j p ≡ Some b
+    → Change eevdf p now i t u
+    → u.v ≤ max V b.deadline + vdelta_of r u.weight
 one_beyond_by V r p now i j t u b w timely le f g (Stays e z) = rw e (timely.each i j t b f g)
 one_beyond_by V r p now i j t u b w timely le f g (Runs c e z) =
     let ch : Change eevdf p now i t u = Runs c e z in
@@ -147,7 +159,8 @@ timely_ticked V r p now w timely le =
     }
 
 -- any number of Ticks at which the clock rises by at most r keep each task as near the deadlines
-pub timely_history : (V r : ℕ) (p : Running) (nows : List ℕ) → IsWellFormed p → IsTimely V r p → RisesByAtMost r eevdf p nows → IsTimely V r (history eevdf p nows)
+pub timely_history : (V r : ℕ) (p : Running) (nows : List ℕ) → IsWellFormed p → IsTimely V r p → RisesByAtMost r eevdf p nows
+    → IsTimely V r (history eevdf p nows)
 timely_history V r p [] w timely le = timely
 timely_history V r p (now ∷ nows) w timely le =
     timely_history V r (ticked eevdf p now) nows (well_formed_ticked eevdf p now w) (timely_ticked V r p now w timely le.0) le.1
@@ -158,7 +171,9 @@ timely_at_start V r p due h =
     let two : Task → Type 0 = λ x. (x.v ≤ x.deadline) × (x.deadline ≤ x.v + vdelta_of x.slice x.weight) in
     record {
       due = λ i t f. let d = of_each two p i t due f in record { low = d.0; high = d.1 };
-      runs = λ j m t e f. let le = of_each (λ (x : Task). x.v ≤ V) p m.id m h (current_present p.queue p.kept p.current p.last m e) in omega arith;
+      runs = λ j m t e f.
+          let le = of_each (λ (x : Task). x.v ≤ V) p m.id m h (current_present p.queue p.kept p.current p.last m e) in
+          omega arith;
       each = λ i j u t f g. let le = of_each (λ (x : Task). x.v ≤ V) p i u h f in omega arith;
     }
 

@@ -15,8 +15,10 @@ pub decide_runs_eligible : DecideRunsEligible
 decide_runs_eligible p d =
     let q = stepped eevdf p Decide in
     IfSome-weaker q.current (λ t. earliest (present_at p) ≡ Some t) (λ t. is_eligible (present_at q) t ≡ true)
-    (λ t h. ap (λ n. is_at_most_mean n (weighted_sum (present_at q)) t) (total_weight-decided eevdf p) ∙ ap (λ n. is_at_most_mean (total_weight (present_at p)) n t) (weighted_sum-decided eevdf p) ∙ earliest_is_eligible (present_at p) t d h)
-    (runs_earliest p d)
+    (λ t h.
+    ap (λ n. is_at_most_mean n (weighted_sum (present_at q)) t) (total_weight-decided eevdf p)
+    ∙ ap (λ n. is_at_most_mean (total_weight (present_at p)) n t) (weighted_sum-decided eevdf p)
+    ∙ earliest_is_eligible (present_at p) t d h) (runs_earliest p d)
 
 -- under EEVDF the task that runs after a Tick is eligible
 pub tick_runs_eligible : TickRunsEligible

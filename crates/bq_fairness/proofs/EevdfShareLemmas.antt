@@ -37,7 +37,9 @@ eevdf_serves_in_proportion E r p nows i j a b s room bal le f g =
     let ahead_here = rw (u.3, u.2, moved.0, moved.1) at ahead in
     let owed = eevdf_serves_its_share E r p nows j b s room bal le g in
     let B = most_behind E r p b.weight in
-    let law = proportion_by b.weight (weight_at p) (a.v + served i eevdf p nows) (b.v + served j eevdf p nows) (weighted_v_at p + booked eevdf p nows) (most_ahead E r (weight_at p) a.weight) B ahead_here (omega (arith, owed)) in
+    let law =
+    proportion_by b.weight (weight_at p) (a.v + served i eevdf p nows) (b.v + served j eevdf p nows)
+    (weighted_v_at p + booked eevdf p nows) (most_ahead E r (weight_at p) a.weight) B ahead_here (omega (arith, owed)) in
     omega (arith, law)
 
 waiting_by : (w M W v A B c s rest : ℕ) → s ≡ 0 → A ≤ B + c → w * (M + B) ≤ w * (W * (v + s)) + rest → w * (M + A) ≤ w * (W * v + c) + rest
@@ -53,5 +55,7 @@ eevdf_waiting E r p nows j b s room bal le busy f none =
     let owed = eevdf_serves_its_share E r p nows j b s room bal le f in
     let near = books_the_time eevdf p nows s busy in
     let rest = most_behind E r p b.weight in
-    let law = waiting_by b.weight (weighted_v_at p) (weight_at p) b.v (1024 * elapsed eevdf p nows) (booked eevdf p nows) (most_lost nows) (served j eevdf p nows) rest none near.1 (omega (arith, owed)) in
+    let law =
+    waiting_by b.weight (weighted_v_at p) (weight_at p) b.v (1024 * elapsed eevdf p nows) (booked eevdf p nows)
+    (most_lost nows) (served j eevdf p nows) rest none near.1 (omega (arith, owed)) in
     omega (arith, law)

@@ -48,7 +48,8 @@ shares_by_slices V r p nows j b s room due h le f =
     let v = u.2 in
     let high = (timely.due j u.0 u.1).high in
     let high_own = rw (u.3, u.4) at high in
-    share_by (weighted_v_at p) (weight_at p) N (max V (b.v + vdelta_of b.slice b.weight)) (booked eevdf p nows) (served j eevdf p nows) r (length (present_at p)) m (omega arith)
+    share_by (weighted_v_at p) (weight_at p) N (max V (b.v + vdelta_of b.slice b.weight)) (booked eevdf p nows)
+    (served j eevdf p nows) r (length (present_at p)) m (omega arith)
 
 -- while a task is served nothing the clock rises by no more than its slice, the spread at the start and rises allow
 pub waits_by_slices : EevdfWaitsBySlices
@@ -61,4 +62,6 @@ waits_by_slices L S r p nows j b s room due h le busy f none =
     let share = shares_by_slices V r p nows j b s room due high le f in
     let near = books_the_time eevdf p nows s busy in
     let slice = vdelta_of b.slice b.weight in
-    waiting_by (weighted_v_at p) (weight_at p) L S slice (max V (b.v + slice)) (booked eevdf p nows) (1024 * elapsed eevdf p nows) (served j eevdf p nows) r (length (present_at p)) (88760 * length nows) none (least_under L (present_at p) (recursion_from_All (λ (x : Task). L ≤ x.v) (present_at p) low)) (omega arith) share near.1
+    waiting_by (weighted_v_at p) (weight_at p) L S slice (max V (b.v + slice)) (booked eevdf p nows)
+    (1024 * elapsed eevdf p nows) (served j eevdf p nows) r (length (present_at p)) (88760 * length nows) none
+    (least_under L (present_at p) (recursion_from_All (λ (x : Task). L ≤ x.v) (present_at p) low)) (omega arith) share near.1

@@ -35,7 +35,9 @@ IsEarliestOf xs t = earliest xs ≡ Some t
 
 -- Nothing runs, and the choice starts
 
-started_by : (q : List Task) (kept last : ℕ) (o : Option Task) → earliest q ≡ o → IfSome o (IsChosen q) → IfSome (run_id (idle_processor q kept last) (id_of o)).current (IsEarliestOf q)
+started_by : (q : List Task) (kept last : ℕ) (o : Option Task)
+    → earliest q ≡ o → IfSome o (IsChosen q)
+    → IfSome (run_id (idle_processor q kept last) (id_of o)).current (IsEarliestOf q)
 started_by q kept last None f h = tt
 started_by q kept last (Some m) f h = rw h.0 f
 
@@ -53,18 +55,24 @@ next_is_chosen q u m f e =
     ap (λ o. next_from q u o) f ∙ next_by_test m u (eqb m.id u.id) (unwrap_or (id_of (earliest q)) u.id) e
 
 -- a chosen task that is not the current one is in the queue
-later_by_test : (q : List Task) (u m : Task) (b : Bool) → eqb u.id m.id ≡ b → eqb m.id u.id ≡ false → cond b (Some u) (with_id m.id q) ≡ Some m → with_id m.id q ≡ Some m
+later_by_test : (q : List Task) (u m : Task) (b : Bool) → eqb u.id m.id ≡ b → eqb m.id u.id ≡ false
+    → cond b (Some u) (with_id m.id q) ≡ Some m
+    → with_id m.id q ≡ Some m
 later_by_test q u m true g e h = let same = eq-eqb m.id u.id (sym (eqb-true u.id m.id g)) in cc
 later_by_test q u m false g e h = h
 
 abbrev RunsEarliestOf : List Task → Running → Type 0
 RunsEarliestOf xs p = IfSome p.current (IsEarliestOf xs)
 
-exchanged_earliest : (q : List Task) (kept last next : ℕ) (u m : Task) → next ≡ m.id → with_id m.id q ≡ Some m → IsEarliestOf (u ∷ q) m → RunsEarliestOf (u ∷ q) (exchanged (busy_processor q kept u last) u (with_id next q))
+exchanged_earliest : (q : List Task) (kept last next : ℕ) (u m : Task)
+    → next ≡ m.id → with_id m.id q ≡ Some m → IsEarliestOf (u ∷ q) m
+    → RunsEarliestOf (u ∷ q) (exchanged (busy_processor q kept u last) u (with_id next q))
 exchanged_earliest q kept last next u m e f h = rw (e, f) h
 
 -- of the earliest, by whether it is the current task
-decided_by_test : (q : List Task) (kept last : ℕ) (u m : Task) (b : Bool) → eqb m.id u.id ≡ b → earliest (u ∷ q) ≡ Some m → IsChosen (u ∷ q) m → RunsEarliestOf (u ∷ q) (decided eevdf (busy_processor q kept u last) (Some u) (not b))
+decided_by_test : (q : List Task) (kept last : ℕ) (u m : Task) (b : Bool)
+    → eqb m.id u.id ≡ b → earliest (u ∷ q) ≡ Some m → IsChosen (u ∷ q) m
+    → RunsEarliestOf (u ∷ q) (decided eevdf (busy_processor q kept u last) (Some u) (not b))
 decided_by_test q kept last u m true e f h =
     let same = eqb-true m.id u.id e in
     let here : u ≡ m = let one = with_id-own u q in let two = ap (λ k. with_id k (u ∷ q)) same in let three = h.0 in cc in
@@ -72,26 +80,33 @@ decided_by_test q kept last u m true e f h =
 decided_by_test q kept last u m false e f h =
     exchanged_earliest q kept last (next_of eevdf u q) u m (next_is_chosen q u m f e) (later_by_test q u m (eqb u.id m.id) refl e h.0) f
 
-decided_by : (q : List Task) (kept last : ℕ) (u : Task) (o : Option Task) → earliest (u ∷ q) ≡ o → IfSome o (IsChosen (u ∷ q)) → IsSome o → RunsEarliestOf (u ∷ q) (decided eevdf (busy_processor q kept u last) (Some u) (is_other o u))
+decided_by : (q : List Task) (kept last : ℕ) (u : Task) (o : Option Task)
+    → earliest (u ∷ q) ≡ o → IfSome o (IsChosen (u ∷ q)) → IsSome o
+    → RunsEarliestOf (u ∷ q) (decided eevdf (busy_processor q kept u last) (Some u) (is_other o u))
 decided_by q kept last u None f h s = cc
 decided_by q kept last u (Some m) f h s = decided_by_test q kept last u m (eqb m.id u.id) refl f h
 
-decided_earliest : (q : List Task) (kept : ℕ) (o : Option Task) (last : ℕ) → (let p : Running = record { queue = q; kept = kept; current = o; last = last } in HasDistinctIds (present_at p) → RunsEarliestOf (present_at p) (decided eevdf p o (own_preempt eevdf q o)))
+decided_earliest : (q : List Task) (kept : ℕ) (o : Option Task) (last : ℕ)
+    → (let p : Running = record { queue = q; kept = kept; current = o; last = last } in
+    HasDistinctIds (present_at p) → RunsEarliestOf (present_at p) (decided eevdf p o (own_preempt eevdf q o)))
 decided_earliest q kept None last d = started_by q kept last (earliest q) refl (earliest_is_chosen q d)
 decided_earliest q kept (Some u) last d =
     decided_by q kept last u (earliest (u ∷ q)) refl (earliest_is_chosen (u ∷ q) d) (eevdf_lawful.exists (u ∷ q) (λ e. cc))
 
 -- the task that runs after a decision is the earliest of those that were present before it
-pub runs_earliest : (p : Running) → HasDistinctIds (present_at p) → IfSome (decided eevdf p p.current (own_preempt eevdf p.queue p.current)).current (IsEarliestOf (present_at p))
+pub runs_earliest : (p : Running) → HasDistinctIds (present_at p)
+    → IfSome (decided eevdf p p.current (own_preempt eevdf p.queue p.current)).current (IsEarliestOf (present_at p))
 runs_earliest p d = decided_earliest p.queue p.kept p.current p.last d
 
 -- the earliest is eligible
 pub earliest_is_eligible : (xs : List Task) (m : Task) → HasDistinctIds xs → IsEarliestOf xs m → is_eligible xs m ≡ true
 earliest_is_eligible xs m d e = (of_some (IsChosen xs) (earliest xs) m (earliest_is_chosen xs d) e).1
 
--- and no eligible one is due before it
+-- no eligible task is due before the earliest
 pub none_is_due_before : (xs : List Task) (m : Task) → IsEarliestOf xs m → (t : Task) → Contains (eligible xs) t → due_before t m ≡ false
-none_is_due_before xs m e = of_some (λ x. (t : Task) → Contains (eligible xs) t → due_before t x ≡ false) (earliest xs) m (first_by-least due_before due_before-IsOrder (eligible xs)) e
+none_is_due_before xs m e =
+    of_some (λ x. (t : Task) → Contains (eligible xs) t → due_before t x ≡ false) (earliest xs) m
+    (first_by-least due_before due_before-IsOrder (eligible xs)) e
 
 -- the earliest is the task of its id
 pub chosen_present : (xs : List Task) (m : Task) → HasDistinctIds xs → IsEarliestOf xs m → with_id m.id xs ≡ Some m

@@ -10,7 +10,9 @@ use Rattle.bq_fairness.specs.Events.{entries, EventsAreSteps}
 use Rattle.bq_fairness.proofs.TickLemmas.{charged_distinct}
 
 -- where the current task leaves, nothing runs and the queue is as it was
-stops : (d : Discipline) (q : List Task) (kept : ℕ) (o : Option Task) (last : ℕ) (t : Task) → (let c : Running = record { queue = q; kept = kept; current = o; last = last } in HasDistinctIds (present_at c) → o ≡ Some t → record c { current = None } ≡ stepped d c (Leave t.id))
+stops : (d : Discipline) (q : List Task) (kept : ℕ) (o : Option Task) (last : ℕ) (t : Task)
+    → (let c : Running = record { queue = q; kept = kept; current = o; last = last } in
+    HasDistinctIds (present_at c) → o ≡ Some t → record c { current = None } ≡ stepped d c (Leave t.id))
 stops d q kept None last t h e = cc
 stops d q kept (Some u) last t h e =
     let same : u ≡ t = cc in
@@ -20,20 +22,26 @@ stops d q kept (Some u) last t h e =
     let full : Option Task → List Task → Running = λ o q. record { queue = q; kept = kept; current = o; last = last } in
     sym (ap (λ o. full o (without t.id q)) gone ∙ ap (λ q. full None q) (without-absent t.id q absent))
 
-drained : (d : Discipline) (q : List Task) (kept : ℕ) (o : Option Task) (last : ℕ) (tasks : List Task) → (let e : Running = record { queue = entered d kept q tasks; kept = kept; current = o; last = last } in decided d e e.current (own_preempt d e.queue e.current) ≡ after d (record { queue = q; kept = kept; current = o; last = last }) (entries d kept tasks))
+drained : (d : Discipline) (q : List Task) (kept : ℕ) (o : Option Task) (last : ℕ) (tasks : List Task)
+    → (let e : Running = record { queue = entered d kept q tasks; kept = kept; current = o; last = last } in
+    decided d e e.current (own_preempt d e.queue e.current)
+    ≡ after d (record { queue = q; kept = kept; current = o; last = last }) (entries d kept tasks))
 drained d q kept o last [] = refl
 drained d q kept o last (t ∷ tasks) = drained d (place (woken d kept t) q) kept o last tasks
 
-starts : (d : Discipline) (q : List Task) (kept : ℕ) (o : Option Task) (last : ℕ) → (let p : Running = record { queue = q; kept = kept; current = o; last = last } in o ≡ None → start d p ≡ stepped d p Decide)
+starts : (d : Discipline) (q : List Task) (kept : ℕ) (o : Option Task) (last : ℕ)
+    → (let p : Running = record { queue = q; kept = kept; current = o; last = last } in o ≡ None → start d p ≡ stepped d p Decide)
 starts d q kept None last e = refl
 starts d q kept (Some t) last e = cc
 
 -- the current task is not the one of the queue that leaves
-keeps_by : (k : ℕ) (q : List Task) (c t : Task) (b : Bool) → eqb c.id k ≡ b → with_id c.id q ≡ None → with_id k q ≡ Some t → Some c ≡ cond b None (Some c)
+keeps_by : (k : ℕ) (q : List Task) (c t : Task) (b : Bool) → eqb c.id k ≡ b → with_id c.id q ≡ None → with_id k q ≡ Some t
+    → Some c ≡ cond b None (Some c)
 keeps_by k q c t true e n f = let same = ap (λ k. with_id k q) (eqb-true c.id k e) in cc
 keeps_by k q c t false e n f = refl
 
-keeps_current : (k : ℕ) (q : List Task) (o : Option Task) (t : Task) → HasDistinctIds (present o q) → with_id k q ≡ Some t → o ≡ kept_current k o
+keeps_current : (k : ℕ) (q : List Task) (o : Option Task) (t : Task)
+    → HasDistinctIds (present o q) → with_id k q ≡ Some t → o ≡ kept_current k o
 keeps_current k q None t h f = refl
 keeps_current k q (Some c) t h f = keeps_by k q c t (eqb c.id k) refl h.0 f
 

@@ -32,8 +32,9 @@ weights_split i xs t f =
     let e = sum_of-without (λ (x : Task). x.weight) i xs t f in
     omega (arith, e, total_weight-sum xs, total_weight-sum (without i xs))
 
--- and so is the weighted sum
-pub moments_split : (i : ℕ) (xs : List Task) (t : Task) → with_id i xs ≡ Some t → weighted_sum xs ≡ t.weight * t.v + weighted_sum (without i xs)
+-- the weighted sum is one's own part and the others'
+pub moments_split : (i : ℕ) (xs : List Task) (t : Task) → with_id i xs ≡ Some t
+    → weighted_sum xs ≡ t.weight * t.v + weighted_sum (without i xs)
 moments_split i xs t f =
     let e = sum_of-without (λ (x : Task). x.weight * x.v) i xs t f in
     omega (arith, e, weighted_sum-sum xs, weighted_sum-sum (without i xs))

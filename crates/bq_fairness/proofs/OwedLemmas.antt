@@ -16,7 +16,8 @@ use Rattle.bq_fairness.proofs.SumLemmas.{length-sum}
 use Rattle.bq_fairness.proofs.ListLemmas.{All-from_ids, weights_split, moments_split}
 
 -- what each of some tasks is ahead by, each times its weight, together
-together : (E r W M : ℕ) (xs : List Task) → AllByRecursion (λ t. W * t.v ≤ M + most_ahead E r W t.weight) xs → W * weighted_sum xs ≤ total_weight xs * M + ahead_together E r W xs
+together : (E r W M : ℕ) (xs : List Task) → AllByRecursion (λ t. W * t.v ≤ M + most_ahead E r W t.weight) xs
+    → W * weighted_sum xs ≤ total_weight xs * M + ahead_together E r W xs
 together E r W M [] h = omega arith
 together E r W M (x ∷ xs) h =
     let here = mul-le-mul_left x.weight h.0 in
@@ -37,7 +38,8 @@ none_is_owed_more E r p j b s bal f =
     let M = weighted_v_at p in
     let ahead : Task → Type 0 = λ t. W * t.v ≤ M + most_ahead E r W t.weight in
     let each = each-without ahead j xs (recursion_from_All ahead xs bal.each) in
-    owed_by W M b.weight b.v (total_weight others) (weighted_sum others) (ahead_together E r W others) (weights_split j xs b f) (moments_split j xs b f) (together E r W M others each)
+    owed_by W M b.weight b.v (total_weight others) (weighted_sum others) (ahead_together E r W others)
+    (weights_split j xs b f) (moments_split j xs b f) (together E r W M others each)
 
 one_long : (E r W w s : ℕ) → W ≡ w + s → w * (E + s * vdelta_of r w) + 1024 * r * w ≤ w * E + 1024 * r * W
 one_long E r W w s split =
@@ -48,8 +50,9 @@ one_long E r W w s split =
 length_times : (x : Task) (xs : List Task) (W : ℕ) → length (x ∷ xs) * W ≡ W + length xs * W
 length_times x xs W = let e : length (x ∷ xs) ≡ length xs + 1 = omega arith in let f = ap (λ n. n * W) e in omega arith
 
--- and in time
-long : (E r W : ℕ) (xs : List Task) → AllByRecursion (λ t. t.weight ≤ W) xs → ahead_together E r W xs + 1024 * r * total_weight xs ≤ total_weight xs * E + 1024 * r * (length xs * W)
+-- what the others are ahead by together, measured in time
+long : (E r W : ℕ) (xs : List Task) → AllByRecursion (λ t. t.weight ≤ W) xs
+    → ahead_together E r W xs + 1024 * r * total_weight xs ≤ total_weight xs * E + 1024 * r * (length xs * W)
 long E r W [] h = omega arith
 long E r W (x ∷ xs) h =
     let le = h.0 in
@@ -58,7 +61,9 @@ long E r W (x ∷ xs) h =
     let n = ap (λ k. 1024 * r * k) (length_times x xs W) in
     omega (arith, one, n, long E r W xs h.1)
 
-long_by : (E r W w v M T n B : ℕ) → W ≡ w + T → w * M ≤ w * (W * v) + B → B + 1024 * r * T ≤ T * E + 1024 * r * (n * W) → (n ≡ 0 → B ≡ 0) → w * M ≤ w * (W * v) + (T * E + 1024 * r * ((n + 1 - 2) * W + w))
+long_by : (E r W w v M T n B : ℕ) → W ≡ w + T → w * M ≤ w * (W * v) + B
+    → B + 1024 * r * T ≤ T * E + 1024 * r * (n * W) → (n ≡ 0 → B ≡ 0)
+    → w * M ≤ w * (W * v) + (T * E + 1024 * r * ((n + 1 - 2) * W + w))
 long_by E r W w v M T zero B split owed h none = let z = none refl in omega arith
 long_by E r W w v M T (suc n) B split owed h none =
     let a = ap (λ k. 1024 * r * k) split in
@@ -80,4 +85,6 @@ none_is_owed_long E r p j b s bal f =
     let split = weights_split j xs b f in
     let n : length xs ≡ length others + 1 = omega (arith, length-sum xs, length-sum others, sum_of-without (λ t. 1) j xs b f) in
     let less : W - b.weight ≡ total_weight others = omega arith in
-    rw (n, less) (long_by E r W b.weight b.v (weighted_v_at p) (total_weight others) (length others) (ahead_together E r W others) split (none_is_owed_more E r p j b s bal f) (long E r W others each) (none_ahead E r W others))
+    rw (n, less) (long_by E r W b.weight b.v (weighted_v_at p) (total_weight others) (length others)
+    (ahead_together E r W others) split (none_is_owed_more E r p j b s bal f) (long E r W others each)
+    (none_ahead E r W others))

@@ -9,7 +9,7 @@ use Rattle.bq_disc.specs.Discipline.{Discipline}
 use Rattle.bq_disc.specs.OneProcessor.{Running, decided, own_preempt, ticked}
 use Rattle.bq_cfs.specs.Cfs.{cfs}
 use Rattle.bq_cfs.specs.Spread.{passed, departed, Block as BlockAt}
-use Rattle.bq_bpf.specs.declared.board.Call.{Call as Asked}
+use Rattle.bq_bpf.specs.declared.board.CounterCall.{CounterCall}
 use Rattle.bq_hooks.specs.declared.hook.Version.{Version}
 use Rattle.bq_verify.specs.Accepted.{Accepted}
 use Rattle.bq_installed.specs.Attachments.{Attached}
@@ -19,14 +19,14 @@ use Rattle.bq_hooks.specs.Permitted.{may_preempt}
 use Rattle.bq_hooks.specs.Settled.{settled as chosen}
 use Rattle.bq_parts.specs.declared.event.Event.TheVariants.{Tick, Block}
 use Rattle.bq_parts.specs.declared.reply.Reply.{Reply}
-use Rattle.bq_parts.specs.declared.reply.Reply.TheVariants.{Ticked, Blocked as Went}
+use Rattle.bq_parts.specs.declared.reply.Reply.TheVariants.{Ticked, Blocked}
 use Rattle.bq_parts.specs.declared.refusal.Refusal.{Refusal}
 use Rattle.bq_parts.specs.declared.refusal.Refusal.TheVariants as no
 use Rattle.bq_parts.specs.declared.lobby_entry.LobbyEntry.{LobbyEntry}
 use Rattle.bq_parts.specs.Processors.{Processor, opening}
 use Rattle.bq_parts.specs.Refusals.{first_refusal, either}
 use Rattle.bq_parts.specs.World.{World, processor_at, count_in, with_processor}
-use Rattle.bq_parts.specs.Choices.{PolicySemantics, Decision, SettlesBy, SettlesPreempt, policies}
+use Rattle.bq_parts.specs.Choices.{PolicySemantics, SettledChoice, SettlesBy, SettlesPreempt, by_programs}
 use Rattle.bq_parts.specs.Shares.{Ticks, Blocks, after_time}
 use Rattle.bq_parts.specs.Steps.{WorldStep}
 use Rattle.bq_fairness.specs.Events.{after_block}
@@ -34,23 +34,29 @@ use Rattle.bq_fairness.specs.Passing.{DisciplinePasses, CfsPasses}
 
 -- The discipline's own answer
 
-own_by_test : (b : Bool) (permitted : ℕ → Bool) (r0 own : ℕ) → permitted r0 ≡ b → (chosen permitted (Some r0) own).by ≡ who.Discipline → (chosen permitted (Some r0) own).choice ≡ own
+own_by_test : (b : Bool) (permitted : ℕ → Bool) (r0 own : ℕ) → permitted r0 ≡ b
+    → (chosen permitted (Some r0) own).by ≡ who.Discipline
+    → (chosen permitted (Some r0) own).choice ≡ own
 own_by_test true permitted r0 own e h = let it = rw e at h in cc
 own_by_test false permitted r0 own e h = rw e refl
 
 -- a choice that was the discipline's own is its own
-own_choice : (s : PolicySemantics) (policy : Option Accepted) (context : Version → List ℕ) (attached : Attached) (now processor : ℕ) (permitted : ℕ → Bool) (own : ℕ) (settled : Decision) →
-    SettlesBy s policy context attached now processor permitted own settled → settled.by ≡ who.Discipline → settled.choice ≡ own
-own_choice s None context attached now processor permitted own settled h e = ap (λ (x : Decision). x.choice) h
-own_choice s (Some policy) context attached now processor permitted own settled h e = h.choice ∙ own_by_test (permitted h.r0) permitted h.r0 own refl (sym h.by ∙ e)
+own_choice : (s : PolicySemantics) (policy : Option Accepted) (context : Version → List ℕ) (attached : Attached)
+    (now processor : ℕ) (permitted : ℕ → Bool) (own : ℕ) (settled : SettledChoice)
+    → SettlesBy s policy context attached now processor permitted own settled → settled.by ≡ who.Discipline
+    → settled.choice ≡ own
+own_choice s None context attached now processor permitted own settled h e = ap (λ (x : SettledChoice). x.choice) h
+own_choice s (Some policy) context attached now processor permitted own settled h e =
+    h.choice ∙ own_by_test (permitted h.r0) permitted h.r0 own refl (sym h.by ∙ e)
 
 as_bool : (b : Bool) → (as_number b == 1) ≡ b
 as_bool true = refl
 as_bool false = refl
 
 -- who runs after it is by the own answer
-pub own_decision : (s : PolicySemantics) (processor : ℕ) (p : Processor) (o : Option Task) (settled : Decision) → SettlesPreempt s processor p o settled → settled.by ≡ who.Discipline →
-    decided s.discipline p.running o (settled.choice == 1) ≡ decided s.discipline p.running o (own_preempt s.discipline p.running.queue o)
+pub own_decision : (s : PolicySemantics) (processor : ℕ) (p : Processor) (o : Option Task) (settled : SettledChoice)
+    → SettlesPreempt s processor p o settled → settled.by ≡ who.Discipline
+    → decided s.discipline p.running o (settled.choice == 1) ≡ decided s.discipline p.running o (own_preempt s.discipline p.running.queue o)
 own_decision s processor p None settled h e = refl
 own_decision s processor p (Some u) settled h e =
     let own = own_preempt s.discipline p.running.queue (Some u) in
@@ -59,12 +65,12 @@ own_decision s processor p (Some u) settled h e =
 
 -- Of the shares
 
-tick_share_leaves : (d : Discipline) (p q : Processor) (processor now : ℕ) (calls : List Asked) (run : Option ℕ) (steps : ℕ) →
-    Ticks (policies d) processor now p calls (Ticked run who.Discipline steps) q → q.running ≡ ticked d p.running now
+tick_share_leaves : (d : Discipline) (p q : Processor) (processor now : ℕ) (calls : List CounterCall) (run : Option ℕ) (steps : ℕ) →
+    Ticks (by_programs d) processor now p calls (Ticked run who.Discipline steps) q → q.running ≡ ticked d p.running now
 tick_share_leaves d p q processor now calls run steps h =
     let c = after_time d now p in
     let by : h.0.by ≡ who.Discipline = let it = h.3 in cc in
-    ap (λ (x : Processor). x.running) h.1.1 ∙ own_decision (policies d) processor c c.running.current h.0 h.1.0 by
+    ap (λ (x : Processor). x.running) h.1.1 ∙ own_decision (by_programs d) processor c c.running.current h.0 h.1.0 by
 
 block_share_leaves : (d : Discipline) (p q : Processor) (processor now : ℕ) (lobby lobby' : List LobbyEntry) (reply : Reply) →
     Blocks d processor now p lobby (Ok reply) q lobby' → q.running ≡ after_block d p.running now
@@ -72,7 +78,9 @@ block_share_leaves d p q processor now lobby lobby' reply h = ap (λ (x : Proces
 
 -- Of the world
 
-in_range : (count processor : ℕ) (b : Bool) (o : Option Refusal) → nat_le count processor ≡ b → either (first_refusal ((b, no.NoProcessor) ∷ [])) o ≡ None → processor < count
+in_range : (count processor : ℕ) (b : Bool) (o : Option Refusal)
+    → nat_le count processor ≡ b → either (first_refusal ((b, no.NoProcessor) ∷ [])) o ≡ None
+    → processor < count
 in_range count processor true o e h = cc
 in_range count processor false o e h = grind (arith, nat_tests)
 
@@ -80,20 +88,29 @@ there : (w : World) (processor : ℕ) (q : Processor) → processor < count_in w
 there w processor q l = get_or-set_same w.processors processor q opening l
 
 -- where the number of a processor is not refused, what is written there is what stands there
-written : (w w' v : World) (processor : ℕ) (q : Processor) (o : Option Refusal) → either (first_refusal ((nat_le (count_in w) processor, no.NoProcessor) ∷ [])) o ≡ None → w' ≡ v → processor_at v processor ≡ processor_at (with_processor w processor q) processor → processor_at w' processor ≡ q
-written w w' v processor q o h e f = ap (λ (u : World). processor_at u processor) e ∙ f ∙ there w processor q (in_range (count_in w) processor (nat_le (count_in w) processor) o refl h)
+written : (w w' v : World) (processor : ℕ) (q : Processor) (o : Option Refusal)
+    → either (first_refusal ((nat_le (count_in w) processor, no.NoProcessor) ∷ [])) o ≡ None → w' ≡ v
+    → processor_at v processor ≡ processor_at (with_processor w processor q) processor
+    → processor_at w' processor ≡ q
+written w w' v processor q o h e f =
+    ap (λ (u : World). processor_at u processor) e ∙ f
+    ∙ there w processor q (in_range (count_in w) processor (nat_le (count_in w) processor) o refl h)
 
-tick_leaves : (d : Discipline) (w w' : World) (processor now : ℕ) (calls : List Asked) (run : Option ℕ) (steps : ℕ) →
-    WorldStep (policies d) w (Tick processor now) calls (Ok (Ticked run who.Discipline steps)) w' → (processor_at w' processor).running ≡ ticked d (processor_at w processor).running now
+tick_leaves : (d : Discipline) (w w' : World) (processor now : ℕ) (calls : List CounterCall) (run : Option ℕ) (steps : ℕ)
+    → WorldStep (by_programs d) w (Tick processor now) calls (Ok (Ticked run who.Discipline steps)) w'
+    → (processor_at w' processor).running ≡ ticked d (processor_at w processor).running now
 tick_leaves d w w' processor now calls run steps h =
     let k = h.1 in
-    ap (λ (x : Processor). x.running) (written w w' _ processor k.0 None h.0 k.2 refl) ∙ tick_share_leaves d (processor_at w processor) k.0 processor now calls run steps k.1
+    ap (λ (x : Processor). x.running) (written w w' _ processor k.0 None h.0 k.2 refl)
+    ∙ tick_share_leaves d (processor_at w processor) k.0 processor now calls run steps k.1
 
-block_leaves : (d : Discipline) (w w' : World) (processor now : ℕ) (calls : List Asked) (task : ℕ) (run : Option ℕ) →
-    WorldStep (policies d) w (Block processor now) calls (Ok (Went task run)) w' → (processor_at w' processor).running ≡ after_block d (processor_at w processor).running now
+block_leaves : (d : Discipline) (w w' : World) (processor now : ℕ) (calls : List CounterCall) (task : ℕ) (run : Option ℕ)
+    → WorldStep (by_programs d) w (Block processor now) calls (Ok (Blocked task run)) w'
+    → (processor_at w' processor).running ≡ after_block d (processor_at w processor).running now
 block_leaves d w w' processor now calls task run h =
     let k = h.1 in
-    ap (λ (x : Processor). x.running) (written w w' _ processor k.0 _ h.0 k.4 refl) ∙ block_share_leaves d (processor_at w processor) k.0 processor now w.lobby k.1 (Went task run) k.2
+    ap (λ (x : Processor). x.running) (written w w' _ processor k.0 _ h.0 k.4 refl)
+    ∙ block_share_leaves d (processor_at w processor) k.0 processor now w.lobby k.1 (Blocked task run) k.2
 
 -- under any discipline
 pub discipline_passes : DisciplinePasses
@@ -101,7 +118,8 @@ discipline_passes = record { tick_share = tick_share_leaves; block_share = block
 
 -- Under CFS
 
-departs : (p : Running) (now : ℕ) (o : Option Task) (t : Task) (f : Task → Task) → option_map f o ≡ Some t → departed p now o ≡ after_block cfs p now
+departs : (p : Running) (now : ℕ) (o : Option Task) (t : Task) (f : Task → Task)
+    → option_map f o ≡ Some t → departed p now o ≡ after_block cfs p now
 departs p now None t f e = cc
 departs p now (Some u) t f e = refl
 
@@ -109,16 +127,21 @@ stays : (p : Running) (now : ℕ) (o : Option Task) (r : Refusal) → first_refu
 stays p now None r e = refl
 stays p now (Some u) r e = cc
 
-only_idle : (count processor : ℕ) (b : Bool) (o : Option Refusal) (r : Refusal) → processor < count → nat_le count processor ≡ b → either (first_refusal ((b, no.NoProcessor) ∷ [])) o ≡ Some r → o ≡ Some r
+only_idle : (count processor : ℕ) (b : Bool) (o : Option Refusal) (r : Refusal)
+    → processor < count → nat_le count processor ≡ b → either (first_refusal ((b, no.NoProcessor) ∷ [])) o ≡ Some r
+    → o ≡ Some r
 only_idle count processor true o r l e h = absurd (let k : count ≤ processor = grind (arith, nat_tests) in omega arith)
 only_idle count processor false o r l e h = h
 
-blocked : (w w' : World) (processor now : ℕ) (calls : List Asked) (answer : Result Reply Refusal) → processor < count_in w →
-    WorldStep (policies cfs) w (Block processor now) calls answer w' → (processor_at w' processor).running ≡ passed (processor_at w processor).running (BlockAt now)
+blocked : (w w' : World) (processor now : ℕ) (calls : List CounterCall) (answer : Result Reply Refusal)
+    → processor < count_in w → WorldStep (by_programs cfs) w (Block processor now) calls answer w'
+    → (processor_at w' processor).running ≡ passed (processor_at w processor).running (BlockAt now)
 blocked w w' processor now calls (Ok r) l h =
     let p = (processor_at w processor).running in
     let k = h.1 in
-    let left = ap (λ (x : Processor). x.running) (written w w' _ processor k.0 _ h.0 k.4 refl) ∙ block_share_leaves cfs (processor_at w processor) k.0 processor now w.lobby k.1 r k.2 in
+    let left =
+    ap (λ (x : Processor). x.running) (written w w' _ processor k.0 _ h.0 k.4 refl)
+    ∙ block_share_leaves cfs (processor_at w processor) k.0 processor now w.lobby k.1 r k.2 in
     left ∙ sym (departs p now p.current k.2.0 _ k.2.1.0)
 blocked w w' processor now calls (Err r) l h =
     let p = (processor_at w processor).running in

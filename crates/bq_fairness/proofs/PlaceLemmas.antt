@@ -21,7 +21,8 @@ with_id-place_same t (x ∷ xs) n =
       | false ↦ rw s.0 (with_id-place_same t xs s.1)
     ]
 
-placed_by_test : (i : ℕ) (t : Task) (xs : List Task) (b : Bool) → eqb t.id i ≡ b → with_id t.id xs ≡ None → with_id i (place t xs) ≡ cond b (Some t) (with_id i xs)
+placed_by_test : (i : ℕ) (t : Task) (xs : List Task) (b : Bool)
+    → eqb t.id i ≡ b → with_id t.id xs ≡ None → with_id i (place t xs) ≡ cond b (Some t) (with_id i xs)
 placed_by_test i t xs true e n = ap (λ k. with_id k (place t xs)) (sym (eqb-true t.id i e)) ∙ with_id-place_same t xs n
 placed_by_test i t xs false e n = with_id-place_other i t xs e
 
@@ -29,7 +30,9 @@ placed_by_test i t xs false e n = with_id-place_other i t xs e
 pub with_id-place : (i : ℕ) (t : Task) (xs : List Task) → with_id t.id xs ≡ None → with_id i (place t xs) ≡ with_id i (t ∷ xs)
 with_id-place i t xs n = placed_by_test i t xs (eqb t.id i) refl n
 
-other_by_test : (i j : ℕ) (b c : Bool) (x : Task) (xs ys : List Task) → eqb x.id i ≡ b → eqb x.id j ≡ c → eqb i j ≡ false → with_id j ys ≡ with_id j xs → with_id j (cond b xs (x ∷ ys)) ≡ cond c (Some x) (with_id j xs)
+other_by_test : (i j : ℕ) (b c : Bool) (x : Task) (xs ys : List Task)
+    → eqb x.id i ≡ b → eqb x.id j ≡ c → eqb i j ≡ false → with_id j ys ≡ with_id j xs
+    → with_id j (cond b xs (x ∷ ys)) ≡ cond c (Some x) (with_id j xs)
 other_by_test i j true true x xs ys e g ne rest = let same = eq-eqb i j (sym (eqb-true x.id i e) ∙ eqb-true x.id j g) in cc
 other_by_test i j true false x xs ys e g ne rest = refl
 other_by_test i j false c x xs ys e g ne rest = rw g (ap (λ o. cond c (Some x) o) rest)
@@ -37,15 +40,18 @@ other_by_test i j false c x xs ys e g ne rest = rw g (ap (λ o. cond c (Some x) 
 -- the others stay where one is taken out
 pub with_id-without_other : (i j : ℕ) (xs : List Task) → eqb i j ≡ false → with_id j (without i xs) ≡ with_id j xs
 with_id-without_other i j [] ne = refl
-with_id-without_other i j (x ∷ xs) ne = other_by_test i j (eqb x.id i) (eqb x.id j) x xs (without i xs) refl refl ne (with_id-without_other i j xs ne)
+with_id-without_other i j (x ∷ xs) ne =
+    other_by_test i j (eqb x.id i) (eqb x.id j) x xs (without i xs) refl refl ne (with_id-without_other i j xs ne)
 
-first_by_test : (i j : ℕ) (q : List Task) (m : Task) (b : Bool) → eqb i j ≡ b → with_id i q ≡ Some m → cond b (Some m) (with_id j (without i q)) ≡ with_id j q
+first_by_test : (i j : ℕ) (q : List Task) (m : Task) (b : Bool)
+    → eqb i j ≡ b → with_id i q ≡ Some m → cond b (Some m) (with_id j (without i q)) ≡ with_id j q
 first_by_test i j q m true e f = sym (ap (λ k. with_id k q) (sym (eqb-true i j e)) ∙ f)
 first_by_test i j q m false e f = with_id-without_other i j q e
 
 -- a task that is taken out and put first is found as before
 with_id-first : (i j : ℕ) (q : List Task) (m : Task) → with_id i q ≡ Some m → with_id j (m ∷ without i q) ≡ with_id j q
-with_id-first i j q m f = ap (λ k. cond (eqb k j) (Some m) (with_id j (without i q))) (with_id-id i q m f) ∙ first_by_test i j q m (eqb i j) refl f
+with_id-first i j q m f =
+    ap (λ k. cond (eqb k j) (Some m) (with_id j (without i q))) (with_id-id i q m f) ∙ first_by_test i j q m (eqb i j) refl f
 
 -- Nothing runs, and a task of the queue starts
 
@@ -59,12 +65,14 @@ distinct_by i q (Some m) e d =
     (ap (λ k. with_id k (without i q)) (with_id-id i q m e) ∙ with_id-without_same i q d, HasDistinctIds-without i q d)
 
 -- each id stands for the same task once a task of the queue has started
-pub same_started : (q : List Task) (kept last : ℕ) (i : Option ℕ) (j : ℕ) → with_id j (present_at (run_id (idle_processor q kept last) i)) ≡ with_id j q
+pub same_started : (q : List Task) (kept last : ℕ) (i : Option ℕ) (j : ℕ)
+    → with_id j (present_at (run_id (idle_processor q kept last) i)) ≡ with_id j q
 same_started q kept last None j = refl
 same_started q kept last (Some i) j = started_by i j q (with_id i q) refl
 
 -- ids stay distinct when a task of the queue starts
-pub distinct_started : (q : List Task) (kept last : ℕ) (i : Option ℕ) → HasDistinctIds q → HasDistinctIds (present_at (run_id (idle_processor q kept last) i))
+pub distinct_started : (q : List Task) (kept last : ℕ) (i : Option ℕ)
+    → HasDistinctIds q → HasDistinctIds (present_at (run_id (idle_processor q kept last) i))
 distinct_started q kept last None d = d
 distinct_started q kept last (Some i) d = distinct_by i q (with_id i q) refl d
 
@@ -76,12 +84,14 @@ last_started q kept last (Some i) = refl
 -- The current task and one of the queue change places
 
 -- of two that are sought first, where not both are the one that is sought, either may stand first
-pub either_order : (b c : Bool) (m u : Task) (o : Option Task) → (b ≡ true → c ≡ true → ⊥) → cond b (Some m) (cond c (Some u) o) ≡ cond c (Some u) (cond b (Some m) o)
+pub either_order : (b c : Bool) (m u : Task) (o : Option Task)
+    → (b ≡ true → c ≡ true → ⊥) → cond b (Some m) (cond c (Some u) o) ≡ cond c (Some u) (cond b (Some m) o)
 either_order true true m u o apart = absurd (apart refl refl)
 either_order true false m u o apart = refl
 either_order false c m u o apart = refl
 
-changed_places : (j : ℕ) (u m : Task) (q : List Task) → with_id m.id q ≡ Some m → with_id u.id q ≡ None → with_id j (m ∷ place u (without m.id q)) ≡ with_id j (u ∷ q)
+changed_places : (j : ℕ) (u m : Task) (q : List Task) → with_id m.id q ≡ Some m → with_id u.id q ≡ None
+    → with_id j (m ∷ place u (without m.id q)) ≡ with_id j (u ∷ q)
 changed_places j u m q f n =
     let rest = without m.id q in
     let apart : eqb m.id j ≡ true → eqb u.id j ≡ true → ⊥ =
@@ -95,21 +105,27 @@ own_id : (i : ℕ) (q : List Task) (m : Task) → with_id i q ≡ Some m → wit
 own_id i q m e = ap (λ k. with_id k q) (with_id-id i q m e) ∙ e
 
 -- each id stands for the same task once the current one and one of the queue have changed places
-pub same_exchanged : (q : List Task) (kept last i j : ℕ) (u : Task) (o : Option Task) → with_id i q ≡ o → with_id u.id q ≡ None → with_id j (present_at (exchanged (busy_processor q kept u last) u o)) ≡ with_id j (u ∷ q)
+pub same_exchanged : (q : List Task) (kept last i j : ℕ) (u : Task) (o : Option Task)
+    → with_id i q ≡ o → with_id u.id q ≡ None
+    → with_id j (present_at (exchanged (busy_processor q kept u last) u o)) ≡ with_id j (u ∷ q)
 same_exchanged q kept last i j u None e n = refl
 same_exchanged q kept last i j u (Some m) e n = changed_places j u m q (own_id i q m e) n
 
 -- ids stay distinct when the current task and one of the queue change places
-pub distinct_exchanged : (q : List Task) (kept last i : ℕ) (u : Task) (o : Option Task) → with_id i q ≡ o → HasDistinctIds (u ∷ q) → HasDistinctIds (present_at (exchanged (busy_processor q kept u last) u o))
+pub distinct_exchanged : (q : List Task) (kept last i : ℕ) (u : Task) (o : Option Task)
+    → with_id i q ≡ o → HasDistinctIds (u ∷ q)
+    → HasDistinctIds (present_at (exchanged (busy_processor q kept u last) u o))
 distinct_exchanged q kept last i u None e d = d
 distinct_exchanged q kept last i u (Some m) e d = distinct-exchanged u m q (own_id i q m e) d
 
 -- when the current task and one of the queue change places, the clock stands as it did
-pub last_exchanged : (q : List Task) (kept last : ℕ) (u : Task) (o : Option Task) → (exchanged (busy_processor q kept u last) u o).last ≡ last
+pub last_exchanged : (q : List Task) (kept last : ℕ) (u : Task) (o : Option Task)
+    → (exchanged (busy_processor q kept u last) u o).last ≡ last
 last_exchanged q kept last u None = refl
 last_exchanged q kept last u (Some m) = refl
 
 -- the task that runs is the one of its id
-pub current_present : (q : List Task) (kept : ℕ) (o : Option Task) (last : ℕ) (m : Task) → (let p : Running = record { queue = q; kept = kept; current = o; last = last } in o ≡ Some m → with_id m.id (present_at p) ≡ Some m)
+pub current_present : (q : List Task) (kept : ℕ) (o : Option Task) (last : ℕ) (m : Task)
+    → (let p : Running = record { queue = q; kept = kept; current = o; last = last } in o ≡ Some m → with_id m.id (present_at p) ≡ Some m)
 current_present q kept None last m e = cc
 current_present q kept (Some c) last m e = let same : c ≡ m = cc in ap (λ (x : Task). with_id x.id (c ∷ q)) (sym same) ∙ with_id-own c q ∙ e

@@ -24,13 +24,15 @@ vdelta_of-le x r w low le = le-div (x * 1024 / w) (r * 1024) w (omega arith) (om
 
 -- two times one after the other take no more virtual time apart than together
 pub vdelta_of-add : (x y w : ℕ) → 15 ≤ w → vdelta_of x w + vdelta_of y w ≤ vdelta_of (x + y) w
-vdelta_of-add x y w low = le-div (x * 1024 / w + y * 1024 / w) ((x + y) * 1024) w (omega arith) (omega (arith, div-mul-le_self (x * 1024) w, div-mul-le_self (y * 1024) w))
+vdelta_of-add x y w low =
+    le-div (x * 1024 / w + y * 1024 / w) ((x + y) * 1024) w (omega arith)
+    (omega (arith, div-mul-le_self (x * 1024) w, div-mul-le_self (y * 1024) w))
 
 -- the virtual time of a time, times the weight, is no more than the time
 pub vdelta_of-weighted : (x w : ℕ) → w * vdelta_of x w ≤ x * 1024
 vdelta_of-weighted x w = omega (arith, div-mul-le_self (x * 1024) w)
 
--- and times the least weight
+-- the virtual time of a time, times the least weight, is no more than the time
 vdelta_of-least : (x w : ℕ) → 15 ≤ w → 15 * vdelta_of x w ≤ x * 1024
 vdelta_of-least x w low = omega (arith, vdelta_of-weighted x w, mul-le-mul_right (x * 1024 / w) low)
 
@@ -98,8 +100,10 @@ EachHasRoom p = (i : ℕ) (t : Task) → task_at i p ≡ Some t → HasRoomAt p.
 pub each_has_room : (p : Running) → HasRoom p → EachHasRoom p
 each_has_room p h = λ i t f. of_each (HasRoomAt p.last) p i t h f
 
--- so a Tick does not come to the end
-pub tick_leaves_room : (last now v w c : ℕ) → 15 ≤ w → c ≤ vdelta_of (reading last now - last) w → 15 * v + 1024 * (2 ^ 48 - 1 - last) ≤ 15 * 2 ^ 62 → (v + c ≤ 2 ^ 62) × (15 * (v + c) + 1024 * (2 ^ 48 - 1 - reading last now) ≤ 15 * 2 ^ 62)
+-- a Tick does not take a task with room to the end of the numbers
+pub tick_leaves_room : (last now v w c : ℕ) → 15 ≤ w → c ≤ vdelta_of (reading last now - last) w
+    → 15 * v + 1024 * (2 ^ 48 - 1 - last) ≤ 15 * 2 ^ 62
+    → (v + c ≤ 2 ^ 62) × (15 * (v + c) + 1024 * (2 ^ 48 - 1 - reading last now) ≤ 15 * 2 ^ 62)
 tick_leaves_room last now v w c low le room =
     let x = max last (min now (2 ^ 48 - 1)) - last in
     let most : 15 * c ≤ x * 1024 = omega (arith, vdelta_of-least x w low) in
@@ -120,10 +124,13 @@ room_ticked d p now w room i u f =
 
 -- where a task has got in a history: its weight and slice stay, and its virtual time rises by what it is served
 abbrev pub GotTo : Discipline → Running → List ℕ → ℕ → Task → Type 0
-GotTo d p nows i t = (u : Task) × (task_at i (history d p nows) ≡ Some u) × (u.v ≡ t.v + served i d p nows) × (u.weight ≡ t.weight) × (u.slice ≡ t.slice)
+GotTo d p nows i t =
+    (u : Task) × (task_at i (history d p nows) ≡ Some u) × (u.v ≡ t.v + served i d p nows) × (u.weight ≡ t.weight)
+    × (u.slice ≡ t.slice)
 
 -- a task with room gets in a history as far as it is served, with its weight and slice
-pub got_to : (d : Discipline) (p : Running) (nows : List ℕ) (i : ℕ) (t : Task) → IsWellFormed p → EachHasRoom p → task_at i p ≡ Some t → GotTo d p nows i t
+pub got_to : (d : Discipline) (p : Running) (nows : List ℕ) (i : ℕ) (t : Task)
+    → IsWellFormed p → EachHasRoom p → task_at i p ≡ Some t → GotTo d p nows i t
 got_to d p [] i t w room f = (t, f, omega arith, refl, refl)
 got_to d p (now ∷ nows) i t w room f =
     let c = tick_changed d p now i t w.distinct f in

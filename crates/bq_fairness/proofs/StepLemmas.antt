@@ -15,19 +15,25 @@ use Rattle.bq_fairness.proofs.SoundLemmas.{IsWellFormed, change_rises}
 
 -- A task enters
 
-entered_stays : (o : Option Task) (q : List Task) (t : Task) (i : ℕ) → with_id t.id (present o q) ≡ None → with_id i (present o (place t q)) ≡ with_id i (t ∷ present o q)
+entered_stays : (o : Option Task) (q : List Task) (t : Task) (i : ℕ)
+    → with_id t.id (present o q) ≡ None → with_id i (present o (place t q)) ≡ with_id i (t ∷ present o q)
 entered_stays None q t i n = with_id-place i t q n
 entered_stays (Some c) q t i n =
     let s = with_id-none t.id c q n in
-    ap (λ x. cond (eqb c.id i) (Some c) x) (with_id-place i t q s.1) ∙ either_order (eqb c.id i) (eqb t.id i) c t (with_id i q) (λ a b. let e = eqb-true c.id i a ∙ sym (eqb-true t.id i b) in let f = eq-eqb c.id t.id e in cc)
+    ap (λ x. cond (eqb c.id i) (Some c) x) (with_id-place i t q s.1)
+    ∙ either_order (eqb c.id i) (eqb t.id i) c t (with_id i q)
+    (λ a b. let e = eqb-true c.id i a ∙ sym (eqb-true t.id i b) in let f = eq-eqb c.id t.id e in cc)
 
-entered_distinct : (o : Option Task) (q : List Task) (t : Task) → with_id t.id (present o q) ≡ None → HasDistinctIds (present o q) → HasDistinctIds (present o (place t q))
+entered_distinct : (o : Option Task) (q : List Task) (t : Task)
+    → with_id t.id (present o q) ≡ None → HasDistinctIds (present o q)
+    → HasDistinctIds (present o (place t q))
 entered_distinct None q t n d = HasDistinctIds-place t q n d
 entered_distinct (Some c) q t n d =
     let s = with_id-none t.id c q n in
     (with_id-place_other c.id t q (eqb_comm c.id t.id s.0) ∙ d.0, HasDistinctIds-place t q s.1 d.1)
 
-stays_by : (i : ℕ) (t u : Task) (xs : List Task) (b : Bool) → eqb t.id i ≡ b → with_id t.id xs ≡ None → with_id i xs ≡ Some u → cond b (Some t) (with_id i xs) ≡ Some u
+stays_by : (i : ℕ) (t u : Task) (xs : List Task) (b : Bool) → eqb t.id i ≡ b → with_id t.id xs ≡ None → with_id i xs ≡ Some u
+    → cond b (Some t) (with_id i xs) ≡ Some u
 stays_by i t u xs true e n f = let k = ap (λ k. with_id k xs) (eqb-true t.id i e) in cc
 stays_by i t u xs false e n f = f
 
@@ -37,11 +43,13 @@ comes_by i t u o false f = inl f
 
 -- A task leaves
 
-left_distinct_by : (k : ℕ) (q : List Task) (c : Task) (b : Bool) → HasDistinctIds (c ∷ q) → HasDistinctIds (present (cond b None (Some c)) (without k q))
+left_distinct_by : (k : ℕ) (q : List Task) (c : Task) (b : Bool)
+    → HasDistinctIds (c ∷ q) → HasDistinctIds (present (cond b None (Some c)) (without k q))
 left_distinct_by k q c true d = HasDistinctIds-without k q d.1
 left_distinct_by k q c false d = (with_id-without c.id k q d.0, HasDistinctIds-without k q d.1)
 
-left_distinct : (k : ℕ) (q : List Task) (o : Option Task) → HasDistinctIds (present o q) → HasDistinctIds (present (kept_current k o) (without k q))
+left_distinct : (k : ℕ) (q : List Task) (o : Option Task) → HasDistinctIds (present o q)
+    → HasDistinctIds (present (kept_current k o) (without k q))
 left_distinct k q None d = HasDistinctIds-without k q d
 left_distinct k q (Some c) d = left_distinct_by k q c (eqb c.id k) d
 
@@ -51,23 +59,30 @@ gone a b i x c e f =
     let other : eqb a i ≡ false = ap (λ k. eqb k i) same ∙ f in
     rw other refl
 
-left_stays_by : (k i : ℕ) (q : List Task) (c : Task) (b : Bool) → eqb c.id k ≡ b → eqb k i ≡ false → with_id i (present (cond b None (Some c)) (without k q)) ≡ cond (eqb c.id i) (Some c) (with_id i q)
+left_stays_by : (k i : ℕ) (q : List Task) (c : Task) (b : Bool)
+    → eqb c.id k ≡ b → eqb k i ≡ false
+    → with_id i (present (cond b None (Some c)) (without k q)) ≡ cond (eqb c.id i) (Some c) (with_id i q)
 left_stays_by k i q c true e n = with_id-without_other k i q n ∙ sym (gone c.id k i (with_id i q) c e n)
 left_stays_by k i q c false e n = ap (λ x. cond (eqb c.id i) (Some c) x) (with_id-without_other k i q n)
 
-left_stays : (k i : ℕ) (q : List Task) (o : Option Task) → eqb k i ≡ false → with_id i (present (kept_current k o) (without k q)) ≡ with_id i (present o q)
+left_stays : (k i : ℕ) (q : List Task) (o : Option Task) → eqb k i ≡ false
+    → with_id i (present (kept_current k o) (without k q)) ≡ with_id i (present o q)
 left_stays k i q None n = with_id-without_other k i q n
 left_stays k i q (Some c) n = left_stays_by k i q c (eqb c.id k) refl n
 
-left_none_by : (k : ℕ) (q : List Task) (c : Task) (b : Bool) → eqb c.id k ≡ b → HasDistinctIds (c ∷ q) → with_id k (present (cond b None (Some c)) (without k q)) ≡ None
+left_none_by : (k : ℕ) (q : List Task) (c : Task) (b : Bool) → eqb c.id k ≡ b → HasDistinctIds (c ∷ q)
+    → with_id k (present (cond b None (Some c)) (without k q)) ≡ None
 left_none_by k q c true e d = with_id-without_same k q d.1
 left_none_by k q c false e d = rw e (with_id-without_same k q d.1)
 
-left_none : (k : ℕ) (q : List Task) (o : Option Task) → HasDistinctIds (present o q) → with_id k (present (kept_current k o) (without k q)) ≡ None
+left_none : (k : ℕ) (q : List Task) (o : Option Task) → HasDistinctIds (present o q)
+    → with_id k (present (kept_current k o) (without k q)) ≡ None
 left_none k q None d = with_id-without_same k q d
 left_none k q (Some c) d = left_none_by k q c (eqb c.id k) refl d
 
-left_came_by : (k i : ℕ) (q : List Task) (o : Option Task) (u : Task) (b : Bool) → eqb k i ≡ b → HasDistinctIds (present o q) → with_id i (present (kept_current k o) (without k q)) ≡ Some u → with_id i (present o q) ≡ Some u
+left_came_by : (k i : ℕ) (q : List Task) (o : Option Task) (u : Task) (b : Bool)
+    → eqb k i ≡ b → HasDistinctIds (present o q) → with_id i (present (kept_current k o) (without k q)) ≡ Some u
+    → with_id i (present o q) ≡ Some u
 left_came_by k i q o u true e d f =
     let none = ap (λ n. with_id n (present (kept_current k o) (without k q))) (sym (eqb-true k i e)) ∙ left_none k q o d in
     cc
@@ -76,7 +91,8 @@ left_came_by k i q o u false e d f = sym (left_stays k i q o e) ∙ f
 -- Any step
 
 -- ids stay distinct
-pub step_distinct : (d : Discipline) (p : Running) (s : Step) → HasDistinctIds (present_at p) → EntersNew p s → HasDistinctIds (present_at (stepped d p s))
+pub step_distinct : (d : Discipline) (p : Running) (s : Step)
+    → HasDistinctIds (present_at p) → EntersNew p s → HasDistinctIds (present_at (stepped d p s))
 step_distinct d p (Pass now) h n = charged_distinct d p now h
 step_distinct d p Decide h n = (keeps_present d p (own_preempt d p.queue p.current) h).distinct
 step_distinct d p (Enter t) h n = entered_distinct p.current p.queue t n.id h
@@ -94,10 +110,12 @@ entered_came d p t i u (inl f) = Was f
 entered_came d p t i u (inr e) = Entered (ap (λ x. Enter x) e)
 
 -- a task that is present after a step entered by it, or was there before, and was charged where time passed
-pub step_came : (d : Discipline) (p : Running) (s : Step) (i : ℕ) (u : Task) → HasDistinctIds (present_at p) → EntersNew p s → task_at i (stepped d p s) ≡ Some u → Came d p s i u
+pub step_came : (d : Discipline) (p : Running) (s : Step) (i : ℕ) (u : Task)
+    → HasDistinctIds (present_at p) → EntersNew p s → task_at i (stepped d p s) ≡ Some u → Came d p s i u
 step_came d p (Pass now) i u h n f = let c = charge_came d p now i u f in Charged now c.0 refl c.1 c.2
 step_came d p Decide i u h n f = Was (sym ((keeps_present d p (own_preempt d p.queue p.current) h).same i) ∙ f)
-step_came d p (Enter t) i u h n f = entered_came d p t i u (comes_by i t u (task_at i p) (eqb t.id i) (sym (entered_stays p.current p.queue t i n.id) ∙ f))
+step_came d p (Enter t) i u h n f =
+    entered_came d p t i u (comes_by i t u (task_at i p) (eqb t.id i) (sym (entered_stays p.current p.queue t i n.id) ∙ f))
 step_came d p (Leave k) i u h n f = Was (left_came_by k i p.queue p.current u (eqb k i) refl h f)
 step_came d p Mark i u h n f = Was f
 
@@ -114,14 +132,18 @@ abbrev pub StaysChanged : Discipline → Running → Step → ℕ → Task → O
 StaysChanged d p s i t o = (u : Task) × (o ≡ Some u) × ChangesBy d p s i t u
 
 -- a task that does not leave is there after the step
-pub step_goes : (d : Discipline) (p : Running) (s : Step) (i : ℕ) (t : Task) → HasDistinctIds (present_at p) → EntersNew p s → leaves i s ≡ false → task_at i p ≡ Some t → StaysChanged d p s i t (task_at i (stepped d p s))
+pub step_goes : (d : Discipline) (p : Running) (s : Step) (i : ℕ) (t : Task)
+    → HasDistinctIds (present_at p) → EntersNew p s → leaves i s ≡ false → task_at i p ≡ Some t
+    → StaysChanged d p s i t (task_at i (stepped d p s))
 step_goes d p (Pass now) i t h n l f = charge_changed d p now i t f
 step_goes d p Decide i t h n l f = (t, (keeps_present d p (own_preempt d p.queue p.current) h).same i ∙ f, refl)
-step_goes d p (Enter x) i t h n l f = (t, entered_stays p.current p.queue x i n.id ∙ stays_by i x t (present_at p) (eqb x.id i) refl n.id f, refl)
+step_goes d p (Enter x) i t h n l f =
+    (t, entered_stays p.current p.queue x i n.id ∙ stays_by i x t (present_at p) (eqb x.id i) refl n.id f, refl)
 step_goes d p (Leave k) i t h n l f = (t, left_stays k i p.queue p.current l ∙ f, refl)
 step_goes d p Mark i t h n l f = (t, f, refl)
 
-step_ends : (d : Discipline) (p : Running) (s : Step) (i : ℕ) (u : Task) → IsWellFormed p → EntersNew p s → Came d p s i u → IsWeight u.weight × (u.v ≤ 2 ^ 62)
+step_ends : (d : Discipline) (p : Running) (s : Step) (i : ℕ) (u : Task)
+    → IsWellFormed p → EntersNew p s → Came d p s i u → IsWeight u.weight × (u.v ≤ 2 ^ 62)
 step_ends d p s i u w n (Was f) = (w.weights i u f, w.ends i u f)
 step_ends d p s i u w n (Charged now t e f c) =
     let r = change_rises d p now i t u (w.ends i t f) c in

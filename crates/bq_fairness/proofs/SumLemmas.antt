@@ -25,35 +25,47 @@ sum_started : (f : Task → ℕ) (i : ℕ) (q : List Task) (o : Option Task) →
 sum_started f i q None e = ap (sum_of f) (without-absent i q e)
 sum_started f i q (Some m) e = sym (sum_of-without f i q m e)
 
-sum_exchanged : (f : Task → ℕ) (q : List Task) (kept last i : ℕ) (u : Task) (o : Option Task) → with_id i q ≡ o → sum_of f (present_at (exchanged (busy_processor q kept u last) u o)) ≡ sum_of f (u ∷ q)
+sum_exchanged : (f : Task → ℕ) (q : List Task) (kept last i : ℕ) (u : Task) (o : Option Task)
+    → with_id i q ≡ o
+    → sum_of f (present_at (exchanged (busy_processor q kept u last) u o)) ≡ sum_of f (u ∷ q)
 sum_exchanged f q kept last i u None e = refl
 sum_exchanged f q kept last i u (Some m) e =
     let own : with_id m.id q ≡ Some m = ap (λ k. with_id k q) (with_id-id i q m e) ∙ e in
     omega (arith, sum_of-place f u (without m.id q), sum_of-without f m.id q m own)
 
-sum_run : (f : Task → ℕ) (q : List Task) (kept last : ℕ) (i : Option ℕ) → sum_of f (present_at (run_id (idle_processor q kept last) i)) ≡ sum_of f q
+sum_run : (f : Task → ℕ) (q : List Task) (kept last : ℕ) (i : Option ℕ)
+    → sum_of f (present_at (run_id (idle_processor q kept last) i)) ≡ sum_of f q
 sum_run f q kept last None = refl
 sum_run f q kept last (Some i) = sum_started f i q (with_id i q) refl
 
 -- a decision leaves each sum over those that are present
-pub sum_decided : (f : Task → ℕ) (d : Discipline) (q : List Task) (kept : ℕ) (o : Option Task) (last : ℕ) (b : Bool) → (let p : Running = record { queue = q; kept = kept; current = o; last = last } in sum_of f (present_at (decided d p o b)) ≡ sum_of f (present_at p))
+pub sum_decided : (f : Task → ℕ) (d : Discipline) (q : List Task) (kept : ℕ) (o : Option Task) (last : ℕ) (b : Bool)
+    → (let p : Running = record { queue = q; kept = kept; current = o; last = last } in
+    sum_of f (present_at (decided d p o b)) ≡ sum_of f (present_at p))
 sum_decided f d q kept None last b = sum_run f q kept last (id_of (d.choice q))
 sum_decided f d q kept (Some u) last false = refl
 sum_decided f d q kept (Some u) last true = let i = next_of d u q in sum_exchanged f q kept last i u (with_id i q) refl
 
 -- a Tick leaves each sum as the charge does
-pub sum_ticked : (f : Task → ℕ) (d : Discipline) (p : Running) (now : ℕ) → sum_of f (present_at (ticked d p now)) ≡ sum_of f (present_at (charge d p now))
+pub sum_ticked : (f : Task → ℕ) (d : Discipline) (p : Running) (now : ℕ)
+    → sum_of f (present_at (ticked d p now)) ≡ sum_of f (present_at (charge d p now))
 sum_ticked f d p now =
     let c = charge d p now in
     sum_decided f d c.queue c.kept c.current c.last (own_preempt d c.queue c.current)
 
 -- A charge
 
-charge_idle : (f : Task → ℕ) (d : Discipline) (q : List Task) (kept : ℕ) (o : Option Task) (last now : ℕ) → o ≡ None → (let p : Running = record { queue = q; kept = kept; current = o; last = last } in sum_of f (present_at (charge d p now)) ≡ sum_of f (present_at p))
+charge_idle : (f : Task → ℕ) (d : Discipline) (q : List Task) (kept : ℕ) (o : Option Task) (last now : ℕ)
+    → o ≡ None
+    → (let p : Running = record { queue = q; kept = kept; current = o; last = last } in
+    sum_of f (present_at (charge d p now)) ≡ sum_of f (present_at p))
 charge_idle f d q kept None last now e = refl
 charge_idle f d q kept (Some c) last now e = cc
 
-charge_busy : (f : Task → ℕ) (d : Discipline) (q : List Task) (kept : ℕ) (o : Option Task) (last now : ℕ) (t : Task) → o ≡ Some t → (let p : Running = record { queue = q; kept = kept; current = o; last = last } in sum_of f (present_at (charge d p now)) + f t ≡ sum_of f (present_at p) + f (charged d t (rise p now)))
+charge_busy : (f : Task → ℕ) (d : Discipline) (q : List Task) (kept : ℕ) (o : Option Task) (last now : ℕ) (t : Task)
+    → o ≡ Some t
+    → (let p : Running = record { queue = q; kept = kept; current = o; last = last } in
+    sum_of f (present_at (charge d p now)) + f t ≡ sum_of f (present_at p) + f (charged d t (rise p now)))
 charge_busy f d q kept None last now t e = cc
 charge_busy f d q kept (Some c) last now t e =
     let p : Running = record { queue = q; kept = kept; current = Some c; last = last } in
@@ -61,19 +73,26 @@ charge_busy f d q kept (Some c) last now t e =
     rw (← same) (omega arith)
 
 -- where nothing runs a Tick leaves each sum
-pub sum_idle : (f : Task → ℕ) (d : Discipline) (p : Running) (now : ℕ) → p.current ≡ None → sum_of f (present_at (ticked d p now)) ≡ sum_of f (present_at p)
+pub sum_idle : (f : Task → ℕ) (d : Discipline) (p : Running) (now : ℕ)
+    → p.current ≡ None → sum_of f (present_at (ticked d p now)) ≡ sum_of f (present_at p)
 sum_idle f d p now e = sum_ticked f d p now ∙ charge_idle f d p.queue p.kept p.current p.last now e
 
 -- where a task runs, its own part changes as it is charged
-pub sum_busy : (f : Task → ℕ) (d : Discipline) (p : Running) (now : ℕ) (t : Task) → p.current ≡ Some t → sum_of f (present_at (ticked d p now)) + f t ≡ sum_of f (present_at p) + f (charged d t (rise p now))
+pub sum_busy : (f : Task → ℕ) (d : Discipline) (p : Running) (now : ℕ) (t : Task)
+    → p.current ≡ Some t
+    → sum_of f (present_at (ticked d p now)) + f t ≡ sum_of f (present_at p) + f (charged d t (rise p now))
 sum_busy f d p now t e = ap (λ n. n + f t) (sum_ticked f d p now) ∙ charge_busy f d p.queue p.kept p.current p.last now t e
 
-sum_stays_by : (f : Task → ℕ) (d : Discipline) (p : Running) (now : ℕ) (o : Option Task) → p.current ≡ o → ((t : Task) (n : ℕ) → f (charged d t n) ≡ f t) → sum_of f (present_at (ticked d p now)) ≡ sum_of f (present_at p)
+sum_stays_by : (f : Task → ℕ) (d : Discipline) (p : Running) (now : ℕ) (o : Option Task)
+    → p.current ≡ o → ((t : Task) (n : ℕ) → f (charged d t n) ≡ f t)
+    → sum_of f (present_at (ticked d p now)) ≡ sum_of f (present_at p)
 sum_stays_by f d p now None e h = sum_idle f d p now e
 sum_stays_by f d p now (Some t) e h = omega (arith, sum_busy f d p now t e, h t (rise p now))
 
 -- a Tick leaves a sum of what a charge leaves as it is
-pub sum_stays : (f : Task → ℕ) (d : Discipline) (p : Running) (now : ℕ) → ((t : Task) (n : ℕ) → f (charged d t n) ≡ f t) → sum_of f (present_at (ticked d p now)) ≡ sum_of f (present_at p)
+pub sum_stays : (f : Task → ℕ) (d : Discipline) (p : Running) (now : ℕ)
+    → ((t : Task) (n : ℕ) → f (charged d t n) ≡ f t)
+    → sum_of f (present_at (ticked d p now)) ≡ sum_of f (present_at p)
 sum_stays f d p now h = sum_stays_by f d p now p.current refl h
 
 -- The totals as sums
@@ -108,21 +127,31 @@ weighted_sum-decided d p =
     ∙ sym (weighted_sum-sum (present_at p))
 
 -- a Tick leaves the weights together
-pub total_weight-ticked : (d : Discipline) (p : Running) (now : ℕ) → total_weight (present_at (ticked d p now)) ≡ total_weight (present_at p)
+pub total_weight-ticked : (d : Discipline) (p : Running) (now : ℕ)
+    → total_weight (present_at (ticked d p now)) ≡ total_weight (present_at p)
 total_weight-ticked d p now =
     total_weight-sum (present_at (ticked d p now))
     ∙ sum_stays (λ t. t.weight) d p now (λ t n. refl)
     ∙ sym (total_weight-sum (present_at p))
 
--- and where a task runs, the weighted sum moves by its own part
-pub weighted_sum-busy : (d : Discipline) (p : Running) (now : ℕ) (t : Task) → p.current ≡ Some t → weighted_sum (present_at (ticked d p now)) + t.weight * t.v ≡ weighted_sum (present_at p) + t.weight * (charged d t (rise p now)).v
+-- where a task runs, a Tick moves the weighted sum by that task's part
+pub weighted_sum-busy : (d : Discipline) (p : Running) (now : ℕ) (t : Task)
+    → p.current ≡ Some t
+    → weighted_sum (present_at (ticked d p now)) + t.weight * t.v ≡ weighted_sum (present_at p) + t.weight * (charged d t (rise p now)).v
 weighted_sum-busy d p now t e =
-    omega (arith, sum_busy (λ (x : Task). x.weight * x.v) d p now t e, weighted_sum-sum (present_at (ticked d p now)), weighted_sum-sum (present_at p))
+    omega (
+      arith,
+      sum_busy (λ (x : Task). x.weight * x.v) d p now t e,
+      weighted_sum-sum (present_at (ticked d p now)),
+      weighted_sum-sum (present_at p),
+    )
 
 -- where nothing runs a Tick leaves the weighted sum
-pub weighted_sum-idle : (d : Discipline) (p : Running) (now : ℕ) → p.current ≡ None → weighted_sum (present_at (ticked d p now)) ≡ weighted_sum (present_at p)
+pub weighted_sum-idle : (d : Discipline) (p : Running) (now : ℕ)
+    → p.current ≡ None → weighted_sum (present_at (ticked d p now)) ≡ weighted_sum (present_at p)
 weighted_sum-idle d p now e =
-    weighted_sum-sum (present_at (ticked d p now)) ∙ sum_idle (λ (x : Task). x.weight * x.v) d p now e ∙ sym (weighted_sum-sum (present_at p))
+    weighted_sum-sum (present_at (ticked d p now)) ∙ sum_idle (λ (x : Task). x.weight * x.v) d p now e
+    ∙ sym (weighted_sum-sum (present_at p))
 
 -- a Tick leaves how many are present
 length-ticked : (d : Discipline) (p : Running) (now : ℕ) → length (present_at (ticked d p now)) ≡ length (present_at p)

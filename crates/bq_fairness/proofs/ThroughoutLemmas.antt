@@ -32,7 +32,8 @@ cfs_reach = record {
   keeps = λ t x e h. tt;
   up = λ t x e h. omega arith;
   near = λ p j m t w h e f.
-      rw f at (each-with_id (λ (x : Task). m.v ≤ x.v + 1000000) j (present_at p) (of_some (IsNearEach (present_at p)) (stepped cfs p Decide).current m (runs_near_each p w.distinct) e));
+      rw f at (each-with_id (λ (x : Task). m.v ≤ x.v + 1000000) j (present_at p)
+      (of_some (IsNearEach (present_at p)) (stepped cfs p Decide).current m (runs_near_each p w.distinct) e));
 }
 
 -- under CFS a task that stays gets beyond another by no more than at the start, or 1,000,000, and one rise
@@ -40,7 +41,9 @@ pub cfs_serves_throughout : CfsServesThroughout
 cfs_serves_throughout r p ss i j a b s room new le f g si sj =
     let w = well_formed p s in
     let each = each_has_room p room in
-    let n = served_near cfs (λ t. t.v + 1000000) Anyhow cfs_reach a.v r p ss i j a b w (λ k t e. tt) (omega arith) new (anyhow ss) le si sj (each i a f) (each j b g) f g in
+    let n =
+    served_near cfs (λ t. t.v + 1000000) Anyhow cfs_reach a.v r p ss i j a b w (λ k t e. tt) (omega arith) new
+    (anyhow ss) le si sj (each i a f) (each j b g) f g in
     let v = n.1 in
     let law = n.4 in
     omega arith
@@ -72,7 +75,9 @@ eevdf_serves_throughout r p ss i j a b s room due new of le f g si sj =
     let each = each_has_room p room in
     let two : Task → Type 0 = λ x. (x.v ≤ x.deadline) × (x.deadline ≤ x.v + vdelta_of x.slice x.weight) in
     let dues : Each IsDue p = λ k t e. let d = of_each two p k t due e in record { low = d.0; high = d.1 } in
-    let n = served_near eevdf (λ t. t.deadline) IsDue eevdf_reach a.v r p ss i j a b w dues (omega arith) new (due_of_entered ss of) le si sj (each i a f) (each j b g) f g in
+    let n =
+    served_near eevdf (λ t. t.deadline) IsDue eevdf_reach a.v r p ss i j a b w dues (omega arith) new (due_of_entered ss of)
+    le si sj (each i a f) (each j b g) f g in
     let v = n.1 in
     let law = n.4 in
     let top = n.5.high in

@@ -37,7 +37,9 @@ none_leaves i (now ∷ nows) = (refl, (refl, none_leaves i nows))
 -- under CFS a task gets over Ticks beyond another by no more than at the start, or 1,000,000, and one rise
 pub cfs_serves_in_proportion : CfsServesInProportion
 cfs_serves_in_proportion r p nows i j a b s room le f g =
-    let law = cfs_serves_throughout r p (steps_of nows) i j a b s room (none_enters cfs p nows) (within r cfs p nows le) f g (none_leaves i nows) (none_leaves j nows) in
+    let law =
+    cfs_serves_throughout r p (steps_of nows) i j a b s room (none_enters cfs p nows) (within r cfs p nows le) f g
+    (none_leaves i nows) (none_leaves j nows) in
     let one = served_same i cfs p nows in
     let two = served_same j cfs p nows in
     omega arith
@@ -51,7 +53,9 @@ cfs_serves_within S r p nows i j a b s room le f g near =
 -- under EEVDF a task gets over Ticks beyond another by no more than at the start, or its slice, and one rise
 pub eevdf_serves_by_slices : EevdfServesBySlices
 eevdf_serves_by_slices r p nows i j a b s room due le f g =
-    let law = eevdf_serves_throughout r p (steps_of nows) i j a b s room due (none_enters eevdf p nows) (none_due nows) (within r eevdf p nows le) f g (none_leaves i nows) (none_leaves j nows) in
+    let law =
+    eevdf_serves_throughout r p (steps_of nows) i j a b s room due (none_enters eevdf p nows) (none_due nows)
+    (within r eevdf p nows le) f g (none_leaves i nows) (none_leaves j nows) in
     let one = served_same i eevdf p nows in
     let two = served_same j eevdf p nows in
     omega arith

@@ -16,19 +16,24 @@ use Rattle.bq_fairness.proofs.SumLemmas.{total_weight-ticked, weighted_sum-busy,
 
 -- Where a task runs, one does after each Tick
 
-busy_exchanged : (q : List Task) (kept last : ℕ) (u : Task) (o : Option Task) → IsSome (exchanged (busy_processor q kept u last) u o).current
+busy_exchanged : (q : List Task) (kept last : ℕ) (u : Task) (o : Option Task)
+    → IsSome (exchanged (busy_processor q kept u last) u o).current
 busy_exchanged q kept last u None = refl
 busy_exchanged q kept last u (Some m) = refl
 
-busy_decided : (d : Discipline) (q : List Task) (kept last : ℕ) (u : Task) (b : Bool) → IsSome (decided d (busy_processor q kept u last) (Some u) b).current
+busy_decided : (d : Discipline) (q : List Task) (kept last : ℕ) (u : Task) (b : Bool)
+    → IsSome (decided d (busy_processor q kept u last) (Some u) b).current
 busy_decided d q kept last u false = refl
 busy_decided d q kept last u true = busy_exchanged q kept last u (with_id (next_of d u q) q)
 
-stays_busy_at : (d : Discipline) (q : List Task) (kept : ℕ) (o : Option Task) (last : ℕ) → (let c : Running = record { queue = q; kept = kept; current = o; last = last } in IsSome o → IsSome (decided d c o (own_preempt d q o)).current)
+stays_busy_at : (d : Discipline) (q : List Task) (kept : ℕ) (o : Option Task) (last : ℕ)
+    → (let c : Running = record { queue = q; kept = kept; current = o; last = last } in
+    IsSome o → IsSome (decided d c o (own_preempt d q o)).current)
 stays_busy_at d q kept None last h = cc
 stays_busy_at d q kept (Some u) last h = busy_decided d q kept last u (own_preempt d q (Some u))
 
-stays_busy_by : (d : Discipline) (q : List Task) (kept : ℕ) (o : Option Task) (last now : ℕ) → (let p : Running = record { queue = q; kept = kept; current = o; last = last } in IsSome o → IsSome (ticked d p now).current)
+stays_busy_by : (d : Discipline) (q : List Task) (kept : ℕ) (o : Option Task) (last now : ℕ)
+    → (let p : Running = record { queue = q; kept = kept; current = o; last = last } in IsSome o → IsSome (ticked d p now).current)
 stays_busy_by d q kept None last now h = cc
 stays_busy_by d q kept (Some t) last now h =
     let p : Running = record { queue = q; kept = kept; current = Some t; last = last } in
@@ -45,19 +50,24 @@ stays_busy d p now h = stays_busy_by d p.queue p.kept p.current p.last now h
 nearly : (x w : ℕ) → 15 ≤ w → w ≤ 88761 → x * 1024 ≤ w * vdelta_of x w + 88760
 nearly x w low high = omega arith
 
-books_by : (d : Discipline) (p : Running) (now : ℕ) (o : Option Task) → p.current ≡ o → IsWellFormed p → IsSome o → (booked_at p now ≤ 1024 * rise p now) × (1024 * rise p now ≤ booked_at p now + 88760)
+books_by : (d : Discipline) (p : Running) (now : ℕ) (o : Option Task)
+    → p.current ≡ o → IsWellFormed p → IsSome o
+    → (booked_at p now ≤ 1024 * rise p now) × (1024 * rise p now ≤ booked_at p now + 88760)
 books_by d p now None e w h = cc
 books_by d p now (Some t) e w h =
     let f = current_present p.queue p.kept p.current p.last t e in
     let range = w.weights t.id t f in
-    let here : booked_at p now ≡ t.weight * vdelta_of (rise p now) t.weight = ap (λ o. option_map_or (λ (t : Task). t.weight * vdelta_of (rise p now) t.weight) o 0) e in
+    let here : booked_at p now ≡ t.weight * vdelta_of (rise p now) t.weight =
+    ap (λ o. option_map_or (λ (t : Task). t.weight * vdelta_of (rise p now) t.weight) o 0) e in
     let x = rise p now in
     let le = vdelta_of-weighted x t.weight in
     let near = nearly x t.weight range.0 range.1 in
     rw here (omega arith, omega arith)
 
 abbrev Books : Discipline → Running → List ℕ → Type 0
-Books d p nows = (p.last ≤ (history d p nows).last) × (booked d p nows ≤ 1024 * elapsed d p nows) × (1024 * elapsed d p nows ≤ booked d p nows + 88760 * length nows)
+Books d p nows =
+    (p.last ≤ (history d p nows).last) × (booked d p nows ≤ 1024 * elapsed d p nows)
+    × (1024 * elapsed d p nows ≤ booked d p nows + 88760 * length nows)
 
 books : (d : Discipline) (p : Running) (nows : List ℕ) → IsWellFormed p → IsSome p.current → Books d p nows
 books d p [] w h = (omega arith, omega arith, omega arith)
@@ -80,7 +90,9 @@ books_the_time d p nows s h = let b = books d p nows (well_formed p s) h in (b.1
 
 -- What it moves
 
-moves_by : (d : Discipline) (p : Running) (now : ℕ) (o : Option Task) → p.current ≡ o → IsWellFormed p → EachHasRoom p → weighted_v_at (ticked d p now) ≡ weighted_v_at p + booked_at p now
+moves_by : (d : Discipline) (p : Running) (now : ℕ) (o : Option Task)
+    → p.current ≡ o → IsWellFormed p → EachHasRoom p
+    → weighted_v_at (ticked d p now) ≡ weighted_v_at p + booked_at p now
 moves_by d p now None e w room =
     let here : booked_at p now ≡ 0 = ap (λ o. option_map_or (λ (t : Task). t.weight * vdelta_of (rise p now) t.weight) o 0) e in
     omega (arith, weighted_sum-idle d p now e)
@@ -88,13 +100,15 @@ moves_by d p now (Some t) e w room =
     let f = current_present p.queue p.kept p.current p.last t e in
     let x = rise p now in
     let after = tick_leaves_room p.last now t.v t.weight (vdelta_of x t.weight) (w.weights t.id t f).0 (omega arith) (room t.id t f) in
-    let here : booked_at p now ≡ t.weight * vdelta_of x t.weight = ap (λ o. option_map_or (λ (t : Task). t.weight * vdelta_of (rise p now) t.weight) o 0) e in
+    let here : booked_at p now ≡ t.weight * vdelta_of x t.weight =
+    ap (λ o. option_map_or (λ (t : Task). t.weight * vdelta_of (rise p now) t.weight) o 0) e in
     let v : min (t.v + vdelta_of x t.weight) (2 ^ 62) ≡ t.v + vdelta_of x t.weight = omega (arith, after.0) in
     let product = ap (λ n. t.weight * n) v in
     let sum = weighted_sum-busy d p now t e in
     omega arith
 
-moves : (d : Discipline) (p : Running) (nows : List ℕ) → IsWellFormed p → EachHasRoom p → (weighted_v_at (history d p nows) ≡ weighted_v_at p + booked d p nows) × (weight_at (history d p nows) ≡ weight_at p)
+moves : (d : Discipline) (p : Running) (nows : List ℕ) → IsWellFormed p → EachHasRoom p
+    → (weighted_v_at (history d p nows) ≡ weighted_v_at p + booked d p nows) × (weight_at (history d p nows) ≡ weight_at p)
 moves d p [] w room = (omega arith, refl)
 moves d p (now ∷ nows) w room =
     let rest = moves d (ticked d p now) nows (well_formed_ticked d p now w) (room_ticked d p now w room) in

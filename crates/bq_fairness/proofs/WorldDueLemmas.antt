@@ -4,7 +4,7 @@ use Rattle.std.specs.Prelude.{ℤ, pos, negsuc, ◌==◌, ◌^◌, ◌-◌}
 use Rattle.bq_weights.specs.VirtualTime.{vdelta_of, advance_of, shift_of, held_within}
 use Rattle.bq_disc.specs.Tasks.{Task, id_of}
 use Rattle.bq_disc.specs.OneProcessor.{Running, charge, marked}
-use Rattle.bq_bpf.specs.declared.board.Call.{Call as Asked}
+use Rattle.bq_bpf.specs.declared.board.CounterCall.{CounterCall}
 use Rattle.bq_eevdf.specs.Eevdf.{eevdf}
 use Rattle.bq_fairness.specs.Steps.{Step, Pass, Decide, Enter, Leave, Mark, EntersDue}
 use Rattle.bq_fairness.specs.Events.{entries}
@@ -12,11 +12,11 @@ use Rattle.bq_hooks.specs.Permitted.{task_numbered}
 use Rattle.bq_parts.specs.declared.event.Event.{Event}
 use Rattle.bq_parts.specs.declared.event.Event.TheVariants.{Admit, Retire, Draw, Install, BeginWake, EndWake, Drain, Tick, Block, Pull}
 use Rattle.bq_parts.specs.declared.reply.Reply.{Reply}
-use Rattle.bq_parts.specs.declared.reply.Reply.TheVariants.{Blocked as Went, Pulled as Moved}
+use Rattle.bq_parts.specs.declared.reply.Reply.TheVariants.{Blocked, Pulled}
 use Rattle.bq_parts.specs.declared.refusal.Refusal.{Refusal}
 use Rattle.bq_parts.specs.Moves.{taken_from}
 use Rattle.bq_parts.specs.World.{World, inbox}
-use Rattle.bq_parts.specs.Choices.{policies, Decision}
+use Rattle.bq_parts.specs.Choices.{by_programs, SettledChoice}
 use Rattle.bq_parts.specs.Steps.{WorldStep}
 use Rattle.bq_fairness.specs.Seen.{running_at, entry, begins, own_steps, leaving, steps_at}
 
@@ -26,12 +26,16 @@ shift_ends mark (pos n) = omega arith
 shift_ends mark (negsuc n) = omega arith
 
 -- a task that enters is due within one slice from where it stands
-pub entered_due : (v slice weight : ℕ) → v ≤ 2 ^ 62 → (v ≤ advance_of v slice weight) × (advance_of v slice weight ≤ v + vdelta_of slice weight)
+pub entered_due : (v slice weight : ℕ) → v ≤ 2 ^ 62
+    → (v ≤ advance_of v slice weight) × (advance_of v slice weight ≤ v + vdelta_of slice weight)
 entered_due v slice weight h = (omega arith, omega arith)
 
 entries_due : (kept : ℕ) (tasks : List Task) → EntersDue (entries eevdf kept tasks)
 entries_due kept [] = tt
-entries_due kept (t ∷ tasks) = (entered_due _ t.slice t.weight (shift_ends kept (held_within (vdelta_of t.slice t.weight) t.rel)), entries_due kept tasks)
+entries_due kept (t ∷ tasks) = (
+  entered_due _ t.slice t.weight (shift_ends kept (held_within (vdelta_of t.slice t.weight) t.rel)),
+  entries_due kept tasks,
+)
 
 entry_due : (p : Running) (o : Option Task) (ss : List Step) → EntersDue ss → EntersDue (entry eevdf p o ++ ss)
 entry_due p None ss h = h
@@ -59,25 +63,29 @@ EntersDue-append (Leave id ∷ ss) rs h k = EntersDue-append ss rs h k
 EntersDue-append (Mark ∷ ss) rs h k = EntersDue-append ss rs h k
 
 -- each task that enters by an event
-pub event_due : (at : ℕ) (w w' : World) (e : Event) (calls : List Asked) (a : Result Reply Refusal) → WorldStep (policies eevdf) w e calls a w' → EntersDue (steps_at eevdf at w e a)
+pub event_due : (at : ℕ) (w w' : World) (e : Event) (calls : List CounterCall) (a : Result Reply Refusal)
+    → WorldStep (by_programs eevdf) w e calls a w' → EntersDue (steps_at eevdf at w e a)
 event_due at w w' e calls (Err r) h = tt
 event_due at w w' (Admit id nice mask slice) calls (Ok r) h = tt
 event_due at w w' (Retire id) calls (Ok r) h = tt
 event_due at w w' Draw calls (Ok r) h = tt
 event_due at w w' (Install processor hook g policy) calls (Ok r) h = tt
 event_due at w w' (BeginWake processor id) calls (Ok r) h = tt
-event_due at w w' (EndWake processor now) calls (Ok r) h = either_due (own_steps eevdf w (EndWake processor now) r) [] (at == processor) tt tt
+event_due at w w' (EndWake processor now) calls (Ok r) h =
+    either_due (own_steps eevdf w (EndWake processor now) r) [] (at == processor) tt tt
 event_due at w w' (Tick processor now) calls (Ok r) h = either_due (own_steps eevdf w (Tick processor now) r) [] (at == processor) tt tt
 event_due at w w' (Drain processor now) calls (Ok r) h =
-    either_due (own_steps eevdf w (Drain processor now) r) [] (at == processor) (entries_due (charge eevdf (running_at w processor) now).kept (inbox w processor)) tt
+    either_due (own_steps eevdf w (Drain processor now) r) [] (at == processor)
+    (entries_due (charge eevdf (running_at w processor) now).kept (inbox w processor)) tt
 event_due at w w' (Block processor now) calls (Ok r) h =
     subst (λ x. EntersDue (steps_at eevdf at w (Block processor now) (Ok x))) (sym h.1.2.1.2)
-    (either_due (own_steps eevdf w (Block processor now) (Went h.1.2.0.id (id_of h.1.0.running.current))) [] (at == processor) tt tt)
+    (either_due (own_steps eevdf w (Block processor now) (Blocked h.1.2.0.id (id_of h.1.0.running.current))) [] (at == processor) tt tt)
 event_due at w w' (Pull processor from now) calls (Ok r) h =
     let c = charge eevdf (running_at w processor) now in
-    let settled : Decision = h.1.2.settled in
+    let settled : SettledChoice = h.1.2.settled in
     let task = task_numbered settled.choice in
     subst (λ x. EntersDue (steps_at eevdf at w (Pull processor from now) (Ok x))) (sym h.1.2.replies)
-    (either_due (own_steps eevdf w (Pull processor from now) (Moved task (id_of h.1.0.running.current) settled.by settled.steps)) (cond (at == from) (leaving task) []) (at == processor)
+    (either_due (own_steps eevdf w (Pull processor from now) (Pulled task (id_of h.1.0.running.current) settled.by settled.steps))
+    (cond (at == from) (leaving task) []) (at == processor)
     (entry_due c (taken_from (marked eevdf (running_at w from)) task) (begins c.current) (begins_due c.current))
     (either_due (leaving task) [] (at == from) (leaving_due task) tt))

@@ -1,4 +1,4 @@
--- CFS is fair: what two tasks are served, each scaled by its weight, stays near.
+-- CFS is fair: what two tasks are served, each scaled by its weight, stays close.
 use Rattle.std.specs.Prelude.{◌≡◌, ℕ, ◌+◌, ◌*◌, ◌≤◌, max, List, length, Some, All, IsSome}
 use Rattle.bq_cfs.specs.declared.discipline.TheConstants.{GRANULARITY}
 use Rattle.bq_weights.specs.VirtualTime.{vdelta_of}
@@ -9,15 +9,15 @@ use Rattle.bq_cfs.specs.Spread.{IsSound}
 use Rattle.bq_fairness.specs.Histories.{HasRoom, RisesByAtMost, task_at, served}
 use Rattle.bq_fairness.specs.Work.{weight_at, weighted_v_at, booked, elapsed, most_lost}
 
--- Proportional service: of two tasks a and b, of ids i and j, a comes to no more virtual time than where it began, or than
--- 1,000,000 beyond where b began, and what b was served, and one rise at its own weight
+-- Proportional service: of two tasks a and b, of ids i and j, a comes to no more virtual time than the sum of three: the
+-- greater of where it began and 1,000,000 beyond where b began; what b was served; and one rise at a's own weight
 abbrev pub CfsServesInProportion : Type 0
 CfsServesInProportion =
     (r : ℕ) (p : Running) (nows : List ℕ) (i j : ℕ) (a b : Task) →
     IsSound p → HasRoom p → RisesByAtMost r cfs p nows → task_at i p ≡ Some a → task_at j p ≡ Some b →
     a.v + served i cfs p nows ≤ served j cfs p nows + max a.v (b.v + GRANULARITY) + vdelta_of r a.weight
 
--- So what any two are served differs by at most what lay between them at the start, the granularity, and one rise
+-- What any two tasks are served differs by at most their distance at the start, the granularity, and one rise
 abbrev pub CfsServesWithin : Type 0
 CfsServesWithin =
     (S r : ℕ) (p : Running) (nows : List ℕ) (i j : ℕ) (a b : Task) →

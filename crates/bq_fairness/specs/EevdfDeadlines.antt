@@ -1,5 +1,5 @@
--- EEVDF, by slices: no task comes beyond another's deadline by more than one rise. So tasks stay as near each other as their
--- slices say, however many they are.
+-- EEVDF, by slices: no task comes beyond another's deadline by more than one rise. So tasks stay as close to each other as
+-- their slices say, however many they are.
 use Rattle.std.specs.Prelude.{◌≡◌, ℕ, ◌+◌, ◌*◌, ◌≤◌, max, List, length, Some, All, IsSome}
 use Rattle.bq_weights.specs.VirtualTime.{vdelta_of}
 use Rattle.bq_disc.specs.Tasks.{Task}
@@ -9,11 +9,11 @@ use Rattle.bq_eevdf.specs.Eevdf.{eevdf}
 use Rattle.bq_fairness.specs.Histories.{HasRoom, RisesByAtMost, history, task_at, served}
 use Rattle.bq_fairness.specs.Work.{weight_at, weighted_v_at, booked, elapsed, most_lost}
 
--- each task is due no earlier than it stands, and no later than one slice from there, as it is at each entry
+-- the deadline of each task is no earlier than its v, and at most one slice later, as it is at each entry
 abbrev pub HasDeadlines : Running → Type 0
 HasDeadlines p = All (λ t. (t.v ≤ t.deadline) × (t.deadline ≤ t.v + vdelta_of t.slice t.weight)) (present_at p)
 
--- Where no v is beyond V at the start, none is ever beyond V or another's deadline by more than one rise at its own weight
+-- If no v is beyond V at the start, no task is ever beyond V or another's deadline by more than one rise at its own weight
 abbrev pub NoneIsBeyondADeadline : Type 0
 NoneIsBeyondADeadline =
     (V r : ℕ) (p : Running) (nows : List ℕ) →
@@ -21,23 +21,23 @@ NoneIsBeyondADeadline =
     HasDeadlines (history eevdf p nows)
     × ((i j : ℕ) (u t : Task) → task_at i (history eevdf p nows) ≡ Some u → task_at j (history eevdf p nows) ≡ Some t → u.v ≤ max V t.deadline + vdelta_of r u.weight)
 
--- So the mean is beyond a task by no more than where all began or its slice, and its share of a rise of each: what a task is
--- owed is bounded by its own slice, however many there are
+-- The mean never exceeds the greater of V and any task's v plus its slice by more than one rise of each task. So what a
+-- task is owed is bounded by its own slice, however many tasks there are
 abbrev pub EevdfOwedBySlices : Type 0
 EevdfOwedBySlices =
     (V r : ℕ) (p : Running) (nows : List ℕ) (j : ℕ) (b : Task) →
     IsSound p → HasDeadlines p → All (λ t. t.v ≤ V) (present_at p) → RisesByAtMost r eevdf p nows → task_at j (history eevdf p nows) ≡ Some b →
     (let q = history eevdf p nows in weighted_v_at q ≤ weight_at q * max V (b.v + vdelta_of b.slice b.weight) + 1024 * r * length (present_at q))
 
--- Proportional service: of two tasks a and b, a comes to no more virtual time than where it began, or than one slice beyond
--- where b began, and what b was served, and one rise at its own weight
+-- Proportional service: of two tasks a and b, a comes to no more virtual time than the sum of three: the greater of where it
+-- began and one slice of b's beyond where b began; what b was served; and one rise at a's own weight
 abbrev pub EevdfServesBySlices : Type 0
 EevdfServesBySlices =
     (r : ℕ) (p : Running) (nows : List ℕ) (i j : ℕ) (a b : Task) →
     IsSound p → HasRoom p → HasDeadlines p → RisesByAtMost r eevdf p nows → task_at i p ≡ Some a → task_at j p ≡ Some b →
     a.v + served i eevdf p nows ≤ served j eevdf p nows + max a.v (b.v + vdelta_of b.slice b.weight) + vdelta_of r a.weight
 
--- Service by share
+-- Service by share: what a task is served, times the weights of all, is at least what is booked, except for a bound by its slice
 abbrev pub EevdfSharesBySlices : Type 0
 EevdfSharesBySlices =
     (V r : ℕ) (p : Running) (nows : List ℕ) (j : ℕ) (b : Task) →

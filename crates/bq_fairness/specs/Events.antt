@@ -1,4 +1,4 @@
--- The events of a processor as steps: what each does by the definitions of one processor, where only the rule decides.
+-- The events of a processor as steps: what each does by the definitions of one processor, if only the rule decides.
 use Rattle.std.specs.Prelude.{◌≡◌, ℕ, List, [], ◌∷◌, None, Some}
 use Rattle.bq_disc.specs.Tasks.{Task, with_id}
 use Rattle.bq_disc.specs.Queues.{HasDistinctIds}
@@ -7,16 +7,16 @@ use Rattle.bq_disc.specs.OneProcessor.{Running, present_at, marked, charge, star
 use Rattle.bq_parts.specs.Moves.{with_pulled, without_task}
 use Rattle.bq_fairness.specs.Steps.{Step, Pass, Decide, Enter, Leave, Mark, after}
 
--- some woken tasks enter at a mark, and the rule decides
+-- some woken tasks enter at a mark, then the rule decides
 abbrev pub entries : Discipline → ℕ → List Task → List Step
 entries d kept [] = Decide ∷ []
 entries d kept (t ∷ tasks) = Enter (woken d kept t) ∷ entries d kept tasks
 
--- Block: the current task goes, and the queue's choice runs
+-- Block: the current task goes, then the queue's choice runs
 abbrev pub after_block : Discipline → Running → ℕ → Running
 after_block d p now = start d (record (charge d p now) { current = None })
 
--- Drain: woken tasks enter in their order, and it is decided who runs
+-- Drain: woken tasks enter in their order, then it is decided who runs
 abbrev pub after_drain : Discipline → Running → ℕ → List Task → Running
 after_drain d p now tasks = let e = enter_all d (charge d p now) tasks in decided d e e.current (own_preempt d e.queue e.current)
 
@@ -29,9 +29,9 @@ pub record EventsAreSteps : Type 0 where
   pub drain : (d : Discipline) (p : Running) (now : ℕ) (tasks : List Task) → after_drain d p now tasks ≡ after d p (Pass now ∷ entries d (charge d p now).kept tasks)
   -- the end of a wake
   pub wake : (d : Discipline) (p : Running) (now : ℕ) → charge d p now ≡ after d p (Pass now ∷ [])
-  -- Pull: a task enters; where nothing runs the queue's choice does
+  -- Pull: a task enters; if nothing runs, the queue's choice does
   pub pull : (d : Discipline) (p : Running) (now : ℕ) (t : Task) → (let c = charge d p now in with_pulled d c (Some t) ≡ after d p (Pass now ∷ Enter (pulled d c.kept t) ∷ []))
   pub idle : (d : Discipline) (p : Running) → p.current ≡ None → start d p ≡ after d p (Decide ∷ [])
-  -- and at the other end one leaves the queue
+  -- Pull, at the other processor: a task leaves the queue
   pub pulled_away : (d : Discipline) (p : Running) (id : ℕ) (t : Task) → HasDistinctIds (present_at p) → with_id id p.queue ≡ Some t →
       without_task (marked d p) (Some id) ≡ after d p (Mark ∷ Leave id ∷ [])

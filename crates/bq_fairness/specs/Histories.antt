@@ -6,21 +6,21 @@ use Rattle.bq_disc.specs.Tasks.{Task, has_id, with_id}
 use Rattle.bq_disc.specs.Discipline.{Discipline}
 use Rattle.bq_disc.specs.OneProcessor.{Running, present_at, rise, ticked}
 
--- the processor that Ticks leave, one after another
+-- the processor after some Ticks, one after another
 abbrev pub history : Discipline → Running → List ℕ → Running
 history d p [] = p
 history d p (now ∷ nows) = history d (ticked d p now) nows
 
--- the clock rises by at most r at each of some Ticks
+-- the clock rises by at most r at each of the Ticks
 abbrev pub RisesByAtMost : ℕ → Discipline → Running → List ℕ → Type 0
 RisesByAtMost r d p [] = Unit {0}
 RisesByAtMost r d p (now ∷ nows) = (rise p now ≤ r) × RisesByAtMost r d (ticked d p now) nows
 
--- the task of an id, of those that are present
+-- the present task with this id, if there is one
 abbrev pub task_at : ℕ → Running → Option Task
 task_at id p = with_id id (present_at p)
 
--- the virtual time that a Tick charges the task of an id: what the rise takes at its weight, if it runs
+-- the virtual time that a Tick charges the task with this id: what the rise takes at its weight, if it runs; else 0
 abbrev pub charge_of : ℕ → Running → ℕ → ℕ
 charge_of id p now = option_map_or (λ t. if has_id id t then vdelta_of (rise p now) t.weight else 0) p.current 0
 
@@ -29,6 +29,6 @@ abbrev pub served : ℕ → Discipline → Running → List ℕ → ℕ
 served id d p [] = 0
 served id d p (now ∷ nows) = charge_of id p now + served id d (ticked d p now) nows
 
--- virtual time does not end before the clock does: at the least weight what is left of the clock takes no task beyond 2^62
+-- virtual time does not run out before the clock does: even at the least weight, the rest of the clock takes no task beyond 2^62
 abbrev pub HasRoom : Running → Type 0
 HasRoom p = All (λ t. 15 * t.v + 1024 * (2 ^ 48 - 1 - p.last) ≤ 15 * 2 ^ 62) (present_at p)

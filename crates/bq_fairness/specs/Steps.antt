@@ -1,6 +1,7 @@
--- Histories in which tasks come and go. What happens at a processor is made of few steps: time passes and is charged, the rule
--- decides, a task enters the queue, a task leaves, the mark is computed again. So a Tick is the first two; a Block has a Leave
--- between them, and a Drain its entries; the end of a wake and a pull pass time and decide nothing (specs/Events).
+-- Histories in which tasks come and go. What happens at a processor is made of a few kinds of step: time passes and is
+-- charged, the rule decides, a task enters the queue, a task leaves, the mark is computed again. A Tick is the first two. A
+-- Block has a Leave between them, and a Drain its entries. The end of a wake only passes time. A pull passes time,
+-- and a task may enter; it decides only at a processor where nothing runs (specs/Events).
 use Rattle.std.specs.Prelude.{◌≡◌, ℕ, ◌+◌, ◌≤◌, ◌^◌, max, Bool, false, ◌==◌, if◌then◌else◌, List, [], ◌∷◌, Option, None, Some}
 use Rattle.bq_cfs.specs.declared.discipline.TheConstants.{GRANULARITY}
 use Rattle.bq_weights.specs.VirtualTime.{IsWeight, vdelta_of}
@@ -13,13 +14,13 @@ use Rattle.bq_eevdf.specs.Eevdf.{eevdf}
 use Rattle.bq_fairness.specs.Histories.{HasRoom, task_at, charge_of}
 use Rattle.bq_fairness.specs.EevdfDeadlines.{HasDeadlines}
 
--- one thing that comes to a processor
+-- one step at a processor
 pub data Step : Type 0 where
-  -- the clock is read, and what has passed is charged
+  -- the clock is read, and the time since the last reading is charged
   Pass : ℕ → Step
   -- only the rule decides
   Decide : Step
-  -- a task enters the queue, wherever it stands in virtual time
+  -- a task enters the queue, at whatever virtual time
   Enter : Task → Step
   -- the task of an id leaves, from the queue or from running
   Leave : ℕ → Step
@@ -31,7 +32,7 @@ abbrev pub kept_current : ℕ → Option Task → Option Task
 kept_current id None = None
 kept_current id (Some t) = if has_id id t then None else Some t
 
--- the processor that a step leaves
+-- the processor after a step
 abbrev pub stepped : Discipline → Running → Step → Running
 stepped d p (Pass now) = charge d p now
 stepped d p Decide = decided d p p.current (own_preempt d p.queue p.current)
@@ -39,12 +40,12 @@ stepped d p (Enter t) = record p { queue = place t p.queue }
 stepped d p (Leave id) = record p { current = kept_current id p.current; queue = without id p.queue }
 stepped d p Mark = marked d p
 
--- the one that steps leave, one after another
+-- the processor after some steps, one after another
 abbrev pub after : Discipline → Running → List Step → Running
 after d p [] = p
 after d p (s ∷ ss) = after d (stepped d p s) ss
 
--- what a step charges the task of an id
+-- what a step charges the task with this id
 abbrev pub charged_by : ℕ → Running → Step → ℕ
 charged_by id p (Pass now) = charge_of id p now
 charged_by id p Decide = 0
@@ -52,12 +53,12 @@ charged_by id p (Enter t) = 0
 charged_by id p (Leave k) = 0
 charged_by id p Mark = 0
 
--- the virtual time that a task is served
+-- the virtual time that some steps serve the task with this id
 abbrev pub served_by : ℕ → Discipline → Running → List Step → ℕ
 served_by id d p [] = 0
 served_by id d p (s ∷ ss) = charged_by id p s + served_by id d (stepped d p s) ss
 
--- how far the clock has risen since the rule last decided
+-- how far the clock has risen since the rule last decided; n before the step
 abbrev pub since : ℕ → Running → Step → ℕ
 since n p (Pass now) = n + rise p now
 since n p Decide = 0
@@ -65,17 +66,18 @@ since n p (Enter t) = n
 since n p (Leave id) = n
 since n p Mark = n
 
--- between two decisions the clock rises by at most r
+-- the clock rises by at most r between two decisions
 abbrev pub DecidesWithin : ℕ → Discipline → ℕ → Running → List Step → Type 0
 DecidesWithin r d n p [] = Unit {0}
 DecidesWithin r d n p (s ∷ ss) = (since n p s ≤ r) × DecidesWithin r d (since n p s) (stepped d p s) ss
 
--- a task that enters has an id that none has who is present, a weight of the table's range and a v of at most 2^62
+-- a task that enters has an id that no present task has, a weight in the table's range and a v of at most 2^62
 pub record IsNew (p : Running) (t : Task) : Type 0 where
   pub id : task_at t.id p ≡ None
   pub weight : IsWeight t.weight
   pub ends : t.v ≤ 2 ^ 62
 
+-- if the step is an Enter, its task is new
 abbrev pub EntersNew : Running → Step → Type 0
 EntersNew p (Enter t) = IsNew p t
 EntersNew p (Pass now) = Unit {0}
@@ -83,12 +85,12 @@ EntersNew p Decide = Unit {0}
 EntersNew p (Leave id) = Unit {0}
 EntersNew p Mark = Unit {0}
 
--- each that enters is so
+-- each task that enters is new
 abbrev pub EachEntersNew : Discipline → Running → List Step → Type 0
 EachEntersNew d p [] = Unit {0}
 EachEntersNew d p (s ∷ ss) = EntersNew p s × EachEntersNew d (stepped d p s) ss
 
--- each that enters is due no earlier than it stands, and no later than one slice from there
+-- the deadline of each task that enters is no earlier than its v, and at most one slice later
 abbrev pub EntersDue : List Step → Type 0
 EntersDue [] = Unit {0}
 EntersDue (Enter t ∷ ss) = ((t.v ≤ t.deadline) × (t.deadline ≤ t.v + vdelta_of t.slice t.weight)) × EntersDue ss
@@ -97,6 +99,7 @@ EntersDue (Decide ∷ ss) = EntersDue ss
 EntersDue (Leave id ∷ ss) = EntersDue ss
 EntersDue (Mark ∷ ss) = EntersDue ss
 
+-- whether a step is the leave of the task with this id
 abbrev pub leaves : ℕ → Step → Bool
 leaves id (Leave k) = k == id
 leaves id (Pass now) = false
@@ -104,13 +107,14 @@ leaves id Decide = false
 leaves id (Enter t) = false
 leaves id Mark = false
 
--- the task of an id does not leave
+-- the task with this id does not leave
 abbrev pub StaysThroughout : ℕ → List Step → Type 0
 StaysThroughout id [] = Unit {0}
 StaysThroughout id (s ∷ ss) = (leaves id s ≡ false) × StaysThroughout id ss
 
--- CFS: of two tasks that are present throughout a comes to no more virtual time than where it began, or than 1,000,000 beyond
--- where b began, and what b was served, and one rise at its own weight; whatever others are there, come and go
+-- CFS: of two tasks that are present throughout, a comes to no more virtual time than the sum of three: the greater of where
+-- it began and 1,000,000 beyond where b began; what b was served; and one rise at a's own weight. Other tasks may come and
+-- go
 abbrev pub CfsServesThroughout : Type 0
 CfsServesThroughout =
     (r : ℕ) (p : Running) (ss : List Step) (i j : ℕ) (a b : Task) →
@@ -118,7 +122,7 @@ CfsServesThroughout =
     task_at i p ≡ Some a → task_at j p ≡ Some b → StaysThroughout i ss → StaysThroughout j ss →
     a.v + served_by i cfs p ss ≤ served_by j cfs p ss + max a.v (b.v + GRANULARITY) + vdelta_of r a.weight
 
--- EEVDF: so too, by one slice of b's in place of 1,000,000
+-- EEVDF: the bound of CFS holds with one slice of b's in place of 1,000,000
 abbrev pub EevdfServesThroughout : Type 0
 EevdfServesThroughout =
     (r : ℕ) (p : Running) (ss : List Step) (i j : ℕ) (a b : Task) →

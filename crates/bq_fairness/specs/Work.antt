@@ -8,11 +8,11 @@ use Rattle.bq_disc.specs.OneProcessor.{Running, present_at, ticked, rise}
 use Rattle.bq_cfs.specs.Spread.{IsSound}
 use Rattle.bq_fairness.specs.Histories.{history, HasRoom}
 
--- the weights of all that are present, together
+-- the sum of the weights of all present tasks
 abbrev pub weight_at : Running → ℕ
 weight_at p = total_weight (present_at p)
 
--- the sum of weight times v of all that are present
+-- the sum of weight times v of all present tasks
 abbrev pub weighted_v_at : Running → ℕ
 weighted_v_at p = weighted_sum (present_at p)
 
@@ -24,7 +24,7 @@ most_lost nows = 88760 * length nows
 abbrev pub booked_at : Running → ℕ → ℕ
 booked_at p now = option_map_or (λ t. t.weight * vdelta_of (rise p now) t.weight) p.current 0
 
--- what Ticks book together
+-- what some Ticks book together
 abbrev pub booked : Discipline → Running → List ℕ → ℕ
 booked d p [] = 0
 booked d p (now ∷ nows) = booked_at p now + booked d (ticked d p now) nows
@@ -33,13 +33,13 @@ booked d p (now ∷ nows) = booked_at p now + booked d (ticked d p now) nows
 abbrev pub elapsed : Discipline → Running → List ℕ → ℕ
 elapsed d p nows = (history d p nows).last - p.last
 
--- Where a task runs, what is booked is the time that passes, except for less than a weight lost at each Tick
+-- If a task runs, what is booked is the time that passes, except for less than a weight lost at each Tick
 abbrev pub BooksTheTime : Type 0
 BooksTheTime =
     (d : Discipline) (p : Running) (nows : List ℕ) → IsSound p → IsSome p.current →
     (booked d p nows ≤ 1024 * elapsed d p nows) × (1024 * elapsed d p nows ≤ booked d p nows + most_lost nows)
 
--- and it is what the sum of weight times v rises by, however the rule decides
+-- The sum of weight times v rises by what is booked, however the rule decides
 abbrev pub MovesTheSum : Type 0
 MovesTheSum =
     (d : Discipline) (p : Running) (nows : List ℕ) → IsSound p → HasRoom p →

@@ -35,7 +35,8 @@ module _ {R : Type 0} where
   joined_begun cs r = flat_map-append (λ c. c) cs ((r ∷ []) ∷ [])
 
   -- where not all are full, the last one has room
-  pub last_open : (cs : List (List R)) → AreChunks cs → 0 < length (joined cs) % 16 → (front : List (List R)) × (last : List R) × (cs ≡ front ++ last ∷ []) × (length last < 16)
+  pub last_open : (cs : List (List R)) → AreChunks cs → 0 < length (joined cs) % 16
+      → (front : List (List R)) × (last : List R) × (cs ≡ front ++ last ∷ []) × (length last < 16)
   last_open [] h part = absurd (omega (arith, part))
   last_open (c ∷ []) h part =
       let both = length-append c [] in
@@ -48,17 +49,20 @@ module _ {R : Type 0} where
       (c ∷ l.0, l.1, ap (λ x. c ∷ x) l.2, l.3)
 
   -- a record more in a last chunk that has room
-  pub one_more : (front : List (List R)) (last : List R) (r : R) → AreChunks (front ++ last ∷ []) → length last < 16 → AreChunks (front ++ (last ++ r ∷ []) ∷ [])
+  pub one_more : (front : List (List R)) (last : List R) (r : R)
+      → AreChunks (front ++ last ∷ []) → length last < 16 → AreChunks (front ++ (last ++ r ∷ []) ∷ [])
   one_more [] last r h open' = let both = length-append last (r ∷ []) in (omega (arith, both), omega (arith, both, open'))
   one_more (c ∷ []) last r h open' = (h.0, one_more [] last r h.1 open')
   one_more (c ∷ d ∷ cs) last r h open' = (h.0, one_more (d ∷ cs) last r h.1 open')
 
   -- it comes behind all others
-  pub joined_more : (front : List (List R)) (last : List R) (r : R) → joined (front ++ (last ++ r ∷ []) ∷ []) ≡ joined (front ++ last ∷ []) ++ r ∷ []
+  pub joined_more : (front : List (List R)) (last : List R) (r : R)
+      → joined (front ++ (last ++ r ∷ []) ∷ []) ≡ joined (front ++ last ∷ []) ++ r ∷ []
   joined_more [] last r = append-nil (last ++ r ∷ []) ∙ ap (λ x. x ++ r ∷ []) (sym (append-nil last))
   joined_more (c ∷ cs) last r = ap (λ x. c ++ x) (joined_more cs last r) ∙ sym (append_assoc c (joined (cs ++ last ∷ [])) (r ∷ []))
 
-  found_at : (cs : List (List R)) (q r : ℕ) (d : List R) → AreChunks cs → r < 16 → slice_get cs q ≡ Some d → slice_get d r ≡ slice_get (joined cs) (16 * q + r)
+  found_at : (cs : List (List R)) (q r : ℕ) (d : List R) → AreChunks cs → r < 16 → slice_get cs q ≡ Some d
+      → slice_get d r ≡ slice_get (joined cs) (16 * q + r)
   found_at [] q r d h lt e = absurd (cc)
   found_at (c ∷ []) zero r d h lt e =
       let same : d ≡ c = cc in
@@ -69,14 +73,17 @@ module _ {R : Type 0} where
       let same : d ≡ c = cc in
       let there : r ≡ 16 * zero + r = omega arith in
       let full = h.0 in
-      ap (λ x. slice_get x r) same ∙ (sym (get_left c (joined (b ∷ cs)) r (omega (arith, full, lt))) ∙ ap (λ k. slice_get (c ++ joined (b ∷ cs)) k) there)
+      ap (λ x. slice_get x r) same
+      ∙ (sym (get_left c (joined (b ∷ cs)) r (omega (arith, full, lt))) ∙ ap (λ k. slice_get (c ++ joined (b ∷ cs)) k) there)
   found_at (c ∷ b ∷ cs) (suc q) r d h lt e =
       let full = h.0 in
       let there : length c + (16 * q + r) ≡ 16 * suc q + r = omega (arith, full) in
-      found_at (b ∷ cs) q r d h.1 lt e ∙ (sym (get_right c (joined (b ∷ cs)) (16 * q + r)) ∙ ap (λ k. slice_get (c ++ joined (b ∷ cs)) k) there)
+      found_at (b ∷ cs) q r d h.1 lt e
+      ∙ (sym (get_right c (joined (b ∷ cs)) (16 * q + r)) ∙ ap (λ k. slice_get (c ++ joined (b ∷ cs)) k) there)
 
   -- a record is found in the chunk that has its place
-  pub in_chunk : (cs : List (List R)) (p : ℕ) (d : List R) → AreChunks cs → slice_get cs (p / 16) ≡ Some d → slice_get d (p % 16) ≡ slice_get (joined cs) p
+  pub in_chunk : (cs : List (List R)) (p : ℕ) (d : List R) → AreChunks cs → slice_get cs (p / 16) ≡ Some d
+      → slice_get d (p % 16) ≡ slice_get (joined cs) p
   in_chunk cs p d h e =
       let there : 16 * (p / 16) + p % 16 ≡ p = omega arith in
       found_at cs (p / 16) (p % 16) d h (omega arith) e ∙ ap (λ k. slice_get (joined cs) k) there
@@ -84,7 +91,8 @@ module _ {R : Type 0} where
   none_at : (cs : List (List R)) (q r : ℕ) → AreChunks cs → slice_get cs q ≡ None → slice_get (joined cs) (16 * q + r) ≡ None
   none_at [] q r h e = refl
   none_at (c ∷ []) zero r h e = absurd (cc)
-  none_at (c ∷ []) (suc q) r h e = let both = length-append c [] in let few = h.1 in slice_get_past (c ++ []) (16 * suc q + r) (omega (arith, both, few))
+  none_at (c ∷ []) (suc q) r h e =
+      let both = length-append c [] in let few = h.1 in slice_get_past (c ++ []) (16 * suc q + r) (omega (arith, both, few))
   none_at (c ∷ b ∷ cs) zero r h e = absurd (cc)
   none_at (c ∷ b ∷ cs) (suc q) r h e =
       let full = h.0 in

@@ -45,15 +45,19 @@ module _ {R : Type 0} (P : Type 0) (D : Type 0) where
 
 module _ {R P D : Type 0} where
   -- what parts and callers joined are made of
-  pub parts_joined : (v : List (Item R P D)) (ps : List P) (cs : List (ℕ × List (Receipt R))) → v ≡ map part_item ps ++ map caller_of cs → parts_of v ≡ ps
+  pub parts_joined : (v : List (Item R P D)) (ps : List P) (cs : List (ℕ × List (Receipt R)))
+      → v ≡ map part_item ps ++ map caller_of cs → parts_of v ≡ ps
   parts_joined v ps cs is = ap (λ (x : List (Item R P D)). parts_of x) is ∙ parts_there P D ps cs
 
-  -- the same, of the callers
-  pub callers_joined : (v : List (Item R P D)) (ps : List P) (cs : List (ℕ × List (Receipt R))) → v ≡ map part_item ps ++ map caller_of cs → callers_of v ≡ cs
+  -- the callers among the joined items
+  pub callers_joined : (v : List (Item R P D)) (ps : List P) (cs : List (ℕ × List (Receipt R)))
+      → v ≡ map part_item ps ++ map caller_of cs → callers_of v ≡ cs
   callers_joined v ps cs is = ap (λ (x : List (Item R P D)). callers_of x) is ∙ callers_there P D ps cs
 
-  -- so the joined items are their parts and then their callers
-  pub joined : (v : List (Item R P D)) (ps : List P) (cs : List (ℕ × List (Receipt R))) → v ≡ map part_item ps ++ map caller_of cs → v ≡ map part_item (parts_of v) ++ map caller_of (callers_of v)
+  -- the joined items are their parts and then their callers
+  pub joined : (v : List (Item R P D)) (ps : List P) (cs : List (ℕ × List (Receipt R)))
+      → v ≡ map part_item ps ++ map caller_of cs
+      → v ≡ map part_item (parts_of v) ++ map caller_of (callers_of v)
   joined v ps cs is = rw (parts_joined v ps cs is, callers_joined v ps cs is) is
 
 module _ {R P D W : Type 0} (step : W → R → W → Type 0) (kept : W → D) (same : P → P → Bool) (fits : W → P → Type 0) where
@@ -61,24 +65,39 @@ module _ {R P D W : Type 0} (step : W → R → W → Type 0) (kept : W → D) (
   parts_of_world t [] h = tt
   parts_of_world t (p ∷ ps) h = (h.0, parts_of_world t ps h.1)
 
-  lists_of_callers : (t : SharedState R W) (cs : List (ℕ × List (Receipt R))) → Each (fits_item {P = P} kept fits t) (map caller_of cs) → Each (λ (c : ℕ × List (Receipt R)). get_elem? t.lists c.0 ≡ some c.1) cs
+  lists_of_callers : (t : SharedState R W) (cs : List (ℕ × List (Receipt R)))
+      → Each (fits_item {P = P} kept fits t) (map caller_of cs)
+      → Each (λ (c : ℕ × List (Receipt R)). get_elem? t.lists c.0 ≡ some c.1) cs
   lists_of_callers t [] h = tt
   lists_of_callers t (c ∷ cs) h = (h.0, lists_of_callers t cs h.1)
 
   -- the history, the world that it leaves, that no part is there twice, and the receipts
   abbrev pub Known : W → ℕ → List P → List R → D → List (ℕ × List (Receipt R)) → Type 0
-  Known opening n ps log d cs = ((w : W) × IsHistory step opening log w × (kept w ≡ d) × Each (fits w) ps) × ((p : P) → count (same p) ps ≤ 1) × SharesOutAmong log n cs
+  Known opening n ps log d cs =
+      ((w : W) × IsHistory step opening log w × (kept w ≡ d) × Each (fits w) ps) × ((p : P) → count (same p) ps ≤ 1)
+      × SharesOutAmong log n cs
 
-  knows : (opening : W) (n : ℕ) (ps : List P) (log : List R) (d : D) (cs : List (ℕ × List (Receipt R))) → Has (same_item same) (IsGood step opening n) (fits_item kept fits) ((map part_item ps ++ map caller_of cs) ++ journal_item log d ∷ []) → Known opening n ps log d cs
+  knows : (opening : W) (n : ℕ) (ps : List P) (log : List R) (d : D) (cs : List (ℕ × List (Receipt R)))
+      → Has (same_item same) (IsGood step opening n) (fits_item kept fits)
+      ((map part_item ps ++ map caller_of cs) ++ journal_item log d ∷ [])
+      → Known opening n ps log d cs
   knows opening n ps log d cs e =
       let t = e.0 in
-      let first : Each (fits_item kept fits t) (map part_item ps ++ map caller_of cs) = each_front (fits_item kept fits t) (map part_item ps ++ map caller_of cs) (journal_item log d ∷ []) e.3 in
+      let first : Each (fits_item kept fits t) (map part_item ps ++ map caller_of cs) =
+      each_front (fits_item kept fits t) (map part_item ps ++ map caller_of cs) (journal_item log d ∷ []) e.3 in
       let j = each_back (fits_item kept fits t) (map part_item ps ++ map caller_of cs) (journal_item log d ∷ []) e.3 in
       let same_log : t.log ≡ log = sym j.0.0 in (
-        (t.world, subst (λ (k : List R). IsHistory step opening k t.world) same_log e.1.0, sym j.0.1, parts_of_world t ps (each_front (fits_item kept fits t) (map part_item ps) (map caller_of cs) first)),
+        (
+          t.world,
+          subst (λ (k : List R). IsHistory step opening k t.world) same_log e.1.0,
+          sym j.0.1,
+          parts_of_world t ps (each_front (fits_item kept fits t) (map part_item ps) (map caller_of cs) first),
+        ),
         (λ p.
             let l = e.2 (Part p) in
-            let a = count-append (same_item {R = R} {D = D} same (Part p)) (map part_item ps ++ map caller_of cs) (journal_item log d ∷ []) in
+            let a =
+            count-append (same_item {R = R} {D = D} same (Part p)) (map part_item ps ++ map caller_of cs)
+            (journal_item log d ∷ []) in
             let b = count-append (same_item {R = R} {D = D} same (Part p)) (map part_item ps) (map caller_of cs) in
             let k = count_parts R D same p ps in
             omega arith),
@@ -90,6 +109,11 @@ module _ {R P D W : Type 0} (step : W → R → W → Type 0) (kept : W → D) (
         },
       )
 
-  -- the same, where the items are known by an equation
-  pub knows_at : (opening : W) (n : ℕ) (ps : List P) (log : List R) (d : D) (cs : List (ℕ × List (Receipt R))) (v : List (Item R P D)) → v ≡ (map part_item ps ++ map caller_of cs) ++ journal_item log d ∷ [] → Has (same_item same) (IsGood step opening n) (fits_item kept fits) v → Known opening n ps log d cs
-  knows_at opening n ps log d cs v is e = knows opening n ps log d cs (subst (Has (same_item same) (IsGood step opening n) (fits_item kept fits)) is e)
+  -- the history, its world, the parts and the receipts, where the items are known by an equation
+  pub knows_at : (opening : W) (n : ℕ) (ps : List P) (log : List R) (d : D) (cs : List (ℕ × List (Receipt R)))
+      (v : List (Item R P D))
+      → v ≡ (map part_item ps ++ map caller_of cs) ++ journal_item log d ∷ []
+      → Has (same_item same) (IsGood step opening n) (fits_item kept fits) v
+      → Known opening n ps log d cs
+  knows_at opening n ps log d cs v is e =
+      knows opening n ps log d cs (subst (Has (same_item same) (IsGood step opening n) (fits_item kept fits)) is e)

@@ -9,18 +9,20 @@ abbrev one : ℕ → ℕ → ℕ
 one zero p = 0
 one (suc n) p = one n p + cond {A = ℕ} (eqb p n) 1 0
 
-abbrev Tells : Bool → ℕ → ℕ → Type 0
-Tells b p n = ((b ≡ true) × (p ≡ n)) ⊎ ((b ≡ false) × (p ≢ n))
+abbrev IsEqualTest : Bool → ℕ → ℕ → Type 0
+IsEqualTest b p n = ((b ≡ true) × (p ≡ n)) ⊎ ((b ≡ false) × (p ≢ n))
 
-is_none : (p n : ℕ) (b : Bool) → Tells b p n → p ≢ n → cond {A = ℕ} b 1 0 ≡ 0
+is_none : (p n : ℕ) (b : Bool) → IsEqualTest b p n → p ≢ n → cond {A = ℕ} b 1 0 ≡ 0
 is_none p n b (inl (e, same)) apart = absurd (apart same)
 is_none p n b (inr (e, other)) apart = rw e refl
 
 one_out : (n p : ℕ) → n ≤ p → one n p ≡ 0
 one_out zero p le = refl
-one_out (suc n) p le = let h = one_out n p (omega arith) in let k = is_none p n _ (eqb_tells p n) (λ (e : p ≡ n). omega arith) in omega (arith, h, k)
+one_out (suc n) p le =
+    let h = one_out n p (omega arith) in
+    let k = is_none p n _ (eqb_tells p n) (λ (e : p ≡ n). omega arith) in omega (arith, h, k)
 
-one_at : (p n m : ℕ) (b : Bool) → Tells b p n → p < suc n → (p ≡ n → m ≡ 0) → (p < n → m ≡ 1) → m + cond {A = ℕ} b 1 0 ≡ 1
+one_at : (p n m : ℕ) (b : Bool) → IsEqualTest b p n → p < suc n → (p ≡ n → m ≡ 0) → (p < n → m ≡ 1) → m + cond {A = ℕ} b 1 0 ≡ 1
 one_at p n m b (inl (e, same)) lt here below = let none = here same in rw e (omega (arith, none))
 one_at p n m b (inr (e, apart)) lt here below = let all = below (omega (arith, apart)) in rw e (omega (arith, all))
 
@@ -56,8 +58,10 @@ module _ {A : Type 0} (place : A → ℕ) where
 
   upto_full : (n : ℕ) (xs : List A) → ((s : ℕ) → times place s xs ≤ 1) → upto n xs ≡ n → (s : ℕ) → s < n → times place s xs ≡ 1
   upto_full zero xs few full s lt = absurd (omega arith)
-  upto_full (suc n) xs few full s lt = ⊎_elim
-      (λ (e : s ≡ n). let h = upto_few n xs few in let k = few n in let t : times place n xs ≡ 1 = omega (arith, h, k, full) in ap (λ (m : ℕ). times place m xs) e ∙ t)
+  upto_full (suc n) xs few full s lt =
+      ⊎_elim (λ (e : s ≡ n).
+      let h = upto_few n xs few in
+      let k = few n in let t : times place n xs ≡ 1 = omega (arith, h, k, full) in ap (λ (m : ℕ). times place m xs) e ∙ t)
       (λ (b : s < n). let h = upto_few n xs few in let k = few n in upto_full n xs few (omega (arith, h, k, full)) s b)
       (last_or s n lt)
     where
@@ -67,7 +71,9 @@ module _ {A : Type 0} (place : A → ℕ) where
       last_or (suc s) zero lt = absurd (omega arith)
       last_or (suc s) (suc n) lt = ⊎_elim (λ (e : s ≡ n). inl (ap suc e)) (λ (b : s < n). inr (omega arith)) (last_or s n (omega arith))
 
-  there_at : (s : ℕ) (x : A) (xs : List A) (b : Bool) → Tells b (place x) s → cond {A = ℕ} b 1 0 + times place s xs ≡ 1 → (times place s xs ≡ 1 → (j : ℕ) × IsAt place xs s j) → (j : ℕ) × IsAt place (x ∷ xs) s j
+  there_at : (s : ℕ) (x : A) (xs : List A) (b : Bool) → IsEqualTest b (place x) s → cond {A = ℕ} b 1 0 + times place s xs ≡ 1
+      → (times place s xs ≡ 1 → (j : ℕ) × IsAt place xs s j)
+      → (j : ℕ) × IsAt place (x ∷ xs) s j
   there_at s x xs b (inl (e, same)) sum more = (0, (omega arith, λ d. same))
   there_at s x xs b (inr (e, apart)) sum more =
       let h = rw e at sum in

@@ -17,7 +17,9 @@ small_byte true = omega arith
 small_byte false = omega arith
 
 -- one more is looked at
-pub count_next : {A : Type 0} (p : A → Bool) (xs : List A) (i : ℕ) (x : A) (k n : ℕ) → i < length xs → x ≡ get_or xs i x → k ≡ count p (take i xs) → n ≡ bool_byte (p x) → k + n ≡ count p (take (i + 1) xs)
+pub count_next : {A : Type 0} (p : A → Bool) (xs : List A) (i : ℕ) (x : A) (k n : ℕ)
+    → i < length xs → x ≡ get_or xs i x → k ≡ count p (take i xs) → n ≡ bool_byte (p x)
+    → k + n ≡ count p (take (i + 1) xs)
 count_next p xs i x k n lt is so e =
     let more : count p (take (i + 1) xs) ≡ count p (take i xs ++ get_or xs i x ∷ []) = ap (count p) (take_more xs i x lt) in
     let both = count-append p (take i xs) (get_or xs i x ∷ []) in

@@ -23,8 +23,10 @@ module _ {A : Type 0} (f : A → ℕ) where
   total_at (x ∷ xs) zero v e = let same : f x ≡ f v = ap f (some-injective x v e) in omega arith
   total_at (x ∷ xs) (suc id) v e = let h = total_at xs id v e in omega arith
 
-  -- nor are two items at different places
-  pub total_two : (views : List A) (none : A) (i j : ℕ) (v x : A) → f none ≡ 0 → j ≢ i → get_elem? views i ≡ some v → get_elem? views j ≡ some x → f v + f x ≤ total f views
+  -- two items at different places are together no more than the total
+  pub total_two : (views : List A) (none : A) (i j : ℕ) (v x : A)
+      → f none ≡ 0 → j ≢ i → get_elem? views i ≡ some v → get_elem? views j ≡ some x
+      → f v + f x ≤ total f views
   total_two views none i j v x z apart at other =
       let a = total_set views i v none at in
       let b = total_at (set views i none) j x (set_else views i j none apart ∙ other) in
@@ -57,7 +59,9 @@ module _ {E : Type 0} where
   each-append P (x ∷ xs) w h k = (h.0, each-append P xs w h.1 k)
 
 module _ {E T : Type 0} (same : E → E → Bool) (good : T → Type 0) (fits : T → E → Type 0) where
-  each_moves : ((e : E) → same e e ≡ true) → (t u : T) (n : E → ℕ) (xs : List E) → ((e : E) → count (same e) xs ≤ n e) → ((e : E) → 1 ≤ n e → fits t e → fits u e) → Each (fits t) xs → Each (fits u) xs
+  each_moves : ((e : E) → same e e ≡ true) → (t u : T) (n : E → ℕ) (xs : List E) → ((e : E) → count (same e) xs ≤ n e)
+      → ((e : E) → 1 ≤ n e → fits t e → fits u e) → Each (fits t) xs
+      → Each (fits u) xs
   each_moves is t u n [] le moves h = tt
   each_moves is t u n (x ∷ xs) le moves h =
       let one : cond {A = ℕ} (same x x) 1 0 ≡ 1 = ap (λ (b : Bool). cond {A = ℕ} b 1 0) (is x) in
@@ -75,7 +79,8 @@ module _ {E T : Type 0} (same : E → E → Bool) (good : T → Type 0) (fits : 
       one (suc by) w e = absurd (some-ne-none w (sym e))
 
   -- the first item goes to a new holder
-  pub cuts : (views : List (List E)) (id : ℕ) (v : List E) → Keeps same good fits views → get_elem? views id ≡ some v → Keeps same good fits (set views id (others_of v) ++ first_of v ∷ [])
+  pub cuts : (views : List (List E)) (id : ℕ) (v : List E) → Keeps same good fits views → get_elem? views id ≡ some v
+      → Keeps same good fits (set views id (others_of v) ++ first_of v ∷ [])
   cuts views id v k at = (
     k.0,
     k.1,
@@ -94,7 +99,9 @@ module _ {E T : Type 0} (same : E → E → Bool) (good : T → Type 0) (fits : 
   )
 
   -- one holder takes all that another has
-  pub joins : (views : List (List E)) (id other : ℕ) (v w : List E) → Keeps same good fits views → get_elem? views id ≡ some v → ¬ (other ≡ id) → get_elem? (set views id (v ++ w)) other ≡ some w
+  pub joins : (views : List (List E)) (id other : ℕ) (v w : List E)
+      → Keeps same good fits views → get_elem? views id ≡ some v → ¬ (other ≡ id)
+      → get_elem? (set views id (v ++ w)) other ≡ some w
       → Keeps same good fits (set (set views id (v ++ w)) other [])
   joins views id other v w k at apart there =
       let theirs : get_elem? views other ≡ some w = sym (set_else views id other (v ++ w) apart) ∙ there in (
@@ -115,7 +122,8 @@ module _ {E T : Type 0} (same : E → E → Bool) (good : T → Type 0) (fits : 
       )
 
   -- all items go to a new holder
-  pub takes : (views : List (List E)) (id : ℕ) (v : List E) → Keeps same good fits views → get_elem? views id ≡ some v → Keeps same good fits (set views id [] ++ v ∷ [])
+  pub takes : (views : List (List E)) (id : ℕ) (v : List E) → Keeps same good fits views → get_elem? views id ≡ some v
+      → Keeps same good fits (set views id [] ++ v ∷ [])
   takes views id v k at = (
     k.0,
     k.1,
@@ -133,19 +141,21 @@ module _ {E T : Type 0} (same : E → E → Bool) (good : T → Type 0) (fits : 
   )
 
   -- one holder changes its parts, together with the whole
-  pub changes : (views : List (List E)) (id : ℕ) (v w : List E) → Keeps same good fits views → get_elem? views id ≡ some v → MayExchange same good fits v w → Keeps same good fits (set views id w)
+  pub changes : (views : List (List E)) (id : ℕ) (v w : List E)
+      → Keeps same good fits views → get_elem? views id ≡ some v → MayExchange same good fits v w
+      → Keeps same good fits (set views id w)
   changes views id v w k at c =
       let s = c.exchanges k.0 k.1 (k.3 id v at) in (
         s.0,
         s.1.is_good,
         (λ e. let a = total_set (count (same e)) views id v w at in let b = c.as_many e in let d = k.2 e in omega arith),
-        λ by x e. ⊎_elim
-            (λ (y : (by ≡ id) × (w ≡ x)). subst (Each (fits s.0)) y.1 s.1.has)
+        λ by x e.
+            ⊎_elim (λ (y : (by ≡ id) × (w ≡ x)). subst (Each (fits s.0)) y.1 s.1.has)
             (λ (y : (by ≢ id) × (get_elem? views by ≡ some x)).
             each_moves c.itself k.0 s.0 (λ i. count (same i) x) x (λ i. omega arith)
-            (λ i some_there. s.1.elsewhere i (let t = total_two (count (same i)) views [] id by v x refl y.0 at y.1 in let d = k.2 i in omega arith))
-            (k.3 by x y.1))
-            (at_set views id by w x e),
+            (λ i some_there.
+            s.1.elsewhere i (let t = total_two (count (same i)) views [] id by v x refl y.0 at y.1 in let d = k.2 i in omega arith))
+            (k.3 by x y.1)) (at_set views id by w x e),
       )
 
   -- what one holder has is there in a good whole, nothing twice
@@ -153,7 +163,8 @@ module _ {E T : Type 0} (same : E → E → Bool) (good : T → Type 0) (fits : 
   ends views id v k at = (k.0, k.1, (λ e. let a = total_at (count (same e)) views id v at in let d = k.2 e in omega arith), k.3 id v at)
 
   -- a holder that stays as it is
-  pub stays : (views : List (List E)) (id : ℕ) (v : List E) → Keeps same good fits views → get_elem? views id ≡ some v → Keeps same good fits (set views id v)
+  pub stays : (views : List (List E)) (id : ℕ) (v : List E) → Keeps same good fits views → get_elem? views id ≡ some v
+      → Keeps same good fits (set views id v)
   stays views id v k at = (
     k.0,
     k.1,

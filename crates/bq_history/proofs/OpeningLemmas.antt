@@ -23,7 +23,8 @@ module _ (R : Type 0) {P : Type 0} (D : Type 0) (same : P → P → Bool) where
   callers_part p s zero = refl
   callers_part p s (suc n) = let h = callers_part p (s + 1) n in omega arith
 
-  callers_below : (u : ℕ) (l : List (Receipt R)) (s n : ℕ) → u < s → count (same_item {R = R} {D = D} same (Caller u l)) (callers_from s n) ≡ 0
+  callers_below : (u : ℕ) (l : List (Receipt R)) (s n : ℕ) → u < s
+      → count (same_item {R = R} {D = D} same (Caller u l)) (callers_from s n) ≡ 0
   callers_below u l s zero b = refl
   callers_below u l s (suc n) b =
       let h = callers_below u l (s + 1) n (omega arith) in
@@ -43,7 +44,8 @@ module _ (R : Type 0) {P : Type 0} (D : Type 0) (same : P → P → Bool) where
       let none : cond {A = ℕ} (eqb u s) 1 0 ≡ 0 = ap (λ (x : Bool). cond {A = ℕ} x 1 0) (ne_eqb u s i) in
       omega arith)
 
-  first_once : (d : D) (ps : List P) (n : ℕ) → ((p : P) → count (same p) ps ≤ 1) → (e : Item R P D) → count (same_item same e) (first_items d ps n) ≤ 1
+  first_once : (d : D) (ps : List P) (n : ℕ) → ((p : P) → count (same p) ps ≤ 1)
+      → (e : Item R P D) → count (same_item same e) (first_items d ps n) ≤ 1
   first_once d ps n once (Journal log k) =
       let a = count-append (same_item {R = R} {D = D} same (Journal log k)) (map part_item ps) (callers_from 0 n) in
       let b = no_journal R D same log k ps in
@@ -73,7 +75,7 @@ module _ {A : Type 0} where
   replicate_at (suc n) zero x b = refl
   replicate_at (suc n) (suc j) x b = replicate_at n j x (omega arith)
 
-  -- and it is as long as was asked
+  -- a list of one item over and over is as long as was asked
   pub length_replicate : (n : ℕ) (x : A) → length (replicate n x) ≡ n
   length_replicate zero x = refl
   length_replicate (suc n) x = let h = length_replicate n x in omega arith
@@ -85,7 +87,8 @@ module _ {R P D W : Type 0} (step : W → R → W → Type 0) (kept : W → D) (
   nothing_shared : (n : ℕ) → SharesOut {R = R} [] (replicate n [])
   nothing_shared n = record {
     owner = λ p. 0;
-    shares = λ s l e. subst (λ (k : List (Receipt R)). IsShare [] (λ p. 0) s k) (at_replicate n s [] l e) (record { rise = tt; stand = tt; own = tt });
+    shares = λ s l e. subst (λ (k : List (Receipt R)). IsShare [] (λ p. 0) s k) (at_replicate n s [] l e)
+        (record { rise = tt; stand = tt; own = tt });
     each_place = λ p b. absurd (omega arith);
   }
 
@@ -98,13 +101,15 @@ module _ {R P D W : Type 0} (step : W → R → W → Type 0) (kept : W → D) (
   parts_fit t (p ∷ ps) h = (h.0, parts_fit t ps h.1)
 
   -- the first items are there in a good whole without a record
-  pub opens : (opening : W) (ps : List P) (n : ℕ) → ((p : P) → count (same p) ps ≤ 1) → Each (fits opening) ps → Has (same_item same) (IsGood step opening n) (fits_item kept fits) (first_items (kept opening) ps n)
+  pub opens : (opening : W) (ps : List P) (n : ℕ) → ((p : P) → count (same p) ps ≤ 1) → Each (fits opening) ps
+      → Has (same_item same) (IsGood step opening n) (fits_item kept fits) (first_items (kept opening) ps n)
   opens opening ps n once h = (
     start opening n,
     (refl, length_replicate n [], nothing_shared n),
     first_once R D same (kept opening) ps n once,
     (
       (refl, refl),
-      each-append (fits_item kept fits (start opening n)) (map part_item ps) (callers_from 0 n) (parts_fit (start opening n) ps h) (callers_fit opening n 0 n (omega arith)),
+      each-append (fits_item kept fits (start opening n)) (map part_item ps) (callers_from 0 n)
+          (parts_fit (start opening n) ps h) (callers_fit opening n 0 n (omega arith)),
     ),
   )

@@ -4,7 +4,7 @@ use Rattle.std.specs.Prelude.{slice_index_or}
 use Rattle.std.proofs.lemmas.Bool.Decides.{eqb_tells}
 use Rattle.std.proofs.lemmas.List.{get_or_default}
 use Rattle.bq_history.specs.Whole.{count, Each}
-use Rattle.bq_history.specs.Places.{times, ArePlaced, AreFrom, IsThere}
+use Rattle.bq_history.specs.Places.{times, ArePlaced, AreFrom, IsAtItsPlace}
 use Rattle.bq_history.proofs.PlacingLemmas.{item_at}
 
 module _ {A : Type 0} where
@@ -15,7 +15,9 @@ module _ {A : Type 0} where
   each_at P (x ∷ xs) (suc j) d h lt = each_at P xs j d h.1 (omega arith)
 
   -- two lists of one length that agree at each place
-  same_list : (xs ys : List A) → length xs ≡ length ys → ((k : ℕ) → k < length xs → (d : A) → slice_index_or xs k d ≡ slice_index_or ys k d) → xs ≡ ys
+  same_list : (xs ys : List A) → length xs ≡ length ys
+      → ((k : ℕ) → k < length xs → (d : A) → slice_index_or xs k d ≡ slice_index_or ys k d)
+      → xs ≡ ys
   same_list [] [] long same = refl
   same_list [] (y ∷ ys) long same = absurd (omega (arith, long))
   same_list (x ∷ xs) [] long same = absurd (omega (arith, long))
@@ -26,7 +28,7 @@ module _ {A : Type 0} where
 
 module _ {A B : Type 0} (place : A → ℕ) (content : A → B) (d : B) (list : List B) where
   abbrev There : A → Type 0
-  There = IsThere place content d list
+  There = IsAtItsPlace place content d list
 
   -- its place is below the length
   pub below : (n : ℕ) (xs : List A) → length list ≡ n → Each There xs → Each (λ (x : A). place x < n) xs
@@ -43,19 +45,24 @@ module _ {A B : Type 0} (place : A → ℕ) (content : A → B) (d : B) (list : 
   map_length (y ∷ ys) = let h = map_length ys in omega (arith, h)
 
   -- brought to their places, the items' contents are the list
-  pub is_list : (xs ys : List A) → Each There xs → length ys ≡ length list → ArePlaced place (length ys) ys → AreFrom xs ys → map content ys ≡ list
-  is_list xs ys each long placed from = same_list (map content ys) list (map_length ys ∙ long)
-      (λ k lt e.
+  pub is_list : (xs ys : List A) → Each There xs → length ys ≡ length list → ArePlaced place (length ys) ys → AreFrom xs ys
+      → map content ys ≡ list
+  is_list xs ys each long placed from =
+      same_list (map content ys) list (map_length ys ∙ long) (λ k lt e.
       let here : k < length ys = omega (arith, lt, map_length ys) in
       let y = item_at ys k here in
       let w = from k here in
       let there = each_at There xs w.0 y each w.1 in
       let same : slice_index_or ys k y ≡ slice_index_or xs w.0 y = w.2 y in
       let at : place (slice_index_or xs w.0 y) ≡ k = ap place (sym same) ∙ placed k here y in
-      map_at ys k y e here ∙ (ap content same ∙ (sym there.1 ∙ (ap (λ (i : ℕ). slice_index_or list i d) at ∙ get_or_default list k d e (omega (arith, here, long))))))
+      map_at ys k y e here
+      ∙ (ap content same
+      ∙ (sym there.1 ∙ (ap (λ (i : ℕ). slice_index_or list i d) at ∙ get_or_default list k d e (omega (arith, here, long))))))
 
 -- a place that is counted at most once by its own name is that of one item at most
-turned : (a b : ℕ) (x y : Bool) → ((x ≡ true) × (a ≡ b)) ⊎ ((x ≡ false) × ¬ (a ≡ b)) → ((y ≡ true) × (b ≡ a)) ⊎ ((y ≡ false) × ¬ (b ≡ a)) → cond {A = ℕ} x 1 0 ≡ cond {A = ℕ} y 1 0
+turned : (a b : ℕ) (x y : Bool) → ((x ≡ true) × (a ≡ b)) ⊎ ((x ≡ false) × ¬ (a ≡ b))
+    → ((y ≡ true) × (b ≡ a)) ⊎ ((y ≡ false) × ¬ (b ≡ a))
+    → cond {A = ℕ} x 1 0 ≡ cond {A = ℕ} y 1 0
 turned a b x y (inl p) (inl q) = ap (λ (z : Bool). cond {A = ℕ} z 1 0) (p.0 ∙ sym q.0)
 turned a b x y (inl p) (inr q) = absurd (q.1 (sym p.1))
 turned a b x y (inr p) (inl q) = absurd (p.1 (sym q.1))

@@ -17,7 +17,8 @@ module _ {A : Type 0} where
   pub all_from : (xs : List A) → AreFrom xs xs
   all_from xs = λ k lt. (k, lt, λ d. refl)
 
-module _ {A : Type 0} (place : A → ℕ) (xs ys : List A) (k at : ℕ) (low : k < length xs) (after : k ≤ at) (long : length ys ≡ length xs) (found : IsAt place xs k at) (swapped : SwappedAt xs ys k at) where
+module _ {A : Type 0} (place : A → ℕ) (xs ys : List A) (k at : ℕ) (low : k < length xs) (after : k ≤ at)
+    (long : length ys ≡ length xs) (found : IsAt place xs k at) (swapped : SwappedAt xs ys k at) where
   -- one more item stands at its place
   pub more_placed : ArePlaced place k xs → ArePlaced place (k + 1) ys
   more_placed placed = λ m lt d. dite (ℕ_discrete m k)
@@ -31,11 +32,20 @@ module _ {A : Type 0} (place : A → ℕ) (xs ys : List A) (k at : ℕ) (low : k
   pub still_all : AreAll place xs → AreAll place ys
   still_all all = λ s lt.
       let w = all s (omega (arith, long)) in
-      dite (ℕ_discrete w.0 k)
-      (λ (e : w.0 ≡ k). (at, (omega (arith, long, found.0), λ d. ap place (swapped.1 d) ∙ (ap (λ (i : ℕ). place (slice_index_or xs i d)) (sym e) ∙ w.1.1 d))))
-      (λ (n : w.0 ≢ k). dite (ℕ_discrete w.0 at)
-      (λ (e : w.0 ≡ at). (k, (omega (arith, long, low), λ d. ap place (swapped.0 d) ∙ (ap (λ (i : ℕ). place (slice_index_or xs i d)) (sym e) ∙ w.1.1 d))))
-      (λ (o : w.0 ≢ at). (w.0, (omega (arith, long, w.1.0), λ d. ap place (swapped.2 w.0 d n o) ∙ w.1.1 d))))
+      dite (ℕ_discrete w.0 k) (λ (e : w.0 ≡ k). (
+        at,
+        (
+          omega (arith, long, found.0),
+          λ d. ap place (swapped.1 d) ∙ (ap (λ (i : ℕ). place (slice_index_or xs i d)) (sym e) ∙ w.1.1 d),
+        ),
+      )) (λ (n : w.0 ≢ k).
+      dite (ℕ_discrete w.0 at) (λ (e : w.0 ≡ at). (
+        k,
+        (
+          omega (arith, long, low),
+          λ d. ap place (swapped.0 d) ∙ (ap (λ (i : ℕ). place (slice_index_or xs i d)) (sym e) ∙ w.1.1 d),
+        ),
+      )) (λ (o : w.0 ≢ at). (w.0, (omega (arith, long, w.1.0), λ d. ap place (swapped.2 w.0 d n o) ∙ w.1.1 d))))
 
   -- each item is still one of the old
   pub still_from : (old : List A) → AreFrom old xs → AreFrom old ys
@@ -46,7 +56,8 @@ module _ {A : Type 0} (place : A → ℕ) (xs ys : List A) (k at : ℕ) (low : k
       (λ (o : m ≢ at). let w = from m (omega (arith, long)) in (w.0, w.1, λ d. swapped.2 m d n o ∙ w.2 d)))
 
 -- the item of place k is not among those before it, which stand at their own
-pub not_before : {A : Type 0} (place : A → ℕ) (xs : List A) (k : ℕ) → ArePlaced place k xs → (w : (j : ℕ) × IsAt place xs k j) → (j : ℕ) × (k ≤ j) × IsAt place xs k j
+pub not_before : {A : Type 0} (place : A → ℕ) (xs : List A) (k : ℕ)
+    → ArePlaced place k xs → (w : (j : ℕ) × IsAt place xs k j) → (j : ℕ) × (k ≤ j) × IsAt place xs k j
 not_before place xs k placed w = ⊎_elim
     (λ (lt : w.0 < k).
     let d = item_at xs w.0 w.1.0 in

@@ -39,4 +39,7 @@ log_send R s = view_send (log.the_row R) _ _ _ _ (log_inside R s)
 
 -- the journal
 pub journal_send : (R P D N : RattleType) (n : Naming.Ghosts N.Denot) → IsSend R → IsSend D → IsSend (Journal.the_row R P D N n)
-journal_send R P D N n s d = view_send (inside.the_row R P D N n) _ _ _ _ (declared_send (inside.the_type R P D N n) (log_send R s, (as_row_send (row_field D) d, (holder.the_send (Item.the_row R P D) N n, tt))))
+journal_send R P D N n s d =
+    view_send (inside.the_row R P D N n) _ _ _ _
+    (declared_send (inside.the_type R P D N n)
+    (log_send R s, (as_row_send (row_field D) d, (holder.the_send (Item.the_row R P D) N n, tt))))

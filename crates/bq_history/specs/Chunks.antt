@@ -6,7 +6,7 @@ module _ {R : Type 0} where
   abbrev pub joined : List (List R) → List R
   joined chunks = flat_map (λ c. c) chunks
 
-  -- each chunk is full but the last, in which one record stands at least
+  -- each chunk is full except for the last, which has at least one record
   abbrev pub AreChunks : List (List R) → Type 0
   AreChunks [] = Unit {0}
   AreChunks (c ∷ []) = (0 < length c) × (length c ≤ 16)

@@ -5,10 +5,10 @@ ghost use Rattle.bq_history.specs.Chains.{chain_behind};
 use std::alloc::{AllocError, Global};
 use std::marker::Model;
 
-/// A way to another item, or to none.
+/// A link to another item, or to none.
 pub(crate) type Link<T> = Option<Box<Node<T>>>;
 
-/// An item with its ways to others. While the history grows they are a chain by `next`; at its end they become a tree.
+/// An item with its links to others. While the history grows, the items are a chain by `next`; at its end they become a tree.
 #[derive(Drop)]
 pub struct Node<T: Drop> {
     pub(crate) item: T,
@@ -16,7 +16,7 @@ pub struct Node<T: Drop> {
     pub(crate) left: Option<Box<Node<T>>>,
 }
 
-/// An item that stands in no chain yet. Contracts see the item.
+/// An item that is in no chain yet. Contracts see only the item.
 #[derive(Drop)]
 pub struct Slip<T: Drop> {
     pub(crate) node: Box<Node<T>>,
@@ -31,7 +31,7 @@ impl<T: Drop> Model for Slip<T> {
 }
 
 impl<T: Drop> Slip<T> {
-    /// Where memory runs out the item is dropped, and nothing else has changed.
+    /// A slip for an item. If memory runs out, the item is dropped, and nothing else changes.
     pub(crate) fn new(alloc: Global, item: T) -> Result<Slip<T>, AllocError>
         ensures { IfOk result (λ s. s ≡ item) }
     {
@@ -47,14 +47,14 @@ impl<T: Drop> Slip<T> {
     }
 }
 
-/// Items, linked from the last to the first, so that one is added at once and without memory. Contracts see them in the
+/// Items, linked from the last to the first, so that adding one is quick and takes no memory. Contracts see them in the
 /// order in which they were added.
 pub struct GrowingList<T: Drop> {
     pub(crate) last: Link<T>,
     len: u64,
 }
 
-/// One node after another, so that a long list does not need a deep stack.
+/// Drops one node after another, so that a long list does not need a deep stack.
 impl<T: Drop> Drop for GrowingList<T> {
     fn drop(self) {
         let GrowingList { last, len: _ } = self;
@@ -77,14 +77,14 @@ impl<T: Drop> Model for GrowingList<T> {
 }
 
 impl<T: Drop> GrowingList<T> {
-    /// No item.
+    /// A list without items.
     pub(crate) fn new() -> GrowingList<T>
         ensures { result ≡ [] }
     {
         GrowingList { last: None, len: 0 }
     }
 
-    /// One more at the end. It takes no memory.
+    /// Adds an item at the end. It takes no memory.
     pub(crate) fn push(&mut self, slip: Slip<T>)
         requires { length self.old + 1 < 2 ^ 64 }
         ensures { self.new ≡ self.old ++ slip ∷ [] }
@@ -95,7 +95,7 @@ impl<T: Drop> GrowingList<T> {
         self.len += 1;
     }
 
-    /// The chain of the items from the first to the last, and how many they are. It takes no memory.
+    /// The chain of the items from the first to the last, and their number. It takes no memory.
     pub(crate) fn in_order(self) -> (Link<T>, u64)
         ensures chain { chain_behind result.0 ≡ self }
         ensures len { result.1 ≡ length self }
@@ -105,7 +105,7 @@ impl<T: Drop> GrowingList<T> {
     }
 }
 
-/// A chain turned round.
+/// Reverses a chain.
 fn reversed<T: Drop>(link: Link<T>) -> Link<T>
     ensures { chain_behind result ≡ reverse (chain_behind link) }
 {

@@ -1,14 +1,14 @@
-//! Records that were taken room for together.
+//! Records for which room was made together.
 ghost use Rattle.std.specs.Prelude.{◌≡◌, ◌<◌, IfOk, OnOk, [], ◌∷◌, ◌++◌, length, map, slice_get};
 ghost use Rattle.std.specs.Option.{option_map};
 
 use std::alloc::{AllocError, Global};
 use std::marker::Model;
 
-/// How many records a chunk has room for.
+/// The number of records that a chunk has room for.
 pub(crate) const CHUNK: u64 = 16;
 
-/// Room for 16 records, and those that stand there. Contracts see their list.
+/// Room for 16 records, and the records that are in it. Contracts see the list of those.
 #[derive(Drop)]
 pub struct Chunk<R: Drop> {
     records: Vec<R>,
@@ -25,7 +25,7 @@ impl<R: Drop> Model for Chunk<R> {
 }
 
 impl<R: Drop> Chunk<R> {
-    /// Room in which nothing stands.
+    /// Room for 16 records, with none in it.
     pub(crate) fn new(alloc: Global) -> Result<Chunk<R>, AllocError>
         ensures { IfOk result (λ c. c ≡ []) }
     {
@@ -33,7 +33,7 @@ impl<R: Drop> Chunk<R> {
         Ok(Chunk { records })
     }
 
-    /// One record more. It takes no memory.
+    /// Adds a record. It takes no memory.
     #[inline(always)]
     pub(crate) fn push(&mut self, entry: R)
         requires { length self.old < 16 }
@@ -49,7 +49,7 @@ impl<R: Drop> Chunk<R> {
         self.records.get(place as usize)
     }
 
-    /// The records come to the end of a list.
+    /// Adds the records to the end of a list.
     pub(crate) fn list<'a>(&'a self, records: &mut Vec<&'a R>) -> Result<(), AllocError>
         ensures { OnOk result (map (λ r. r.now) records.new.items ≡ map (λ r. r.now) records.old.items ++ self.now) }
     {

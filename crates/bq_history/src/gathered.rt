@@ -8,7 +8,7 @@ use crate::commits::{History, HolderOf, LockedOf};
 use crate::shared_state::World;
 use std::sync::Mutex;
 
-/// Takes the contents out of their locks into a vector that is empty and has room for them; they come in any order. One
+/// Takes the contents out of their locks into a vector, in any order. The vector must be empty and have room for them. One
 /// holder gets their parts, in the order of the result. It takes no memory.
 pub fn gather<A: AsPart<M::Part> + Drop, M: World, N: Naming>(
     history: &History<M, N>,

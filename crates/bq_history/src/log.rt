@@ -8,7 +8,7 @@ use crate::chunk::{CHUNK, Chunk};
 use crate::room::Room;
 use std::marker::Model;
 
-/// Records, in chunks of which each but the last is full. Contracts see the records in the order in which they were added.
+/// Records, in chunks that are full except for the last. Contracts see the records in the order in which they were added.
 #[derive(Drop)]
 pub struct Log<R: Drop> {
     chunks: GrowingList<Chunk<R>>,
@@ -27,7 +27,7 @@ impl<R: Drop> Model for Log<R> {
 }
 
 impl<R: Drop> Log<R> {
-    /// No record.
+    /// A log without records.
     pub(crate) fn new() -> Log<R>
         ensures { result ≡ [] }
     {
@@ -37,14 +37,14 @@ impl<R: Drop> Log<R> {
         }
     }
 
-    /// How many there are.
+    /// Answers how many records there are.
     pub(crate) fn len(&self) -> u64
         ensures { result ≡ length self.now }
     {
         self.len
     }
 
-    /// One more at the end. Where all chunks are full it comes into the spare one of the room. It takes no memory.
+    /// Adds a record at the end. If all chunks are full, the record goes into the spare chunk of the room. It takes no memory.
     #[inline(always)]
     pub(crate) fn push(&mut self, entry: R, room: &mut Room<R>)
         requires fits { length self.old + 1 < 2 ^ 64 }
@@ -61,8 +61,7 @@ impl<R: Drop> Log<R> {
         }
     }
 
-    /// The chain of the chunks from the first to the last, how many they are, and how many records they have. It takes no
-    /// memory.
+    /// The chain of the chunks from the first to the last, the number of chunks, and the number of records. It takes no memory.
     pub(crate) fn in_order(self) -> (Link<Chunk<R>>, u64, u64)
         ensures chunks { joined (chain_behind result.0) ≡ self }
         ensures are_chunks { AreChunks (chain_behind result.0) }
@@ -75,7 +74,7 @@ impl<R: Drop> Log<R> {
     }
 }
 
-/// A spare chunk with its first record.
+/// A spare chunk with its first record in it.
 fn begun<R: Drop>(slip: Slip<Chunk<R>>, entry: R) -> Slip<Chunk<R>>
     requires { slip ≡ [] }
     ensures { result ≡ entry ∷ [] }
@@ -85,7 +84,7 @@ fn begun<R: Drop>(slip: Slip<Chunk<R>>, entry: R) -> Slip<Chunk<R>>
     slip
 }
 
-/// One record more in the last chunk, which has room for it.
+/// Adds a record to the last chunk, which must have room for it.
 #[inline(always)]
 fn append<R: Drop>(chunks: &mut GrowingList<Chunk<R>>, entry: R)
     requires { (front : List (List R)) × (last : List R) × (chunks.old ≡ front ++ last ∷ []) × (length last < 16) }

@@ -1,9 +1,9 @@
-//! Items that know their places, brought there in place and without memory.
+//! Items that know their places are sorted in place, without memory.
 ghost use Rattle.std.specs.Prelude.{◌≡◌, ◌≤◌, ◌<◌, ℕ, length};
 ghost use Rattle.bq_history.specs.Places.{IsAt, times, ArePlaced, AreFrom};
 ghost use Rattle.bq_history.specs.Whole.{Each};
 
-/// What knows its place.
+/// Something that knows its place.
 pub trait Placed {
     ghost place: { Self → ℕ };
 
@@ -12,7 +12,7 @@ pub trait Placed {
         ensures { result ≡ Self.place self.now };
 }
 
-/// Brings each item to its place, where each place is below their number and no place is that of two.
+/// Brings each item to its place. Each place must be below the number of items, and no two items may have one place.
 pub fn in_order<T: Placed>(items: &mut [T])
     requires below { Each (λ x. T.place x < length items.old) items.old }
     requires few { (s : ℕ) → times T.place s items.old ≤ 1 }
@@ -26,7 +26,7 @@ pub fn in_order<T: Placed>(items: &mut [T])
     }
 }
 
-/// Where the item of a place stands, which is not before that place.
+/// The index of the item with place `from`. It is not before that index.
 fn find<T: Placed>(items: &[T], from: usize) -> usize
     requires there { (j : ℕ) × (from ≤ j) × IsAt T.place items.now from j }
     ensures after { from ≤ result }

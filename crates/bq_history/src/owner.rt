@@ -47,7 +47,7 @@ impl<E, T, K, L: Law<E, T, K>, N: Naming> Model for Owner<E, T, K, L, N> {
 }
 
 impl<E, T, K, L: Law<E, T, K>> Unnamed<E, T, K, L> {
-    /// The whole at the start. It takes the memory for the table that its holders share.
+    /// The whole at the start, without a name. It takes the memory for the table that the holders share.
     pub fn new(alloc: Global, about: &K) -> Result<Unnamed<E, T, K, L>, AllocError>
         requires { Has L.same (L.good about.now) L.fits (L.first about.now) }
         ensures { IfOk result (λ u. u.1 ≡ about.now) }
@@ -76,7 +76,7 @@ impl<E, T, K, L: Law<E, T, K>> Unnamed<E, T, K, L> {
 }
 
 impl<E, T, K, L: Law<E, T, K>, N: Naming> Owner<E, T, K, L, N> {
-    /// All items go to a new holder.
+    /// Gives all items to a new holder.
     pub fn take(&self, from: &mut Holder<E, N>) -> Holder<E, N>
         ensures { (from.new ≡ []) × (result ≡ from.old) }
     {
@@ -87,7 +87,7 @@ impl<E, T, K, L: Law<E, T, K>, N: Naming> Owner<E, T, K, L, N> {
         }
     }
 
-    /// The first item goes to a new holder.
+    /// Gives the first item to a new holder.
     pub fn part(&self, from: &mut Holder<E, N>) -> Holder<E, N>
         ensures { (from.new ≡ others_of from.old) × (result ≡ first_of from.old) }
     {
@@ -98,7 +98,7 @@ impl<E, T, K, L: Law<E, T, K>, N: Naming> Owner<E, T, K, L, N> {
         }
     }
 
-    /// One holder takes all that another has.
+    /// Gives all that `other` has to `to`.
     pub fn join(&self, to: &mut Holder<E, N>, other: Holder<E, N>)
         ensures { to.new ≡ to.old ++ other }
     {
@@ -106,7 +106,7 @@ impl<E, T, K, L: Law<E, T, K>, N: Naming> Owner<E, T, K, L, N> {
         self.table.shared.join_seat::<Together>(&mut to.seat, seat);
     }
 
-    /// One holder takes all that another has; the other is empty afterwards, and may be used again.
+    /// Gives all that `from` has to `to`. Afterwards `from` is empty, and may be used again.
     pub fn gather(&self, to: &mut Holder<E, N>, from: &mut Holder<E, N>)
         ensures { (to.new ≡ to.old ++ from.old) × (from.new ≡ []) }
     {
@@ -114,7 +114,7 @@ impl<E, T, K, L: Law<E, T, K>, N: Naming> Owner<E, T, K, L, N> {
         self.join(to, all);
     }
 
-    /// The first item goes to a holder that is there.
+    /// Gives the first item of `from` to `to`.
     pub fn deal(&self, from: &mut Holder<E, N>, to: &mut Holder<E, N>)
         ensures { (from.new ≡ others_of from.old) × (to.new ≡ to.old ++ first_of from.old) }
     {
@@ -122,7 +122,7 @@ impl<E, T, K, L: Law<E, T, K>, N: Naming> Owner<E, T, K, L, N> {
         self.join(to, one);
     }
 
-    /// Changes the parts that one holder has, together.
+    /// Changes the parts that one holder has, all together.
     pub fn change<C: Holding<E>>(&self, holder: &mut Holder<E, N>)
         requires changes { MayExchange L.same (L.good self.now) L.fits holder.old C.items }
         ensures { holder.new ≡ C.items }
@@ -138,7 +138,7 @@ impl<E, T, K, L: Law<E, T, K>, N: Naming> Owner<E, T, K, L, N> {
         self.table.shared.load::<Look<F>>(&mut holder.seat, 0);
     }
 
-    /// What the whole is just now, where one holder has these parts.
+    /// The whole at this moment: it has the parts of this holder, and no part is among them twice.
     pub fn look(&self, holder: &mut Holder<E, N>)
         ensures same { holder.new ≡ holder.old }
         ensures known { Has L.same (L.good self.now) L.fits holder.old }
@@ -146,7 +146,7 @@ impl<E, T, K, L: Law<E, T, K>, N: Naming> Owner<E, T, K, L, N> {
         self.look_for::<Brand>(holder);
     }
 
-    /// What the whole is, where one holder has these parts. No part is among them twice.
+    /// The whole at the end: it has the parts of this holder, and no part is among them twice.
     pub fn close(self, all: Holder<E, N>)
         ensures { Has L.same (L.good self) L.fits all }
     {

@@ -7,7 +7,7 @@ use std::alloc::{AllocError, Global};
 use std::marker::Model;
 
 /// What a caller has ready for its next record, so that a commit takes no memory: a spare chunk, or nothing yet. A commit
-/// takes the chunk only where the last one of the history is full. Contracts see whether it is ready.
+/// takes the chunk only if the last one of the history is full. Contracts see whether it is ready.
 #[derive(Drop)]
 pub struct Room<R: Drop> {
     spare: Option<Slip<Chunk<R>>>,
@@ -24,14 +24,14 @@ impl<R: Drop> Model for Room<R> {
 }
 
 impl<R: Drop> Room<R> {
-    /// Nothing is ready.
+    /// Room with nothing ready.
     pub fn new() -> Room<R>
         ensures { result ≡ false }
     {
         Room { spare: None }
     }
 
-    /// Makes it ready, which takes memory only where it is not. Where memory runs out it is as it was.
+    /// Makes the room ready. It takes memory only if the room is not ready yet. If memory runs out, the room does not change.
     #[inline(always)]
     pub fn prepare(&mut self, alloc: Global) -> Result<(), AllocError>
         ensures ready { OnOk result (self.new ≡ true) }
@@ -43,7 +43,7 @@ impl<R: Drop> Room<R> {
         self.fill(alloc)
     }
 
-    /// Makes the spare chunk. It stands apart, as just one record in 16 takes one, and the others only look.
+    /// Makes the spare chunk. It is a function of its own since only one record in 16 takes a chunk, and the others only look.
     #[cold]
     #[inline(never)]
     fn fill(&mut self, alloc: Global) -> Result<(), AllocError>

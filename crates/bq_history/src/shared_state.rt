@@ -1,18 +1,18 @@
-//! What is shared: the history, the callers' receipts, and the world that the history leaves.
+//! What is shared: the history, the callers' receipts, and the world that the history leads to.
 ghost use Rattle.std.specs.Prelude.{Bool, List};
 
 use crate::Law;
 use std::collections::LinkedList;
 use std::marker::PhantomData;
 
-/// Tells a caller where its record stands.
+/// Tells a caller the place of its record.
 #[derive(Clone, Copy, Drop)]
 pub struct Receipt<R> {
     pub place: u64,
     pub entry: R,
 }
 
-/// What one holder knows. No value of it is made.
+/// For contracts only, so no value exists at run time: what one holder knows.
 pub enum Item<R, P, D> {
     /// The whole history, and what is kept beside it.
     Journal(LinkedList<R>, D),
@@ -25,7 +25,7 @@ pub enum Item<R, P, D> {
 /// What one holder knows of the world `M`.
 pub type ItemOf<M> = Item<<M as World>::Record, <M as World>::Part, <M as World>::Kept>;
 
-/// All that is shared. No value of it is made.
+/// For contracts only, so no value exists at run time: all that is shared.
 pub struct SharedState<R, W> {
     pub log: LinkedList<R>,
     pub lists: LinkedList<LinkedList<Receipt<R>>>,
@@ -41,11 +41,11 @@ pub struct FixedAtStart<K> {
 
 /// A world that changes by steps.
 pub trait World {
-    /// Tells a step.
+    /// The record of a step.
     type Record: Drop;
-    /// The world as it is.
+    /// The state of the world.
     type State;
-    /// The world is held in parts.
+    /// A part of the world.
     type Part;
     /// What the journal keeps of the world.
     type Kept: Drop;
@@ -55,16 +55,16 @@ pub trait World {
     // The world at the start.
     ghost opening: { Self.Fixed → Self.State };
 
-    // The world before, the record, and the world after.
+    // The step from the world before to the world after, with its record.
     ghost step: { Self.Fixed → Self.State → Self.Record → Self.State → Type 0 };
 
     // What the journal keeps of the world.
     ghost kept: { Self.State → Self.Kept };
 
-    // Whether two parts stand at one place.
+    // Whether two parts are at one place.
     ghost same: { Self.Part → Self.Part → Bool };
 
-    // That the world has this part.
+    // Whether the world has this part.
     ghost fits: { Self.State → Self.Part → Type 0 };
 
     // The parts at the start.

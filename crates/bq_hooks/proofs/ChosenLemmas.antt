@@ -13,5 +13,6 @@ of_case (Some m) xs id d h e =
     subst (λ i. with_id i xs ≡ Some m) same (with_id-Contains xs m h.0 d h.1 h.2)
 
 -- a lawful discipline's choice among tasks with distinct ids is found again by its id
-pub choice_found : (d : Discipline) (xs : List Task) (id : ℕ) → IsLawful d → HasDistinctIds xs → id_of (d.choice xs) ≡ Some id → with_id id xs ≡ d.choice xs
+pub choice_found : (d : Discipline) (xs : List Task) (id : ℕ)
+    → IsLawful d → HasDistinctIds xs → id_of (d.choice xs) ≡ Some id → with_id id xs ≡ d.choice xs
 choice_found d xs id l distinct e = of_case (d.choice xs) xs id distinct (l.member xs) e

@@ -13,7 +13,8 @@ length-task_bytes absent (Some t) = refl
 -- equally long pieces
 length-pieces : (n a k : ℕ) (f : ℕ → List ℕ) → ((i : ℕ) → length (f i) ≡ n) → length (flat_map f (range_with_len a k)) ≡ n * k
 length-pieces n a zero f h = omega arith
-length-pieces n a (suc k) f h = omega (arith, length-append (f a) (flat_map f (range_with_len (a + 1) k)), h a, length-pieces n (a + 1) k f h)
+length-pieces n a (suc k) f h =
+    omega (arith, length-append (f a) (flat_map f (range_with_len (a + 1) k)), h a, length-pieces n (a + 1) k f h)
 
 -- a place context takes 40 bytes, and 4 more for each processor below its limit
 pub length-place_bytes_below : (limit : ℕ) (f : PlaceFacts) → length (place_bytes_below limit f) ≡ 40 + 4 * limit

@@ -11,12 +11,12 @@ refill_whole xs ys e =
     let rest : List ℕ = drop (length ys) xs in
     ap (λ n. take n (ys ++ rest)) (sym e) ∙ take-append_seam ys rest
 
--- so a write of one element changes only that
+-- a write of one element of a list changes only that element
 pub refill_set : (xs ys zs : List ℕ) (k n : ℕ) → ys ≡ xs → xs ≡ zs → refill (length xs) xs (set ys k n) ≡ set zs k n
 refill_set xs ys zs k n e f =
     refill_whole xs (set ys k n) (length-set ys k n ∙ ap length e) ∙ ap (λ l. set l k n) (e ∙ f)
 
--- and a write past the end leaves the list as it was
+-- a write past the end leaves the list as it was
 pub refill_past : (xs ys zs : List ℕ) (k n : ℕ) → ys ≡ xs → xs ≡ zs → length ys ≤ k → refill (length xs) xs ys ≡ set zs k n
 refill_past xs ys zs k n e f h =
     let same = e ∙ f in

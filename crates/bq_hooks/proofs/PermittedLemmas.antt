@@ -16,7 +16,8 @@ use Rattle.bq_hooks.specs.Laws.{OwnChoicesArePermitted, SettledIsPermitted}
 use Rattle.bq_hooks.proofs.PlaceLemmas.{own_place_there}
 
 -- the own place is permitted
-pub own_place_permitted : (count : ℕ) (loads : List ℕ) (t : Task) → HasPlace count t → may_place count t (unwrap_or (own_place count loads t) 0) ≡ true
+pub own_place_permitted : (count : ℕ) (loads : List ℕ) (t : Task)
+    → HasPlace count t → may_place count t (unwrap_or (own_place count loads t) 0) ≡ true
 own_place_permitted count loads t h =
     let there = own_place_there count loads t h in
     ap (λ o. may_place count t (unwrap_or o 0)) there.1 ∙ rw (lt-ltb there.0 count there.2, there.3) refl
@@ -25,7 +26,9 @@ preempt_permitted : (own : Bool) → may_preempt (as_number own) ≡ true
 preempt_permitted true = refl
 preempt_permitted false = refl
 
-pull_by_case : (puller : ℕ) (queue : List Task) (o : Option Task) → HasDistinctIds queue → IfSome o (λ t. Contains queue t × (can_use puller t ≡ true)) → may_pull puller queue (or_nobody (id_of o)) ≡ true
+pull_by_case : (puller : ℕ) (queue : List Task) (o : Option Task)
+    → HasDistinctIds queue → IfSome o (λ t. Contains queue t × (can_use puller t ≡ true))
+    → may_pull puller queue (or_nobody (id_of o)) ≡ true
 pull_by_case puller queue None d h = refl
 pull_by_case puller queue (Some t) d h =
     let found = with_id-Contains queue t h.0.0 d h.0.1 h.0.2 in
@@ -36,7 +39,8 @@ pub own_choices_are_permitted : OwnChoicesArePermitted
 own_choices_are_permitted = record {
   place = own_place_permitted;
   preempt = preempt_permitted;
-  pull = λ puller size from queue d. pull_by_case puller queue (pull_of puller size from queue) d (pull_is_lawful.member puller size from queue);
+  pull = λ puller size from queue d.
+      pull_by_case puller queue (pull_of puller size from queue) d (pull_is_lawful.member puller size from queue);
 }
 
 by_test : (b : Bool) (permitted : ℕ → Bool) (r0 own : ℕ) → permitted r0 ≡ b → permitted own ≡ true →

@@ -28,7 +28,8 @@ pub load_filled : (limit : ℕ) (f : PlaceFacts) (p load : ℕ) (c c' : List ℕ
     load ≡ slice_index f.loads p → take (40 + 4 * p + 4) c' ≡ take (40 + 4 * p) c ++ u32_bytes load →
     take (40 + 4 * (p + 1)) c' ≡ place_header limit f ++ flat_map (λ p. u32_bytes (slice_index f.loads p)) (range_with_len 0 (p + 1))
 load_filled limit f p load c c' done e h =
-    piece_filled 40 4 p (place_header limit f) (λ p. u32_bytes (slice_index f.loads p)) c c' done (h ∙ ap (λ n. take (40 + 4 * p) c ++ u32_bytes n) e)
+    piece_filled 40 4 p (place_header limit f) (λ p. u32_bytes (slice_index f.loads p)) c c' done
+    (h ∙ ap (λ n. take (40 + 4 * p) c ++ u32_bytes n) e)
 
 -- once all are there
 pub place_filled : (limit p : ℕ) (f : PlaceFacts) (c : List ℕ) → p ≡ limit →

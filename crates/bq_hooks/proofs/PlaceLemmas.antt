@@ -14,23 +14,30 @@ use Rattle.bq_hooks.specs.OwnPlace.{place_before, former_place, first_place, own
 abbrev pub IsFit : ℕ → ℕ → ℕ → Type 0
 IsFit bound mask p = (p < bound) × (allows mask p ≡ true)
 
-former_fits : (Q : ℕ → Type 0) (loads : List ℕ) (previous : Option ℕ) (p : ℕ) (o : Option ℕ) → Q p → IfSome o Q → Q (former_place loads previous p o)
+former_fits : (Q : ℕ → Type 0) (loads : List ℕ) (previous : Option ℕ) (p : ℕ) (o : Option ℕ)
+    → Q p → IfSome o Q → Q (former_place loads previous p o)
 former_fits Q loads previous p None h k = h
 former_fits Q loads previous p (Some q) h k = elim (place_before loads previous q p) as (λ b. Q (cond b q p)) [ true ↦ k | false ↦ h ]
 
 -- of some processors that fit the first fits
-pub first_fits : (Q : ℕ → Type 0) (loads : List ℕ) (previous : Option ℕ) (ps : List ℕ) → AllByRecursion Q ps → IfSome (first_place loads previous ps) Q
+pub first_fits : (Q : ℕ → Type 0) (loads : List ℕ) (previous : Option ℕ) (ps : List ℕ)
+    → AllByRecursion Q ps → IfSome (first_place loads previous ps) Q
 first_fits Q loads previous [] h = tt
-first_fits Q loads previous (p ∷ ps) h = former_fits Q loads previous p (first_place loads previous ps) h.0 (first_fits Q loads previous ps h.1)
+first_fits Q loads previous (p ∷ ps) h =
+    former_fits Q loads previous p (first_place loads previous ps) h.0 (first_fits Q loads previous ps h.1)
 
-fit_by_test : (b : Bool) (bound mask p : ℕ) (ps : List ℕ) → allows mask p ≡ b → p < bound → AllByRecursion (IsFit bound mask) ps → AllByRecursion (IsFit bound mask) (cond b (p ∷ ps) ps)
+fit_by_test : (b : Bool) (bound mask p : ℕ) (ps : List ℕ) → allows mask p ≡ b → p < bound
+    → AllByRecursion (IsFit bound mask) ps
+    → AllByRecursion (IsFit bound mask) (cond b (p ∷ ps) ps)
 fit_by_test true bound mask p ps e l h = ((l, e), h)
 fit_by_test false bound mask p ps e l h = h
 
 -- the processors of a mask fit
 pub those_fit : (bound mask a n : ℕ) → a + n ≤ bound → AllByRecursion (IsFit bound mask) (filter (allows mask) (range_with_len a n))
 those_fit bound mask a zero l = tt
-those_fit bound mask a (suc n) l = fit_by_test (allows mask a) bound mask a (filter (allows mask) (range_with_len (a + 1) n)) refl (omega arith) (those_fit bound mask (a + 1) n (omega arith))
+those_fit bound mask a (suc n) l =
+    fit_by_test (allows mask a) bound mask a (filter (allows mask) (range_with_len (a + 1) n)) refl (omega arith)
+    (those_fit bound mask (a + 1) n (omega arith))
 
 none_by_test : (b : Bool) (p : ℕ) (ps : List ℕ) → cond b (p ∷ ps) ps ≡ [] → (b ≡ false) × (ps ≡ [])
 none_by_test true p ps h = cc
@@ -52,21 +59,27 @@ no_bits mask a (suc n) h i l k =
     ]
 
 no_mask : (mask count : ℕ) → mask < 2 ^ count → filter (allows mask) (range_with_len 0 count) ≡ [] → mask ≡ 0
-no_mask mask count l h = same_from_bits_below count mask 0 l (omega arith) (λ i k. no_bits mask 0 count h i (omega arith) (omega arith) ∙ sym (bit_at-zero i))
+no_mask mask count l h =
+    same_from_bits_below count mask 0 l (omega arith)
+    (λ i k. no_bits mask 0 count h i (omega arith) (omega arith) ∙ sym (bit_at-zero i))
 
-some_first : (loads : List ℕ) (previous : Option ℕ) (bound mask : ℕ) (ps : List ℕ) → AllByRecursion (IsFit bound mask) ps → ps ≢ [] → (p : ℕ) × (first_place loads previous ps ≡ Some p) × (p < bound) × (allows mask p ≡ true)
+some_first : (loads : List ℕ) (previous : Option ℕ) (bound mask : ℕ) (ps : List ℕ)
+    → AllByRecursion (IsFit bound mask) ps → ps ≢ []
+    → (p : ℕ) × (first_place loads previous ps ≡ Some p) × (p < bound) × (allows mask p ≡ true)
 some_first loads previous bound mask [] h n = absurd (n refl)
 some_first loads previous bound mask (p ∷ ps) h n =
     let f = first_fits (IsFit bound mask) loads previous (p ∷ ps) h in
     (former_place loads previous p (first_place loads previous ps), refl, f.0, f.1)
 
 -- a task that may use a processor of the machine has a place of its own there
-pub own_place_there : (count : ℕ) (loads : List ℕ) (t : Task) → HasPlace count t → (p : ℕ) × (own_place count loads t ≡ Some p) × (p < count) × (allows t.mask p ≡ true)
+pub own_place_there : (count : ℕ) (loads : List ℕ) (t : Task)
+    → HasPlace count t
+    → (p : ℕ) × (own_place count loads t ≡ Some p) × (p < count) × (allows t.mask p ≡ true)
 own_place_there count loads t h =
     some_first loads t.prev count t.mask (filter (allows t.mask) (range_with_len 0 count)) (those_fit count t.mask 0 count (omega arith))
     (λ e. h.1 (no_mask t.mask count h.0 e))
 
--- and it is a processor of the machine
+-- the own place of a task is a processor of the machine
 pub own_place_below : (count : ℕ) (loads : List ℕ) (t : Task) (to : ℕ) → HasPlace count t → Some to ≡ own_place count loads t → to < count
 own_place_below count loads t to h e =
     let there = own_place_there count loads t h in

@@ -6,14 +6,14 @@ use Rattle.bq_hooks.specs.Contexts.{PreemptFacts, preempt_bytes, u32_bytes, u64_
 use Rattle.bq_hooks.proofs.FillingLemmas.{more_filled, four_same, filled_whole}
 
 -- once all fields are written one behind another, the 56 bytes are the preempt context of what they show
-pub preempt_filled : (f : PreemptFacts) (c0 c1 c2 c3 c4 c5 c6 : List ℕ) (processor waiting id weight v deadline own : ℕ) (choice : Option Task) →
-    processor ≡ f.processor → waiting ≡ length f.queue → id ≡ f.current.id → weight ≡ f.current.weight →
-    take 16 c1 ≡ take 0 c0 ++ four_bytes processor waiting id weight →
-    v ≡ f.current.v → take 24 c2 ≡ take 16 c1 ++ u64_bytes v →
-    deadline ≡ f.current.deadline → take 32 c3 ≡ take 24 c2 ++ u64_bytes deadline →
-    choice ≡ f.choice → take 48 c4 ≡ take 32 c3 ++ task_bytes nobody choice →
-    own ≡ as_number f.own → take 52 c5 ≡ take 48 c4 ++ u32_bytes own →
-    take 56 c6 ≡ take 52 c5 ++ u32_bytes 0 → length c6 ≡ 56 → c6 ≡ preempt_bytes f
+pub preempt_filled : (f : PreemptFacts) (c0 c1 c2 c3 c4 c5 c6 : List ℕ) (processor waiting id weight v deadline own : ℕ)
+    (choice : Option Task)
+    → processor ≡ f.processor → waiting ≡ length f.queue → id ≡ f.current.id → weight ≡ f.current.weight
+    → take 16 c1 ≡ take 0 c0 ++ four_bytes processor waiting id weight → v ≡ f.current.v
+    → take 24 c2 ≡ take 16 c1 ++ u64_bytes v → deadline ≡ f.current.deadline → take 32 c3 ≡ take 24 c2 ++ u64_bytes deadline
+    → choice ≡ f.choice → take 48 c4 ≡ take 32 c3 ++ task_bytes nobody choice → own ≡ as_number f.own
+    → take 52 c5 ≡ take 48 c4 ++ u32_bytes own → take 56 c6 ≡ take 52 c5 ++ u32_bytes 0 → length c6 ≡ 56
+    → c6 ≡ preempt_bytes f
 unfolding preempt_bytes
 preempt_filled f c0 c1 c2 c3 c4 c5 c6 processor waiting id weight v deadline own choice e1 e2 e3 e4 h1 e5 h2 e6 h3 e7 h4 e8 h5 h6 l =
     let s1 = more_filled 0 16 c0 c1 [] _ _ h1 (four_same e1 e2 e3 e4) refl in

@@ -22,7 +22,8 @@ pub task_filled : (f : PullFacts) (k : ℕ) (o : Option Task) (c c' : List ℕ) 
     o ≡ slice_get f.movable k → take (32 + 16 * k + 16) c' ≡ take (32 + 16 * k) c ++ task_bytes 0 o →
     take (32 + 16 * (k + 1)) c' ≡ pull_header f ++ flat_map (λ k. task_bytes 0 (slice_get f.movable k)) (range_with_len 0 (k + 1))
 task_filled f k o c c' done e h =
-    piece_filled 32 16 k (pull_header f) (λ k. task_bytes 0 (slice_get f.movable k)) c c' done (h ∙ ap (λ o. take (32 + 16 * k) c ++ task_bytes 0 o) e)
+    piece_filled 32 16 k (pull_header f) (λ k. task_bytes 0 (slice_get f.movable k)) c c' done
+    (h ∙ ap (λ o. take (32 + 16 * k) c ++ task_bytes 0 o) e)
 
 -- once eight are there
 pub pull_filled : (k : ℕ) (f : PullFacts) (c : List ℕ) → k ≡ 8 →

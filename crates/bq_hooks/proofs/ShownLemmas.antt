@@ -23,7 +23,8 @@ both_found : (queue xs ys : List Task) → AreFound queue xs → AreFound queue 
 both_found queue [] ys h k = k
 both_found queue (x ∷ xs) ys h k = (h.0, both_found queue xs ys h.1 k)
 
-kept_by_test : (b : Bool) (queue : List Task) (x : Task) (xs : List Task) → with_id x.id queue ≡ Some x → AreFound queue xs → AreFound queue (cond b (x ∷ xs) xs)
+kept_by_test : (b : Bool) (queue : List Task) (x : Task) (xs : List Task)
+    → with_id x.id queue ≡ Some x → AreFound queue xs → AreFound queue (cond b (x ∷ xs) xs)
 kept_by_test true queue x xs h k = (h, k)
 kept_by_test false queue x xs h k = k
 
@@ -34,14 +35,18 @@ filter_found queue p (x ∷ xs) h = kept_by_test (p x) queue x (filter p xs) h.0
 reverse_found : (queue xs : List Task) → AreFound queue xs → AreFound queue (reverse xs)
 reverse_found queue [] h = tt
 reverse_found queue (x ∷ xs) h =
-    subst (AreFound queue) (sym (reverse-append (x ∷ []) xs)) (both_found queue (reverse xs) (x ∷ []) (reverse_found queue xs h.1) (h.0, tt))
+    subst (AreFound queue) (sym (reverse-append (x ∷ []) xs))
+    (both_found queue (reverse xs) (x ∷ []) (reverse_found queue xs h.1) (h.0, tt))
 
 -- the movable tasks are found
 pub movable_found : (processor : ℕ) (queue : List Task) → HasDistinctIds queue → AreFound queue (movable_to processor queue)
-movable_found processor queue d = reverse_found queue (filter (can_use processor) queue) (filter_found queue (can_use processor) queue (found_if queue queue d (λ t h. h)))
+movable_found processor queue d =
+    reverse_found queue (filter (can_use processor) queue)
+    (filter_found queue (can_use processor) queue (found_if queue queue d (λ t h. h)))
 
--- and so is each that is shown
-pub shown_at : (queue xs : List Task) (n k : ℕ) → AreFound queue xs → k < n → option_and_then (λ id. with_id id queue) (slice_get (take n (ids xs)) k) ≡ slice_get xs k
+-- each movable task that is shown is found
+pub shown_at : (queue xs : List Task) (n k : ℕ) → AreFound queue xs → k < n
+    → option_and_then (λ id. with_id id queue) (slice_get (take n (ids xs)) k) ≡ slice_get xs k
 shown_at queue xs zero k h l = absurd (omega arith)
 shown_at queue [] (suc n) k h l = refl
 shown_at queue (x ∷ xs) (suc n) zero h l = h.0

@@ -15,8 +15,13 @@ unfolding place_bytes_below place_header
 place = refl
 
 -- task 1 has run for a millisecond beside task 2
-preempt : preempt_bytes (record { processor = 0; queue = task 2 1 4294967296 ∷ []; current = task 1 1 4295967296; choice = Some (task 2 1 4294967296); own = false }) ≡
-    0 ∷ 0 ∷ 0 ∷ 0 ∷ 1 ∷ 0 ∷ 0 ∷ 0 ∷ 1 ∷ 0 ∷ 0 ∷ 0 ∷ 0 ∷ 4 ∷ 0 ∷ 0
+preempt : preempt_bytes (record {
+  processor = 0;
+  queue = task 2 1 4294967296 ∷ [];
+  current = task 1 1 4295967296;
+  choice = Some (task 2 1 4294967296);
+  own = false;
+}) ≡ 0 ∷ 0 ∷ 0 ∷ 0 ∷ 1 ∷ 0 ∷ 0 ∷ 0 ∷ 1 ∷ 0 ∷ 0 ∷ 0 ∷ 0 ∷ 4 ∷ 0 ∷ 0
     ∷ 64 ∷ 66 ∷ 15 ∷ 0 ∷ 1 ∷ 0 ∷ 0 ∷ 0 ∷ 0 ∷ 0 ∷ 0 ∷ 0 ∷ 0 ∷ 0 ∷ 0 ∷ 0
     ∷ 2 ∷ 0 ∷ 0 ∷ 0 ∷ 0 ∷ 4 ∷ 0 ∷ 0 ∷ 0 ∷ 0 ∷ 0 ∷ 0 ∷ 1 ∷ 0 ∷ 0 ∷ 0
     ∷ 0 ∷ 0 ∷ 0 ∷ 0 ∷ 0 ∷ 0 ∷ 0 ∷ 0 ∷ []
@@ -24,8 +29,15 @@ unfolding preempt_bytes
 preempt = refl
 
 -- of three tasks at processor 0 two may go to processor 1, which has no task
-pull : pull_bytes (record { puller = 1; source = 0; puller_size = 0; source_size = 3; movable = task 3 3 4294967296 ∷ task 2 3 4294967296 ∷ []; own = Some 3 }) ≡
-    1 ∷ 0 ∷ 0 ∷ 0 ∷ 0 ∷ 0 ∷ 0 ∷ 0 ∷ 0 ∷ 0 ∷ 0 ∷ 0 ∷ 3 ∷ 0 ∷ 0 ∷ 0
+pull : pull_bytes (record {
+  puller = 1;
+  source = 0;
+  puller_size = 0;
+  source_size = 3;
+  movable = task 3 3 4294967296 ∷ task 2 3 4294967296 ∷ [];
+  own = Some 3;
+})
+    ≡ 1 ∷ 0 ∷ 0 ∷ 0 ∷ 0 ∷ 0 ∷ 0 ∷ 0 ∷ 0 ∷ 0 ∷ 0 ∷ 0 ∷ 3 ∷ 0 ∷ 0 ∷ 0
     ∷ 2 ∷ 0 ∷ 0 ∷ 0 ∷ 2 ∷ 0 ∷ 0 ∷ 0 ∷ 3 ∷ 0 ∷ 0 ∷ 0 ∷ 0 ∷ 0 ∷ 0 ∷ 0
     ∷ 3 ∷ 0 ∷ 0 ∷ 0 ∷ 0 ∷ 4 ∷ 0 ∷ 0 ∷ 0 ∷ 0 ∷ 0 ∷ 0 ∷ 1 ∷ 0 ∷ 0 ∷ 0
     ∷ 2 ∷ 0 ∷ 0 ∷ 0 ∷ 0 ∷ 4 ∷ 0 ∷ 0 ∷ 0 ∷ 0 ∷ 0 ∷ 0 ∷ 1 ∷ 0 ∷ 0 ∷ 0 ∷ replicate 96 0

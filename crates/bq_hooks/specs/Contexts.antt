@@ -1,33 +1,37 @@
 -- Contexts: the bytes that a hook shows to its policy, numbers little-endian. The fields and their places are this project's
--- own; beside each stands the number of its first byte.
+-- own. The number beside each field is that of its first byte.
 use Rattle.std.specs.Prelude.{ℕ, ◌%◌, ◌^◌, min, Bool, nat_lt, if◌then◌else◌, List, ◌++◌, length, slice_get, slice_index, Option, Some, None}
 use Rattle.std.specs.Int.{bytes_low_first}
 use Rattle.std.specs.List.{flat_map, range_with_len}
 use Rattle.bq_disc.specs.Tasks.{Task}
 
+-- the four bytes of a number, the lowest first
 abbrev pub u32_bytes : ℕ → List ℕ
 u32_bytes n = bytes_low_first 0 4 n
 
+-- the eight bytes of a number, the lowest first
 abbrev pub u64_bytes : ℕ → List ℕ
 u64_bytes n = bytes_low_first 0 8 n
 
--- four numbers of 32 bits behind one another
+-- four numbers of 32 bits, one after another
 abbrev pub four_bytes : ℕ → ℕ → ℕ → ℕ → List ℕ
 four_bytes a b c d = u32_bytes a ++ u32_bytes b ++ u32_bytes c ++ u32_bytes d
 
--- the number that stands for no task and for no processor: all 32 bits
+-- the number that means no task or no processor: all 32 bits
 abbrev pub nobody : ℕ
 nobody = 4294967295
 
+-- the number given, or nobody
 abbrev pub or_nobody : Option ℕ → ℕ
 or_nobody None = nobody
 or_nobody (Some n) = n
 
+-- a truth value as a number: 1 or 0
 abbrev pub as_number : Bool → ℕ
 as_number b = if b then 1 else 0
 
--- where a woken task is placed: the task, the processor that wakes it, how many processors there are, the discipline's own
--- choice, and the load of each processor
+-- what a place policy is asked about: the task, the processor that wakes it, how many processors there are, the discipline's
+-- own choice, and the load of each processor
 pub record PlaceFacts : Type 0 where
   pub task : Task
   pub waking : ℕ
@@ -35,8 +39,8 @@ pub record PlaceFacts : Type 0 where
   pub own : ℕ
   pub loads : List ℕ
 
--- where a processor asks whether the current task gives way: the processor, its queue, the current task, the rule's choice
--- of only the queue, and the discipline's own answer
+-- what a preempt policy is asked about: the processor, its queue, the current task, the rule's choice of only the queue, and
+-- the discipline's own answer
 pub record PreemptFacts : Type 0 where
   pub processor : ℕ
   pub queue : List Task
@@ -44,8 +48,8 @@ pub record PreemptFacts : Type 0 where
   pub choice : Option Task
   pub own : Bool
 
--- where a processor asks which task to take from another: the two processors, how many tasks run or wait at each, all tasks
--- of the other's queue that may go, the greatest (v, id) first, and the discipline's own choice
+-- what a pull policy is asked about: the two processors, how many tasks run or wait at each, all tasks of the other's queue
+-- that may go (the greatest (v, id) first), and the discipline's own choice
 pub record PullFacts : Type 0 where
   pub puller : ℕ
   pub source : ℕ
@@ -54,10 +58,11 @@ pub record PullFacts : Type 0 where
   pub movable : List Task
   pub own : Option ℕ
 
--- a processor, where only those below a limit are shown
+-- a processor if it is below the limit, else nobody
 abbrev pub if_shown : ℕ → ℕ → ℕ
 if_shown limit p = if nat_lt p limit then p else nobody
 
+-- a processor if there is one and it is below the limit, else nobody
 abbrev pub if_any_shown : ℕ → Option ℕ → ℕ
 if_any_shown limit None = nobody
 if_any_shown limit (Some p) = if_shown limit p
@@ -74,18 +79,19 @@ place_header limit f =
     ++ u32_bytes (min f.processors limit)  -- 32
     ++ u32_bytes (if_shown limit f.own)  -- 36
 
--- a place context: the loads come behind, 0 where there is no processor
+-- a place context: the header, then the loads, 0 for a processor that does not exist
 unfoldable pub place_bytes_below : ℕ → PlaceFacts → List ℕ
 place_bytes_below limit f = place_header limit f ++ flat_map (λ p. u32_bytes (slice_index f.loads p)) (range_with_len 0 limit)
 
--- images of version 1 are shown 16 processors at most, 104 bytes; those of version 2 all, up to 64, in 296 bytes
+-- the context for images of version 1: it shows at most 16 processors, in 104 bytes
 abbrev pub place_bytes_first : PlaceFacts → List ℕ
 place_bytes_first f = place_bytes_below 16 f
 
+-- the context for images of version 2: it shows up to 64 processors, in 296 bytes
 abbrev pub place_bytes_second : PlaceFacts → List ℕ
 place_bytes_second f = place_bytes_below 64 f
 
--- a task's id, weight and v; if there is no task, the number given and zeros
+-- a task's id, weight and v; if there is no task, `absent` and zeros
 abbrev pub task_bytes : ℕ → Option Task → List ℕ
 task_bytes absent None = u32_bytes absent ++ u32_bytes 0 ++ u64_bytes 0
 task_bytes absent (Some t) = u32_bytes t.id ++ u32_bytes t.weight ++ u64_bytes t.v
@@ -103,7 +109,7 @@ preempt_bytes f =
     ++ u32_bytes (as_number f.own)  -- 48
     ++ u32_bytes 0  -- 52
 
--- the first 32 bytes of a pull context; it tells how many tasks are movable and how many of them are shown
+-- the first 32 bytes of a pull context, with how many tasks are movable and how many of them are shown
 unfoldable pub pull_header : PullFacts → List ℕ
 pull_header f =
     u32_bytes f.puller  -- 0
@@ -115,6 +121,6 @@ pull_header f =
     ++ u32_bytes (or_nobody f.own)  -- 24
     ++ u32_bytes 0  -- 28
 
--- a pull context, of 160 bytes: the first eight movable tasks come behind, zeros where there are fewer
+-- a pull context, of 160 bytes: the header, then the first eight movable tasks, with zeros if there are fewer
 unfoldable pub pull_bytes : PullFacts → List ℕ
 pull_bytes f = pull_header f ++ flat_map (λ k. task_bytes 0 (slice_get f.movable k)) (range_with_len 0 8)

@@ -1,5 +1,4 @@
--- Where a policy is asked: the words by which hooks and versions are named, in traces, options, marks and answers alike,
--- and how long a context is.
+-- The words that name hooks and versions, in traces, options, marks and answers alike, and the lengths of contexts.
 use Rattle.std.specs.Prelude.{ℕ, List, Option, Some, None, if◌then◌else◌, codes}
 use Rattle.std.specs.Str.{bytes_eq}
 use Rattle.bq_hooks.specs.declared.hook.Hook.{Hook}
@@ -13,7 +12,7 @@ hook_word hooks.Place = codes "place"
 hook_word hooks.Preempt = codes "preempt"
 hook_word hooks.Pull = codes "pull"
 
--- the hook of that word
+-- the hook that a word names, if it names one
 abbrev pub hook_of : List ℕ → Option Hook
 hook_of word =
     if bytes_eq word (codes "place") then Some hooks.Place
@@ -26,7 +25,7 @@ abbrev pub version_number : Version → ℕ
 version_number versions.First = 1
 version_number versions.Second = 2
 
--- the version that a word names by its number
+-- the version whose number a word is, if it is one
 abbrev pub version_of : List ℕ → Option Version
 version_of word =
     if bytes_eq word (codes "1") then Some versions.First

@@ -17,6 +17,6 @@ may_preempt r0 = nat_lt r0 2
 abbrev pub may_pull : ℕ → List Task → ℕ → Bool
 may_pull puller queue r0 = r0 == nobody || is_movable_to puller r0 queue
 
--- the task that a number stands for
+-- the task that a number names: none for nobody
 abbrev pub task_numbered : ℕ → Option ℕ
 task_numbered n = if n == nobody then None else Some n

@@ -1,4 +1,4 @@
-//! Numbers written at their places in a context, which is filled from its beginning on.
+//! Numbers written at their places in a context, which is filled from its beginning.
 ghost use Rattle.std.specs.Prelude.{◌≡◌, ◌≤◌, ◌+◌, ◌++◌, length, take};
 ghost use Rattle.std.specs.Option.{option_map};
 ghost use Rattle.bq_disc.specs.Chains.{task_of};
@@ -7,10 +7,10 @@ ghost use Rattle.bq_hooks.specs.Contexts.{u32_bytes, u64_bytes, four_bytes, task
 use bq_disc::Node;
 use byteorder::{ByteOrder, LittleEndian};
 
-/// What stands where there is no task or processor: all 32 bits.
+/// What a context has in place of a missing task or processor: all 32 bits.
 pub const NOBODY: u32 = 0xffff_ffff;
 
-/// Writes a number of 32 bits; what stands before it stays.
+/// Writes a number of 32 bits; what precedes it does not change.
 #[inline(always)]
 pub fn put_u32(context: &mut [u8], at: usize, number: u32)
     requires room { at + 4 ≤ length context.old }
@@ -19,7 +19,7 @@ pub fn put_u32(context: &mut [u8], at: usize, number: u32)
     LittleEndian::write_u32(&mut context[at..], number);
 }
 
-/// Writes a number of 64 bits; what stands before it stays.
+/// Writes a number of 64 bits; what precedes it does not change.
 #[inline(always)]
 pub fn put_u64(context: &mut [u8], at: usize, number: u64)
     requires room { at + 8 ≤ length context.old }
@@ -28,7 +28,7 @@ pub fn put_u64(context: &mut [u8], at: usize, number: u64)
     LittleEndian::write_u64(&mut context[at..], number);
 }
 
-/// Writes four numbers of 32 bits behind one another.
+/// Writes four numbers of 32 bits, one after another.
 #[inline(always)]
 pub fn put_four(context: &mut [u8], at: usize, first: u32, second: u32, third: u32, fourth: u32)
     requires room { at + 16 ≤ length context.old }
@@ -40,7 +40,7 @@ pub fn put_four(context: &mut [u8], at: usize, first: u32, second: u32, third: u
     put_u32(context, at + 12, fourth);
 }
 
-/// Writes a task's id, weight and v; if there is no task, the number given and zeros.
+/// Writes a task's id, weight and v; if there is no task, writes `absent` and zeros.
 #[inline(always)]
 pub fn put_task(context: &mut [u8], at: usize, absent: u32, task: Option<&Node>)
     requires room { at + 16 ≤ length context.old }

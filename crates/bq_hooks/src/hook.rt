@@ -1,11 +1,11 @@
-//! Where a policy is asked, how that is named, and how long its context is.
+//! The hooks at which a policy is asked, their names, and the lengths of their contexts.
 
 ghost use Rattle.std.specs.Prelude.{◌≡◌};
 ghost use Rattle.bq_hooks.specs.Hooks.{context_length_of, hook_of, hook_word, version_number, version_of};
 
 use crate::{PLACE_LENGTH, PREEMPT_LENGTH, PULL_LENGTH, WIDE_PLACE_LENGTH};
 
-/// The choice that a policy makes.
+/// A choice that a policy may make.
 #[derive(Clone, Copy, Debug, PartialEq, Eq)]
 pub enum Hook {
     /// Where a woken task goes.
@@ -38,7 +38,7 @@ macro_rules! with_hooks {
     };
 }
 
-/// What a word that `Hook::of_word` does not take is said to be.
+/// The message about a word that `Hook::of_word` does not take.
 pub const NO_HOOK: &str = with_hooks!("is no hook (", ")");
 
 impl Hook {
@@ -69,7 +69,7 @@ impl Hook {
     }
 }
 
-/// The version of an image.
+/// The version of an image, on which the length of its place context depends.
 #[derive(Clone, Copy, PartialEq, Eq)]
 pub enum Version {
     /// The context of a placement has 104 bytes.
@@ -92,7 +92,7 @@ macro_rules! with_versions {
     };
 }
 
-/// What a word that `Version::of_word` does not take is said to be.
+/// The message about a word that `Version::of_word` does not take.
 pub const NO_VERSION: &str = with_versions!("is no format (", ")");
 
 impl Version {
@@ -106,7 +106,7 @@ impl Version {
         }
     }
 
-    /// The version that a word names by its number, if it names one.
+    /// The version whose number this word is, if it is one.
     pub fn of_word(word: &[u8]) -> Option<Version>
         ensures { result ≡ version_of word.now }
     {
@@ -128,7 +128,7 @@ macro_rules! with_longer_context {
     };
 }
 
-/// How many bytes the context of a hook has.
+/// Answers how many bytes the context of a hook has.
 pub fn context_length(hook: Hook, version: Version) -> usize
     ensures { result ≡ context_length_of hook version }
 {

@@ -7,13 +7,13 @@ pub fn contexts_are_bytes()
     ensures { ContextsAreBytes }
 {}
 
-/// Each own choice is permitted: of a place where the task has a processor that it may use, and of a pull where no two tasks of
-/// the queue share an id.
+/// Each of the discipline's own choices is permitted: a place if the task has a processor that it may use, an answer to
+/// preempt always, and a pull if no two tasks of the queue share an id.
 pub fn own_choices_are_permitted()
     ensures { OwnChoicesArePermitted }
 {}
 
-/// What is settled is permitted where the own choice is.
+/// A settled choice is permitted if the discipline's own choice is.
 pub fn settled_is_permitted()
     ensures { SettledIsPermitted }
 {}

@@ -1,6 +1,6 @@
-//! The hooks: what a policy is shown at each, which of its answers are permitted, and what is chosen where none is.
-//! Promises the exact bytes of each hook's context, and that each choice is the policy's where permitted, else the
-//! discipline's own. Stands on the tasks and queues of bq_disc; the verifier and images take the names of hooks from here.
+//! The hooks: what a policy is shown at each, which of its answers are permitted, and what is chosen if its answer is not.
+//! Promises the exact bytes of each hook's context, and that each choice is the policy's if permitted, else the discipline's
+//! own. Builds on the tasks and queues of bq_disc; the verifier and images take the names of hooks from here.
 #![tactic(auto)]
 
 mod fields;

@@ -22,7 +22,7 @@ impl Model for Loads {
 }
 
 impl Loads {
-    /// The loads of no processor.
+    /// Loads of no processor.
     pub fn new() -> Loads
         ensures { result ≡ [] }
     {
@@ -39,7 +39,7 @@ impl Loads {
         self.counts.push(count);
     }
 
-    /// The load of a processor, 0 where it has none.
+    /// The load of a processor; 0 if none is recorded.
     pub fn get(&self, processor: usize) -> u16
         ensures { result ≡ slice_index self.now processor }
     {
@@ -49,7 +49,7 @@ impl Loads {
         }
     }
 
-    /// The load of a processor that has one is now this.
+    /// Sets the load of a processor, if one is recorded.
     pub fn set(&mut self, processor: usize, count: u16)
         ensures { self.new ≡ slice_set self.old processor count }
     {
@@ -78,7 +78,7 @@ impl Loads {
     }
 }
 
-/// Loads are equal where they are the same numbers, in the same order.
+/// Loads are equal if they are the same numbers, in the same order.
 impl PartialEq for Loads {
     ghost use Rattle.std.specs.Prelude.{◌==◌};
     ghost use Rattle.std.specs.Cmp.{partial_equiv_from_equiv};

@@ -9,8 +9,8 @@ use bq_disc::Entity;
 use bq_disc::limits::PROCESSORS;
 use bq_disc::mask::has;
 
-/// The processor of least load in the task's mask, of the first `count`; of equal loads the task's previous processor, and
-/// else the least number.
+/// The processor of least load in the task's mask, of the first `count`. Of several with that load, it is the task's
+/// previous processor if that is among them, else the one of least number.
 pub fn own_place(count: usize, loads: &Loads, task: &Entity) -> u8
     requires few { count ≤ PROCESSORS }
     requires usable { HasPlace count task.now }
@@ -38,7 +38,7 @@ fn first_place(loads: &Loads, mask: u64, previous: Option<u8>, count: usize) -> 
     first
 }
 
-/// A processor, unless one that is given goes before it.
+/// The processor `place`, unless there is another and it goes before `place`.
 fn former(loads: &Loads, previous: Option<u8>, place: u8, other: Option<u8>) -> u8
     ensures { result ≡ Rattle.bq_hooks.specs.OwnPlace.former_place loads.now previous place other }
 {
@@ -48,7 +48,7 @@ fn former(loads: &Loads, previous: Option<u8>, place: u8, other: Option<u8>) -> 
     }
 }
 
-/// Whether one processor goes before another.
+/// Whether one processor is a better place than another.
 fn goes_before(loads: &Loads, previous: Option<u8>, one: u8, other: u8) -> bool
     ensures { result ≡ place_before loads.now previous one other }
 {

@@ -8,22 +8,23 @@ use bq_disc::Entity;
 use bq_disc::limits::PROCESSORS;
 use std::marker::Model;
 
-/// How many bytes the place context of an image of version 1 has.
+/// The length of the place context of an image of version 1, in bytes.
 pub const PLACE_LENGTH: usize = 104;
 
-/// How many bytes the place context of an image of version 2 has.
+/// The length of the place context of an image of version 2, in bytes.
 pub const WIDE_PLACE_LENGTH: usize = 296;
 
-/// Where a place context has the task's mask.
+/// The position of the task's mask in a place context.
 pub const MASK_AT: usize = 8;
 
-/// Where it has the waking processor, the first of four numbers.
+/// The position of the waking processor, the first of four numbers.
 const WAKING_AT: usize = 24;
 
-/// Where it has how many processors it shows.
+/// The position of the number of processors that the context shows.
 pub const PROCESSORS_AT: usize = WAKING_AT + 8;
 
-/// A woken task, the processor that wakes it, how many processors there are, the discipline's own choice, and their loads.
+/// A woken task, the processor that wakes it, how many processors there are, the discipline's own choice, and the
+/// processors' loads.
 #[derive(Drop)]
 pub struct Place<'a> {
     pub task: &'a Entity,
@@ -71,7 +72,7 @@ fn fill(facts: &Place, limit: usize, context: &mut [u8])
     }
 }
 
-/// Fills the first 40 bytes.
+/// Fills the first 40 bytes of a context.
 fn put_header(facts: &Place, limit: usize, context: &mut [u8])
     requires high { limit ≤ PROCESSORS }
     requires room { 40 ≤ length context.old }
@@ -93,7 +94,7 @@ fn put_header(facts: &Place, limit: usize, context: &mut [u8])
     );
 }
 
-/// The bits of a mask below a number of them: those that name one of this many processors.
+/// The bits of a mask below bit `count`: those of the first `count` processors.
 pub fn low_bits(mask: u64, count: usize) -> u64
     requires { count ≤ PROCESSORS }
     ensures { result ≡ mask % 2 ^ count }
@@ -105,7 +106,7 @@ pub fn low_bits(mask: u64, count: usize) -> u64
     }
 }
 
-/// A processor, if it is shown.
+/// A processor's number if it is below the limit, else `NOBODY`.
 fn if_shown(limit: usize, processor: u8) -> u32
     ensures { result ≡ if_shown limit processor }
 {
@@ -116,7 +117,7 @@ fn if_shown(limit: usize, processor: u8) -> u32
     }
 }
 
-/// A processor, if there is one and it is shown.
+/// A processor's number if there is one and it is below the limit, else `NOBODY`.
 fn if_any_shown(limit: usize, processor: Option<u8>) -> u32
     ensures { result ≡ if_any_shown limit processor }
 {

@@ -9,10 +9,10 @@ use crate::fields::{NOBODY, put_four, put_task, put_u32, put_u64};
 use bq_disc::{Entity, Node, RunQueue};
 use std::marker::Model;
 
-/// How many bytes a preempt context has.
+/// The length of a preempt context, in bytes.
 pub const PREEMPT_LENGTH: usize = 56;
 
-/// A processor's queue and its current task, and whether that gives way by the discipline's own choice.
+/// A processor's queue, its current task, and whether that task gives way by the discipline's own choice.
 #[derive(Drop)]
 pub struct Preempt<'a, Q: RunQueue> {
     pub processor: u8,
@@ -51,7 +51,7 @@ pub fn preempt_ctx<Q: RunQueue>(facts: &Preempt<Q>, context: &mut [u8; PREEMPT_L
     put_u32(context, 52, 0);
 }
 
-/// The queue's choice, were no task running.
+/// The task that the queue would choose if no task ran.
 fn choice<Q: RunQueue>(queue: &Q) -> Option<&Node>
     requires distinct { HasDistinctIds (Q.members queue.now) }
     ensures { option_map (λ n. task_of n.now) result ≡ Q.R.discipline.choice (Q.members queue.now) }
@@ -59,7 +59,7 @@ fn choice<Q: RunQueue>(queue: &Q) -> Option<&Node>
     queue.get(queue.choice(None)?)
 }
 
-/// An answer as a policy would give it.
+/// An answer as a policy gives it: 1 if the task gives way, else 0.
 fn as_number(own: bool) -> u32
     ensures { result ≡ as_number own }
 {

@@ -11,26 +11,26 @@ use crate::fields::{NOBODY, put_four, put_task};
 use bq_disc::limits::PROCESSORS;
 use bq_disc::{Node, RunQueue};
 
-/// How many bytes a pull context has.
+/// The length of a pull context, in bytes.
 pub const PULL_LENGTH: usize = 160;
 
-/// How many movable tasks a pull context shows at most.
+/// The most movable tasks that a pull context shows.
 pub const SHOWN: usize = 8;
 
-/// Where a pull context has how many tasks are movable.
+/// The position of the number of movable tasks in a pull context.
 pub const MOVABLE_AT: usize = 16;
 
-/// Where it has how many of them it shows.
+/// The position of the number of tasks that the context shows.
 pub const SHOWN_AT: usize = MOVABLE_AT + 4;
 
-/// Where the first of those begins.
+/// The position of the first task that the context shows.
 pub const TASKS_AT: usize = 32;
 
-/// How many bytes each of them has.
+/// The length of each task that the context shows, in bytes.
 pub const TASK_LENGTH: usize = 16;
 
-/// A processor that may take a task, the other from whose queue it would be taken, how many tasks run or wait at each, and
-/// the discipline's own choice.
+/// A processor that may take a task, the processor from whose queue it would be taken, how many tasks run or wait at each,
+/// and the discipline's own choice.
 #[derive(Drop)]
 pub struct Pull<'a, Q: RunQueue> {
     pub puller: u8,
@@ -77,14 +77,14 @@ pub fn pull_ctx<Q: RunQueue>(facts: &Pull<Q>, context: &mut [u8; PULL_LENGTH])
     }
 }
 
-/// The task of an id that is shown.
+/// The task that a context shows at this place, if there is one.
 fn shown<'a, Q: RunQueue>(queue: &'a Q, first: &[u16], at: usize) -> Option<&'a Node>
     ensures { option_map (λ n. task_of n.now) result ≡ option_and_then (λ id. with_id id (Q.members queue.now)) (slice_get first.now at) }
 {
     queue.get(*first.get(at)?)
 }
 
-/// A task's number, if there is one.
+/// A task's id, or `NOBODY` if there is no task.
 fn or_nobody(task: Option<u16>) -> u32
     ensures { result ≡ or_nobody task }
 {

@@ -1,4 +1,4 @@
-//! Settled choices: a policy's answer where it is permitted, and else the discipline's own.
+//! Settled choices: a policy's answer if it is permitted, else the discipline's own.
 ghost use Rattle.std.specs.Prelude.{◌≡◌, ◌<◌, ◌≤◌, ◌^◌, true};
 ghost use Rattle.bq_disc.specs.Movable.{is_movable_to};
 ghost use Rattle.bq_hooks.specs.Contexts.{as_number, or_nobody};
@@ -52,8 +52,8 @@ impl<T> Choice<T> {
     }
 }
 
-/// Where a woken task goes: to the processor that the policy named, `r0`, if it is one of the `processors` and in the task's
-/// mask; else to the discipline's own.
+/// The processor to which a woken task goes. It is the one that the policy named, `r0`, if that is one of the first
+/// `processors` and in the task's mask; else the discipline's own choice.
 pub fn settle_place(r0: Option<u64>, processors: usize, task: &Entity, own: u8) -> Choice<u8>
     requires few { processors ≤ PROCESSORS }
     ensures value { result.value ≡ (settled (may_place processors task.now) r0 own).choice }
@@ -67,7 +67,8 @@ pub fn settle_place(r0: Option<u64>, processors: usize, task: &Entity, own: u8) 
     }
 }
 
-/// Whether the current task gives way: as the policy answered, `r0`, where that is 0 or 1; else as the discipline would.
+/// The choice whether the current task gives way: the answer `r0` of the policy, if that is 0 or 1; otherwise the discipline's
+/// own.
 pub fn settle_preempt(r0: Option<u64>, own: bool) -> Choice<bool>
     ensures value { as_number result.value ≡ (settled may_preempt r0 (as_number own)).choice }
     ensures by { result.by ≡ (settled may_preempt r0 (as_number own)).by }
@@ -79,8 +80,8 @@ pub fn settle_preempt(r0: Option<u64>, own: bool) -> Choice<bool>
     }
 }
 
-/// Which task is taken from the queue, if any: the one that the policy named, `r0`, where it may go to the puller, or none
-/// where it named nobody, 4294967295; else the discipline's own choice.
+/// The task that is taken from the queue, if any. If the policy named a task that may go to the puller, `r0`, it is that
+/// one. If the policy named nobody, 4294967295, no task is taken. Else it is the discipline's own choice.
 pub fn settle_pull<Q: RunQueue>(
     r0: Option<u64>,
     queue: &Q,
@@ -98,7 +99,7 @@ pub fn settle_pull<Q: RunQueue>(
     }
 }
 
-/// Whether that is the id of a task of the queue that may go to the puller.
+/// Whether this is the id of a task of the queue that may go to the puller.
 #[tactic(auto, using(crate::proofs::IdLemmas::not_movable_beyond_ids))]
 fn may_go<Q: RunQueue>(id: u64, queue: &Q, puller: u8) -> bool
     requires { puller < PROCESSORS }

@@ -21,15 +21,20 @@ two (Imm64 dst value) = omega arith
 two (MapRef dst index) = omega arith
 two _ = omega arith
 
--- and with one more hardly more than that
-pub slot_small : (insns : List Insn) (k slot slots : ℕ) (i : Insn) → is_well_formed insns ≡ true → slot ≡ slot_count (take k insns) → slots ≡ slots_of i → slot + slots ≤ 4098
+-- the slots of some instructions and of one more are hardly more than 4096
+pub slot_small : (insns : List Insn) (k slot slots : ℕ) (i : Insn)
+    → is_well_formed insns ≡ true → slot ≡ slot_count (take k insns) → slots ≡ slots_of i
+    → slot + slots ≤ 4098
 slot_small insns k slot slots i whole counted is =
     let few = count_few insns k whole in
     let more = two i in
     omega (arith, few, counted, is, more)
 
 -- an address that none stands before is the first
-pub first_address : (insns : List Insn) (k slot : ℕ) (d : Insn) → k < length insns → slot ≡ slot_count (take k insns) → list_any is_address (take k insns) ≡ false → is_address (get_or insns k d) ≡ true → IsFirstAddress insns slot
+pub first_address : (insns : List Insn) (k slot : ℕ) (d : Insn)
+    → k < length insns → slot ≡ slot_count (take k insns) → list_any is_address (take k insns) ≡ false
+    → is_address (get_or insns k d) ≡ true
+    → IsFirstAddress insns slot
 first_address insns k slot d inside counted none here = record {
   before = take k insns;
   insn = get_or insns k d;

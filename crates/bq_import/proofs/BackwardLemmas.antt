@@ -19,7 +19,7 @@ use Rattle.bq_insn.proofs.OptionLemmas.{some_none}
 use Rattle.bq_insn.proofs.CountLemmas.{slots_positive}
 use Rattle.bq_verify.proofs.EdgeLemmas.{start_inside}
 use Rattle.bq_verify.proofs.SpreadLemmas.{one_or_two}
-use Rattle.bq_import.specs.Copies.{is_reference, wide_copy, copied, Stands}
+use Rattle.bq_import.specs.Copies.{is_reference, wide_copy, copied, IsCopyOfSlot}
 use Rattle.bq_import.specs.Backward.{AreGood, JumpsBack, GoesBack, IsPlaced, insns_of, IsBuilt, Keeps, IsLengthened, IsOneMore, MayStand}
 use Rattle.bq_import.proofs.CopyLemmas.{reference_refers}
 use Rattle.bq_import.proofs.PathLemmas.{copy_has_shape}
@@ -36,12 +36,15 @@ jump_is_short (MapRef dst index) far e = absurd (none-some far e)
 jump_is_short insn far e = refl
 
 -- a copy has numbers in range, as the original has
-wide_good : (maps : ℕ) (few : maps ≤ 8) (b : Bool) (dst value : ℕ) → is_reference maps value ≡ b → is_register dst ≡ true → Fits (Imm64 dst value) → (is_insn (wide_copy b dst value) ≡ true) × Fits (wide_copy b dst value)
+wide_good : (maps : ℕ) (few : maps ≤ 8) (b : Bool) (dst value : ℕ)
+    → is_reference maps value ≡ b → is_register dst ≡ true → Fits (Imm64 dst value)
+    → (is_insn (wide_copy b dst value) ≡ true) × Fits (wide_copy b dst value)
 wide_good maps few false dst value e r fits = (r, fits)
 wide_good maps few true dst value e r fits = let there = (reference_refers maps value e).there in (r, omega (arith, ints, there, few))
 
 -- the copy of an instruction in range, whose jump fits 16 bits, is in range
-pub copied_good : (maps : ℕ) → maps ≤ 8 → (insn : Insn) (z : ℤ) → FitsSigned w16 z → is_insn insn ≡ true → Fits insn → (is_insn (copied maps insn z) ≡ true) × Fits (copied maps insn z)
+pub copied_good : (maps : ℕ) → maps ≤ 8 → (insn : Insn) (z : ℤ) → FitsSigned w16 z → is_insn insn ≡ true → Fits insn
+    → (is_insn (copied maps insn z) ≡ true) × Fits (copied maps insn z)
 copied_good maps few (Goto off) z near good fits = (refl, near)
 copied_good maps few (Goto32 imm) z near good fits = (refl, omega (arith, ints, near))
 copied_good maps few (Branch w c dst src off) z near good fits = (good, (fits.0, near))
@@ -58,7 +61,9 @@ copied_good maps few (Call helper) z near good fits = (good, fits)
 copied_good maps few Exit z near good fits = (good, fits)
 
 -- what stands is not moved by what is put in front
-stands_left : (back xs : List (Option Insn)) (origins ys : List ℕ) (place from : ℕ) → length origins ≡ length back → Stands back origins place from → Stands (back ++ xs) (origins ++ ys) place from
+stands_left : (back xs : List (Option Insn)) (origins ys : List ℕ) (place from : ℕ)
+    → length origins ≡ length back → IsCopyOfSlot back origins place from
+    → IsCopyOfSlot (back ++ xs) (origins ++ ys) place from
 stands_left back xs origins ys place from long p =
     let inside = start_inside back place p.start in
     record {
@@ -66,14 +71,17 @@ stands_left back xs origins ys place from long p =
       origin_is = get_or_append_left origins ys 0 place (omega (arith, inside, long)) ∙ p.origin_is;
     }
 
-stands_was : (back xs : List (Option Insn)) (origins ys : List ℕ) (place from : ℕ) → length origins ≡ length back → place < length back → Stands (back ++ xs) (origins ++ ys) place from → Stands back origins place from
+stands_was : (back xs : List (Option Insn)) (origins ys : List ℕ) (place from : ℕ)
+    → length origins ≡ length back → place < length back → IsCopyOfSlot (back ++ xs) (origins ++ ys) place from
+    → IsCopyOfSlot back origins place from
 stands_was back xs origins ys place from long inside p =
     record {
       start = record { insn = p.start.insn; here = sym (get_or_append_left back xs None place inside) ∙ p.start.here };
       origin_is = sym (get_or_append_left origins ys 0 place (omega (arith, inside, long))) ∙ p.origin_is;
     }
 
-module _ (maps : ℕ) (old back : List (Option Insn)) (origins : List ℕ) (from : ℕ) (insn : Insn) (distance : ℤ) (built : IsBuilt maps old back origins) where
+module _ (maps : ℕ) (old back : List (Option Insn)) (origins : List ℕ) (from : ℕ) (insn : Insn) (distance : ℤ)
+    (built : IsBuilt maps old back origins) where
   second : List (Option Insn)
   second = replicate (slots_of insn - 1) None
 
@@ -125,13 +133,15 @@ module _ (maps : ℕ) (old back : List (Option Insn)) (origins : List ℕ) (from
   origin_here =
       let long = built.as_long in
       append_right origins tail_from place_of 0 (omega (arith, long))
-      ∙ (ap (λ (k : ℕ). get_or tail_from k 0) (let e : length back + (slots_of insn - 1) - length origins ≡ slots_of insn - 1 = omega (arith, long) in e)
+      ∙ (ap (λ (k : ℕ). get_or tail_from k 0)
+      (let e : length back + (slots_of insn - 1) - length origins ≡ slots_of insn - 1 = omega (arith, long) in e)
       ∙ at_end (slots_of insn - 1) (from + 1) from 0)
 
   none_between : (place : ℕ) → length back ≤ place → place < place_of → instruction_at (back ++ tail) place ≡ None
   unfolding place_of tail second
   none_between place low high =
-      append_right back tail place None low ∙ before_end (slots_of insn - 1) (place - length back) None (Some (copied maps insn distance)) None (omega (arith, low, high))
+      append_right back tail place None low
+      ∙ before_end (slots_of insn - 1) (place - length back) None (Some (copied maps insn distance)) None (omega (arith, low, high))
 
   module _ (may : MayStand old back origins from insn distance) where
     goes_back : goes_on insn ≡ true → GoesBack (back ++ tail) (origins ++ tail_from) place_of (slots_of insn) (from + slots_of insn)
@@ -140,7 +150,11 @@ module _ (maps : ℕ) (old back : List (Option Insn)) (origins : List ℕ) (from
         let front = may.on on in
         let is = front.place_is in
         let positive = slots_positive insn in
-        record { behind = front.place; place_is = omega (arith, is, positive); stands = kept front.place (from + slots_of insn) front.stands }
+        record {
+          behind = front.place;
+          place_is = omega (arith, is, positive);
+          stands = kept front.place (from + slots_of insn) front.stands;
+        }
 
     jumps_back : (far : ℤ) → distance_of insn ≡ Some far → JumpsBack (back ++ tail) (origins ++ tail_from) from place_of far distance
     unfolding place_of
@@ -148,7 +162,15 @@ module _ (maps : ℕ) (old back : List (Option Insn)) (origins : List ℕ) (from
         let j = may.jumps far e in
         let one = jump_is_short insn far e in
         let is = j.place_is in
-        record { target = j.target; landing = j.landing; apart = j.apart; leads = j.leads; near_is = j.near_is; place_is = omega (arith, one, is); stands = kept j.landing j.target j.stands }
+        record {
+          target = j.target;
+          landing = j.landing;
+          apart = j.apart;
+          leads = j.leads;
+          near_is = j.near_is;
+          place_is = omega (arith, one, is);
+          stands = kept j.landing j.target j.stands;
+        }
 
     new_placed : (f : ℕ) → from ≡ f → IsPlaced maps old (back ++ tail) (origins ++ tail_from) place_of f
     new_placed f e = subst (λ (n : ℕ). IsPlaced maps old (back ++ tail) (origins ++ tail_from) place_of n) e
@@ -159,10 +181,24 @@ module _ (maps : ℕ) (old back : List (Option Insn)) (origins : List ℕ) (from
     original = p.original;
     distance = p.distance;
     here = p.here;
-    copy = get_or_append_left back tail None place (start_inside back place (record { insn = copied maps p.original p.distance; here = p.copy })) ∙ p.copy;
-    on = λ e. let g = p.on e in record { behind = g.behind; place_is = g.place_is; stands = kept g.behind (f + slots_of p.original) g.stands };
-    jumps = λ far e. let j = p.jumps far e in
-        record { target = j.target; landing = j.landing; apart = j.apart; leads = j.leads; near_is = j.near_is; place_is = j.place_is; stands = kept j.landing j.target j.stands };
+    copy =
+        get_or_append_left back tail None place
+        (start_inside back place (record { insn = copied maps p.original p.distance; here = p.copy }))
+        ∙ p.copy;
+    on = λ e.
+        let g = p.on e in
+        record { behind = g.behind; place_is = g.place_is; stands = kept g.behind (f + slots_of p.original) g.stands };
+    jumps = λ far e.
+        let j = p.jumps far e in
+        record {
+          target = j.target;
+          landing = j.landing;
+          apart = j.apart;
+          leads = j.leads;
+          near_is = j.near_is;
+          place_is = j.place_is;
+          stands = kept j.landing j.target j.stands;
+        };
   }
 
   compare : (a b : ℕ) → (a < b) ⊎ ((a ≡ b) ⊎ (b < a))
@@ -175,7 +211,9 @@ module _ (maps : ℕ) (old back : List (Option Insn)) (origins : List ℕ) (from
     | inr (inr gt) ↦ inr (inr (omega (arith, gt)))
   ]
 
-  all_placed : MayStand old back origins from insn distance → (place f : ℕ) → Stands (back ++ tail) (origins ++ tail_from) place f → IsPlaced maps old (back ++ tail) (origins ++ tail_from) place f
+  all_placed : MayStand old back origins from insn distance
+      → (place f : ℕ) → IsCopyOfSlot (back ++ tail) (origins ++ tail_from) place f
+      → IsPlaced maps old (back ++ tail) (origins ++ tail_from) place f
   unfolding place_of
   all_placed may place f p = elim (compare place (length back)) [
     | inl lt ↦ old_placed place f (built.placed place f (stands_was back tail origins tail_from place f built.as_long lt p))
@@ -195,7 +233,8 @@ module _ (maps : ℕ) (old back : List (Option Insn)) (origins : List ℕ) (from
         ]
   ]
 
-  only_one : (place f : ℕ) → Stands (back ++ tail) (origins ++ tail_from) place f → Stands back origins place f ⊎ ((length (back ++ tail) ≡ place + 1) × (f ≡ from))
+  only_one : (place f : ℕ) → IsCopyOfSlot (back ++ tail) (origins ++ tail_from) place f
+      → IsCopyOfSlot back origins place f ⊎ ((length (back ++ tail) ≡ place + 1) × (f ≡ from))
   unfolding place_of
   only_one place f p = elim (compare place (length back)) [
     | inl lt ↦ inl (stands_was back tail origins tail_from place f built.as_long lt p)
@@ -215,12 +254,14 @@ module _ (maps : ℕ) (old back : List (Option Insn)) (origins : List ℕ) (from
         ]
   ]
 
-  reverse_tail : (n : ℕ) (c : Option Insn) → n ≤ 1 → reverse (back ++ (replicate n None ++ (c ∷ []))) ≡ c ∷ (replicate n None ++ reverse back)
+  reverse_tail : (n : ℕ) (c : Option Insn) → n ≤ 1
+      → reverse (back ++ (replicate n None ++ (c ∷ []))) ≡ c ∷ (replicate n None ++ reverse back)
   reverse_tail zero c le = reverse-append back (c ∷ [])
   reverse_tail (suc zero) c le = reverse-append back (None ∷ c ∷ [])
   reverse_tail (suc (suc n)) c le = absurd (let no : ⊥ = omega (arith, le) in no)
 
-  gathered : (n : ℕ) (c : Insn) → n ≤ 1 → filter_map (λ (slot : Option Insn). slot) (Some c ∷ (replicate n None ++ reverse back)) ≡ c ∷ insns_of back
+  gathered : (n : ℕ) (c : Insn) → n ≤ 1
+      → filter_map (λ (slot : Option Insn). slot) (Some c ∷ (replicate n None ++ reverse back)) ≡ c ∷ insns_of back
   gathered zero c le = refl
   gathered (suc zero) c le = refl
   gathered (suc (suc n)) c le = absurd (let no : ⊥ = omega (arith, le) in no)
@@ -234,17 +275,21 @@ module _ (maps : ℕ) (old back : List (Option Insn)) (origins : List ℕ) (from
 
   insns_are : insns_of (back ++ tail) ≡ copied maps insn distance ∷ insns_of back
   unfolding second
-  insns_are = ap (λ (xs : List (Option Insn)). filter_map (λ (slot : Option Insn). slot) xs) reversed ∙ gathered (slots_of insn - 1) (copied maps insn distance) few_slots
+  insns_are =
+      ap (λ (xs : List (Option Insn)). filter_map (λ (slot : Option Insn). slot) xs) reversed
+      ∙ gathered (slots_of insn - 1) (copied maps insn distance) few_slots
 
   spread_again : spread (insns_of (back ++ tail)) ≡ reverse (back ++ tail)
   unfolding second
   spread_again =
       ap spread insns_are
-      ∙ (ap (λ (n : ℕ). (Some (copied maps insn distance) ∷ replicate (n - 1) None) ++ spread (insns_of back)) (copy_has_shape maps insn distance).long
-      ∙ (ap (λ (xs : List (Option Insn)). (Some (copied maps insn distance) ∷ second) ++ xs) built.spread_is
-      ∙ sym reversed))
+      ∙ (ap (λ (n : ℕ). (Some (copied maps insn distance) ∷ replicate (n - 1) None) ++ spread (insns_of back))
+      (copy_has_shape maps insn distance).long
+      ∙ (ap (λ (xs : List (Option Insn)). (Some (copied maps insn distance) ∷ second) ++ xs) built.spread_is ∙ sym reversed))
 
-  lengthened : maps ≤ 8 → FitsSigned w16 distance → AreGood old → MayStand old back origins from insn distance → length back + slots_of insn ≤ 4096 → IsLengthened maps old back origins (back ++ tail) (origins ++ tail_from) from
+  lengthened : maps ≤ 8 → FitsSigned w16 distance → AreGood old → MayStand old back origins from insn distance
+      → length back + slots_of insn ≤ 4096
+      → IsLengthened maps old back origins (back ++ tail) (origins ++ tail_from) from
   unfolding place_of
   lengthened few near good may room =
       let g = good from insn may.here in
@@ -261,7 +306,9 @@ module _ (maps : ℕ) (old back : List (Option Insn)) (origins : List ℕ) (from
           short = omega (arith, long, more, room);
           placed = all_placed may;
           spread_is = spread_again;
-          in_range = ap (λ (xs : List Insn). list_all is_insn xs) insns_are ∙ and_from (is_insn (copied maps insn distance)) _ ok.0 built.in_range;
+          in_range =
+              ap (λ (xs : List Insn). list_all is_insn xs) insns_are
+              ∙ and_from (is_insn (copied maps insn distance)) _ ok.0 built.in_range;
           fit = subst AllFit (sym insns_are) (ok.1, built.fit);
           front = λ place e. let is : place ≡ length back + (slots_of insn - 1) = omega (arith, long, more, positive, e) in
               subst (λ (k : ℕ). IsStart (back ++ tail) k) (sym is) (record { insn = copied maps insn distance; here = here_is });
@@ -274,9 +321,11 @@ module _ (maps : ℕ) (old back : List (Option Insn)) (origins : List ℕ) (from
         };
       }
 
-  pub pushed : (slots : List (Option Insn)) (froms : List ℕ) → maps ≤ 8 → FitsSigned w16 distance → AreGood old → MayStand old back origins from insn distance → length back + slots_of insn ≤ 4096 →
-      slots ≡ (back ++ replicate (slots_of insn - 1) None) ++ (Some (copied maps insn distance) ∷ []) → froms ≡ (origins ++ replicate (slots_of insn - 1) (from + 1)) ++ (from ∷ []) →
-      IsLengthened maps old back origins slots froms from
+  pub pushed : (slots : List (Option Insn)) (froms : List ℕ) → maps ≤ 8 → FitsSigned w16 distance
+      → AreGood old → MayStand old back origins from insn distance → length back + slots_of insn ≤ 4096
+      → slots ≡ (back ++ replicate (slots_of insn - 1) None) ++ (Some (copied maps insn distance) ∷ [])
+      → froms ≡ (origins ++ replicate (slots_of insn - 1) (from + 1)) ++ (from ∷ [])
+      → IsLengthened maps old back origins slots froms from
   unfolding tail second tail_from
   pushed slots froms few near good may room e e' =
       let s : back ++ tail ≡ slots = sym (append_assoc back second (Some (copied maps insn distance) ∷ [])) ∙ sym e in
@@ -284,9 +333,10 @@ module _ (maps : ℕ) (old back : List (Option Insn)) (origins : List ℕ) (from
       subst (λ (xs : List (Option Insn)). IsLengthened maps old back origins xs froms from) s
       (subst (λ (ys : List ℕ). IsLengthened maps old back origins (back ++ tail) ys from) o (lengthened few near good may room))
 
-  pub pushed_one : (slots : List (Option Insn)) (froms : List ℕ) →
-      slots ≡ (back ++ replicate (slots_of insn - 1) None) ++ (Some (copied maps insn distance) ∷ []) → froms ≡ (origins ++ replicate (slots_of insn - 1) (from + 1)) ++ (from ∷ []) →
-      IsOneMore back origins slots froms from
+  pub pushed_one : (slots : List (Option Insn)) (froms : List ℕ)
+      → slots ≡ (back ++ replicate (slots_of insn - 1) None) ++ (Some (copied maps insn distance) ∷ [])
+      → froms ≡ (origins ++ replicate (slots_of insn - 1) (from + 1)) ++ (from ∷ [])
+      → IsOneMore back origins slots froms from
   unfolding tail second tail_from
   pushed_one slots froms e e' =
       let s : back ++ tail ≡ slots = sym (append_assoc back second (Some (copied maps insn distance) ∷ [])) ∙ sym e in

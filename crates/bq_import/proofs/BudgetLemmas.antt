@@ -33,8 +33,10 @@ reverse_top stack slot top =
     let below : length stack - 1 ≡ top.below = omega (arith, long) in
     let last : get_or stack (length stack - 1) 0 ≡ slot = ap (λ (n : ℕ). get_or stack n 0) below ∙ top.slot_is in
     let whole : take (length stack - 1 + 1) stack ≡ stack = take_all (length stack - 1 + 1) stack (omega (arith, one)) in
-    let parts : take (length stack - 1 + 1) stack ≡ take (length stack - 1) stack ++ get_or stack (length stack - 1) 0 ∷ [] = take_more stack (length stack - 1) 0 (omega (arith, long)) in
-    ap reverse (sym whole ∙ parts ∙ ap (λ (n : ℕ). take (length stack - 1) stack ++ (n ∷ [])) last) ∙ reverse_push (take (length stack - 1) stack) slot
+    let parts : take (length stack - 1 + 1) stack ≡ take (length stack - 1) stack ++ get_or stack (length stack - 1) 0 ∷ [] =
+    take_more stack (length stack - 1) 0 (omega (arith, long)) in
+    ap reverse (sym whole ∙ parts ∙ ap (λ (n : ℕ). take (length stack - 1) stack ++ (n ∷ [])) last)
+    ∙ reverse_push (take (length stack - 1) stack) slot
 
 -- what comes first is the top
 top_of : (stack : List ℕ) (top : ℕ) (rest : List ℕ) → reverse stack ≡ top ∷ rest → IsTop stack top
@@ -43,7 +45,10 @@ top_of stack top rest is =
     subst (λ (s : List ℕ). IsTop s top) (sym stack_is) (record {
       below = length (reverse rest);
       long = let long = length-append (reverse rest) (top ∷ []) in omega (arith, long);
-      slot_is = ap (λ (n : ℕ). get_or (reverse rest ++ top ∷ []) n 0) (let e : length (reverse rest) ≡ length (reverse rest) + 0 = omega arith in e) ∙ get_or-append-add (reverse rest) (top ∷ []) 0 0;
+      slot_is =
+          ap (λ (n : ℕ). get_or (reverse rest ++ top ∷ []) n 0)
+          (let e : length (reverse rest) ≡ length (reverse rest) + 0 = omega arith in e)
+          ∙ get_or-append-add (reverse rest) (top ∷ []) 0 0;
     })
 
 module _ (old : List (Option Insn)) (opens : List Bool) where
@@ -63,7 +68,8 @@ module _ (old : List (Option Insn)) (opens : List Bool) where
     waits_less k = elim (equal_or_not k slot) [
       | inl e ↦
           let now : waiting old (slice_set opens slot true) k ≡ 0 =
-          ap (λ (b : Bool). if b then 0 else run_at old k) (ap (is_open (slice_set opens slot true)) e ∙ get_or-set_same opens slot true false inside) in
+          ap (λ (b : Bool). if b then 0 else run_at old k)
+          (ap (is_open (slice_set opens slot true)) e ∙ get_or-set_same opens slot true false inside) in
           omega (arith, now)
       | inr apart ↦
           let same : waiting old (slice_set opens slot true) k ≡ waiting old opens k =
@@ -76,10 +82,12 @@ module _ (old : List (Option Insn)) (opens : List Bool) where
     still_wait landings = sum_by-le-sum_by (waiting old (slice_set opens slot true)) (waiting old opens) landings waits_less
 
     -- the run of a landing that is begun waits no longer
-    pub wait_less : (landings : List ℕ) → is_open opens slot ≡ false → IsIn landings slot → sum_by (waiting old (slice_set opens slot true)) landings + run_at old slot ≤ sum_by (waiting old opens) landings
+    pub wait_less : (landings : List ℕ) → is_open opens slot ≡ false → IsIn landings slot
+        → sum_by (waiting old (slice_set opens slot true)) landings + run_at old slot ≤ sum_by (waiting old opens) landings
     wait_less [] new at = absurd at
     wait_less (first ∷ rest) new (inl e) =
-        let now : waiting old (slice_set opens slot true) slot ≡ 0 = ap (λ (b : Bool). if b then 0 else run_at old slot) (get_or-set_same opens slot true false inside) in
+        let now : waiting old (slice_set opens slot true) slot ≡ 0 =
+        ap (λ (b : Bool). if b then 0 else run_at old slot) (get_or-set_same opens slot true false inside) in
         let before : waiting old opens slot ≡ run_at old slot = ap (λ (b : Bool). if b then 0 else run_at old slot) new in
         let now' : waiting old (slice_set opens slot true) first ≡ 0 = ap (waiting old (slice_set opens slot true)) (sym e) ∙ now in
         let before' : waiting old opens first ≡ run_at old slot = ap (waiting old opens) (sym e) ∙ before in
@@ -96,7 +104,10 @@ module _ (old : List (Option Insn)) (opens : List Bool) where
 
 module _ (old back : List (Option Insn)) (origins : List ℕ) (places : List (Option ℕ)) where
   -- what is kept for the last slot is kept for it below another one
-  below_new : (slot : ℕ) (xs : List ℕ) (kept : ℕ) → ((top : ℕ) (rest : List ℕ) → xs ≡ top ∷ rest → IsEdge old top slot × (place_at places slot ≡ None)) → IsKept old back origins places xs kept → AreKeptFor old places slot xs kept
+  below_new : (slot : ℕ) (xs : List ℕ) (kept : ℕ)
+      → ((top : ℕ) (rest : List ℕ) → xs ≡ top ∷ rest → IsEdge old top slot × (place_at places slot ≡ None))
+      → IsKept old back origins places xs kept
+      → AreKeptFor old places slot xs kept
   below_new slot [] kept edge is = tt
   below_new slot (top ∷ rest) kept edge is = record {
     own = is.own;
@@ -110,7 +121,9 @@ module _ (old back : List (Option Insn)) (origins : List ℕ) (places : List (Op
   }
 
   -- what is kept for a slot whose next one is begun is shared with that
-  below_next : (linked : IsLinked old) (slot top : ℕ) (rest : List ℕ) (kept : ℕ) → place_at places slot ≡ None → IsLastOf old places top slot → IsKept old back origins places (top ∷ rest) kept → IsKept old back origins places (slot ∷ top ∷ rest) kept
+  below_next : (linked : IsLinked old) (slot top : ℕ) (rest : List ℕ) (kept : ℕ)
+      → place_at places slot ≡ None → IsLastOf old places top slot → IsKept old back origins places (top ∷ rest) kept
+      → IsKept old back origins places (slot ∷ top ∷ rest) kept
   below_next linked slot top rest kept away last is =
       let ends = run_next old top slot linked last.next in
       let at = last.next.is in
@@ -137,7 +150,9 @@ module _ (old back : List (Option Insn)) (origins : List ℕ) (places : List (Op
       }
 
 -- what is kept for slots below is kept when more is in place
-kept_still : (old : List (Option Insn)) (places after : List (Option ℕ)) (above : ℕ) (xs : List ℕ) (kept : ℕ) → ((s : ℕ) → IsDone places s → IsDone after s) → AreKeptFor old places above xs kept → AreKeptFor old after above xs kept
+kept_still : (old : List (Option Insn)) (places after : List (Option ℕ)) (above : ℕ) (xs : List ℕ) (kept : ℕ)
+    → ((s : ℕ) → IsDone places s → IsDone after s) → AreKeptFor old places above xs kept
+    → AreKeptFor old after above xs kept
 kept_still old places after above [] kept still is = tt
 kept_still old places after above (slot ∷ rest) kept still is = record {
   own = is.own;
@@ -145,14 +160,23 @@ kept_still old places after above (slot ∷ rest) kept still is = record {
   all = is.all;
   enough = elim is.enough [
     | inl run ↦ inl run
-    | inr (wide, last) ↦ inr (wide, record { next = last.next; others = λ other e. elim (last.others other e) [ inl same ↦ inl same | inr done ↦ inr (still other done) ] })
+    | inr (wide, last) ↦ inr (
+      wide,
+      record {
+        next = last.next;
+        others = λ other e. elim (last.others other e) [ inl same ↦ inl same | inr done ↦ inr (still other done) ];
+      },
+    )
   ];
   rest = kept_still old places after slot rest is.more still is.rest;
 }
 
 -- once a slot is in front, what is kept for the one from which it was begun is enough
-kept_left : (old after : List (Option Insn)) (origins' : List ℕ) (places places' : List (Option ℕ)) (slot : ℕ) (xs : List ℕ) (kept : ℕ) → ((s : ℕ) → IsDone places s → IsDone places' s) → IsDone places' slot → IsFront after origins' slot →
-    AreKeptFor old places slot xs kept → IsKept old after origins' places' xs kept
+kept_left : (old after : List (Option Insn)) (origins' : List ℕ) (places places' : List (Option ℕ)) (slot : ℕ)
+    (xs : List ℕ) (kept : ℕ)
+    → ((s : ℕ) → IsDone places s → IsDone places' s) → IsDone places' slot → IsFront after origins' slot
+    → AreKeptFor old places slot xs kept
+    → IsKept old after origins' places' xs kept
 kept_left old after origins' places places' slot [] kept still done front is = tt
 kept_left old after origins' places places' slot (top ∷ rest) kept still done front is = record {
   own = is.own;
@@ -161,48 +185,63 @@ kept_left old after origins' places places' slot (top ∷ rest) kept still done 
   enough = elim is.enough [
     | inl run ↦ inl run
     | inr (wide, last) ↦ inr (
-      λ to edge. elim (last.others to edge) [ inl same ↦ subst (λ (n : ℕ). IsDone places' n) (sym same) done | inr before ↦ still to before ],
+      λ to edge. elim (last.others to edge)
+          [ inl same ↦ subst (λ (n : ℕ). IsDone places' n) (sym same) done | inr before ↦ still to before ],
       inr (slot, last.next, front, wide),
     )
   ];
   rest = kept_still old places places' top rest is.more still is.rest;
 }
 
-module _ (old back : List (Option Insn)) (origins : List ℕ) (places : List (Option ℕ)) (opens : List Bool) (stack : List ℕ) (extra : ℕ) (budget : HasBudget old back origins places opens stack extra) (slot : ℕ) where
+module _ (old back : List (Option Insn)) (origins : List ℕ) (places : List (Option ℕ)) (opens : List Bool) (stack : List ℕ)
+    (extra : ℕ) (budget : HasBudget old back origins places opens stack extra) (slot : ℕ) where
   module _ (inside : slot < length opens) (edge : (top : ℕ) → IsTop stack top → IsEdge old top slot × (place_at places slot ≡ None)) where
     kept_new : (kept : ℕ) → kept ≡ run_at old slot + budget.kept → IsKept old back origins places (reverse (stack ++ slot ∷ [])) kept
-    kept_new kept is = subst (λ (xs : List ℕ). IsKept old back origins places xs kept) (sym (reverse_push stack slot)) (record {
-      own = run_at old slot;
-      more = budget.kept;
-      all = is;
-      enough = inl (omega arith);
-      rest = below_new old back origins places slot (reverse stack) budget.kept (λ top rest e. edge top (top_of stack top rest e)) budget.is_kept;
-    })
+    kept_new kept is =
+        subst (λ (xs : List ℕ). IsKept old back origins places xs kept) (sym (reverse_push stack slot)) (record {
+          own = run_at old slot;
+          more = budget.kept;
+          all = is;
+          enough = inl (omega arith);
+          rest =
+              below_new old back origins places slot (reverse stack) budget.kept
+              (λ top rest e. edge top (top_of stack top rest e)) budget.is_kept;
+        })
 
     -- a landing is begun
-    pub begun_landing : is_open opens slot ≡ false → IsLanding old slot → HasBudget old back origins places (slice_set opens slot true) (stack ++ slot ∷ []) extra
+    pub begun_landing : is_open opens slot ≡ false → IsLanding old slot
+        → HasBudget old back origins places (slice_set opens slot true) (stack ++ slot ∷ []) extra
     begun_landing new landing = record {
       kept = run_at old slot + budget.kept;
       is_kept = kept_new (run_at old slot + budget.kept) refl;
-      fits = λ landings has. let less = wait_less old opens slot inside landings new (has slot landing) in let before = budget.fits landings has in omega (arith, less, before);
+      fits = λ landings has.
+          let less = wait_less old opens slot inside landings new (has slot landing) in
+          let before = budget.fits landings has in omega (arith, less, before);
     }
 
-    -- another slot is begun
+    -- a slot that is no landing is begun
     pub begun_more : HasBudget old back origins places (slice_set opens slot true) (stack ++ slot ∷ []) (extra + run_at old slot)
     begun_more = record {
       kept = run_at old slot + budget.kept;
       is_kept = kept_new (run_at old slot + budget.kept) refl;
-      fits = λ landings has. let still = still_wait old opens slot inside landings in let before = budget.fits landings has in omega (arith, still, before);
+      fits = λ landings has.
+          let still = still_wait old opens slot inside landings in
+          let before = budget.fits landings has in omega (arith, still, before);
     }
 
     -- the next slot of the last one is begun
-    pub begun_next : IsLinked old → (top : ℕ) → IsTop stack top → IsLastOf old places top slot → HasBudget old back origins places (slice_set opens slot true) (stack ++ slot ∷ []) extra
+    pub begun_next : IsLinked old → (top : ℕ) → IsTop stack top → IsLastOf old places top slot
+        → HasBudget old back origins places (slice_set opens slot true) (stack ++ slot ∷ []) extra
     begun_next linked top is_top last = record {
       kept = budget.kept;
-      is_kept = subst (λ (xs : List ℕ). IsKept old back origins places xs budget.kept) (sym (reverse_push stack slot ∙ ap (λ (xs : List ℕ). slot ∷ xs) (reverse_top stack top is_top)))
+      is_kept =
+          subst (λ (xs : List ℕ). IsKept old back origins places xs budget.kept)
+          (sym (reverse_push stack slot ∙ ap (λ (xs : List ℕ). slot ∷ xs) (reverse_top stack top is_top)))
           (below_next old back origins places linked slot top (reverse (take (length stack - 1) stack)) budget.kept (edge top is_top).1 last
           (subst (λ (xs : List ℕ). IsKept old back origins places xs budget.kept) (reverse_top stack top is_top) budget.is_kept));
-      fits = λ landings has. let still = still_wait old opens slot inside landings in let before = budget.fits landings has in omega (arith, still, before);
+      fits = λ landings has.
+          let still = still_wait old opens slot inside landings in
+          let before = budget.fits landings has in omega (arith, still, before);
     }
 
   module _ (top : IsTop stack slot) where
@@ -214,29 +253,41 @@ module _ (old back : List (Option Insn)) (origins : List ℕ) (places : List (Op
     suffices = elim kept_top.enough [ inl run ↦ inl run | inr (ready, enough) ↦ enough ]
 
     -- the last slot is in front
-    pub left_budget : (back' : List (Option Insn)) (origins' : List ℕ) (places' : List (Option ℕ)) → ((s : ℕ) → IsDone places s → IsDone places' s) → IsDone places' slot → IsFront back' origins' slot →
-        length back' ≤ length back + kept_top.own → HasBudget old back' origins' places' opens (take (length stack - 1) stack) extra
+    pub left_budget : (back' : List (Option Insn)) (origins' : List ℕ) (places' : List (Option ℕ))
+        → ((s : ℕ) → IsDone places s → IsDone places' s) → IsDone places' slot → IsFront back' origins' slot
+        → length back' ≤ length back + kept_top.own
+        → HasBudget old back' origins' places' opens (take (length stack - 1) stack) extra
     left_budget back' origins' places' still done front grown = record {
       kept = kept_top.more;
-      is_kept = kept_left old back' origins' places places' slot (reverse (take (length stack - 1) stack)) kept_top.more still done front kept_top.rest;
+      is_kept =
+          kept_left old back' origins' places places' slot (reverse (take (length stack - 1) stack))
+          kept_top.more still done front kept_top.rest;
       fits = λ landings has. let before = budget.fits landings has in let all = kept_top.all in omega (arith, grown, before, all);
     }
 
 -- a program is too long whose copy is full within its budget and that of a forward order
-pub full_within : (old back : List (Option Insn)) (origins : List ℕ) (places : List (Option ℕ)) (opens : List Bool) (stack : List ℕ) (extra own most : ℕ) (d : Disorder) → IsLinked old →
-    (budget : HasBudget old back origins places opens stack extra) → own + extra ≤ budget.kept + run_at old 0 → most ≤ length back + own → IsFull most d → (long : ℕ) → IsFull long d → (4096 < long → HasLongOrder old) → IsSearchFault old d
+pub full_within : (old back : List (Option Insn)) (origins : List ℕ) (places : List (Option ℕ)) (opens : List Bool)
+    (stack : List ℕ) (extra own most : ℕ) (d : Disorder)
+    → IsLinked old → (budget : HasBudget old back origins places opens stack extra) → own + extra ≤ budget.kept + run_at old 0
+    → most ≤ length back + own → IsFull most d → (long : ℕ) → IsFull long d → (4096 < long → HasLongOrder old)
+    → IsSearchFault old d
 full_within old back origins places opens stack extra own most (Outside slot) linked budget le fits full long over order = absurd full
 full_within old back origins places opens stack extra own most (Ends slot) linked budget le fits full long over order = absurd full
 full_within old back origins places opens stack extra own most (Loop from to) linked budget le fits full long over order = absurd full
-full_within old back origins places opens stack extra own most Long linked budget le fits full long over order = (linked, λ landings has. let within = budget.fits landings has in omega (arith, within, le, fits, full), order over)
+full_within old back origins places opens stack extra own most Long linked budget le fits full long over order =
+    (linked, λ landings has. let within = budget.fits landings has in omega (arith, within, le, fits, full), order over)
 full_within old back origins places opens stack extra own most OutOfMemory linked budget le fits full long over order = tt
 
 -- before the first slot
-pub nothing_written : (old back : List (Option Insn)) (origins : List ℕ) (places : List (Option ℕ)) (opens : List Bool) (stack : List ℕ) → back ≡ [] → stack ≡ [] → HasBudget old back origins places opens stack 0
+pub nothing_written : (old back : List (Option Insn)) (origins : List ℕ) (places : List (Option ℕ))
+    (opens : List Bool) (stack : List ℕ)
+    → back ≡ [] → stack ≡ [] → HasBudget old back origins places opens stack 0
 nothing_written old back origins places opens stack nothing empty = record {
   kept = 0;
   is_kept = subst (λ (s : List ℕ). IsKept old back origins places (reverse s) 0) (sym empty) tt;
-  fits = λ landings has. let all = all_wait old opens landings in let none : length back ≡ 0 = ap length nothing in omega (arith, all, none);
+  fits =
+      λ landings has.
+      let all = all_wait old opens landings in let none : length back ≡ 0 = ap length nothing in omega (arith, all, none);
 }
 
 -- one slot is in front
@@ -248,7 +299,10 @@ front_same back origins a b p q =
     sym p.stands.origin_is ∙ (ap (λ (n : ℕ). slice_index origins n) same ∙ q.stands.origin_is)
 
 -- what stays within some slots stays within more
-pub budget_more : (old back : List (Option Insn)) (origins : List ℕ) (places : List (Option ℕ)) (opens : List Bool) (stack : List ℕ) (a b : ℕ) → a ≤ b → HasBudget old back origins places opens stack a → HasBudget old back origins places opens stack b
+pub budget_more : (old back : List (Option Insn)) (origins : List ℕ) (places : List (Option ℕ)) (opens : List Bool)
+    (stack : List ℕ) (a b : ℕ)
+    → a ≤ b → HasBudget old back origins places opens stack a
+    → HasBudget old back origins places opens stack b
 budget_more old back origins places opens stack a b le budget = record {
   kept = budget.kept;
   is_kept = budget.is_kept;
@@ -256,8 +310,9 @@ budget_more old back origins places opens stack a b le budget = record {
 }
 
 -- how control comes to a target that is not in place: by a jump, or else all others are
-pub missing_way : (old : List (Option Insn)) (places : List (Option ℕ)) (slot : ℕ) (insn : Insn) (targets : Targets) (to : ℕ) → instruction_at old slot ≡ Some insn → AreTargets old slot insn targets → IsMissing places targets to →
-    IsLanding old to ⊎ IsLastOf old places slot to
+pub missing_way : (old : List (Option Insn)) (places : List (Option ℕ)) (slot : ℕ) (insn : Insn) (targets : Targets) (to : ℕ)
+    → instruction_at old slot ≡ Some insn → AreTargets old slot insn targets → IsMissing places targets to
+    → IsLanding old to ⊎ IsLastOf old places slot to
 missing_way old places slot insn targets to here are missing = elim missing.1 [
   | inl jump ↦ inl (slot, are.jumps to jump)
   | inr (next, done) ↦ inr (record {

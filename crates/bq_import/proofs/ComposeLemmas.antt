@@ -10,7 +10,7 @@ use Rattle.bq_bpf.specs.Instructions.{distance_of, goes_on}
 use Rattle.bq_verify.specs.Edges.{IsStart}
 use Rattle.bq_insn.proofs.OptionLemmas.{some_same}
 use Rattle.bq_verify.proofs.EdgeLemmas.{leads_same, start_inside}
-use Rattle.bq_import.specs.Copies.{AreComposed, IsCopy, IsCopyAt, Stands, copied, is_reference, wide_copy}
+use Rattle.bq_import.specs.Copies.{AreComposed, IsCopy, IsCopyAt, IsCopyOfSlot, copied, is_reference, wide_copy}
 use Rattle.bq_import.proofs.PathLemmas.{copy_has_shape}
 
 -- beside no maps no number is a reference
@@ -43,35 +43,39 @@ copied_twice maps (MapRef dst index) one two = refl
 copied_twice maps (Call helper) one two = refl
 copied_twice maps Exit one two = refl
 
-module _ (maps : ℕ) (old first second : List (Option Insn)) (a b all : List ℕ) (p : IsCopy maps old first a) (q : IsCopy 0 first second b) (are : AreComposed a b all) (long : length b ≡ length second) where
+module _ (maps : ℕ) (old first second : List (Option Insn)) (a b all : List ℕ) (p : IsCopy maps old first a)
+    (q : IsCopy 0 first second b) (are : AreComposed a b all) (long : length b ≡ length second) where
   origin_of : (slot : ℕ) → IsStart second slot → slice_index all slot ≡ slice_index a (slice_index b slot)
   origin_of slot start =
       let inside = start_inside second slot start in
       ap (λ (xs : List ℕ). slice_index xs slot) are ∙ get_or-map (λ (k : ℕ). slice_index a k) b slot 0 0 (omega (arith, inside, long))
 
-  stands_on : (slot mid from : ℕ) → Stands second b slot mid → Stands first a mid from → Stands second all slot from
+  stands_on : (slot mid from : ℕ) → IsCopyOfSlot second b slot mid → IsCopyOfSlot first a mid from → IsCopyOfSlot second all slot from
   stands_on slot mid from s t = record {
     start = s.start;
     origin_is = origin_of slot s.start ∙ (ap (λ (n : ℕ). slice_index a n) s.origin_is ∙ t.origin_is);
   }
 
-  each : (slot from : ℕ) → Stands second all slot from → IsCopyAt maps old second all slot from
+  each : (slot from : ℕ) → IsCopyOfSlot second all slot from → IsCopyAt maps old second all slot from
   each slot from s =
       let mid : ℕ = slice_index b slot in
       let y = q.each slot (slice_index b slot) (record { start = s.start; origin_is = refl }) in
       let from_is : slice_index a (slice_index b slot) ≡ from = sym (origin_of slot s.start) ∙ s.origin_is in
       let x = p.each (slice_index b slot) from (record { start = record { insn = y.original; here = y.here }; origin_is = from_is }) in
-      let same : y.original ≡ copied maps x.original x.distance = some_same _ y.original (copied maps x.original x.distance) y.here x.copy in
+      let same : y.original ≡ copied maps x.original x.distance =
+      some_same _ y.original (copied maps x.original x.distance) y.here x.copy in
       let shape = copy_has_shape maps x.original x.distance in
       record {
         original = x.original;
         distance = y.distance;
         here = x.here;
-        copy = y.copy ∙ ap (λ (i : Insn). Some i) (ap (λ (i : Insn). copied 0 i y.distance) same ∙ copied_twice maps x.original x.distance y.distance);
+        copy =
+            y.copy ∙ ap (λ (i : Insn). Some i)
+            (ap (λ (i : Insn). copied 0 i y.distance) same ∙ copied_twice maps x.original x.distance y.distance);
         on = λ on.
             let goes : goes_on y.original ≡ true = ap goes_on same ∙ (shape.on ∙ on) in
             let long' : slots_of y.original ≡ slots_of x.original = ap slots_of same ∙ shape.long in
-            let there = subst (λ (n : ℕ). Stands second b (slot + n) (slice_index b slot + n)) long' (y.on goes) in
+            let there = subst (λ (n : ℕ). IsCopyOfSlot second b (slot + n) (slice_index b slot + n)) long' (y.on goes) in
             stands_on (slot + slots_of x.original) (slice_index b slot + slots_of x.original) (from + slots_of x.original) there (x.on on);
         jumps = λ far is.
             let near : distance_of y.original ≡ Some x.distance = ap distance_of same ∙ shape.jumps far is in
@@ -84,7 +88,9 @@ module _ (maps : ℕ) (old first second : List (Option Insn)) (a b all : List �
               leads = one.leads;
               lands = two.lands;
               later = two.later;
-              stands = stands_on two.landing one.landing one.target (subst (λ (n : ℕ). Stands second b two.landing n) lands two.stands) one.stands;
+              stands =
+                  stands_on two.landing one.landing one.target
+                  (subst (λ (n : ℕ). IsCopyOfSlot second b two.landing n) lands two.stands) one.stands;
             };
       }
 

@@ -4,7 +4,7 @@ use Rattle.std.proofs.lemmas.Bool.{and_parts}
 use Rattle.bq_insn.specs.declared.Insn.{Insn}
 use Rattle.bq_insn.specs.declared.Insn.TheVariants.{Alu, MovSx, Neg, End, Load, StoreImm, StoreReg, Imm64, MapRef, Goto, Goto32, Branch, Call, Exit}
 use Rattle.bq_insn.specs.Slots.{slots_of}
-use Rattle.bq_bpf.specs.declared.board.Call.{Call as Asked}
+use Rattle.bq_bpf.specs.declared.board.CounterCall.{CounterCall}
 use Rattle.bq_bpf.specs.Memory.{Setting, State, reference}
 use Rattle.bq_bpf.specs.Steps.{Takes, Step, LeadsTo, put, IsTarget}
 use Rattle.bq_bpf.specs.Runs.{Ends}
@@ -12,7 +12,7 @@ use Rattle.bq_bpf.specs.Instructions.{distance_of, goes_on}
 use Rattle.bq_insn.proofs.OptionLemmas.{some_same}
 use Rattle.bq_verify.proofs.EdgeLemmas.{leads_same}
 use Rattle.bq_import.specs.Laws.{beside}
-use Rattle.bq_import.specs.Copies.{is_reference, wide_copy, copied, Stands, JumpsAlike, IsCopy}
+use Rattle.bq_import.specs.Copies.{is_reference, wide_copy, copied, IsCopyOfSlot, JumpsAlike, IsCopy}
 use Rattle.bq_import.proofs.StepLemmas.{moved, takes_moved}
 
 -- a number that is a reference is that of the map of this number
@@ -51,37 +51,43 @@ copied_exit maps Exit distance e = e
 
 module _ (maps : ℕ) (old new : List (Option Insn)) (origin : List ℕ) (f : Setting) (as_many : length f.shapes ≡ maps) where
   -- the copy goes on from that slot, as the original does
-  pub record Ahead (s : State) (k : ℕ) (c : Option Asked) (t : State) (insn : Insn) : Type 0 where
+  pub record Ahead (s : State) (k : ℕ) (c : Option CounterCall) (t : State) (insn : Insn) : Type 0 where
     pub slot : ℕ
     pub takes : Takes (beside f new) insn (moved s k) c (moved t slot)
-    pub stands : Stands new origin slot t.slot
+    pub stands : IsCopyOfSlot new origin slot t.slot
 
   -- the original goes on, as the copy does from that slot
-  pub record Behind (s : State) (k : ℕ) (c : Option Asked) (t' : State) (insn : Insn) : Type 0 where
+  pub record Behind (s : State) (k : ℕ) (c : Option CounterCall) (t' : State) (insn : Insn) : Type 0 where
     pub state : State
     pub slot : ℕ
     pub takes : Takes (beside f old) insn s c state
     pub is : t' ≡ moved state slot
-    pub stands : Stands new origin slot state.slot
+    pub stands : IsCopyOfSlot new origin slot state.slot
 
   module _ (s : State) (k : ℕ) (distance : ℤ) where
     -- where an original goes on
     abbrev pub OnFrom : Insn → Type 0
-    OnFrom insn = goes_on insn ≡ true → Stands new origin (k + slots_of insn) (s.slot + slots_of insn)
+    OnFrom insn = goes_on insn ≡ true → IsCopyOfSlot new origin (k + slots_of insn) (s.slot + slots_of insn)
 
     abbrev pub JumpsFrom : Insn → Type 0
     JumpsFrom insn = (far : ℤ) → distance_of insn ≡ Some far → JumpsAlike new origin s.slot k far distance
 
-    straight_ahead : (insn : Insn) (c : Option Asked) (t : State) → distance_of insn ≡ None → Stands new origin (k + slots_of insn) (s.slot + slots_of insn) → Takes (beside f old) insn s c t → Ahead s k c t insn
+    straight_ahead : (insn : Insn) (c : Option CounterCall) (t : State)
+        → distance_of insn ≡ None → IsCopyOfSlot new origin (k + slots_of insn) (s.slot + slots_of insn)
+        → Takes (beside f old) insn s c t
+        → Ahead s k c t insn
     straight_ahead insn c t d on p =
         let there = takes_moved (beside f old) new k insn s c t d p in
         record {
           slot = k + slots_of insn;
           takes = there.0;
-          stands = subst (λ (n : ℕ). Stands new origin (k + slots_of insn) n) (sym there.1) on;
+          stands = subst (λ (n : ℕ). IsCopyOfSlot new origin (k + slots_of insn) n) (sym there.1) on;
         }
 
-    straight_behind : (insn : Insn) (c : Option Asked) (t' : State) → distance_of insn ≡ None → Stands new origin (k + slots_of insn) (s.slot + slots_of insn) → Takes (beside f new) insn (moved s k) c t' → Behind s k c t' insn
+    straight_behind : (insn : Insn) (c : Option CounterCall) (t' : State)
+        → distance_of insn ≡ None → IsCopyOfSlot new origin (k + slots_of insn) (s.slot + slots_of insn)
+        → Takes (beside f new) insn (moved s k) c t'
+        → Behind s k c t' insn
     straight_behind insn c t' d on p =
         let there = takes_moved (beside f new) old s.slot insn (moved s k) c t' d p in
         record {
@@ -92,20 +98,36 @@ module _ (maps : ℕ) (old new : List (Option Insn)) (origin : List ℕ) (f : Se
           stands = on;
         }
 
-    jump_ahead : (far : ℤ) (t : State) (to : ℕ) → JumpsAlike new origin s.slot k far distance → LeadsTo s.slot far to → t ≡ record s { slot = to } →
-        (slot : ℕ) × LeadsTo k distance slot × (moved t slot ≡ moved s slot) × Stands new origin slot t.slot
+    jump_ahead : (far : ℤ) (t : State) (to : ℕ) → JumpsAlike new origin s.slot k far distance → LeadsTo s.slot far to
+        → t ≡ record s { slot = to }
+        → (slot : ℕ) × LeadsTo k distance slot × (moved t slot ≡ moved s slot) × IsCopyOfSlot new origin slot t.slot
     jump_ahead far t to alike leads e =
-        let same : alike.target ≡ t.slot = leads_same s.slot alike.target to far alike.leads leads ∙ sym (ap (λ (v : State). v.slot) e) in
-        (alike.landing, alike.lands, ap (λ (v : State). moved v alike.landing) e, subst (λ (n : ℕ). Stands new origin alike.landing n) same alike.stands)
+        let same : alike.target ≡ t.slot = leads_same s.slot alike.target to far alike.leads leads ∙ sym (ap (λ (v : State). v.slot) e) in (
+          alike.landing,
+          alike.lands,
+          ap (λ (v : State). moved v alike.landing) e,
+          subst (λ (n : ℕ). IsCopyOfSlot new origin alike.landing n) same alike.stands,
+        )
 
     jump_behind : (far : ℤ) (t' : State) (to : ℕ) → JumpsAlike new origin s.slot k far distance → LeadsTo k distance to → t' ≡ moved s to →
-        (target : ℕ) × LeadsTo s.slot far target × (t' ≡ moved s to) × Stands new origin to target
-    jump_behind far t' to alike leads e =
-        (alike.target, alike.leads, e, subst (λ (n : ℕ). Stands new origin n alike.target) (leads_same k alike.landing to distance alike.lands leads) alike.stands)
+        (target : ℕ) × LeadsTo s.slot far target × (t' ≡ moved s to) × IsCopyOfSlot new origin to target
+    jump_behind far t' to alike leads e = (
+      alike.target,
+      alike.leads,
+      e,
+      subst (λ (n : ℕ). IsCopyOfSlot new origin n alike.target)
+          (leads_same k alike.landing to distance alike.lands leads) alike.stands,
+    )
 
-    wide_ahead : (b : Bool) (dst value : ℕ) (t : State) → is_reference maps value ≡ b → Stands new origin (k + 2) (s.slot + 2) → IsTarget dst → t ≡ put s 2 dst value → Ahead s k None t (wide_copy b dst value)
+    wide_ahead : (b : Bool) (dst value : ℕ) (t : State) → is_reference maps value ≡ b
+        → IsCopyOfSlot new origin (k + 2) (s.slot + 2) → IsTarget dst → t ≡ put s 2 dst value
+        → Ahead s k None t (wide_copy b dst value)
     wide_ahead false dst value t is on target e =
-        record { slot = k + 2; takes = (target, ap (λ (v : State). moved v (k + 2)) e); stands = subst (λ (n : ℕ). Stands new origin (k + 2) n) (sym (ap (λ (v : State). v.slot) e)) on }
+        record {
+          slot = k + 2;
+          takes = (target, ap (λ (v : State). moved v (k + 2)) e);
+          stands = subst (λ (n : ℕ). IsCopyOfSlot new origin (k + 2) n) (sym (ap (λ (v : State). v.slot) e)) on;
+        }
     wide_ahead true dst value t is on target e =
         let r = reference_refers maps value is in
         record {
@@ -117,13 +139,16 @@ module _ (maps : ℕ) (old new : List (Option Insn)) (origin : List ℕ) (f : Se
             target,
             ap (λ (v : State). moved v (k + 2)) e ∙ ap (λ (n : ℕ). put (moved s k) 2 dst n) (sym r.is),
           );
-          stands = subst (λ (n : ℕ). Stands new origin (k + 2) n) (sym (ap (λ (v : State). v.slot) e)) on;
+          stands = subst (λ (n : ℕ). IsCopyOfSlot new origin (k + 2) n) (sym (ap (λ (v : State). v.slot) e)) on;
         }
 
     no_pos : (m n : ℕ) → pos m ≡ pos n → m ≡ n
     no_pos m n e = cc
 
-    wide_behind : (b : Bool) (dst value : ℕ) (c : Option Asked) (t' : State) → is_reference maps value ≡ b → Stands new origin (k + 2) (s.slot + 2) → Takes (beside f new) (wide_copy b dst value) (moved s k) c t' → Behind s k c t' (Imm64 dst value)
+    wide_behind : (b : Bool) (dst value : ℕ) (c : Option CounterCall) (t' : State)
+        → is_reference maps value ≡ b → IsCopyOfSlot new origin (k + 2) (s.slot + 2)
+        → Takes (beside f new) (wide_copy b dst value) (moved s k) c t'
+        → Behind s k c t' (Imm64 dst value)
     wide_behind false dst value c t' is on p = straight_behind (Imm64 dst value) c t' refl on p
     wide_behind true dst value (Some c) t' is on (asks, fits, e) = absurd asks
     wide_behind true dst value None t' is on (m, number, there, target, e) =
@@ -137,7 +162,9 @@ module _ (maps : ℕ) (old new : List (Option Insn)) (origin : List ℕ) (f : Se
           stands = on;
         }
 
-    pub takes_ahead : (insn : Insn) (c : Option Asked) (t : State) → OnFrom insn → JumpsFrom insn → Takes (beside f old) insn s c t → Ahead s k c t (copied maps insn distance)
+    pub takes_ahead : (insn : Insn) (c : Option CounterCall) (t : State)
+        → OnFrom insn → JumpsFrom insn → Takes (beside f old) insn s c t
+        → Ahead s k c t (copied maps insn distance)
     takes_ahead (Alu w op dst src) c t on jumps p = straight_ahead (Alu w op dst src) c t refl (on refl) p
     takes_ahead (MovSx w bits dst src) c t on jumps p = straight_ahead (MovSx w bits dst src) c t refl (on refl) p
     takes_ahead (Neg w dst) c t on jumps p = straight_ahead (Neg w dst) c t refl (on refl) p
@@ -164,13 +191,15 @@ module _ (maps : ℕ) (old new : List (Option Insn)) (origin : List ℕ) (f : Se
         record {
           slot = k + 1;
           takes = (a, b, left, right, inr (failed, ap (λ (v : State). moved v (k + 1)) e));
-          stands = subst (λ (n : ℕ). Stands new origin (k + 1) n) (sym (ap (λ (v : State). v.slot) e)) (on refl);
+          stands = subst (λ (n : ℕ). IsCopyOfSlot new origin (k + 1) n) (sym (ap (λ (v : State). v.slot) e)) (on refl);
         }
     takes_ahead (Branch w cond dst src off) (Some c) t on jumps (asks, fits, e) = absurd asks
     takes_ahead Exit None t on jumps p = absurd p
     takes_ahead Exit (Some c) t on jumps (asks, fits, e) = absurd asks
 
-    pub takes_behind : (insn : Insn) (c : Option Asked) (t' : State) → OnFrom insn → JumpsFrom insn → Takes (beside f new) (copied maps insn distance) (moved s k) c t' → Behind s k c t' insn
+    pub takes_behind : (insn : Insn) (c : Option CounterCall) (t' : State)
+        → OnFrom insn → JumpsFrom insn → Takes (beside f new) (copied maps insn distance) (moved s k) c t'
+        → Behind s k c t' insn
     takes_behind (Alu w op dst src) c t' on jumps p = straight_behind (Alu w op dst src) c t' refl (on refl) p
     takes_behind (MovSx w bits dst src) c t' on jumps p = straight_behind (MovSx w bits dst src) c t' refl (on refl) p
     takes_behind (Neg w dst) c t' on jumps p = straight_behind (Neg w dst) c t' refl (on refl) p
@@ -199,41 +228,66 @@ module _ (maps : ℕ) (old new : List (Option Insn)) (origin : List ℕ) (f : Se
     takes_behind Exit (Some c) t' on jumps (asks, fits, e) = absurd asks
 
   -- the copy takes a step as the original does
-  pub record StepAhead (s : State) (k : ℕ) (c : Option Asked) (t : State) : Type 0 where
+  pub record StepAhead (s : State) (k : ℕ) (c : Option CounterCall) (t : State) : Type 0 where
     pub slot : ℕ
     pub step : Step (beside f new) (moved s k) c (moved t slot)
-    pub stands : Stands new origin slot t.slot
+    pub stands : IsCopyOfSlot new origin slot t.slot
 
-  pub record StepBehind (s : State) (k : ℕ) (c : Option Asked) (t' : State) : Type 0 where
+  pub record StepBehind (s : State) (k : ℕ) (c : Option CounterCall) (t' : State) : Type 0 where
     pub state : State
     pub slot : ℕ
     pub step : Step (beside f old) s c state
     pub is : t' ≡ moved state slot
-    pub stands : Stands new origin slot state.slot
+    pub stands : IsCopyOfSlot new origin slot state.slot
 
   module _ (copy : IsCopy maps old new origin) where
-    pub step_ahead : (s : State) (k : ℕ) (c : Option Asked) (t : State) → Stands new origin k s.slot → Step (beside f old) s c t → StepAhead s k c t
+    pub step_ahead : (s : State) (k : ℕ) (c : Option CounterCall) (t : State)
+        → IsCopyOfSlot new origin k s.slot → Step (beside f old) s c t → StepAhead s k c t
     step_ahead s k c t stands step =
         let at = copy.each k s.slot stands in
         let same = some_same _ step.insn at.original step.here at.here in
-        let ahead = takes_ahead s k at.distance at.original c t at.on at.jumps (subst (λ (i : Insn). Takes (beside f old) i s c t) same step.takes) in
-        record { slot = ahead.slot; step = record { insn = copied maps at.original at.distance; here = at.copy; takes = ahead.takes }; stands = ahead.stands }
+        let ahead =
+        takes_ahead s k at.distance at.original c t at.on at.jumps
+        (subst (λ (i : Insn). Takes (beside f old) i s c t) same step.takes) in
+        record {
+          slot = ahead.slot;
+          step = record { insn = copied maps at.original at.distance; here = at.copy; takes = ahead.takes };
+          stands = ahead.stands;
+        }
 
-    pub step_behind : (s : State) (k : ℕ) (c : Option Asked) (t' : State) → Stands new origin k s.slot → Step (beside f new) (moved s k) c t' → StepBehind s k c t'
+    pub step_behind : (s : State) (k : ℕ) (c : Option CounterCall) (t' : State)
+        → IsCopyOfSlot new origin k s.slot → Step (beside f new) (moved s k) c t' → StepBehind s k c t'
     step_behind s k c t' stands step =
         let at = copy.each k s.slot stands in
         let same = some_same _ step.insn (copied maps at.original at.distance) step.here at.copy in
-        let behind = takes_behind s k at.distance at.original c t' at.on at.jumps (subst (λ (i : Insn). Takes (beside f new) i (moved s k) c t') same step.takes) in
-        record { state = behind.state; slot = behind.slot; step = record { insn = at.original; here = at.here; takes = behind.takes }; is = behind.is; stands = behind.stands }
+        let behind =
+        takes_behind s k at.distance at.original c t' at.on at.jumps
+        (subst (λ (i : Insn). Takes (beside f new) i (moved s k) c t') same step.takes) in
+        record {
+          state = behind.state;
+          slot = behind.slot;
+          step = record { insn = at.original; here = at.here; takes = behind.takes };
+          is = behind.is;
+          stands = behind.stands;
+        }
 
-    pub ends_ahead : (s : State) (k answer : ℕ) (after : List (List ℕ)) → Stands new origin k s.slot → Ends (beside f old) s answer after → Ends (beside f new) (moved s k) answer after
+    pub ends_ahead : (s : State) (k answer : ℕ) (after : List (List ℕ))
+        → IsCopyOfSlot new origin k s.slot → Ends (beside f old) s answer after
+        → Ends (beside f new) (moved s k) answer after
     ends_ahead s k answer after stands ends =
         let at = copy.each k s.slot stands in
         let same : at.original ≡ Exit = some_same _ at.original Exit at.here ends.here in
-        record { here = at.copy ∙ ap (λ (i : Insn). Some (copied maps i at.distance)) same; answer_is = ends.answer_is; maps_are = ends.maps_are }
+        record {
+          here = at.copy ∙ ap (λ (i : Insn). Some (copied maps i at.distance)) same;
+          answer_is = ends.answer_is;
+          maps_are = ends.maps_are;
+        }
 
-    pub ends_behind : (s : State) (k answer : ℕ) (after : List (List ℕ)) → Stands new origin k s.slot → Ends (beside f new) (moved s k) answer after → Ends (beside f old) s answer after
+    pub ends_behind : (s : State) (k answer : ℕ) (after : List (List ℕ))
+        → IsCopyOfSlot new origin k s.slot → Ends (beside f new) (moved s k) answer after
+        → Ends (beside f old) s answer after
     ends_behind s k answer after stands ends =
         let at = copy.each k s.slot stands in
-        let same : at.original ≡ Exit = copied_exit maps at.original at.distance (some_same _ (copied maps at.original at.distance) Exit at.copy ends.here) in
+        let same : at.original ≡ Exit =
+        copied_exit maps at.original at.distance (some_same _ (copied maps at.original at.distance) Exit at.copy ends.here) in
         record { here = at.here ∙ ap (λ (i : Insn). Some i) same; answer_is = ends.answer_is; maps_are = ends.maps_are }

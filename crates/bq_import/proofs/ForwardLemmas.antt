@@ -18,14 +18,19 @@ use Rattle.bq_import.proofs.RoomLemmas.{one_slot}
 use Rattle.bq_import.proofs.StackLemmas.{equal_or_not, now_set, still_set}
 
 -- from the instructions of a forward order control stays in it
-goes_in : (slots : List (Option Insn)) (order : List ℕ) → IsForwardOrder slots order → (from next : ℕ) → IsIn order from → IsEdge slots from next → IsIn order next
+goes_in : (slots : List (Option Insn)) (order : List ℕ) → IsForwardOrder slots order → (from next : ℕ) → IsIn order from
+    → IsEdge slots from next
+    → IsIn order next
 goes_in slots [] forward from next at edge = absurd at
 goes_in slots (first ∷ later) forward from next (inl e) edge = inr (forward.3 next (subst (λ (n : ℕ). IsEdge slots n next) e edge))
 goes_in slots (first ∷ later) forward from next (inr more) edge = inr (goes_in slots later forward.4 from next more edge)
 
-stays_in : (slots : List (Option Insn)) (order : List ℕ) → IsForwardOrder slots order → (from : ℕ) (way : List ℕ) → IsIn order from → IsPath slots from way → IsIn order (end_of from way)
+stays_in : (slots : List (Option Insn)) (order : List ℕ) → IsForwardOrder slots order
+    → (from : ℕ) (way : List ℕ) → IsIn order from → IsPath slots from way
+    → IsIn order (end_of from way)
 stays_in slots order forward from [] at path = at
-stays_in slots order forward from (next ∷ way) at (edge, path) = stays_in slots order forward next way (goes_in slots order forward from next at edge) path
+stays_in slots order forward from (next ∷ way) at (edge, path) =
+    stays_in slots order forward next way (goes_in slots order forward from next at edge) path
 
 -- an order that begins with a slot has it in front
 begins_so : (order : List ℕ) (slot : ℕ) → begins_with order slot ≡ true → (later : List ℕ) × (order ≡ slot ∷ later)
@@ -56,7 +61,8 @@ module _ (old back : List (Option Insn)) (origins : List ℕ) (places : List (Op
           ]
 
   module _ (slot : ℕ) (start : IsStart old slot) where
-    share_is : (b : Bool) → begins_with counted.order (slot + width_at old slot) ≡ b → share old slot counted.order ≡ (if b then width_at old slot else run_at old slot)
+    share_is : (b : Bool) → begins_with counted.order (slot + width_at old slot) ≡ b
+        → share old slot counted.order ≡ (if b then width_at old slot else run_at old slot)
     share_is b e = ap (λ (v : Bool). if v then width_at old slot else run_at old slot) e
 
     -- its share of slots is enough to put the instruction in front
@@ -66,7 +72,8 @@ module _ (old back : List (Option Insn)) (origins : List ℕ) (places : List (Op
         wide : width_at old slot ≡ slots_of start.insn
         wide = ap width_of start.here
 
-        by : (on : Bool) → goes_on start.insn ≡ on → (b : Bool) → begins_with counted.order (slot + width_at old slot) ≡ b → Suffices old back origins slot (share old slot counted.order)
+        by : (on : Bool) → goes_on start.insn ≡ on → (b : Bool) → begins_with counted.order (slot + width_at old slot) ≡ b
+            → Suffices old back origins slot (share old slot counted.order)
         by on e false begins = inl (let is = share_is false begins in omega (arith, is))
         by true e true begins =
             let is = share_is true begins in
@@ -96,11 +103,14 @@ module _ (old back : List (Option Insn)) (origins : List ℕ) (places : List (Op
 
       -- an order is too long whose copy does not fit with this instruction
       pub too_long : 4096 < length back + share old slot counted.order → HasLongOrder old
-      too_long over = let short = counted.short in record { order = slot ∷ counted.order; forward = one_more; long = omega (arith, short, over) }
+      too_long over =
+          let short = counted.short in
+          record { order = slot ∷ counted.order; forward = one_more; long = omega (arith, short, over) }
 
       -- the order once the instruction is in front
-      pub counted_more : (place : ℕ) → slot < length places → (back' : List (Option Insn)) (origins' : List ℕ) → IsFront back' origins' slot → length back' ≤ length back + share old slot counted.order →
-          IsCounted old back' origins' (slice_set places slot (Some place))
+      pub counted_more : (place : ℕ) → slot < length places → (back' : List (Option Insn)) (origins' : List ℕ)
+          → IsFront back' origins' slot → length back' ≤ length back + share old slot counted.order
+          → IsCounted old back' origins' (slice_set places slot (Some place))
       counted_more place inside back' origins' front grown = record {
         order = slot ∷ counted.order;
         forward = one_more;

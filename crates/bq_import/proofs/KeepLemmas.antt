@@ -7,11 +7,11 @@ use Rattle.bq_insn.specs.Slots.{slots_of, spread}
 use Rattle.bq_bpf.specs.Steps.{instruction_at}
 use Rattle.bq_verify.specs.Edges.{IsEdge, IsStart}
 use Rattle.bq_verify.specs.Paths.{Path}
-use Rattle.bq_verify.specs.Passes.{IsOf}
+use Rattle.bq_verify.specs.Passes.{IsAmongTargets}
 use Rattle.bq_verify.specs.declared.edges.Targets.{Targets}
 use Rattle.bq_insn.proofs.OptionLemmas.{some_same, some_none}
 use Rattle.bq_verify.proofs.EdgeLemmas.{start_inside, IsPath-push, end_of-push}
-use Rattle.bq_import.specs.Copies.{Stands}
+use Rattle.bq_import.specs.Copies.{IsCopyOfSlot}
 use Rattle.bq_import.specs.Backward.{IsBuilt, IsFront, IsLengthened, IsOneMore}
 use Rattle.bq_import.specs.Faults.{AllForward, HasGaps, IsFull, IsLinked}
 use Rattle.bq_import.specs.declared.fault.Disorder.{Disorder}
@@ -37,7 +37,9 @@ path_further slots a b c p edge = record {
 }
 
 -- the first slot is found
-pub first_found : (slots : List (Option Insn)) (blank found : List Bool) → IsStart slots 0 → ((k : ℕ) → is_open blank k ≡ false) → length blank ≡ length slots → IsMarked blank (Some 0) found → AreFollowed slots 0 found
+pub first_found : (slots : List (Option Insn)) (blank found : List Bool)
+    → IsStart slots 0 → ((k : ℕ) → is_open blank k ≡ false) → length blank ≡ length slots → IsMarked blank (Some 0) found
+    → AreFollowed slots 0 found
 first_found slots blank found start none room m =
     let inside = start_inside slots 0 start in
     let zero_only : (k : ℕ) → is_open found k ≡ true → k ≡ 0 = λ k e. elim (m.only k e) [
@@ -53,7 +55,8 @@ first_found slots blank found start none room m =
     }
 
 -- from a slot that control does not come to nothing is followed
-pub not_followed : (slots : List (Option Insn)) (slot : ℕ) (found : List Bool) → is_open found slot ≡ false → AreFollowed slots slot found → AreFollowed slots (slot + 1) found
+pub not_followed : (slots : List (Option Insn)) (slot : ℕ) (found : List Bool)
+    → is_open found slot ≡ false → AreFollowed slots slot found → AreFollowed slots (slot + 1) found
 not_followed slots slot found shut p = record {
   room = p.room;
   begins = p.begins;
@@ -65,14 +68,16 @@ not_followed slots slot found shut p = record {
   ];
 }
 
-module _ (slots : List (Option Insn)) (slot : ℕ) (insn : Insn) (targets : Targets) (are : AreTargets slots slot insn targets) (forward : AllForward slots) (found one two : List Bool) (p : AreFollowed slots slot found) (here : is_open found slot ≡ true) (a : IsMarked found targets.next one) (b : IsMarked one targets.jump two) where
-  found_by : (k : ℕ) → is_open two k ≡ true → (is_open found k ≡ true) ⊎ IsOf targets k
+module _ (slots : List (Option Insn)) (slot : ℕ) (insn : Insn) (targets : Targets) (are : AreTargets slots slot insn targets)
+    (forward : AllForward slots) (found one two : List Bool) (p : AreFollowed slots slot found)
+    (here : is_open found slot ≡ true) (a : IsMarked found targets.next one) (b : IsMarked one targets.jump two) where
+  found_by : (k : ℕ) → is_open two k ≡ true → (is_open found k ≡ true) ⊎ IsAmongTargets targets k
   found_by k e = elim (b.only k e) [
     | inl was ↦ elim (a.only k was) [ inl first ↦ inl first | inr next ↦ inr (inl next) ]
     | inr jump ↦ inr (inr jump)
   ]
 
-  target_found : (to : ℕ) → IsOf targets to → is_open two to ≡ true
+  target_found : (to : ℕ) → IsAmongTargets targets to → is_open two to ≡ true
   target_found to of =
       let inside = start_inside slots to (are.starts to of) in
       let room = p.room in
@@ -87,7 +92,8 @@ module _ (slots : List (Option Insn)) (slot : ℕ) (insn : Insn) (targets : Targ
     room = b.long ∙ (a.long ∙ p.room);
     begins = b.kept 0 (a.kept 0 p.begins);
     starts = λ k e. elim (found_by k e) [ inl was ↦ p.starts k was | inr of ↦ are.starts k of ];
-    ways = λ k e. elim (found_by k e) [ inl was ↦ p.ways k was | inr of ↦ path_further slots 0 slot k (p.ways slot here) (are.out.only k of) ];
+    ways = λ k e. elim (found_by k e)
+        [ inl was ↦ p.ways k was | inr of ↦ path_further slots 0 slot k (p.ways slot here) (are.out.only k of) ];
     closed = λ k to lt e edge. elim (same_or_not k slot) [
       | inl same ↦ target_found to (are.out.each to (subst (λ (n : ℕ). IsEdge slots n to) same edge))
       | inr apart ↦ elim (found_by k e) [
@@ -98,7 +104,8 @@ module _ (slots : List (Option Insn)) (slot : ℕ) (insn : Insn) (targets : Targ
   }
 
 -- past the last slot all is followed
-pub all_followed : (slots : List (Option Insn)) (bound : ℕ) (found : List Bool) → length slots ≤ bound → AreFollowed slots bound found → AreReached slots found
+pub all_followed : (slots : List (Option Insn)) (bound : ℕ) (found : List Bool)
+    → length slots ≤ bound → AreFollowed slots bound found → AreReached slots found
 all_followed slots bound found past p = record {
   room = p.room;
   begins = p.begins;
@@ -108,10 +115,15 @@ all_followed slots bound found past p = record {
 }
 
 -- before the last instruction
-pub nothing_kept : (maps : ℕ) (old : List (Option Insn)) (found : List Bool) (back : List (Option Insn)) (origins : List ℕ) (places : List (Option ℕ)) → AreReached old found → IsBuilt maps old back origins → back ≡ [] → ((k : ℕ) → place_at places k ≡ None) → length places ≡ length old → IsKeeping maps old found (length old) back origins places
+pub nothing_kept : (maps : ℕ) (old : List (Option Insn)) (found : List Bool) (back : List (Option Insn))
+    (origins : List ℕ) (places : List (Option ℕ))
+    → AreReached old found → IsBuilt maps old back origins → back ≡ [] → ((k : ℕ) → place_at places k ≡ None)
+    → length places ≡ length old
+    → IsKeeping maps old found (length old) back origins places
 nothing_kept maps old found back origins places r built empty none room =
     let blank : length back ≡ 0 = ap length empty in
-    let no_start : (place : ℕ) → IsStart back place → ⊥ = λ place start. let inside = start_inside back place start in omega (arith, inside, blank) in
+    let no_start : (place : ℕ) → IsStart back place → ⊥ =
+    λ place start. let inside = start_inside back place start in omega (arith, inside, blank) in
     record {
       built = built;
       known = λ slot place e. absurd (some_none _ place e (none slot));
@@ -124,7 +136,9 @@ nothing_kept maps old found back origins places r built empty none room =
       fits = record { from = length old; above = omega arith; is = inl refl; fits = omega (arith, blank) };
     }
 
-module _ (maps : ℕ) (old : List (Option Insn)) (found : List Bool) (slot : ℕ) (back : List (Option Insn)) (origins : List ℕ) (places : List (Option ℕ)) (reached : AreReached old found) (at : IsKeeping maps old found (slot + 1) back origins places) where
+module _ (maps : ℕ) (old : List (Option Insn)) (found : List Bool) (slot : ℕ) (back : List (Option Insn))
+    (origins : List ℕ) (places : List (Option ℕ)) (reached : AreReached old found)
+    (at : IsKeeping maps old found (slot + 1) back origins places) where
   -- what control does not come to is passed over
   pub passed_over : is_open found slot ≡ false → IsKeeping maps old found slot back origins places
   passed_over shut =
@@ -146,7 +160,8 @@ module _ (maps : ℕ) (old : List (Option Insn)) (found : List Bool) (slot : ℕ
         fits = record { from = room.from; above = omega (arith, high); is = room.is; fits = room.fits };
       }
 
-  module _ (linked : IsLinked old) (forward : AllForward old) (gaps : HasGaps old) (here : is_open found slot ≡ true) (insn : Insn) (begins : instruction_at old slot ≡ Some insn) where
+  module _ (linked : IsLinked old) (forward : AllForward old) (gaps : HasGaps old) (here : is_open found slot ≡ true)
+      (insn : Insn) (begins : instruction_at old slot ≡ Some insn) where
     -- there is room for it
     pub enough_room : (length back + slots_of insn + slot ≤ length old)
     enough_room =
@@ -182,12 +197,15 @@ module _ (maps : ℕ) (old : List (Option Insn)) (found : List Bool) (slot : ℕ
         at.front n (omega (arith, later)) (reached.closed slot n here (are.out.only n (inl is)))
         (λ j above below e. gaps slot insn begins j (omega (arith, above)) (omega (arith, below, behind)) (reached.starts j e))
 
-    module _ (back' : List (Option Insn)) (origins' : List ℕ) (more : IsLengthened maps old back origins back' origins' slot) (grown : length back' ≡ length back + slots_of insn) (was : IsOneMore back origins back' origins' slot) where
+    module _ (back' : List (Option Insn)) (origins' : List ℕ) (more : IsLengthened maps old back origins back' origins' slot)
+        (grown : length back' ≡ length back + slots_of insn) (was : IsOneMore back origins back' origins' slot) where
       place : ℕ
       place = length back' - 1
 
       in_places : slot < length places
-      in_places = let inside = start_inside old slot (record { insn = insn; here = begins }) in let room = at.room in omega (arith, inside, room)
+      in_places =
+          let inside = start_inside old slot (record { insn = insn; here = begins }) in
+          let room = at.room in omega (arith, inside, room)
 
       set_here : place_at (slice_set places slot (Some place)) slot ≡ Some place
       set_here = get_or-set_same places slot (Some place) None in_places
@@ -195,19 +213,21 @@ module _ (maps : ℕ) (old : List (Option Insn)) (found : List Bool) (slot : ℕ
       set_other : (k : ℕ) → k ≢ slot → place_at (slice_set places slot (Some place)) k ≡ place_at places k
       set_other k apart = get_or-set_other places slot k (Some place) None apart
 
-      front_there : Stands back' origins' place slot
+      front_there : IsCopyOfSlot back' origins' place slot
       unfolding place
       front_there =
           let front = more.front in
           let is = front.place_is in
           let same : front.place ≡ length back' - 1 = omega (arith, is) in
-          subst (λ (n : ℕ). Stands back' origins' n slot) same front.stands
+          subst (λ (n : ℕ). IsCopyOfSlot back' origins' n slot) same front.stands
 
       known_now : AreKnown back' origins' (slice_set places slot (Some place))
       known_now k p e = elim (same_or_not k slot) [
         | inl same ↦
-            let is : place ≡ p = some_same _ place p set_here (ap (λ (n : ℕ). place_at (slice_set places slot (Some place)) n) (sym same) ∙ e) in
-            subst (λ (n : ℕ). Stands back' origins' n k) is (subst (λ (n : ℕ). Stands back' origins' place n) (sym same) front_there)
+            let is : place ≡ p =
+            some_same _ place p set_here (ap (λ (n : ℕ). place_at (slice_set places slot (Some place)) n) (sym same) ∙ e) in
+            subst (λ (n : ℕ). IsCopyOfSlot back' origins' n k) is
+            (subst (λ (n : ℕ). IsCopyOfSlot back' origins' place n) (sym same) front_there)
         | inr apart ↦ more.keeps p k (at.known k p (sym (set_other k apart) ∙ e))
       ]
 
@@ -217,7 +237,7 @@ module _ (maps : ℕ) (old : List (Option Insn)) (found : List Bool) (slot : ℕ
         | inr apart ↦ let done = at.done k (omega (arith, le, apart)) e in (done.0, set_other k apart ∙ done.1)
       ]
 
-      once_now : (p from : ℕ) → Stands back' origins' p from → place_at (slice_set places slot (Some place)) from ≡ Some p
+      once_now : (p from : ℕ) → IsCopyOfSlot back' origins' p from → place_at (slice_set places slot (Some place)) from ≡ Some p
       unfolding place
       once_now p from s = elim (was.only p from s) [
         | inl old_one ↦
@@ -237,14 +257,21 @@ module _ (maps : ℕ) (old : List (Option Insn)) (found : List Bool) (slot : ℕ
             known = known_now;
             room = length-set places slot (Some (length back' - 1)) ∙ at.room;
             done = done_now;
-            above = λ p from s. elim (was.only p from s) [ inl old_one ↦ let above = at.above p from old_one in omega (arith, above) | inr (last, is) ↦ omega (arith, is) ];
-            comes = λ p from s. elim (was.only p from s) [ inl old_one ↦ at.comes p from old_one | inr (last, is) ↦ subst (λ (n : ℕ). is_open found n ≡ true) (sym is) here ];
+            above = λ p from s. elim (was.only p from s)
+                [ inl old_one ↦ let above = at.above p from old_one in omega (arith, above) | inr (last, is) ↦ omega (arith, is) ];
+            comes = λ p from s. elim (was.only p from s)
+                [ inl old_one ↦ at.comes p from old_one | inr (last, is) ↦ subst (λ (n : ℕ). is_open found n ≡ true) (sym is) here ];
             once = once_now;
             front = λ k le e least. elim (same_or_not k slot) [
               | inl same ↦ subst (λ (n : ℕ). IsFront back' origins' n) (sym same) more.front
               | inr apart ↦ absurd (least slot (omega arith) (omega (arith, le, apart)) here)
             ];
-            fits = record { from = slot; above = omega arith; is = inr (record { insn = insn; here = begins }); fits = omega (arith, room, grown) };
+            fits = record {
+              from = slot;
+              above = omega arith;
+              is = inr (record { insn = insn; here = begins });
+              fits = omega (arith, room, grown);
+            };
           }
 
 -- instructions stand one after another: none begins within another
@@ -271,7 +298,8 @@ spread_has_gaps (i ∷ rest) zero insn here (suc j) lt below start =
     none_in_gap (slots_of i - 1) j (spread rest) (omega (arith, below, long)) (record { insn = start.insn; here = start.here })
 spread_has_gaps (i ∷ rest) (suc slot) insn here zero lt below start = absurd (omega (arith, lt))
 spread_has_gaps (i ∷ rest) (suc slot) insn here (suc j) lt below start =
-    gap_apart (slots_of i - 1) (spread rest) (spread_has_gaps rest) slot insn here j (omega (arith, lt)) (omega (arith, below)) (record { insn = start.insn; here = start.here })
+    gap_apart (slots_of i - 1) (spread rest) (spread_has_gaps rest) slot insn here j (omega (arith, lt))
+    (omega (arith, below)) (record { insn = start.insn; here = start.here })
 
 -- where there is room only memory can be wanted
 pub only_memory : (most : ℕ) (d : Disorder) → most ≤ 4096 → IsFull most d → d ≡ OutOfMemory

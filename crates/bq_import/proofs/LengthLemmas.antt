@@ -16,18 +16,25 @@ use Rattle.bq_import.specs.Search.{IsNext}
 use Rattle.bq_import.proofs.RoomLemmas.{enough, one_slot}
 
 -- the run, by the first of its slots
-run_here : (slots : List (Option Insn)) (slot : ℕ) (o : Option Insn) → slot < length slots → instruction_at slots slot ≡ o → run_at slots slot ≡ run_of (o ∷ drop (slot + 1) slots)
-run_here slots slot o inside here = at_drop_more run_of slots slot None inside ∙ ap (λ (v : Option Insn). run_of (v ∷ drop (slot + 1) slots)) here
+run_here : (slots : List (Option Insn)) (slot : ℕ) (o : Option Insn)
+    → slot < length slots → instruction_at slots slot ≡ o
+    → run_at slots slot ≡ run_of (o ∷ drop (slot + 1) slots)
+run_here slots slot o inside here =
+    at_drop_more run_of slots slot None inside ∙ ap (λ (v : Option Insn). run_of (v ∷ drop (slot + 1) slots)) here
 
 -- from an instruction that goes on
-run_on_from : (slots : List (Option Insn)) (slot : ℕ) (insn : Insn) → instruction_at slots slot ≡ Some insn → goes_on insn ≡ true → run_at slots slot ≡ 1 + run_at slots (slot + 1)
+run_on_from : (slots : List (Option Insn)) (slot : ℕ) (insn : Insn)
+    → instruction_at slots slot ≡ Some insn → goes_on insn ≡ true
+    → run_at slots slot ≡ 1 + run_at slots (slot + 1)
 run_on_from slots slot insn here on =
     run_here slots slot (Some insn) (start_inside slots slot (record { insn = insn; here = here })) here
     ∙ ap (λ (b : Bool). if b then 1 + run_of (drop (slot + 1) slots) else 1) on
 
 -- the run ends where that from the next instruction ends
-pub run_next : (slots : List (Option Insn)) (slot next : ℕ) → IsLinked slots → IsNext slots slot next → next + run_at slots next ≡ slot + run_at slots slot
-run_next slots slot next linked n = elim (one_or_two n.insn) [ inl one ↦ by_one one | inr two ↦ by_two two (instruction_at slots (slot + 1)) refl ]
+pub run_next : (slots : List (Option Insn)) (slot next : ℕ) → IsLinked slots → IsNext slots slot next
+    → next + run_at slots next ≡ slot + run_at slots slot
+run_next slots slot next linked n =
+    elim (one_or_two n.insn) [ inl one ↦ by_one one | inr two ↦ by_two two (instruction_at slots (slot + 1)) refl ]
   where
     by_one : slots_of n.insn ≡ 1 → next + run_at slots next ≡ slot + run_at slots slot
     by_one one =
@@ -37,19 +44,23 @@ run_next slots slot next linked n = elim (one_or_two n.insn) [ inl one ↦ by_on
         let there : run_at slots next ≡ run_at slots (slot + 1) = ap (run_at slots) same in
         omega (arith, same, here, there)
 
-    by_two : slots_of n.insn ≡ 2 → (o : Option Insn) → instruction_at slots (slot + 1) ≡ o → next + run_at slots next ≡ slot + run_at slots slot
-    by_two two (Some insn) e = absurd (linked.gaps slot n.insn n.here (slot + 1) (omega arith) (omega (arith, two)) (record { insn = insn; here = e }))
+    by_two : slots_of n.insn ≡ 2 → (o : Option Insn) → instruction_at slots (slot + 1) ≡ o
+        → next + run_at slots next ≡ slot + run_at slots slot
+    by_two two (Some insn) e =
+        absurd (linked.gaps slot n.insn n.here (slot + 1) (omega arith) (omega (arith, two)) (record { insn = insn; here = e }))
     by_two two None e =
         let is = n.is in
         let same : next ≡ slot + 1 + 1 = omega (arith, is, two) in
         let inside = start_inside slots (slot + slots_of n.insn) ((linked.leads slot n.insn n.here).0 n.on) in
         let here = run_on_from slots slot n.insn n.here n.on in
-        let second : run_at slots (slot + 1) ≡ 1 + run_at slots (slot + 1 + 1) = run_here slots (slot + 1) None (omega (arith, inside, two)) e in
+        let second : run_at slots (slot + 1) ≡ 1 + run_at slots (slot + 1 + 1) =
+        run_here slots (slot + 1) None (omega (arith, inside, two)) e in
         let there : run_at slots next ≡ run_at slots (slot + 1 + 1) = ap (run_at slots) same in
         omega (arith, same, here, second, there)
 
 -- an instruction from which control does not go on is a run by itself
-pub run_alone : (slots : List (Option Insn)) (slot : ℕ) (insn : Insn) → instruction_at slots slot ≡ Some insn → goes_on insn ≡ false → run_at slots slot ≡ 1
+pub run_alone : (slots : List (Option Insn)) (slot : ℕ) (insn : Insn)
+    → instruction_at slots slot ≡ Some insn → goes_on insn ≡ false → run_at slots slot ≡ 1
 run_alone slots slot insn here on =
     run_here slots slot (Some insn) (start_inside slots slot (record { insn = insn; here = here })) here
     ∙ ap (λ (b : Bool). if b then 1 + run_of (drop (slot + 1) slots) else 1) on
@@ -63,7 +74,9 @@ run_has slots slot linked start = by (goes_on start.insn) refl
 
     by : (b : Bool) → goes_on start.insn ≡ b → width_at slots slot ≤ run_at slots slot
     by true on =
-        let ends = run_next slots slot (slot + slots_of start.insn) linked (record { insn = start.insn; here = start.here; on = on; is = refl }) in
+        let ends =
+        run_next slots slot (slot + slots_of start.insn) linked
+        (record { insn = start.insn; here = start.here; on = on; is = refl }) in
         let same = wide in
         omega (arith, ends, same)
     by false on =

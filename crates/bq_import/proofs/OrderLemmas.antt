@@ -7,31 +7,38 @@ use Rattle.bq_insn.specs.declared.Insn.{Insn}
 use Rattle.bq_insn.specs.Slots.{slots_of}
 use Rattle.bq_bpf.specs.Steps.{instruction_at}
 use Rattle.bq_verify.proofs.EdgeLemmas.{start_inside}
-use Rattle.bq_import.specs.Copies.{Stands, IsCopyAt, IsCopy}
+use Rattle.bq_import.specs.Copies.{IsCopyOfSlot, IsCopyAt, IsCopy}
 use Rattle.bq_import.specs.Backward.{IsBuilt, IsFront}
 
 module _ (maps : ℕ) (old back : List (Option Insn)) (origins : List ℕ) (built : IsBuilt maps old back origins) where
   mirror : (slot place : ℕ) → place + slot + 1 ≡ length back → instruction_at (reverse back) slot ≡ instruction_at back place
-  mirror slot place sum = get_or-reverse back slot None (omega (arith, sum)) ∙ ap (λ (n : ℕ). get_or back n None) (let e : length back - 1 - slot ≡ place = omega (arith, sum) in e)
+  mirror slot place sum =
+      get_or-reverse back slot None (omega (arith, sum))
+      ∙ ap (λ (n : ℕ). get_or back n None) (let e : length back - 1 - slot ≡ place = omega (arith, sum) in e)
 
   mirror_origin : (slot place : ℕ) → place + slot + 1 ≡ length back → slice_index (reverse origins) slot ≡ slice_index origins place
   mirror_origin slot place sum =
       let long = built.as_long in
-      get_or-reverse origins slot 0 (omega (arith, sum, long)) ∙ ap (λ (n : ℕ). get_or origins n 0) (let e : length origins - 1 - slot ≡ place = omega (arith, sum, long) in e)
+      get_or-reverse origins slot 0 (omega (arith, sum, long))
+      ∙ ap (λ (n : ℕ). get_or origins n 0) (let e : length origins - 1 - slot ≡ place = omega (arith, sum, long) in e)
 
-  stands_there : (slot place from : ℕ) → place + slot + 1 ≡ length back → Stands back origins place from → Stands (reverse back) (reverse origins) slot from
+  stands_there : (slot place from : ℕ) → place + slot + 1 ≡ length back → IsCopyOfSlot back origins place from
+      → IsCopyOfSlot (reverse back) (reverse origins) slot from
   stands_there slot place from sum p = record {
     start = record { insn = p.start.insn; here = mirror slot place sum ∙ p.start.here };
     origin_is = mirror_origin slot place sum ∙ p.origin_is;
   }
 
-  pub stands_here : (slot place from : ℕ) → place + slot + 1 ≡ length back → Stands (reverse back) (reverse origins) slot from → Stands back origins place from
+  pub stands_here : (slot place from : ℕ) → place + slot + 1 ≡ length back
+      → IsCopyOfSlot (reverse back) (reverse origins) slot from
+      → IsCopyOfSlot back origins place from
   stands_here slot place from sum p = record {
     start = record { insn = p.start.insn; here = sym (mirror slot place sum) ∙ p.start.here };
     origin_is = sym (mirror_origin slot place sum) ∙ p.origin_is;
   }
 
-  copy_at : (slot from : ℕ) → Stands (reverse back) (reverse origins) slot from → IsCopyAt maps old (reverse back) (reverse origins) slot from
+  copy_at : (slot from : ℕ) → IsCopyOfSlot (reverse back) (reverse origins) slot from
+      → IsCopyAt maps old (reverse back) (reverse origins) slot from
   copy_at slot from stands =
       let inside = start_inside (reverse back) slot stands.start in
       let long = length-reverse back in
@@ -63,4 +70,6 @@ module _ (maps : ℕ) (old back : List (Option Insn)) (origins : List ℕ) (buil
       }
 
   pub is_copy : IsFront back origins 0 → IsCopy maps old (reverse back) (reverse origins)
-  is_copy front = let is = front.place_is in record { first = stands_there 0 front.place 0 (omega (arith, is)) front.stands; each = copy_at }
+  is_copy front =
+      let is = front.place_is in
+      record { first = stands_there 0 front.place 0 (omega (arith, is)) front.stands; each = copy_at }

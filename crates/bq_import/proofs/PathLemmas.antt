@@ -13,7 +13,7 @@ use Rattle.bq_verify.specs.Faults.{IsBadJump, RunsOut}
 use Rattle.bq_insn.proofs.OptionLemmas.{some_same}
 use Rattle.bq_insn.proofs.CountLemmas.{slots_positive}
 use Rattle.bq_verify.proofs.EdgeLemmas.{leads_same, start_inside}
-use Rattle.bq_import.specs.Copies.{is_reference, wide_copy, copied, Stands, IsCopy}
+use Rattle.bq_import.specs.Copies.{is_reference, wide_copy, copied, IsCopyOfSlot, IsCopy}
 use Rattle.bq_import.specs.Laws.{GoesForward, SameBudget}
 use Rattle.bq_import.proofs.CopyLemmas.{copied_exit}
 
@@ -44,22 +44,25 @@ copy_has_shape maps (MapRef dst index) distance = plain (MapRef dst index) dista
 copy_has_shape maps (Call helper) distance = plain (Call helper) distance refl
 copy_has_shape maps Exit distance = plain Exit distance refl
 copy_has_shape maps (Imm64 dst value) distance = wide_shape (is_reference maps value) dst value distance
-copy_has_shape maps (Goto off) distance = record { on = refl; long = refl; jumps = λ far e. refl; stays = λ e. absurd (none-some off (sym e)) }
-copy_has_shape maps (Goto32 imm) distance = record { on = refl; long = refl; jumps = λ far e. refl; stays = λ e. absurd (none-some imm (sym e)) }
-copy_has_shape maps (Branch w c dst src off) distance = record { on = refl; long = refl; jumps = λ far e. refl; stays = λ e. absurd (none-some off (sym e)) }
+copy_has_shape maps (Goto off) distance =
+    record { on = refl; long = refl; jumps = λ far e. refl; stays = λ e. absurd (none-some off (sym e)) }
+copy_has_shape maps (Goto32 imm) distance =
+    record { on = refl; long = refl; jumps = λ far e. refl; stays = λ e. absurd (none-some imm (sym e)) }
+copy_has_shape maps (Branch w c dst src off) distance =
+    record { on = refl; long = refl; jumps = λ far e. refl; stays = λ e. absurd (none-some off (sym e)) }
 
 module _ (maps : ℕ) (old new : List (Option Insn)) (origin : List ℕ) (copy : IsCopy maps old new origin) where
   record EdgeAhead (slot to : ℕ) : Type 0 where
     pub landing : ℕ
     pub edge : IsEdge new slot landing
-    pub stands : Stands new origin landing to
+    pub stands : IsCopyOfSlot new origin landing to
 
   record EdgeBehind (from landing : ℕ) : Type 0 where
     pub target : ℕ
     pub edge : IsEdge old from target
-    pub stands : Stands new origin landing target
+    pub stands : IsCopyOfSlot new origin landing target
 
-  edge_ahead : (slot from to : ℕ) → Stands new origin slot from → IsEdge old from to → EdgeAhead slot to
+  edge_ahead : (slot from to : ℕ) → IsCopyOfSlot new origin slot from → IsEdge old from to → EdgeAhead slot to
   edge_ahead slot from to stands edge =
       let at = copy.each slot from stands in
       let shape = copy_has_shape maps at.original at.distance in
@@ -70,16 +73,26 @@ module _ (maps : ℕ) (old new : List (Option Insn)) (origin : List ℕ) (copy :
             let is' : to ≡ from + slots_of at.original = is ∙ ap (λ (i : Insn). from + slots_of i) same in
             record {
               landing = slot + slots_of at.original;
-              edge = record { insn = copied maps at.original at.distance; here = at.copy; leaves = inl (shape.on ∙ on', ap (λ (n : ℕ). slot + n) (sym shape.long)) };
-              stands = subst (λ (n : ℕ). Stands new origin (slot + slots_of at.original) n) (sym is') (at.on on');
+              edge = record {
+                insn = copied maps at.original at.distance;
+                here = at.copy;
+                leaves = inl (shape.on ∙ on', ap (λ (n : ℕ). slot + n) (sym shape.long));
+              };
+              stands = subst (λ (n : ℕ). IsCopyOfSlot new origin (slot + slots_of at.original) n) (sym is') (at.on on');
             }
         | inr (far, is, leads) ↦
             let is' : distance_of at.original ≡ Some far = ap distance_of (sym same) ∙ is in
             let alike = at.jumps far is' in
             record {
               landing = alike.landing;
-              edge = record { insn = copied maps at.original at.distance; here = at.copy; leaves = inr (at.distance, shape.jumps far is', alike.lands) };
-              stands = subst (λ (n : ℕ). Stands new origin alike.landing n) (leads_same from alike.target to far alike.leads leads) alike.stands;
+              edge = record {
+                insn = copied maps at.original at.distance;
+                here = at.copy;
+                leaves = inr (at.distance, shape.jumps far is', alike.lands);
+              };
+              stands =
+                  subst (λ (n : ℕ). IsCopyOfSlot new origin alike.landing n)
+                  (leads_same from alike.target to far alike.leads leads) alike.stands;
             }
       ]
 
@@ -87,7 +100,7 @@ module _ (maps : ℕ) (old new : List (Option Insn)) (origin : List ℕ) (copy :
   far_of None = inl refl
   far_of (Some far) = inr (far, refl)
 
-  edge_behind : (slot from landing : ℕ) → Stands new origin slot from → IsEdge new slot landing → EdgeBehind from landing
+  edge_behind : (slot from landing : ℕ) → IsCopyOfSlot new origin slot from → IsEdge new slot landing → EdgeBehind from landing
   edge_behind slot from landing stands edge =
       let at = copy.each slot from stands in
       let shape = copy_has_shape maps at.original at.distance in
@@ -95,11 +108,12 @@ module _ (maps : ℕ) (old new : List (Option Insn)) (origin : List ℕ) (copy :
       elim edge.leaves [
         | inl (on, is) ↦
             let on' : goes_on at.original ≡ true = sym shape.on ∙ (ap goes_on (sym same) ∙ on) in
-            let is' : landing ≡ slot + slots_of at.original = is ∙ (ap (λ (i : Insn). slot + slots_of i) same ∙ ap (λ (n : ℕ). slot + n) shape.long) in
+            let is' : landing ≡ slot + slots_of at.original =
+            is ∙ (ap (λ (i : Insn). slot + slots_of i) same ∙ ap (λ (n : ℕ). slot + n) shape.long) in
             record {
               target = from + slots_of at.original;
               edge = record { insn = at.original; here = at.here; leaves = inl (on', refl) };
-              stands = subst (λ (n : ℕ). Stands new origin n (from + slots_of at.original)) (sym is') (at.on on');
+              stands = subst (λ (n : ℕ). IsCopyOfSlot new origin n (from + slots_of at.original)) (sym is') (at.on on');
             }
         | inr (near, is, leads) ↦
             let is' : distance_of (copied maps at.original at.distance) ≡ Some near = ap distance_of (sym same) ∙ is in
@@ -111,7 +125,10 @@ module _ (maps : ℕ) (old new : List (Option Insn)) (origin : List ℕ) (copy :
                   record {
                     target = alike.target;
                     edge = record { insn = at.original; here = at.here; leaves = inr (far, jumps, alike.leads) };
-                    stands = subst (λ (n : ℕ). Stands new origin n alike.target) (leads_same slot alike.landing landing at.distance alike.lands (subst (λ (z : ℤ). LeadsTo slot z landing) near' leads)) alike.stands;
+                    stands =
+                        subst (λ (n : ℕ). IsCopyOfSlot new origin n alike.target)
+                        (leads_same slot alike.landing landing at.distance alike.lands
+                        (subst (λ (z : ℤ). LeadsTo slot z landing) near' leads)) alike.stands;
                   }
             ]
       ]
@@ -120,22 +137,22 @@ module _ (maps : ℕ) (old new : List (Option Insn)) (origin : List ℕ) (copy :
     pub way : List ℕ
     pub is_path : IsPath new slot way
     pub long : length way ≡ length rest
-    pub stands : Stands new origin (end_of slot way) (end_of from rest)
+    pub stands : IsCopyOfSlot new origin (end_of slot way) (end_of from rest)
 
   record PathBehind (slot from : ℕ) (way : List ℕ) : Type 0 where
     pub rest : List ℕ
     pub is_path : IsPath old from rest
     pub long : length way ≡ length rest
-    pub stands : Stands new origin (end_of slot way) (end_of from rest)
+    pub stands : IsCopyOfSlot new origin (end_of slot way) (end_of from rest)
 
-  pub path_ahead : (slot from : ℕ) (rest : List ℕ) → Stands new origin slot from → IsPath old from rest → PathAhead slot from rest
+  pub path_ahead : (slot from : ℕ) (rest : List ℕ) → IsCopyOfSlot new origin slot from → IsPath old from rest → PathAhead slot from rest
   path_ahead slot from [] stands path = record { way = []; is_path = tt; long = refl; stands = stands }
   path_ahead slot from (to ∷ rest) stands (edge, path) =
       let one = edge_ahead slot from to stands edge in
       let others = path_ahead one.landing to rest one.stands path in
       record { way = one.landing ∷ others.way; is_path = (one.edge, others.is_path); long = ap suc others.long; stands = others.stands }
 
-  path_behind : (slot from : ℕ) (way : List ℕ) → Stands new origin slot from → IsPath new slot way → PathBehind slot from way
+  path_behind : (slot from : ℕ) (way : List ℕ) → IsCopyOfSlot new origin slot from → IsPath new slot way → PathBehind slot from way
   path_behind slot from [] stands path = record { rest = []; is_path = tt; long = refl; stands = stands }
   path_behind slot from (landing ∷ way) stands (edge, path) =
       let one = edge_behind slot from landing stands edge in
@@ -147,24 +164,42 @@ module _ (maps : ℕ) (old new : List (Option Insn)) (origin : List ℕ) (copy :
       let there = path_ahead 0 0 out.rest copy.first out.is_path in
       let at = copy.each _ _ there.stands in
       let same : at.original ≡ Exit = some_same _ at.original Exit at.here out.exits in
-      record { rest = there.way; is_path = there.is_path; exits = at.copy ∙ ap (λ (i : Insn). Some (copied maps i at.distance)) same; count_is = out.count_is ∙ ap suc (sym there.long) }
+      record {
+        rest = there.way;
+        is_path = there.is_path;
+        exits = at.copy ∙ ap (λ (i : Insn). Some (copied maps i at.distance)) same;
+        count_is = out.count_is ∙ ap suc (sym there.long);
+      }
 
   out_behind : (count : ℕ) → PathOut new 0 count → PathOut old 0 count
   out_behind count out =
       let there = path_behind 0 0 out.rest copy.first out.is_path in
       let at = copy.each _ _ there.stands in
-      let same : at.original ≡ Exit = copied_exit maps at.original at.distance (some_same _ (copied maps at.original at.distance) Exit at.copy out.exits) in
-      record { rest = there.rest; is_path = there.is_path; exits = at.here ∙ ap (λ (i : Insn). Some i) same; count_is = out.count_is ∙ ap suc there.long }
+      let same : at.original ≡ Exit =
+      copied_exit maps at.original at.distance (some_same _ (copied maps at.original at.distance) Exit at.copy out.exits) in
+      record {
+        rest = there.rest;
+        is_path = there.is_path;
+        exits = at.here ∙ ap (λ (i : Insn). Some i) same;
+        count_is = out.count_is ∙ ap suc there.long;
+      }
 
 -- the longest path of a copy has as many instructions as that of its original
 pub same_budget : SameBudget
 same_budget maps old new origin copy budget = (
-  λ most. record { holds = out_ahead maps old new origin copy budget most.holds; bounds = λ n out. most.bounds n (out_behind maps old new origin copy n out) },
-  λ most. record { holds = out_behind maps old new origin copy budget most.holds; bounds = λ n out. most.bounds n (out_ahead maps old new origin copy n out) },
+  λ most. record {
+    holds = out_ahead maps old new origin copy budget most.holds;
+    bounds = λ n out. most.bounds n (out_behind maps old new origin copy n out);
+  },
+  λ most. record {
+    holds = out_behind maps old new origin copy budget most.holds;
+    bounds = λ n out. most.bounds n (out_ahead maps old new origin copy n out);
+  },
 )
 
 -- of each start of a copy it is known what it is a copy of
-at_start : (new : List (Option Insn)) (origin : List ℕ) (slot : ℕ) → IsStart new slot → Stands new origin slot (slice_index origin slot)
+at_start : (new : List (Option Insn)) (origin : List ℕ) (slot : ℕ)
+    → IsStart new slot → IsCopyOfSlot new origin slot (slice_index origin slot)
 at_start new origin slot start = record { start = start; origin_is = refl }
 
 module _ (maps : ℕ) (old new : List (Option Insn)) (origin : List ℕ) (copy : IsCopy maps old new origin) where
@@ -176,7 +211,8 @@ module _ (maps : ℕ) (old new : List (Option Insn)) (origin : List ℕ) (copy :
       elim edge.leaves [
         | inl (on, is) ↦
             let on' : goes_on at.original ≡ true = sym shape.on ∙ (ap goes_on (sym same) ∙ on) in
-            let is' : to ≡ from + slots_of at.original = is ∙ (ap (λ (i : Insn). from + slots_of i) same ∙ ap (λ (n : ℕ). from + n) shape.long) in
+            let is' : to ≡ from + slots_of at.original =
+            is ∙ (ap (λ (i : Insn). from + slots_of i) same ∙ ap (λ (n : ℕ). from + n) shape.long) in
             let positive = slots_positive at.original in
             (omega (arith, is', positive), subst (λ (n : ℕ). IsStart new n) (sym is') (at.on on').start)
         | inr (near, is, leads) ↦
@@ -186,7 +222,9 @@ module _ (maps : ℕ) (old new : List (Option Insn)) (origin : List ℕ) (copy :
               | inr (far, jumps) ↦
                   let alike = at.jumps far jumps in
                   let near' : near ≡ at.distance = some_same _ near at.distance is' (shape.jumps far jumps) in
-                  let landing : alike.landing ≡ to = leads_same from alike.landing to at.distance alike.lands (subst (λ (z : ℤ). LeadsTo from z to) near' leads) in
+                  let landing : alike.landing ≡ to =
+                  leads_same from alike.landing to at.distance alike.lands
+                  (subst (λ (z : ℤ). LeadsTo from z to) near' leads) in
                   (subst (λ (n : ℕ). from < n) landing alike.later, subst (λ (n : ℕ). IsStart new n) landing alike.stands.start)
             ]
       ]
@@ -218,4 +256,5 @@ module _ (maps : ℕ) (old new : List (Option Insn)) (origin : List ℕ) (copy :
 
 -- a copy's jumps lead to later instructions, and none of its instructions goes on past the end
 pub goes_forward : GoesForward
-goes_forward maps old new origin copy = (edge_later maps old new origin copy, no_bad_jump maps old new origin copy, none_runs_out maps old new origin copy)
+goes_forward maps old new origin copy =
+    (edge_later maps old new origin copy, no_bad_jump maps old new origin copy, none_runs_out maps old new origin copy)

@@ -21,15 +21,21 @@ all_good : (insns : List Insn) → list_all is_insn insns ≡ true → AllFit in
 all_good [] all fits zero insn here = absurd (some_none _ insn here refl)
 all_good [] all fits (suc slot) insn here = absurd (some_none _ insn here refl)
 all_good (i ∷ rest) all fits zero insn here =
-    subst (λ (k : Insn). (is_insn k ≡ true) × Fits k) (some_same _ i insn refl here) ((and_parts (is_insn i) (list_all is_insn rest) all).0, fits.0)
-all_good (i ∷ rest) all fits (suc slot) insn here = gap_good (slots_of i - 1) (spread rest) (all_good rest (and_parts (is_insn i) (list_all is_insn rest) all).1 fits.1) slot insn here
+    subst (λ (k : Insn). (is_insn k ≡ true) × Fits k) (some_same _ i insn refl here)
+    ((and_parts (is_insn i) (list_all is_insn rest) all).0, fits.0)
+all_good (i ∷ rest) all fits (suc slot) insn here =
+    gap_good (slots_of i - 1) (spread rest) (all_good rest (and_parts (is_insn i) (list_all is_insn rest) all).1 fits.1) slot
+    insn here
 
 -- the instructions of a well-formed program whose numbers fit are in range
 pub are_good : (insns : List Insn) → is_well_formed insns ≡ true → AllFit insns → AreGood (spread insns)
-are_good insns whole fits = all_good insns (and_parts (list_all is_insn insns) (nat_le 1 (slot_count insns) && nat_le (slot_count insns) 4096) whole).0 fits
+are_good insns whole fits =
+    all_good insns (and_parts (list_all is_insn insns) (nat_le 1 (slot_count insns) && nat_le (slot_count insns) 4096) whole).0 fits
 
 -- the other way: a program of this many slots, all in range
-pub well_formed : (insns : List Insn) → list_all is_insn insns ≡ true → 0 < length (spread insns) → length (spread insns) ≤ 4096 → is_well_formed insns ≡ true
+pub well_formed : (insns : List Insn) → list_all is_insn insns ≡ true → 0 < length (spread insns)
+    → length (spread insns) ≤ 4096
+    → is_well_formed insns ≡ true
 well_formed insns all some few =
     let long = spread_long insns in
     let low : nat_le 1 (slot_count insns) ≡ true = le-leb 1 (slot_count insns) (omega (arith, long, some)) in
@@ -37,7 +43,8 @@ well_formed insns all some few =
     and_from _ _ all (and_from _ _ low high)
 
 -- what was written from its end is a program
-pub written_is_well_formed : (maps : ℕ) (old back : List (Option Insn)) (origins : List ℕ) → IsBuilt maps old back origins → IsFront back origins 0 → is_well_formed (insns_of back) ≡ true
+pub written_is_well_formed : (maps : ℕ) (old back : List (Option Insn)) (origins : List ℕ)
+    → IsBuilt maps old back origins → IsFront back origins 0 → is_well_formed (insns_of back) ≡ true
 written_is_well_formed maps old back origins built front =
     let short = built.short in
     let some = front.place_is in

@@ -13,7 +13,7 @@ use Rattle.bq_verify.specs.declared.edges.Targets.{Targets}
 use Rattle.bq_insn.proofs.OptionLemmas.{some_same, some_none}
 use Rattle.bq_verify.proofs.EdgeLemmas.{start_inside}
 use Rattle.bq_verify.proofs.SlotLemmas.{few_slots}
-use Rattle.bq_import.specs.Copies.{IsCopy, Stands, copied}
+use Rattle.bq_import.specs.Copies.{IsCopy, IsCopyOfSlot, copied}
 use Rattle.bq_import.specs.Backward.{IsFront}
 use Rattle.bq_import.specs.Faults.{AllForward, IsDisorder, IsLinked, IsSearchFault, LeadsWell}
 use Rattle.bq_import.specs.Search.{AreTargets}
@@ -31,21 +31,24 @@ pub nowhere_forward : (slots : List (Option Insn)) (slot : ℕ) → instruction_
 nowhere_forward slots slot none to edge = absurd (some_none _ edge.insn edge.here none)
 
 -- an instruction that does not jump leads on
-pub next_forward : (slots : List (Option Insn)) (slot : ℕ) (insn : Insn) (targets : Targets) → AreTargets slots slot insn targets → targets.jump ≡ None → LeadsForward slots slot
+pub next_forward : (slots : List (Option Insn)) (slot : ℕ) (insn : Insn) (targets : Targets)
+    → AreTargets slots slot insn targets → targets.jump ≡ None → LeadsForward slots slot
 next_forward slots slot insn targets are none to edge = elim (are.out.each to edge) [
   | inl next ↦ are.later to next
   | inr jump ↦ absurd (some_none _ to jump none)
 ]
 
--- and one that jumps to a later slot
-pub jump_forward : (slots : List (Option Insn)) (slot : ℕ) (insn : Insn) (targets : Targets) (far : ℕ) → AreTargets slots slot insn targets → targets.jump ≡ Some far → slot < far → LeadsForward slots slot
+-- an instruction that jumps to a later slot leads there
+pub jump_forward : (slots : List (Option Insn)) (slot : ℕ) (insn : Insn) (targets : Targets) (far : ℕ)
+    → AreTargets slots slot insn targets → targets.jump ≡ Some far → slot < far → LeadsForward slots slot
 jump_forward slots slot insn targets far are is later to edge = elim (are.out.each to edge) [
   | inl next ↦ are.later to next
   | inr jump ↦ let same : far ≡ to = some_same _ far to is jump in omega (arith, same, later)
 ]
 
 -- one that jumps elsewhere does not
-pub jump_backward : (slots : List (Option Insn)) (slot : ℕ) (insn : Insn) (targets : Targets) (far : ℕ) → AreTargets slots slot insn targets → targets.jump ≡ Some far → far ≤ slot → AllForward slots → ⊥
+pub jump_backward : (slots : List (Option Insn)) (slot : ℕ) (insn : Insn) (targets : Targets) (far : ℕ)
+    → AreTargets slots slot insn targets → targets.jump ≡ Some far → far ≤ slot → AllForward slots → ⊥
 jump_backward slots slot insn targets far are is back forward =
     let later = forward slot far (are.out.only far (inr is)) in
     omega (arith, later, back)
@@ -63,11 +66,17 @@ pub wrong_for_memory : (slots : List (Option Insn)) (d : Disorder) → d ≡ Out
 wrong_for_memory slots d e = subst (λ (x : Disorder). IsDisorder slots x) (sym e) tt
 
 -- once all is kept the first instruction is in front
-pub kept_front : (maps : ℕ) (old : List (Option Insn)) (found : List Bool) (bound : ℕ) (back : List (Option Insn)) (origins : List ℕ) (places : List (Option ℕ)) → AreReached old found → bound ≡ 0 → IsKeeping maps old found bound back origins places → IsFront back origins 0
-kept_front maps old found bound back origins places reached none at = at.front 0 (omega (arith, none)) reached.begins (λ j above below e. omega (arith, below))
+pub kept_front : (maps : ℕ) (old : List (Option Insn)) (found : List Bool) (bound : ℕ) (back : List (Option Insn))
+    (origins : List ℕ) (places : List (Option ℕ))
+    → AreReached old found → bound ≡ 0 → IsKeeping maps old found bound back origins places
+    → IsFront back origins 0
+kept_front maps old found bound back origins places reached none at =
+    at.front 0 (omega (arith, none)) reached.begins (λ j above below e. omega (arith, below))
 
 -- what is kept has only what control comes to
-pub all_reached : (maps : ℕ) (old : List (Option Insn)) (found : List Bool) (back : List (Option Insn)) (origins : List ℕ) (places : List (Option ℕ)) → AreReached old found → IsKeeping maps old found 0 back origins places → AllReached (reverse back)
+pub all_reached : (maps : ℕ) (old : List (Option Insn)) (found : List Bool) (back : List (Option Insn))
+    (origins : List ℕ) (places : List (Option ℕ))
+    → AreReached old found → IsKeeping maps old found 0 back origins places → AllReached (reverse back)
 all_reached maps old found back origins places reached at slot start =
     let built = at.built in
     let long = length-reverse back in
@@ -75,15 +84,19 @@ all_reached maps old found back origins places reached at slot start =
     let copy : IsCopy maps old (reverse back) (reverse origins) = is_copy maps old back origins built front in
     let from : ℕ = slice_index (reverse origins) slot in
     let inside = start_inside (reverse back) slot start in
-    let here : Stands back origins (length back - 1 - slot) (slice_index (reverse origins) slot) =
-    stands_here maps old back origins built slot (length back - 1 - slot) (slice_index (reverse origins) slot) (omega (arith, inside, long)) (record { start = start; origin_is = refl }) in
-    let way = reached.ways (slice_index (reverse origins) slot) (at.comes (length back - 1 - slot) (slice_index (reverse origins) slot) here) in
+    let here : IsCopyOfSlot back origins (length back - 1 - slot) (slice_index (reverse origins) slot) =
+    stands_here maps old back origins built slot (length back - 1 - slot) (slice_index (reverse origins) slot)
+    (omega (arith, inside, long)) (record { start = start; origin_is = refl }) in
+    let way =
+    reached.ways (slice_index (reverse origins) slot)
+    (at.comes (length back - 1 - slot) (slice_index (reverse origins) slot) here) in
     let ahead = path_ahead maps old (reverse back) (reverse origins) copy 0 0 way.rest copy.first way.is_path in
-    let stands : Stands (reverse back) (reverse origins) (end_of 0 ahead.way) (slice_index (reverse origins) slot) =
-    subst (λ (n : ℕ). Stands (reverse back) (reverse origins) (end_of 0 ahead.way) n) way.ends ahead.stands in
+    let stands : IsCopyOfSlot (reverse back) (reverse origins) (end_of 0 ahead.way) (slice_index (reverse origins) slot) =
+    subst (λ (n : ℕ). IsCopyOfSlot (reverse back) (reverse origins) (end_of 0 ahead.way) n) way.ends ahead.stands in
     let inside' = start_inside (reverse back) (end_of 0 ahead.way) stands.start in
-    let there : Stands back origins (length back - 1 - end_of 0 ahead.way) (slice_index (reverse origins) slot) =
-    stands_here maps old back origins built (end_of 0 ahead.way) (length back - 1 - end_of 0 ahead.way) (slice_index (reverse origins) slot) (omega (arith, inside', long)) stands in
+    let there : IsCopyOfSlot back origins (length back - 1 - end_of 0 ahead.way) (slice_index (reverse origins) slot) =
+    stands_here maps old back origins built (end_of 0 ahead.way) (length back - 1 - end_of 0 ahead.way)
+    (slice_index (reverse origins) slot) (omega (arith, inside', long)) stands in
     let same : length back - 1 - end_of 0 ahead.way ≡ length back - 1 - slot =
     some_same _ (length back - 1 - end_of 0 ahead.way) (length back - 1 - slot) (at.once _ _ there) (at.once _ _ here) in
     record { rest = ahead.way; is_path = ahead.is_path; ends = omega (arith, same, inside, inside', long) }
@@ -93,7 +106,8 @@ distance_cases None = inl refl
 distance_cases (Some far) = inr (far, refl)
 
 -- in a copy control goes to instructions only, and only to later ones
-module _ (maps : ℕ) (old : List (Option Insn)) (insns : List Insn) (origins : List ℕ) (copy : IsCopy maps old (spread insns) origins) (whole : is_well_formed insns ≡ true) (fits : AllFit insns) where
+module _ (maps : ℕ) (old : List (Option Insn)) (insns : List Insn) (origins : List ℕ)
+    (copy : IsCopy maps old (spread insns) origins) (whole : is_well_formed insns ≡ true) (fits : AllFit insns) where
   pub copy_forward : AllForward (spread insns)
   copy_forward from to edge = ((goes_forward maps old (spread insns) origins copy).0 from to edge).0
 
@@ -102,7 +116,9 @@ module _ (maps : ℕ) (old : List (Option Insn)) (insns : List Insn) (origins : 
       let at = copy.each slot (slice_index origins slot) (record { start = record { insn = insn; here = here }; origin_is = refl }) in
       let shape = copy_has_shape maps at.original at.distance in
       let same : insn ≡ copied maps at.original at.distance = some_same _ insn (copied maps at.original at.distance) here at.copy in (
-        λ on. ((goes_forward maps old (spread insns) origins copy).0 slot (slot + slots_of insn) (record { insn = insn; here = here; leaves = inl (on, refl) })).1,
+        λ on.
+            ((goes_forward maps old (spread insns) origins copy).0 slot (slot + slots_of insn)
+            (record { insn = insn; here = here; leaves = inl (on, refl) })).1,
         λ far is. elim (distance_cases (distance_of at.original)) [
           | inl none ↦ absurd (some_none _ far is (ap distance_of same ∙ shape.stays none))
           | inr (d, jumps) ↦

@@ -39,9 +39,12 @@ one_slot (MapRef d i) e = absurd (let no : ⊥ = cc in no)
 one_slot _ e = refl
 
 -- an instruction lies within the program
-pub lies_within : (slots : List (Option Insn)) (slot : ℕ) (insn : Insn) → instruction_at slots slot ≡ Some insn → IsLinked slots → slot + slots_of insn ≤ length slots
+pub lies_within : (slots : List (Option Insn)) (slot : ℕ) (insn : Insn)
+    → instruction_at slots slot ≡ Some insn → IsLinked slots → slot + slots_of insn ≤ length slots
 lies_within slots slot insn here linked = by (goes_on insn) refl
   where
     by : (b : Bool) → goes_on insn ≡ b → slot + slots_of insn ≤ length slots
     by true e = let next = start_inside slots (slot + slots_of insn) ((linked.leads slot insn here).0 e) in omega (arith, next)
-    by false e = let inside = start_inside slots slot (record { insn = insn; here = here }) in let one = one_slot insn e in omega (arith, inside, one)
+    by false e =
+        let inside = start_inside slots slot (record { insn = insn; here = here }) in
+        let one = one_slot insn e in omega (arith, inside, one)

@@ -2,80 +2,128 @@
 use Rattle.std.proofs.Common.{◌≡◌, ℕ, zero, suc, List, Option, Some, None, length, refl, sym, ap, ◌∙◌, subst, ◌⊎◌, inl, inr}
 use Rattle.bq_insn.specs.declared.Insn.{Insn}
 use Rattle.bq_bpf.specs.declared.shape.MapShape.{MapShape}
-use Rattle.bq_bpf.specs.declared.board.Call.{Call as Asked}
+use Rattle.bq_bpf.specs.declared.board.CounterCall.{CounterCall}
 use Rattle.bq_bpf.specs.Memory.{Setting, State}
 use Rattle.bq_bpf.specs.Steps.{Step}
 use Rattle.bq_bpf.specs.Runs.{Ends, Steps, RunFrom, start}
 use Rattle.bq_bpf.specs.Safe.{GoesOn, GoesWell, IsSetting}
-use Rattle.bq_import.specs.Copies.{Stands, IsCopy}
+use Rattle.bq_import.specs.Copies.{IsCopyOfSlot, IsCopy}
 use Rattle.bq_import.specs.Laws.{beside, SameRuns, SameSafety}
 use Rattle.bq_import.proofs.StepLemmas.{moved}
 use Rattle.bq_import.proofs.CopyLemmas.{step_ahead, step_behind, ends_ahead, ends_behind}
 
-module _ (maps : ℕ) (old new : List (Option Insn)) (origin : List ℕ) (copy : IsCopy maps old new origin) (f : Setting) (as_many : length f.shapes ≡ maps) where
-  record ChainAhead (s : State) (k n : ℕ) (calls : List Asked) (t : State) : Type 0 where
+module _ (maps : ℕ) (old new : List (Option Insn)) (origin : List ℕ) (copy : IsCopy maps old new origin) (f : Setting)
+    (as_many : length f.shapes ≡ maps) where
+  record ChainAhead (s : State) (k n : ℕ) (calls : List CounterCall) (t : State) : Type 0 where
     pub slot : ℕ
     pub chain : Steps (beside f new) (moved s k) n calls (moved t slot)
-    pub stands : Stands new origin slot t.slot
+    pub stands : IsCopyOfSlot new origin slot t.slot
 
-  record ChainBehind (s : State) (k n : ℕ) (calls : List Asked) (t' : State) : Type 0 where
+  record ChainBehind (s : State) (k n : ℕ) (calls : List CounterCall) (t' : State) : Type 0 where
     pub state : State
     pub slot : ℕ
     pub chain : Steps (beside f old) s n calls state
     pub is : t' ≡ moved state slot
-    pub stands : Stands new origin slot state.slot
+    pub stands : IsCopyOfSlot new origin slot state.slot
 
-  chain_ahead : (s : State) (k n : ℕ) (calls : List Asked) (t : State) → Stands new origin k s.slot → Steps (beside f old) s n calls t → ChainAhead s k n calls t
+  chain_ahead : (s : State) (k n : ℕ) (calls : List CounterCall) (t : State)
+      → IsCopyOfSlot new origin k s.slot → Steps (beside f old) s n calls t → ChainAhead s k n calls t
   chain_ahead s k zero calls t stands (none, e) =
-      record { slot = k; chain = (none, ap (λ (v : State). moved v k) e); stands = subst (λ (m : ℕ). Stands new origin k m) (sym (ap (λ (v : State). v.slot) e)) stands }
+      record {
+        slot = k;
+        chain = (none, ap (λ (v : State). moved v k) e);
+        stands = subst (λ (m : ℕ). IsCopyOfSlot new origin k m) (sym (ap (λ (v : State). v.slot) e)) stands;
+      }
   chain_ahead s k (suc n) calls t stands (before, c, u, chain, step, e) =
       let first = chain_ahead s k n before u stands chain in
       let last = step_ahead maps old new origin f as_many copy u first.slot c t first.stands step in
       record { slot = last.slot; chain = (before, c, moved u first.slot, first.chain, last.step, e); stands = last.stands }
 
-  chain_behind : (s : State) (k n : ℕ) (calls : List Asked) (t' : State) → Stands new origin k s.slot → Steps (beside f new) (moved s k) n calls t' → ChainBehind s k n calls t'
+  chain_behind : (s : State) (k n : ℕ) (calls : List CounterCall) (t' : State)
+      → IsCopyOfSlot new origin k s.slot → Steps (beside f new) (moved s k) n calls t'
+      → ChainBehind s k n calls t'
   chain_behind s k zero calls t' stands (none, e) = record { state = s; slot = k; chain = (none, refl); is = e; stands = stands }
   chain_behind s k (suc n) calls t' stands (before, c, u, chain, step, e) =
       let first = chain_behind s k n before u stands chain in
-      let last = step_behind maps old new origin f as_many copy first.state first.slot c t' first.stands (subst (λ (v : State). Step (beside f new) v c t') first.is step) in
-      record { state = last.state; slot = last.slot; chain = (before, c, first.state, first.chain, last.step, e); is = last.is; stands = last.stands }
+      let last =
+      step_behind maps old new origin f as_many copy first.state first.slot c t' first.stands
+      (subst (λ (v : State). Step (beside f new) v c t') first.is step) in
+      record {
+        state = last.state;
+        slot = last.slot;
+        chain = (before, c, first.state, first.chain, last.step, e);
+        is = last.is;
+        stands = last.stands;
+      }
 
-  runs_ahead : (contents : List (List ℕ)) (n : ℕ) (calls : List Asked) (answer : ℕ) (after : List (List ℕ)) → RunFrom (beside f old) (start contents) n calls answer after → RunFrom (beside f new) (start contents) n calls answer after
+  runs_ahead : (contents : List (List ℕ)) (n : ℕ) (calls : List CounterCall) (answer : ℕ) (after : List (List ℕ))
+      → RunFrom (beside f old) (start contents) n calls answer after
+      → RunFrom (beside f new) (start contents) n calls answer after
   runs_ahead contents n calls answer after (k, t, is, chain, ends) =
       let there = chain_ahead (start contents) 0 k calls t copy.first chain in
       (k, moved t there.slot, is, there.chain, ends_ahead maps old new origin f as_many copy t there.slot answer after there.stands ends)
 
-  runs_behind : (contents : List (List ℕ)) (n : ℕ) (calls : List Asked) (answer : ℕ) (after : List (List ℕ)) → RunFrom (beside f new) (start contents) n calls answer after → RunFrom (beside f old) (start contents) n calls answer after
+  runs_behind : (contents : List (List ℕ)) (n : ℕ) (calls : List CounterCall) (answer : ℕ) (after : List (List ℕ))
+      → RunFrom (beside f new) (start contents) n calls answer after
+      → RunFrom (beside f old) (start contents) n calls answer after
   runs_behind contents n calls answer after (k, t, is, chain, ends) =
-      let there = chain_behind (start contents) 0 k calls t copy.first chain in
-      (k, there.state, is, there.chain, ends_behind maps old new origin f as_many copy there.state there.slot answer after there.stands (subst (λ (v : State). Ends (beside f new) v answer after) there.is ends))
+      let there = chain_behind (start contents) 0 k calls t copy.first chain in (
+        k,
+        there.state,
+        is,
+        there.chain,
+        ends_behind maps old new origin f as_many copy there.state there.slot answer after there.stands
+            (subst (λ (v : State). Ends (beside f new) v answer after) there.is ends),
+      )
 
   Rests : Setting → State → Type 0
   Rests g t = ((answer : ℕ) × Ends g t answer t.maps) ⊎ GoesOn g t
 
-  on_ahead : (t : State) (slot : ℕ) → Stands new origin slot t.slot → Rests (beside f old) t → Rests (beside f new) (moved t slot)
+  on_ahead : (t : State) (slot : ℕ) → IsCopyOfSlot new origin slot t.slot → Rests (beside f old) t → Rests (beside f new) (moved t slot)
   unfolding Rests
   on_ahead t slot stands (inl (answer, ends)) = inl (answer, ends_ahead maps old new origin f as_many copy t slot answer t.maps stands ends)
-  on_ahead t slot stands (inr (inl (u, step))) = let there = step_ahead maps old new origin f as_many copy t slot None u stands step in inr (inl (moved u there.slot, there.step))
+  on_ahead t slot stands (inr (inl (u, step))) =
+      let there = step_ahead maps old new origin f as_many copy t slot None u stands step in
+      inr (inl (moved u there.slot, there.step))
   on_ahead t slot stands (inr (inr each)) =
-      inr (inr (λ x lt. let e = each x lt in let there = step_ahead maps old new origin f as_many copy t slot (Some e.0) e.1 stands e.3 in (e.0, moved e.1 there.slot, e.2, there.step)))
+      inr (inr (λ x lt.
+      let e = each x lt in
+      let there = step_ahead maps old new origin f as_many copy t slot (Some e.0) e.1 stands e.3 in
+      (e.0, moved e.1 there.slot, e.2, there.step)))
 
-  on_behind : (t : State) (slot : ℕ) → Stands new origin slot t.slot → Rests (beside f new) (moved t slot) → Rests (beside f old) t
+  on_behind : (t : State) (slot : ℕ) → IsCopyOfSlot new origin slot t.slot → Rests (beside f new) (moved t slot) → Rests (beside f old) t
   unfolding Rests
-  on_behind t slot stands (inl (answer, ends)) = inl (answer, ends_behind maps old new origin f as_many copy t slot answer t.maps stands ends)
-  on_behind t slot stands (inr (inl (u, step))) = let there = step_behind maps old new origin f as_many copy t slot None u stands step in inr (inl (there.state, there.step))
+  on_behind t slot stands (inl (answer, ends)) =
+      inl (answer, ends_behind maps old new origin f as_many copy t slot answer t.maps stands ends)
+  on_behind t slot stands (inr (inl (u, step))) =
+      let there = step_behind maps old new origin f as_many copy t slot None u stands step in
+      inr (inl (there.state, there.step))
   on_behind t slot stands (inr (inr each)) =
-      inr (inr (λ x lt. let e = each x lt in let there = step_behind maps old new origin f as_many copy t slot (Some e.0) e.1 stands e.3 in (e.0, there.state, e.2, there.step)))
+      inr (inr (λ x lt.
+      let e = each x lt in
+      let there = step_behind maps old new origin f as_many copy t slot (Some e.0) e.1 stands e.3 in
+      (e.0, there.state, e.2, there.step)))
 
-  module _ (contents : List (List ℕ)) (budget n : ℕ) (calls : List Asked) where
-    well_ahead : (t' : State) → ((t : State) → Steps (beside f old) (start contents) n calls t → GoesWell (beside f old) budget n calls t) → Steps (beside f new) (start contents) n calls t' → GoesWell (beside f new) budget n calls t'
+  module _ (contents : List (List ℕ)) (budget n : ℕ) (calls : List CounterCall) where
+    well_ahead : (t' : State) → ((t : State) → Steps (beside f old) (start contents) n calls t → GoesWell (beside f old) budget n calls t)
+        → Steps (beside f new) (start contents) n calls t'
+        → GoesWell (beside f new) budget n calls t'
     unfolding Rests
     well_ahead t' safe chain =
         let there = chain_behind (start contents) 0 n calls t' copy.first chain in
         let well = safe there.state there.chain in
-        record { short = well.short; few = well.few; on = subst (λ (v : State). Rests (beside f new) v) (sym there.is) (on_ahead there.state there.slot there.stands well.on) }
+        record {
+          short = well.short;
+          few = well.few;
+          on =
+              subst (λ (v : State). Rests (beside f new) v) (sym there.is)
+              (on_ahead there.state there.slot there.stands well.on);
+        }
 
-    well_behind : (t : State) → ((t' : State) → Steps (beside f new) (start contents) n calls t' → GoesWell (beside f new) budget n calls t') → Steps (beside f old) (start contents) n calls t → GoesWell (beside f old) budget n calls t
+    well_behind : (t : State)
+        → ((t' : State) → Steps (beside f new) (start contents) n calls t' → GoesWell (beside f new) budget n calls t')
+        → Steps (beside f old) (start contents) n calls t
+        → GoesWell (beside f old) budget n calls t
     unfolding Rests
     well_behind t safe chain =
         let there = chain_ahead (start contents) 0 n calls t copy.first chain in
@@ -84,11 +132,14 @@ module _ (maps : ℕ) (old new : List (Option Insn)) (origin : List ℕ) (copy :
 
 -- a copy gives what its original gives, in as many steps and with the same calls
 pub same_runs : SameRuns
-same_runs maps old new origin copy f contents n calls answer after as_many =
-    (runs_ahead maps old new origin copy f as_many contents n calls answer after, runs_behind maps old new origin copy f as_many contents n calls answer after)
+same_runs maps old new origin copy f contents n calls answer after as_many = (
+  runs_ahead maps old new origin copy f as_many contents n calls answer after,
+  runs_behind maps old new origin copy f as_many contents n calls answer after,
+)
 
 -- a setting beside another program
-setting_beside : (old new : List (Option Insn)) (shapes : List MapShape) (context : ℕ) (f : Setting) → IsSetting old shapes context f → IsSetting new shapes context (beside f new)
+setting_beside : (old new : List (Option Insn)) (shapes : List MapShape) (context : ℕ) (f : Setting)
+    → IsSetting old shapes context f → IsSetting new shapes context (beside f new)
 setting_beside old new shapes context f p = record {
   slots_are = refl;
   shapes_are = p.shapes_are;

@@ -22,14 +22,19 @@ pub order_of : (a b : ℕ) → (a < b) ⊎ ((a ≡ b) ⊎ (b < a))
 order_of zero zero = inr (inl refl)
 order_of zero (suc b) = inl (omega arith)
 order_of (suc a) zero = inr (inr (omega arith))
-order_of (suc a) (suc b) = elim (order_of a b) [ inl lt ↦ inl (omega (arith, lt)) | inr more ↦ elim more [ inl e ↦ inr (inl (ap suc e)) | inr gt ↦ inr (inr (omega (arith, gt))) ] ]
+order_of (suc a) (suc b) = elim (order_of a b)
+    [ inl lt ↦ inl (omega (arith, lt)) | inr more ↦ elim more [ inl e ↦ inr (inl (ap suc e)) | inr gt ↦ inr (inr (omega (arith, gt))) ] ]
 
 -- the next instruction of targets
-pub next_of : (slots : List (Option Insn)) (slot : ℕ) (insn : Insn) (targets : Targets) (next : ℕ) → instruction_at slots slot ≡ Some insn → AreTargets slots slot insn targets → targets.next ≡ Some next → IsNext slots slot next
+pub next_of : (slots : List (Option Insn)) (slot : ℕ) (insn : Insn) (targets : Targets) (next : ℕ)
+    → instruction_at slots slot ≡ Some insn → AreTargets slots slot insn targets → targets.next ≡ Some next
+    → IsNext slots slot next
 next_of slots slot insn targets next here are is = record { insn = insn; here = here; on = are.on next is; is = are.behind next is }
 
--- and the other way round
-pub next_is : (slots : List (Option Insn)) (slot : ℕ) (insn : Insn) (targets : Targets) (next : ℕ) → instruction_at slots slot ≡ Some insn → AreTargets slots slot insn targets → IsNext slots slot next → targets.next ≡ Some next
+-- what is the next instruction of the slot is that of its targets
+pub next_is : (slots : List (Option Insn)) (slot : ℕ) (insn : Insn) (targets : Targets) (next : ℕ)
+    → instruction_at slots slot ≡ Some insn → AreTargets slots slot insn targets → IsNext slots slot next
+    → targets.next ≡ Some next
 next_is slots slot insn targets next here are n =
     let same : n.insn ≡ insn = some_same _ n.insn insn n.here here in
     are.next (ap goes_on (sym same) ∙ n.on) ∙ ap (λ (k : ℕ). Some k) (sym (n.is ∙ ap (λ (i : Insn). slot + slots_of i) same))
@@ -49,7 +54,8 @@ next_same slots slot a b p q =
     p.is ∙ (ap (λ (i : Insn). slot + slots_of i) same ∙ sym q.is)
 
 -- a run of one instruction
-pub run_of_one : (slots : List (Option Insn)) (places : List (Option ℕ)) (slot : ℕ) → IsStart slots slot → IsReady slots places slot → IsRun slots places slot slot
+pub run_of_one : (slots : List (Option Insn)) (places : List (Option ℕ)) (slot : ℕ)
+    → IsStart slots slot → IsReady slots places slot → IsRun slots places slot slot
 run_of_one slots places slot start ready = record {
   begins = omega arith;
   start = start;
@@ -59,7 +65,9 @@ run_of_one slots places slot start ready = record {
 }
 
 -- a run goes on
-pub run_on : (slots : List (Option Insn)) (places : List (Option ℕ)) (slot last next : ℕ) → IsLinked slots → AreClosed slots places → IsRun slots places slot last → IsNext slots last next → IsRun slots places slot next
+pub run_on : (slots : List (Option Insn)) (places : List (Option ℕ)) (slot last next : ℕ)
+    → IsLinked slots → AreClosed slots places → IsRun slots places slot last → IsNext slots last next
+    → IsRun slots places slot next
 run_on slots places slot last next linked closed run n =
     let begins = run.begins in
     let is = n.is in
@@ -92,7 +100,9 @@ run_on slots places slot last next linked closed run n =
     }
 
 -- where no instruction begins nothing is put
-pub not_put : (maps : ℕ) (old back : List (Option Insn)) (origins : List ℕ) (slot : ℕ) → instruction_at old slot ≡ None → IsBuilt maps old back origins → IsPut maps old back origins back origins slot
+pub not_put : (maps : ℕ) (old back : List (Option Insn)) (origins : List ℕ) (slot : ℕ)
+    → instruction_at old slot ≡ None → IsBuilt maps old back origins
+    → IsPut maps old back origins back origins slot
 not_put maps old back origins slot none built =
     let wide : width_at old slot ≡ 0 = ap width_of none in
     record {
@@ -104,8 +114,11 @@ not_put maps old back origins slot none built =
     }
 
 -- an instruction was put
-pub was_put : (maps : ℕ) (old before : List (Option Insn)) (origins : List ℕ) (after : List (Option Insn)) (origins' : List ℕ) (slot : ℕ) (insn : Insn) → instruction_at old slot ≡ Some insn →
-    IsLengthened maps old before origins after origins' slot → length after ≡ length before + slots_of insn → IsPut maps old before origins after origins' slot
+pub was_put : (maps : ℕ) (old before : List (Option Insn)) (origins : List ℕ) (after : List (Option Insn))
+    (origins' : List ℕ) (slot : ℕ) (insn : Insn)
+    → instruction_at old slot ≡ Some insn → IsLengthened maps old before origins after origins' slot
+    → length after ≡ length before + slots_of insn
+    → IsPut maps old before origins after origins' slot
 was_put maps old before origins after origins' slot insn here more grown =
     let wide : width_at old slot ≡ slots_of insn = ap width_of here in
     record {
@@ -116,20 +129,27 @@ was_put maps old before origins after origins' slot insn here more grown =
       grown = omega (arith, grown, wide);
     }
 
-module _ (maps : ℕ) (old before : List (Option Insn)) (origins : List ℕ) (places : List (Option ℕ)) (linked : IsLinked old) (slot last : ℕ) (run : IsRun old places slot last) where
+module _ (maps : ℕ) (old before : List (Option Insn)) (origins : List ℕ) (places : List (Option ℕ)) (linked : IsLinked old)
+    (slot last : ℕ) (run : IsRun old places slot last) where
   -- the last instruction is in front
-  pub first_put : (after : List (Option Insn)) (origins' : List ℕ) → IsPut maps old before origins after origins' last → IsPutting maps old before origins last last after origins'
+  pub first_put : (after : List (Option Insn)) (origins' : List ℕ)
+      → IsPut maps old before origins after origins' last
+      → IsPutting maps old before origins last last after origins'
   first_put after origins' put =
       let grown = put.grown in
       record {
         built = put.built;
         keeps = put.keeps;
-        front = λ k from to at least. let same : last ≡ k = omega (arith, from, to) in subst (λ (n : ℕ). IsFront after origins' n) same (put.front run.start);
+        front = λ k from to at least.
+            let same : last ≡ k = omega (arith, from, to) in
+            subst (λ (n : ℕ). IsFront after origins' n) same (put.front run.start);
         room = record { from = last; above = omega arith; start = run.start; fits = omega (arith, grown) };
       }
 
   -- what suffices for the slot suffices for the run
-  pub fits_in : ((next : ℕ) → IsNext old slot next → IsFront before origins next → last ≡ slot) → (most : ℕ) → Suffices old before origins slot most → last + width_at old last ≤ slot + most
+  pub fits_in : ((next : ℕ) → IsNext old slot next → IsFront before origins next → last ≡ slot)
+      → (most : ℕ) → Suffices old before origins slot most
+      → last + width_at old last ≤ slot + most
   fits_in short most (inl le) = let ends = run.ends in let has = run_has old last linked run.start in omega (arith, le, ends, has)
   fits_in short most (inr (next, n, front, wide)) =
       let same = short next n front in
@@ -137,10 +157,15 @@ module _ (maps : ℕ) (old before : List (Option Insn)) (origins : List ℕ) (pl
       omega (arith, same, here, wide)
 
   -- the last instruction has room
-  pub first_full : (most : ℕ) (d : Disorder) → last + width_at old last ≤ slot + most → IsFull (length before + width_at old last) d → IsFull (length before + most) d
-  first_full most d fits full = let begins = run.begins in full_more (length before + width_at old last) (length before + most) d (omega (arith, fits, begins)) full
+  pub first_full : (most : ℕ) (d : Disorder) → last + width_at old last ≤ slot + most
+      → IsFull (length before + width_at old last) d
+      → IsFull (length before + most) d
+  first_full most d fits full =
+      let begins = run.begins in
+      full_more (length before + width_at old last) (length before + most) d (omega (arith, fits, begins)) full
 
-  module _ (after : List (Option Insn)) (origins' : List ℕ) (at : ℕ) (from : slot ≤ at) (below : at < last) (p : IsPutting maps old before origins last (at + 1) after origins') where
+  module _ (after : List (Option Insn)) (origins' : List ℕ) (at : ℕ) (from : slot ≤ at) (below : at < last)
+      (p : IsPutting maps old before origins last (at + 1) after origins') where
     pub next_front : (next : ℕ) → IsNext old at next → IsFront after origins' next
     next_front next n =
         let o = run.onward at from below (record { insn = n.insn; here = n.here }) in
@@ -160,13 +185,17 @@ module _ (maps : ℕ) (old before : List (Option Insn)) (origins : List ℕ) (pl
           | inr more ↦ elim more [ inl same ↦ omega (arith, same) | inr past ↦ omega (arith, past) ]
         ]
 
-    pub next_full : (most : ℕ) (d : Disorder) → last + width_at old last ≤ slot + most → IsFull (length after + width_at old at) d → IsFull (length before + most) d
+    pub next_full : (most : ℕ) (d : Disorder) → last + width_at old last ≤ slot + most
+        → IsFull (length after + width_at old at) d
+        → IsFull (length before + most) d
     next_full most d enough full =
         let fits = p.room.fits in
         let room = room_at (instruction_at old at) refl in
         full_more (length after + width_at old at) (length before + most) d (omega (arith, enough, fits, room, from)) full
 
-    room_more : (o : Option Insn) (more : List (Option Insn)) → instruction_at old at ≡ o → length more ≡ length after + width_of o → HasPlace old at (length before + (last + width_at old last)) more
+    room_more : (o : Option Insn) (more : List (Option Insn))
+        → instruction_at old at ≡ o → length more ≡ length after + width_of o
+        → HasPlace old at (length before + (last + width_at old last)) more
     room_more None more e grown =
         let above = p.room.above in
         let fits = p.room.fits in
@@ -177,7 +206,9 @@ module _ (maps : ℕ) (old before : List (Option Insn)) (origins : List ℕ) (pl
         record { from = at; above = omega arith; start = record { insn = insn; here = e }; fits = omega (arith, fits, room, grown) }
 
     -- one instruction more is in front
-    pub next_put : (more : List (Option Insn)) (origins'' : List ℕ) → IsPut maps old after origins' more origins'' at → IsPutting maps old before origins last at more origins''
+    pub next_put : (more : List (Option Insn)) (origins'' : List ℕ)
+        → IsPut maps old after origins' more origins'' at
+        → IsPutting maps old before origins last at more origins''
     next_put more origins'' put = record {
       built = put.built;
       keeps = λ place f s. put.keeps place f (p.keeps place f s);
@@ -185,7 +216,8 @@ module _ (maps : ℕ) (old before : List (Option Insn)) (origins : List ℕ) (pl
         | inl later ↦
             let same = put.same (λ start. least at (omega arith) later start) in
             let front = p.front k (omega (arith, later)) to s (λ j above under start. least j (omega (arith, above)) under start) in
-            subst (λ (xs : List (Option Insn)). IsFront xs origins'' k) (sym same.0) (subst (λ (ys : List ℕ). IsFront after ys k) (sym same.1) front)
+            subst (λ (xs : List (Option Insn)). IsFront xs origins'' k) (sym same.0)
+            (subst (λ (ys : List ℕ). IsFront after ys k) (sym same.1) front)
         | inr rest ↦ elim rest [
           | inl here ↦ subst (λ (n : ℕ). IsFront more origins'' n) here (put.front (subst (λ (n : ℕ). IsStart old n) (sym here) s))
           | inr before ↦ absurd (omega (arith, before, low))
@@ -195,12 +227,18 @@ module _ (maps : ℕ) (old before : List (Option Insn)) (origins : List ℕ) (pl
     }
 
   -- the whole run is in front
-  pub all_put : (after : List (Option Insn)) (origins' : List ℕ) (bound : ℕ) → bound ≡ slot → IsStart old slot → IsPutting maps old before origins last bound after origins' → IsLengthened maps old before origins after origins' slot
+  pub all_put : (after : List (Option Insn)) (origins' : List ℕ) (bound : ℕ)
+      → bound ≡ slot → IsStart old slot → IsPutting maps old before origins last bound after origins'
+      → IsLengthened maps old before origins after origins' slot
   all_put after origins' bound is start p = record {
     built = p.built;
     keeps = p.keeps;
-    front = p.front slot (omega (arith, is)) run.begins start (λ j above under s. absurd (let never : ⊥ = omega (arith, above, under, is) in never));
+    front =
+        p.front slot (omega (arith, is)) run.begins start
+        (λ j above under s. absurd (let never : ⊥ = omega (arith, above, under, is) in never));
   }
 
-  pub all_fits : (after : List (Option Insn)) (origins' : List ℕ) (bound : ℕ) → bound ≡ slot → IsPutting maps old before origins last bound after origins' → length after + slot ≤ length before + (last + width_at old last)
+  pub all_fits : (after : List (Option Insn)) (origins' : List ℕ) (bound : ℕ)
+      → bound ≡ slot → IsPutting maps old before origins last bound after origins'
+      → length after + slot ≤ length before + (last + width_at old last)
   all_fits after origins' bound is p = let above = p.room.above in let fits = p.room.fits in omega (arith, above, fits, is)

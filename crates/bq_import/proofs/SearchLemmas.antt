@@ -10,35 +10,41 @@ use Rattle.bq_insn.specs.Slots.{slots_of}
 use Rattle.bq_bpf.specs.Steps.{LeadsTo, instruction_at}
 use Rattle.bq_bpf.specs.Instructions.{distance_of, goes_on}
 use Rattle.bq_verify.specs.Edges.{IsStart}
-use Rattle.bq_verify.specs.Passes.{LeadsOut, IsOf}
+use Rattle.bq_verify.specs.Passes.{LeadsOut, IsAmongTargets}
 use Rattle.bq_verify.specs.declared.edges.Targets.{Targets}
 use Rattle.bq_insn.proofs.OptionLemmas.{some_same, some_none}
 use Rattle.bq_insn.proofs.CountLemmas.{slots_positive}
 use Rattle.bq_verify.proofs.EdgeLemmas.{leads_same, leads_out}
-use Rattle.bq_import.specs.Copies.{Stands}
+use Rattle.bq_import.specs.Copies.{IsCopyOfSlot}
 use Rattle.bq_import.specs.Backward.{JumpsBack, IsFront, IsLengthened, MayStand}
 use Rattle.bq_import.specs.Lengths.{IsJump}
 use Rattle.bq_import.specs.Search.{AreTargets, JumpsTo}
 
-module _ (slots : List (Option Insn)) (slot : ℕ) (insn : Insn) (here : instruction_at slots slot ≡ Some insn) (linked : IsLinked slots) (targets : Targets) where
-  next_there : (b : Bool) → b ≡ true → targets.next ≡ (if b then Some (slot + slots_of insn) else None) → targets.next ≡ Some (slot + slots_of insn)
+module _ (slots : List (Option Insn)) (slot : ℕ) (insn : Insn) (here : instruction_at slots slot ≡ Some insn)
+    (linked : IsLinked slots) (targets : Targets) where
+  next_there : (b : Bool) → b ≡ true → targets.next ≡ (if b then Some (slot + slots_of insn) else None)
+      → targets.next ≡ Some (slot + slots_of insn)
   next_there true e is = is
   next_there false e is = absurd (let no : ⊥ = cc in no)
 
-  jump_there : (v : Option ℕ) → targets.jump ≡ v → IfSome v (λ to. (far : ℤ) × (distance_of insn ≡ Some far) × LeadsTo slot far to) → IfNone v (distance_of insn ≡ None) →
-      (far : ℤ) → distance_of insn ≡ Some far → (to : ℕ) × LeadsTo slot far to × (targets.jump ≡ Some to)
+  jump_there : (v : Option ℕ) → targets.jump ≡ v
+      → IfSome v (λ to. (far : ℤ) × (distance_of insn ≡ Some far) × LeadsTo slot far to) → IfNone v (distance_of insn ≡ None)
+      → (far : ℤ) → distance_of insn ≡ Some far
+      → (to : ℕ) × LeadsTo slot far to × (targets.jump ≡ Some to)
   jump_there None is some none far e = absurd (some_none _ far e none)
   jump_there (Some to) is some none far e =
       let same : some.0 ≡ far = some_same _ some.0 far some.1 e in
       (to, subst (λ (z : ℤ). LeadsTo slot z to) same some.2, is)
 
-  jump_from : (v : Option ℕ) → targets.jump ≡ v → IfSome v (λ to. (far : ℤ) × (distance_of insn ≡ Some far) × LeadsTo slot far to) → (to : ℕ) → targets.jump ≡ Some to → IsJump slots slot to
+  jump_from : (v : Option ℕ) → targets.jump ≡ v
+      → IfSome v (λ to. (far : ℤ) × (distance_of insn ≡ Some far) × LeadsTo slot far to) → (to : ℕ) → targets.jump ≡ Some to
+      → IsJump slots slot to
   jump_from None is some to e = absurd (some_none _ to e is)
   jump_from (Some at) is some to e =
       let same : at ≡ to = some_same _ at to is e in
       record { insn = insn; here = here; distance = some.0; jumps = some.1; leads = subst (λ (n : ℕ). LeadsTo slot some.0 n) same some.2 }
 
-  starts_at : LeadsOut slots slot targets → (to : ℕ) → IsOf targets to → IsStart slots to
+  starts_at : LeadsOut slots slot targets → (to : ℕ) → IsAmongTargets targets to → IsStart slots to
   starts_at out to of =
       let edge = out.only to of in
       let same : edge.insn ≡ insn = some_same _ edge.insn insn edge.here here in
@@ -54,18 +60,27 @@ module _ (slots : List (Option Insn)) (slot : ℕ) (insn : Insn) (here : instruc
       ]
 
   next_later : (b : Bool) → targets.next ≡ (if b then Some (slot + slots_of insn) else None) → (to : ℕ) → targets.next ≡ Some to → slot < to
-  next_later true is to e = let same = some_same _ to (slot + slots_of insn) e is in let positive = slots_positive insn in omega (arith, same, positive)
+  next_later true is to e =
+      let same = some_same _ to (slot + slots_of insn) e is in
+      let positive = slots_positive insn in omega (arith, same, positive)
   next_later false is to e = absurd (some_none _ to e is)
 
-  next_behind : (b : Bool) → targets.next ≡ (if b then Some (slot + slots_of insn) else None) → (to : ℕ) → targets.next ≡ Some to → to ≡ slot + slots_of insn
+  next_behind : (b : Bool) → targets.next ≡ (if b then Some (slot + slots_of insn) else None)
+      → (to : ℕ) → targets.next ≡ Some to
+      → to ≡ slot + slots_of insn
   next_behind true is to e = some_same _ to (slot + slots_of insn) e is
   next_behind false is to e = absurd (some_none _ to e is)
 
-  next_on : (b : Bool) → goes_on insn ≡ b → targets.next ≡ (if b then Some (slot + slots_of insn) else None) → (to : ℕ) → targets.next ≡ Some to → goes_on insn ≡ true
+  next_on : (b : Bool) → goes_on insn ≡ b → targets.next ≡ (if b then Some (slot + slots_of insn) else None)
+      → (to : ℕ) → targets.next ≡ Some to
+      → goes_on insn ≡ true
   next_on true e is to there = e
   next_on false e is to there = absurd (some_none _ to there is)
 
-  pub are_targets : targets.next ≡ (if goes_on insn then Some (slot + slots_of insn) else None) → IfSome targets.jump (λ to. (far : ℤ) × (distance_of insn ≡ Some far) × LeadsTo slot far to) → IfNone targets.jump (distance_of insn ≡ None) → AreTargets slots slot insn targets
+  pub are_targets : targets.next ≡ (if goes_on insn then Some (slot + slots_of insn) else None)
+      → IfSome targets.jump (λ to. (far : ℤ) × (distance_of insn ≡ Some far) × LeadsTo slot far to)
+      → IfNone targets.jump (distance_of insn ≡ None)
+      → AreTargets slots slot insn targets
   are_targets next some none =
       let out = leads_out slots slot insn here targets next some none in
       record {
@@ -80,8 +95,11 @@ module _ (slots : List (Option Insn)) (slot : ℕ) (insn : Insn) (here : instruc
       }
 
 -- the jump's copy lies behind
-module _ (old back : List (Option Insn)) (origins : List ℕ) (slot : ℕ) (insn : Insn) (targets : Targets) (are : AreTargets old slot insn targets) where
-  jump_lands : (distance : ℤ) (v : Option ℕ) → targets.jump ≡ v → IfSome v (JumpsTo back origins distance) → (far : ℤ) → distance_of insn ≡ Some far → JumpsBack back origins slot (length back) far distance
+module _ (old back : List (Option Insn)) (origins : List ℕ) (slot : ℕ) (insn : Insn) (targets : Targets)
+    (are : AreTargets old slot insn targets) where
+  jump_lands : (distance : ℤ) (v : Option ℕ) → targets.jump ≡ v → IfSome v (JumpsTo back origins distance)
+      → (far : ℤ) → distance_of insn ≡ Some far
+      → JumpsBack back origins slot (length back) far distance
   jump_lands distance None e jumps far is = let there = are.jump far is in absurd (some_none _ there.0 there.2 e)
   jump_lands distance (Some to) e jumps far is =
       let there = are.jump far is in
@@ -93,10 +111,12 @@ module _ (old back : List (Option Insn)) (origins : List ℕ) (slot : ℕ) (insn
         leads = there.1;
         near_is = jumps.distance_is;
         place_is = jumps.long;
-        stands = subst (λ (n : ℕ). Stands back origins jumps.landing n) same jumps.stands;
+        stands = subst (λ (n : ℕ). IsCopyOfSlot back origins jumps.landing n) same jumps.stands;
       }
 
-  pub may_stand : (distance : ℤ) → instruction_at old slot ≡ Some insn → ((n : ℕ) → targets.next ≡ Some n → IsFront back origins n) → IfSome targets.jump (JumpsTo back origins distance) → MayStand old back origins slot insn distance
+  pub may_stand : (distance : ℤ) → instruction_at old slot ≡ Some insn
+      → ((n : ℕ) → targets.next ≡ Some n → IsFront back origins n) → IfSome targets.jump (JumpsTo back origins distance)
+      → MayStand old back origins slot insn distance
   may_stand distance here front jumps = record {
     here = here;
     on = λ on. front (slot + slots_of insn) (are.next on);
@@ -104,20 +124,34 @@ module _ (old back : List (Option Insn)) (origins : List ℕ) (slot : ℕ) (insn
   }
 
 -- what was lengthened twice was lengthened by what was put in front last
-pub lengthened_twice : (maps : ℕ) (old a : List (Option Insn)) (x : List ℕ) (b : List (Option Insn)) (y : List ℕ) (c : List (Option Insn)) (z : List ℕ) (first last : ℕ) → IsLengthened maps old a x b y first → IsLengthened maps old b y c z last → IsLengthened maps old a x c z last
-lengthened_twice maps old a x b y c z first last p q = record { built = q.built; keeps = λ place from s. q.keeps place from (p.keeps place from s); front = q.front }
+pub lengthened_twice : (maps : ℕ) (old a : List (Option Insn)) (x : List ℕ) (b : List (Option Insn)) (y : List ℕ)
+    (c : List (Option Insn)) (z : List ℕ) (first last : ℕ)
+    → IsLengthened maps old a x b y first → IsLengthened maps old b y c z last
+    → IsLengthened maps old a x c z last
+lengthened_twice maps old a x b y c z first last p q =
+    record { built = q.built; keeps = λ place from s. q.keeps place from (p.keeps place from s); front = q.front }
 
 -- where a jump's copy stands
-pub jumps_to : (back : List (Option Insn)) (origins : List ℕ) (places : List (Option ℕ)) (to place : ℕ) (distance : ℤ) (start : place < length back) → distance ≡ pos (length back - place - 1) → Stands back origins place to → JumpsTo back origins distance to
-jumps_to back origins places to place distance start is stands = record { landing = place; apart = length back - place - 1; distance_is = is; long = omega (arith, start); stands = stands }
+pub jumps_to : (back : List (Option Insn)) (origins : List ℕ) (places : List (Option ℕ)) (to place : ℕ)
+    (distance : ℤ) (start : place < length back)
+    → distance ≡ pos (length back - place - 1) → IsCopyOfSlot back origins place to
+    → JumpsTo back origins distance to
+jumps_to back origins places to place distance start is stands =
+    record { landing = place; apart = length back - place - 1; distance_is = is; long = omega (arith, start); stands = stands }
 
 -- a jump that leads to no instruction
-pub leads_nowhere : (slots : List (Option Insn)) (slot : ℕ) (insn : Insn) (distance : ℤ) → instruction_at slots slot ≡ Some insn → Some distance ≡ distance_of insn → (v : Option ℕ) → is_some v ≡ false → IfNone v ((to : ℕ) → LeadsTo slot distance to → IsStart slots to → ⊥) → LeadsNowhere slots slot
-leads_nowhere slots slot insn distance here is None none never = record { insn = insn; here = here; distance = distance; jumps = sym is; nowhere = never }
+pub leads_nowhere : (slots : List (Option Insn)) (slot : ℕ) (insn : Insn) (distance : ℤ)
+    → instruction_at slots slot ≡ Some insn → Some distance ≡ distance_of insn → (v : Option ℕ) → is_some v ≡ false
+    → IfNone v ((to : ℕ) → LeadsTo slot distance to → IsStart slots to → ⊥)
+    → LeadsNowhere slots slot
+leads_nowhere slots slot insn distance here is None none never =
+    record { insn = insn; here = here; distance = distance; jumps = sym is; nowhere = never }
 leads_nowhere slots slot insn distance here is (Some to) none never = absurd (let false : ⊥ = cc in false)
 
 -- from an instruction that lies before the end, where control goes on from it, it does not go on past the end
-pub stays_inside : (slots : List (Option Insn)) (slot : ℕ) (insn : Insn) → instruction_at slots slot ≡ Some insn → (goes_on insn ≡ true → slot + slots_of insn < length slots) → RunsOut slots slot → ⊥
+pub stays_inside : (slots : List (Option Insn)) (slot : ℕ) (insn : Insn)
+    → instruction_at slots slot ≡ Some insn → (goes_on insn ≡ true → slot + slots_of insn < length slots) → RunsOut slots slot
+    → ⊥
 stays_inside slots slot insn here within out =
     let same : out.insn ≡ insn = some_same _ out.insn insn out.here here in
     let inside = within (ap goes_on (sym same) ∙ out.on) in
@@ -125,9 +159,12 @@ stays_inside slots slot insn here within out =
     omega (arith, inside, past)
 
 -- what is wrong at the first slot where something is, is what is wrong with the program
-pub first_wrong : (slots : List (Option Insn)) (slot : ℕ) (d : Disorder) → WellBefore slots slot → IsWrongAt slots slot d → IsDisorder slots d
+pub first_wrong : (slots : List (Option Insn)) (slot : ℕ) (d : Disorder)
+    → WellBefore slots slot → IsWrongAt slots slot d → IsDisorder slots d
 first_wrong slots slot (Ends at) before wrong = subst (λ (n : ℕ). RunsOut slots n × WellBefore slots n) (sym wrong.0) (wrong.1, before)
-first_wrong slots slot (Outside at) before wrong = subst (λ (n : ℕ). LeadsNowhere slots n × (RunsOut slots n → ⊥) × WellBefore slots n) (sym wrong.0) (wrong.1, wrong.2, before)
+first_wrong slots slot (Outside at) before wrong =
+    subst (λ (n : ℕ). LeadsNowhere slots n × (RunsOut slots n → ⊥) × WellBefore slots n) (sym wrong.0)
+    (wrong.1, wrong.2, before)
 first_wrong slots slot (Loop from to) before wrong = absurd wrong
 first_wrong slots slot Long before wrong = absurd wrong
 first_wrong slots slot OutOfMemory before wrong = absurd wrong

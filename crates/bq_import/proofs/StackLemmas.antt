@@ -8,9 +8,9 @@ use Rattle.bq_verify.specs.Edges.{IsEdge, IsStart}
 use Rattle.bq_verify.specs.Paths.{Path}
 use Rattle.bq_insn.proofs.OptionLemmas.{some_same, some_none}
 use Rattle.bq_verify.proofs.EdgeLemmas.{start_inside, IsPath-push, end_of-push}
-use Rattle.bq_import.specs.Copies.{Stands}
+use Rattle.bq_import.specs.Copies.{IsCopyOfSlot}
 use Rattle.bq_import.specs.Backward.{IsBuilt, IsLengthened}
-use Rattle.bq_import.specs.Search.{AllComeTo, AreWaiting, IsCounted, IsQueued, place_at, IsDone, AreKnown, AreClosed, IsReady, is_open, unopened, IsOn, IsTop, IsSearching, KeepsOpen, left_of}
+use Rattle.bq_import.specs.Search.{AllComeTo, AreWaiting, IsCounted, IsQueued, place_at, IsDone, AreKnown, AreClosed, IsReady, is_open, unopened, IsStacked, IsTop, IsSearching, KeepsOpen, left_of}
 
 -- two numbers are equal or not
 pub equal_or_not : (a b : ℕ) → (a ≡ b) ⊎ (a ≢ b)
@@ -23,8 +23,9 @@ equal_or_not (suc a) (suc b) = elim (equal_or_not a b) [ inl e ↦ inl (ap suc e
 pub now_set : (places : List (Option ℕ)) (slot place : ℕ) → slot < length places → IsDone (slice_set places slot (Some place)) slot
 now_set places slot place inside = (place, get_or-set_same places slot (Some place) None inside)
 
--- and what was in place is still
-pub still_set : (places : List (Option ℕ)) (slot place : ℕ) → slot < length places → (s : ℕ) → IsDone places s → IsDone (slice_set places slot (Some place)) s
+-- what was in place is still in place
+pub still_set : (places : List (Option ℕ)) (slot place : ℕ) → slot < length places → (s : ℕ) → IsDone places s
+    → IsDone (slice_set places slot (Some place)) s
 still_set places slot place inside s done = elim (equal_or_not s slot) [
   | inl e ↦ subst (λ (n : ℕ). IsDone (slice_set places slot (Some place)) n) (sym e) (now_set places slot place inside)
   | inr apart ↦ (done.0, get_or-set_other places slot s (Some place) None apart ∙ done.1)
@@ -39,17 +40,20 @@ path_on slots a b c p edge = record {
 }
 
 -- control comes to what it goes on to from the top of the stack
-pub comes_next : (slots : List (Option Insn)) (stack : List ℕ) (top to : ℕ) → AllComeTo slots stack → IsTop stack top → IsEdge slots top to → Path slots 0 to
+pub comes_next : (slots : List (Option Insn)) (stack : List ℕ) (top to : ℕ)
+    → AllComeTo slots stack → IsTop stack top → IsEdge slots top to → Path slots 0 to
 comes_next slots stack top to comes is edge =
     let long = is.long in
     path_on slots 0 top to (subst (λ (n : ℕ). Path slots 0 n) is.slot_is (comes is.below (omega (arith, long)))) edge
 
 -- control comes to all of a list, and to one slot more
-pub comes_more : (slots : List (Option Insn)) (list : List ℕ) (slot : ℕ) → AllComeTo slots list → Path slots 0 slot → AllComeTo slots (list ++ slot ∷ [])
+pub comes_more : (slots : List (Option Insn)) (list : List ℕ) (slot : ℕ)
+    → AllComeTo slots list → Path slots 0 slot → AllComeTo slots (list ++ slot ∷ [])
 comes_more slots list slot comes way index lt = elim (equal_or_not index (length list)) [
   | inl e ↦
       let last : slice_index (list ++ slot ∷ []) index ≡ slot =
-      ap (λ (n : ℕ). get_or (list ++ slot ∷ []) n 0) (let same : index ≡ length list + 0 = omega (arith, e) in same) ∙ get_or-append-add list (slot ∷ []) 0 0 in
+      ap (λ (n : ℕ). get_or (list ++ slot ∷ []) n 0) (let same : index ≡ length list + 0 = omega (arith, e) in same)
+      ∙ get_or-append-add list (slot ∷ []) 0 0 in
       subst (λ (n : ℕ). Path slots 0 n) (sym last) way
   | inr apart ↦
       let long = length-append list (slot ∷ []) in
@@ -57,29 +61,43 @@ comes_more slots list slot comes way index lt = elim (equal_or_not index (length
       subst (λ (n : ℕ). Path slots 0 n) (sym (get_or_append_left list (slot ∷ []) 0 index inside)) (comes index inside)
 ]
 
--- so it does to all of a queue when a slot is queued that it comes to
-pub comes_queued : (slots : List (Option Insn)) (before : List ℕ) (slot : Option ℕ) (after : List ℕ) → IsQueued before slot after → AllComeTo slots before → ((k : ℕ) → slot ≡ Some k → Path slots 0 k) → AllComeTo slots after
+-- control comes to all of a queue, also when a slot is queued that it comes to
+pub comes_queued : (slots : List (Option Insn)) (before : List ℕ) (slot : Option ℕ) (after : List ℕ)
+    → IsQueued before slot after → AllComeTo slots before → ((k : ℕ) → slot ≡ Some k → Path slots 0 k)
+    → AllComeTo slots after
 comes_queued slots before slot after queued comes way = elim queued [
   | inl same ↦ subst (λ (list : List ℕ). AllComeTo slots list) (sym same) comes
   | inr (k, is, more) ↦ subst (λ (list : List ℕ). AllComeTo slots list) (sym more) (comes_more slots before k comes (way k is))
 ]
 
-module _ (maps : ℕ) (old back : List (Option Insn)) (origins : List ℕ) (places : List (Option ℕ)) (opens : List Bool) (stack : List ℕ) (at : IsSearching maps old back origins places opens stack) (slot : ℕ) where
+module _ (maps : ℕ) (old back : List (Option Insn)) (origins : List ℕ) (places : List (Option ℕ)) (opens : List Bool)
+    (stack : List ℕ) (at : IsSearching maps old back origins places opens stack) (slot : ℕ) where
   module _ (start : IsStart old slot) (new : is_open opens slot ≡ false) (edge : (top : ℕ) → IsTop stack top → IsEdge old top slot) where
     slot_inside : slot < length opens
     slot_inside = let inside = start_inside old slot start in let room = at.room in omega (arith, inside, room)
 
-    on_more : (s : ℕ) → IsOn stack s → IsOn (stack ++ slot ∷ []) s
-    on_more s on = let long = length-append stack (slot ∷ []) in let inside = on.inside in
-        record { index = on.index; inside = omega (arith, long, inside); slot_is = get_or_append_left stack (slot ∷ []) 0 on.index on.inside ∙ on.slot_is }
+    on_more : (s : ℕ) → IsStacked stack s → IsStacked (stack ++ slot ∷ []) s
+    on_more s on =
+        let long = length-append stack (slot ∷ []) in
+        let inside = on.inside in
+        record {
+          index = on.index;
+          inside = omega (arith, long, inside);
+          slot_is = get_or_append_left stack (slot ∷ []) 0 on.index on.inside ∙ on.slot_is;
+        }
 
     last_on : slice_index (stack ++ slot ∷ []) (length stack) ≡ slot
-    last_on = ap (λ (n : ℕ). get_or (stack ++ slot ∷ []) n 0) (let e : length stack ≡ length stack + 0 = omega arith in e) ∙ get_or-append-add stack (slot ∷ []) 0 0
+    last_on =
+        ap (λ (n : ℕ). get_or (stack ++ slot ∷ []) n 0) (let e : length stack ≡ length stack + 0 = omega arith in e)
+        ∙ get_or-append-add stack (slot ∷ []) 0 0
 
-    opened_more : (s : ℕ) → is_open (slice_set opens slot true) s ≡ true → IsDone places s ⊎ IsOn (stack ++ slot ∷ []) s
+    opened_more : (s : ℕ) → is_open (slice_set opens slot true) s ≡ true → IsDone places s ⊎ IsStacked (stack ++ slot ∷ []) s
     opened_more s begun = elim (equal_or_not s slot) [
-      | inl e ↦ inr (let long = length-append stack (slot ∷ []) in record { index = length stack; inside = omega (arith, long); slot_is = last_on ∙ sym e })
-      | inr apart ↦ elim (at.opened s (sym (get_or-set_other opens slot s true false apart) ∙ begun)) [ inl done ↦ inl done | inr on ↦ inr (on_more s on) ]
+      | inl e ↦
+          inr (let long = length-append stack (slot ∷ []) in
+          record { index = length stack; inside = omega (arith, long); slot_is = last_on ∙ sym e })
+      | inr apart ↦ elim (at.opened s (sym (get_or-set_other opens slot s true false apart) ∙ begun))
+          [ inl done ↦ inl done | inr on ↦ inr (on_more s on) ]
     ]
 
     left_index : (i : ℕ) → i < length stack → slice_index (stack ++ slot ∷ []) i ≡ slice_index stack i
@@ -95,7 +113,8 @@ module _ (maps : ℕ) (old back : List (Option Insn)) (origins : List ℕ) (plac
         path_on old (slice_index stack i) (slice_index stack below) slot (at.ways i below (omega (arith, lt)) (omega (arith, lt)))
         (edge (slice_index stack below) (record { below = below; long = long; slot_is = refl }))
 
-    ways_more : (i j : ℕ) → i ≤ j → j < length (stack ++ slot ∷ []) → Path old (slice_index (stack ++ slot ∷ []) i) (slice_index (stack ++ slot ∷ []) j)
+    ways_more : (i j : ℕ) → i ≤ j → j < length (stack ++ slot ∷ [])
+        → Path old (slice_index (stack ++ slot ∷ []) i) (slice_index (stack ++ slot ∷ []) j)
     ways_more i j le lt =
         let long = length-append stack (slot ∷ []) in
         elim (below_or j (omega (arith, long, lt))) [
@@ -108,7 +127,8 @@ module _ (maps : ℕ) (old back : List (Option Insn)) (origins : List ℕ) (plac
               (elim (below_or i (omega (arith, le, e))) [
                 | inl inside ↦ subst (λ (n : ℕ). Path old n slot) (sym (left_index i inside)) (to_last i inside)
                 | inr e' ↦
-                    let here : slice_index (stack ++ slot ∷ []) i ≡ slot = ap (λ (n : ℕ). slice_index (stack ++ slot ∷ []) n) e' ∙ last_on in
+                    let here : slice_index (stack ++ slot ∷ []) i ≡ slot =
+                    ap (λ (n : ℕ). slice_index (stack ++ slot ∷ []) n) e' ∙ last_on in
                     subst (λ (n : ℕ). Path old n slot) (sym here) (record { rest = []; is_path = tt; ends = refl })
               ])
         ]
@@ -140,17 +160,22 @@ module _ (maps : ℕ) (old back : List (Option Insn)) (origins : List ℕ) (plac
     now_last : (i : ℕ) → i ≡ length stack → slice_index (stack ++ slot ∷ []) i ≡ slot
     now_last i e = ap (λ (n : ℕ). slice_index (stack ++ slot ∷ []) n) e ∙ last_on
 
-    each_more : (P : ℕ → Type 0) → ((i : ℕ) → i < length stack → P (slice_index stack i)) → P slot → (i : ℕ) → i < length (stack ++ slot ∷ []) → P (slice_index (stack ++ slot ∷ []) i)
+    each_more : (P : ℕ → Type 0) → ((i : ℕ) → i < length stack → P (slice_index stack i)) → P slot
+        → (i : ℕ) → i < length (stack ++ slot ∷ [])
+        → P (slice_index (stack ++ slot ∷ []) i)
     each_more P before last i lt = let long = length-append stack (slot ∷ []) in elim (below_or i (omega (arith, long, lt))) [
       | inl inside ↦ subst P (sym (left_index i inside)) (before i inside)
       | inr e ↦ subst P (sym (now_last i e)) last
     ]
 
-    apart_more : (i j : ℕ) → i < j → j < length (stack ++ slot ∷ []) → slice_index (stack ++ slot ∷ []) i ≢ slice_index (stack ++ slot ∷ []) j
+    apart_more : (i j : ℕ) → i < j → j < length (stack ++ slot ∷ [])
+        → slice_index (stack ++ slot ∷ []) i ≢ slice_index (stack ++ slot ∷ []) j
     apart_more i j lt less =
         let long = length-append stack (slot ∷ []) in
         elim (below_or j (omega (arith, long, less))) [
-          | inl inside ↦ λ same. at.waiting.apart i j lt inside (sym (left_index i (omega (arith, lt, inside))) ∙ (same ∙ left_index j inside))
+          | inl inside ↦
+              λ same.
+              at.waiting.apart i j lt inside (sym (left_index i (omega (arith, lt, inside))) ∙ (same ∙ left_index j inside))
           | inr e ↦ λ same.
               let below : i < length stack = omega (arith, lt, e) in
               let is : slice_index stack i ≡ slot = sym (left_index i below) ∙ (same ∙ now_last j e) in
@@ -160,13 +185,23 @@ module _ (maps : ℕ) (old back : List (Option Insn)) (origins : List ℕ) (plac
     waits_more : AreWaiting places (slice_set opens slot true) (stack ++ slot ∷ [])
     waits_more = record {
       begun = λ s done. keeps_open s (at.waiting.begun s done);
-      opened = each_more (λ n. is_open (slice_set opens slot true) n ≡ true) (λ i lt. keeps_open (slice_index stack i) (at.waiting.opened i lt)) open_now;
+      opened =
+          each_more (λ n. is_open (slice_set opens slot true) n ≡ true)
+          (λ i lt. keeps_open (slice_index stack i) (at.waiting.opened i lt)) open_now;
       undone = each_more (λ n. place_at places n ≡ None) at.waiting.undone shut_undone;
       apart = apart_more;
     }
 
     pub after_open : Path old 0 slot → IsSearching maps old back origins places (slice_set opens slot true) (stack ++ slot ∷ [])
-    after_open way = record { ordered = at.ordered; room = length-set opens slot true ∙ at.room; opened = opened_more; ways = ways_more; starts = starts_more; comes = comes_more old stack slot at.comes way; waiting = waits_more }
+    after_open way = record {
+      ordered = at.ordered;
+      room = length-set opens slot true ∙ at.room;
+      opened = opened_more;
+      ways = ways_more;
+      starts = starts_more;
+      comes = comes_more old stack slot at.comes way;
+      waiting = waits_more;
+    }
 
     pub less_open : left_of (slice_set opens slot true) (stack ++ slot ∷ []) < left_of opens stack
     less_open =
@@ -180,12 +215,15 @@ module _ (maps : ℕ) (old back : List (Option Insn)) (origins : List ℕ) (plac
     top_comes = let long = top.long in subst (λ (n : ℕ). Path old 0 n) top.slot_is (at.comes top.below (omega (arith, long)))
 
     pub top_undone : place_at places slot ≡ None
-    top_undone = let long = top.long in subst (λ (n : ℕ). place_at places n ≡ None) top.slot_is (at.waiting.undone top.below (omega (arith, long)))
+    top_undone =
+        let long = top.long in
+        subst (λ (n : ℕ). place_at places n ≡ None) top.slot_is (at.waiting.undone top.below (omega (arith, long)))
 
     pub top_starts : IsStart old slot
     top_starts = let long = top.long in subst (λ (n : ℕ). IsStart old n) top.slot_is (at.starts top.below (omega (arith, long)))
 
-  module _ (top : IsTop stack slot) (ready : IsReady old places slot) (back' : List (Option Insn)) (origins' : List ℕ) (more : IsLengthened maps old back origins back' origins' slot) where
+  module _ (top : IsTop stack slot) (ready : IsReady old places slot) (back' : List (Option Insn)) (origins' : List ℕ)
+      (more : IsLengthened maps old back origins back' origins' slot) where
     place : ℕ
     place = length back' - 1
 
@@ -206,18 +244,23 @@ module _ (maps : ℕ) (old back : List (Option Insn)) (origins : List ℕ) (plac
     unfolding place
     known_more s p e = elim (equal_or_not s slot) [
       | inl same ↦
-          let is : place ≡ p = some_same _ place p (get_or-set_same places slot (Some place) None on_stack) (ap (λ (n : ℕ). place_at (slice_set places slot (Some place)) n) (sym same) ∙ e) in
+          let is : place ≡ p =
+          some_same _ place p (get_or-set_same places slot (Some place) None on_stack)
+          (ap (λ (n : ℕ). place_at (slice_set places slot (Some place)) n) (sym same) ∙ e) in
           let front = more.front in
           let front_is = front.place_is in
           let there : front.place ≡ p = omega (arith, front_is, is) in
-          subst (λ (n : ℕ). Stands back' origins' n s) there (subst (λ (n : ℕ). Stands back' origins' front.place n) (sym same) front.stands)
+          subst (λ (n : ℕ). IsCopyOfSlot back' origins' n s) there
+          (subst (λ (n : ℕ). IsCopyOfSlot back' origins' front.place n) (sym same) front.stands)
       | inr apart ↦ more.keeps p s (at.ordered.known s p (sym (get_or-set_other places slot s (Some place) None apart) ∙ e))
     ]
 
     closed_more : AreClosed old (slice_set places slot (Some place))
     closed_more from to done edge = elim (equal_or_not from slot) [
       | inl e ↦ done_still to (ready to (subst (λ (n : ℕ). IsEdge old n to) e edge))
-      | inr apart ↦ done_still to (at.ordered.closed from to (done.0, sym (get_or-set_other places slot from (Some place) None apart) ∙ done.1) edge)
+      | inr apart ↦
+          done_still to
+          (at.ordered.closed from to (done.0, sym (get_or-set_other places slot from (Some place) None apart) ∙ done.1) edge)
     ]
 
     taken_index : (i : ℕ) → i < length stack - 1 → slice_index (take (length stack - 1) stack) i ≡ slice_index stack i
@@ -226,7 +269,8 @@ module _ (maps : ℕ) (old back : List (Option Insn)) (origins : List ℕ) (plac
     taken_long : length (take (length stack - 1) stack) ≡ length stack - 1
     taken_long = let least = length-take (length stack - 1) stack in omega (arith, least)
 
-    opened_less : (s : ℕ) → is_open opens s ≡ true → IsDone (slice_set places slot (Some place)) s ⊎ IsOn (take (length stack - 1) stack) s
+    opened_less : (s : ℕ) → is_open opens s ≡ true
+        → IsDone (slice_set places slot (Some place)) s ⊎ IsStacked (take (length stack - 1) stack) s
     opened_less s begun = elim (at.opened s begun) [
       | inl done ↦ inl (done_still s done)
       | inr on ↦
@@ -243,7 +287,8 @@ module _ (maps : ℕ) (old back : List (Option Insn)) (origins : List ℕ) (plac
           ]
     ]
 
-    ways_less : (i j : ℕ) → i ≤ j → j < length (take (length stack - 1) stack) → Path old (slice_index (take (length stack - 1) stack) i) (slice_index (take (length stack - 1) stack) j)
+    ways_less : (i j : ℕ) → i ≤ j → j < length (take (length stack - 1) stack)
+        → Path old (slice_index (take (length stack - 1) stack) i) (slice_index (take (length stack - 1) stack) j)
     ways_less i j le lt =
         let taken = taken_long in
         let lt' : j < length stack - 1 = omega (arith, lt, taken) in
@@ -270,23 +315,37 @@ module _ (maps : ℕ) (old back : List (Option Insn)) (origins : List ℕ) (plac
             ap (is_open opens) (e ∙ sym top.slot_is) ∙ at.waiting.opened top.below (omega (arith, long))
         | inr other ↦ at.waiting.begun s (done.0, sym (get_or-set_other places slot s (Some place) None other) ∙ done.1)
       ];
-      opened = λ i lt. let taken = taken_long in let below : i < length stack - 1 = omega (arith, lt, taken) in ap (is_open opens) (taken_index i below) ∙ at.waiting.opened i (omega (arith, below));
+      opened = λ i lt.
+          let taken = taken_long in
+          let below : i < length stack - 1 = omega (arith, lt, taken) in
+          ap (is_open opens) (taken_index i below) ∙ at.waiting.opened i (omega (arith, below));
       undone = λ i lt.
           let taken = taken_long in
           let long = top.long in
           let below : i < length stack - 1 = omega (arith, lt, taken) in
-          let other : slice_index stack i ≢ slot = λ e. at.waiting.apart i top.below (omega (arith, below, long)) (omega (arith, long)) (e ∙ sym top.slot_is) in
-          ap (place_at (slice_set places slot (Some place))) (taken_index i below) ∙ (get_or-set_other places slot (slice_index stack i) (Some place) None other ∙ at.waiting.undone i (omega (arith, below)));
+          let other : slice_index stack i ≢ slot =
+          λ e. at.waiting.apart i top.below (omega (arith, below, long)) (omega (arith, long)) (e ∙ sym top.slot_is) in
+          ap (place_at (slice_set places slot (Some place))) (taken_index i below)
+          ∙ (get_or-set_other places slot (slice_index stack i) (Some place) None other ∙ at.waiting.undone i (omega (arith, below)));
       apart = λ i j lt less.
           let taken = taken_long in
           let below : j < length stack - 1 = omega (arith, less, taken) in
-          λ same. at.waiting.apart i j lt (omega (arith, below)) (sym (taken_index i (omega (arith, lt, below))) ∙ (same ∙ taken_index j below));
+          λ same.
+          at.waiting.apart i j lt (omega (arith, below))
+          (sym (taken_index i (omega (arith, lt, below))) ∙ (same ∙ taken_index j below));
     }
 
-    pub after_leave : IsCounted old back' origins' (slice_set places slot (Some (length back' - 1))) → IsSearching maps old back' origins' (slice_set places slot (Some (length back' - 1))) opens (take (length stack - 1) stack)
+    pub after_leave : IsCounted old back' origins' (slice_set places slot (Some (length back' - 1)))
+        → IsSearching maps old back' origins' (slice_set places slot (Some (length back' - 1))) opens (take (length stack - 1) stack)
     unfolding place
     after_leave counted = record {
-      ordered = record { built = more.built; known = known_more; closed = closed_more; counted = counted; room = length-set places slot (Some place) ∙ at.ordered.room };
+      ordered = record {
+        built = more.built;
+        known = known_more;
+        closed = closed_more;
+        counted = counted;
+        room = length-set places slot (Some place) ∙ at.ordered.room;
+      };
       room = at.room;
       opened = opened_less;
       ways = ways_less;
@@ -299,9 +358,11 @@ module _ (maps : ℕ) (old back : List (Option Insn)) (origins : List ℕ) (plac
     less_leave = let taken = taken_long in let long = top.long in omega (arith, taken, long)
 
 -- before the first slot
-pub nothing_begun : (maps : ℕ) (old back : List (Option Insn)) (origins : List ℕ) (places : List (Option ℕ)) (opens : List Bool) (stack : List ℕ) →
-    IsBuilt maps old back origins → back ≡ [] → ((k : ℕ) → place_at places k ≡ None) → length places ≡ length old → ((k : ℕ) → is_open opens k ≡ false) → length opens ≡ length old → stack ≡ [] →
-    IsSearching maps old back origins places opens stack
+pub nothing_begun : (maps : ℕ) (old back : List (Option Insn)) (origins : List ℕ) (places : List (Option ℕ))
+    (opens : List Bool) (stack : List ℕ)
+    → IsBuilt maps old back origins → back ≡ [] → ((k : ℕ) → place_at places k ≡ None) → length places ≡ length old
+    → ((k : ℕ) → is_open opens k ≡ false) → length opens ≡ length old → stack ≡ []
+    → IsSearching maps old back origins places opens stack
 nothing_begun maps old back origins places opens stack built nothing none room shut room' empty =
     let short : length stack ≡ 0 = ap length empty in
     record {

@@ -10,8 +10,10 @@ abbrev pub begun : List (Option Insn) → List Insn
 begun slots = filter_map (λ (slot : Option Insn). slot) slots
 
 -- one slot more has its instruction behind the others, if one begins there
-pub begun_next : (slots : List (Option Insn)) (i : ℕ) (d : Option Insn) → i < length slots → begun (take (i + 1) slots) ≡ begun (take i slots) ++ begun (get_or slots i d ∷ [])
-begun_next slots i d inside = ap begun (take_more slots i d inside) ∙ filter_map-append (λ (slot : Option Insn). slot) (take i slots) (get_or slots i d ∷ [])
+pub begun_next : (slots : List (Option Insn)) (i : ℕ) (d : Option Insn)
+    → i < length slots → begun (take (i + 1) slots) ≡ begun (take i slots) ++ begun (get_or slots i d ∷ [])
+begun_next slots i d inside =
+    ap begun (take_more slots i d inside) ∙ filter_map-append (λ (slot : Option Insn). slot) (take i slots) (get_or slots i d ∷ [])
 
 -- of slots the other way round begin the same instructions, the other way round
 pub begun_reversed : (slots : List (Option Insn)) → begun (reverse slots) ≡ reverse (begun slots)

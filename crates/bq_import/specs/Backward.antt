@@ -8,7 +8,7 @@ use Rattle.bq_insn.specs.Laws.{Fits, AllFit}
 use Rattle.bq_bpf.specs.Steps.{LeadsTo, instruction_at}
 use Rattle.bq_bpf.specs.Instructions.{distance_of, goes_on}
 use Rattle.bq_verify.specs.Edges.{IsStart}
-use Rattle.bq_import.specs.Copies.{copied, Stands}
+use Rattle.bq_import.specs.Copies.{copied, IsCopyOfSlot}
 
 -- registers, widths and numbers of each instruction are in range
 abbrev pub AreGood : List (Option Insn) → Type 0
@@ -22,15 +22,16 @@ pub record JumpsBack (back : List (Option Insn)) (origins : List ℕ) (from plac
   pub leads : LeadsTo from far target
   pub near_is : near ≡ pos apart
   pub place_is : place ≡ landing + 1 + apart
-  pub stands : Stands back origins landing target
+  pub stands : IsCopyOfSlot back origins landing target
 
--- what comes after it lies just behind it
+-- the instruction after this one lies right after it in the program
 pub record GoesBack (back : List (Option Insn)) (origins : List ℕ) (place slots next : ℕ) : Type 0 where
   pub behind : ℕ
   pub place_is : place ≡ behind + slots
-  pub stands : Stands back origins behind next
+  pub stands : IsCopyOfSlot back origins behind next
 
--- a place of the copy has the copy of what is at a slot of the program, and control goes on from it as it does there
+-- a place of the copy has the copy of the instruction at a slot of the program, and control goes on from it to copies of where
+-- it goes on there
 pub record IsPlaced (maps : ℕ) (old back : List (Option Insn)) (origins : List ℕ) (place from : ℕ) : Type 0 where
   pub original : Insn
   pub distance : ℤ
@@ -47,31 +48,31 @@ insns_of back = filter_map (λ slot. slot) (reverse back)
 pub record IsBuilt (maps : ℕ) (old back : List (Option Insn)) (origins : List ℕ) : Type 0 where
   pub as_long : length origins ≡ length back
   pub short : length back ≤ 4096
-  pub placed : (place from : ℕ) → Stands back origins place from → IsPlaced maps old back origins place from
+  pub placed : (place from : ℕ) → IsCopyOfSlot back origins place from → IsPlaced maps old back origins place from
   pub spread_is : spread (insns_of back) ≡ reverse back
   pub in_range : list_all is_insn (insns_of back) ≡ true
   pub fit : AllFit (insns_of back)
   pub front : (place : ℕ) → length back ≡ place + 1 → IsStart back place
 
--- what stood still stands
+-- each copy that was at a place is still there
 abbrev pub Keeps : List (Option Insn) → List ℕ → List (Option Insn) → List ℕ → Type 0
-Keeps old origins new origins' = (place from : ℕ) → Stands old origins place from → Stands new origins' place from
+Keeps old origins new origins' = (place from : ℕ) → IsCopyOfSlot old origins place from → IsCopyOfSlot new origins' place from
 
--- the first instruction so far is a copy of the one at that slot
+-- the first instruction of the copy until now is a copy of the one at this slot
 pub record IsFront (back : List (Option Insn)) (origins : List ℕ) (from : ℕ) : Type 0 where
   pub place : ℕ
   pub place_is : length back ≡ place + 1
-  pub stands : Stands back origins place from
+  pub stands : IsCopyOfSlot back origins place from
 
--- one more instruction stands in front, a copy of the one at that slot
+-- the copy has one more instruction in front: that of this slot
 pub record IsLengthened (maps : ℕ) (old before : List (Option Insn)) (origins : List ℕ) (after : List (Option Insn)) (origins' : List ℕ) (from : ℕ) : Type 0 where
   pub built : IsBuilt maps old after origins'
   pub keeps : Keeps before origins after origins'
   pub front : IsFront after origins' from
 
--- nothing stands there beside what stood, and one instruction in front
+-- the copy has what it had, and one instruction in front
 pub record IsOneMore (before : List (Option Insn)) (origins : List ℕ) (after : List (Option Insn)) (origins' : List ℕ) (from : ℕ) : Type 0 where
-  pub only : (place slot : ℕ) → Stands after origins' place slot → Stands before origins place slot ⊎ ((length after ≡ place + 1) × (slot ≡ from))
+  pub only : (place slot : ℕ) → IsCopyOfSlot after origins' place slot → IsCopyOfSlot before origins place slot ⊎ ((length after ≡ place + 1) × (slot ≡ from))
 
 -- the instruction may be put in front with this distance
 pub record MayStand (old back : List (Option Insn)) (origins : List ℕ) (from : ℕ) (insn : Insn) (distance : ℤ) : Type 0 where

@@ -1,4 +1,4 @@
--- How many slots the search may still write: those of a run for each slot that a jump leads to.
+-- The number of slots that the search may still write: for each slot to which a jump leads, the slots of a run.
 use Rattle.std.specs.Prelude.{◌≡◌, ℕ, ◌+◌, ◌≤◌, ◌⊎◌, Bool, List, [], ◌∷◌, reverse, length, sum_by, Option, if◌then◌else◌}
 use Rattle.bq_insn.specs.declared.Insn.{Insn}
 use Rattle.bq_import.specs.Lengths.{HasLandings, run_at, width_at}

@@ -19,11 +19,11 @@ LeadsWell slots slot insn =
     (goes_on insn ≡ true → IsStart slots (slot + slots_of insn))
     × ((far : ℤ) → distance_of insn ≡ Some far → (to : ℕ) × LeadsTo slot far to × IsStart slots to)
 
--- whatever instruction stands at the slot, control goes from it only to instructions
+-- control goes from the instruction at the slot, if one begins there, only to instructions
 abbrev pub WellAt : List (Option Insn) → ℕ → Type 0
 WellAt slots slot = (insn : Insn) → instruction_at slots slot ≡ Some insn → LeadsWell slots slot insn
 
--- so it goes from all that stands before the slot
+-- control goes only to instructions from each slot before this one
 abbrev pub WellBefore : List (Option Insn) → ℕ → Type 0
 WellBefore slots slot = (j : ℕ) → j < slot → WellAt slots j
 
@@ -38,7 +38,7 @@ pub record IsLinked (slots : List (Option Insn)) : Type 0 where
   pub short : length slots ≤ 4096
   pub leads : (slot : ℕ) → WellAt slots slot
 
--- a jump to where no instruction begins
+-- a jump leads to a place where no instruction begins
 pub record LeadsNowhere (slots : List (Option Insn)) (slot : ℕ) : Type 0 where
   pub insn : Insn
   pub here : instruction_at slots slot ≡ Some insn
@@ -52,7 +52,7 @@ pub record IsLoop (slots : List (Option Insn)) (from to : ℕ) : Type 0 where
   pub edge : IsEdge slots from to
   pub back : Path slots to from
 
--- this is wrong at the slot: control goes on past the end, or, where it does not, a jump leads to where no instruction begins
+-- this is wrong at the slot: control goes on past the end; or it does not, and a jump leads to a place where no instruction begins
 abbrev pub IsWrongAt : List (Option Insn) → ℕ → Disorder → Type 0
 IsWrongAt slots slot (Ends at) = (at ≡ slot) × RunsOut slots slot
 IsWrongAt slots slot (Outside at) = (at ≡ slot) × LeadsNowhere slots slot × (RunsOut slots slot → ⊥)
@@ -62,8 +62,8 @@ IsWrongAt slots slot d = ⊥
 abbrev pub AllForward : List (Option Insn) → Type 0
 AllForward slots = (from to : ℕ) → IsEdge slots from to → from < to
 
--- what is wrong with the program: what is wrong at the first slot where something is; where nothing is, there is a loop, or some
--- jump goes back and the program is too long (a program of fewer than 64 slots never is)
+-- what is wrong with the program: the fault of the first slot that has one. If no slot has one, there is a loop, or some jump
+-- goes back and the program is too long (a program of fewer than 64 slots never is)
 abbrev pub IsDisorder : List (Option Insn) → Disorder → Type 0
 IsDisorder slots (Ends slot) = RunsOut slots slot × WellBefore slots slot
 IsDisorder slots (Outside slot) = LeadsNowhere slots slot × (RunsOut slots slot → ⊥) × WellBefore slots slot

@@ -35,7 +35,7 @@ abbrev pub is_address : Insn → Bool
 is_address (Imm64 dst value) = is_short value
 is_address insn = false
 
--- the first address of the program stands at the slot
+-- the first address of the program is at the slot
 pub record IsFirstAddress (program : List Insn) (slot : ℕ) : Type 0 where
   pub before : List Insn
   pub insn : Insn
@@ -59,13 +59,13 @@ pub record Imports (maps : ℕ) (bytes : List ℕ) (insns : List Insn) (origins 
 abbrev pub byte_at : List ℕ → ℕ → ℕ → ℕ
 byte_at bytes slot offset = slice_index_or bytes (slot * 8 + offset) 0
 
--- the bytes are no program, by a cause at the slot, and the reason tells what stands there: by the cause, the opcode and the source field
+-- the bytes are no program, by a cause at the slot; the reason follows from the cause, the opcode and the source field there
 pub record IsNoProgram (bytes : List ℕ) (slot : ℕ) (reason : Reason) : Type 0 where
   pub cause : Cause
   pub fault : IsFault bytes (decode.At slot cause)
   pub reason_is : reason ≡ reason_of cause (byte_at bytes slot 0) (byte_at bytes slot 1 / 16)
 
--- the bytes spell a program whose first address stands at the slot
+-- the bytes spell a program whose first address is at the slot
 pub record HasAddress (bytes : List ℕ) (slot : ℕ) : Type 0 where
   pub program : List Insn
   pub spells : Spells bytes program
@@ -78,7 +78,7 @@ pub record IsInDisorder (bytes : List ℕ) (disorder : Disorder) : Type 0 where
   pub plain : list_any is_address program ≡ false
   pub wrong : IsDisorder (spread program) disorder
 
--- why bytes are not imported; nothing is said where memory was refused
+-- why bytes are not imported; if memory runs out, nothing is said of them
 abbrev pub IsImportFault : List ℕ → ImportFault → Type 0
 IsImportFault bytes (At slot reason) = IsNoProgram bytes slot reason ⊎ ((reason ≡ Address) × HasAddress bytes slot)
 IsImportFault bytes (Order OutOfMemory) = Unit {0}

@@ -1,9 +1,9 @@
--- What control comes to in a program whose jumps go forward, and the copy of just that.
+-- The instructions to which control comes in a program whose jumps go forward, and the copy of only those.
 use Rattle.std.specs.Prelude.{◌≡◌, ℕ, ◌+◌, ◌<◌, ◌≤◌, ◌⊎◌, Bool, true, List, Option, Some, length}
 use Rattle.bq_insn.specs.declared.Insn.{Insn}
 use Rattle.bq_verify.specs.Edges.{IsEdge, IsStart}
 use Rattle.bq_verify.specs.Paths.{Path}
-use Rattle.bq_import.specs.Copies.{Stands}
+use Rattle.bq_import.specs.Copies.{IsCopyOfSlot}
 use Rattle.bq_import.specs.Backward.{IsBuilt, IsFront}
 use Rattle.bq_import.specs.Search.{AreKnown, IsDone, is_open, place_at}
 
@@ -34,7 +34,7 @@ pub record AreReached (slots : List (Option Insn)) (found : List Bool) : Type 0 
   pub ways : (k : ℕ) → is_open found k ≡ true → Path slots 0 k
   pub closed : (k to : ℕ) → is_open found k ≡ true → IsEdge slots k to → is_open found to ≡ true
 
--- where what stands in front begins, or the end of the program: there is room for what comes before it
+-- an instruction begins at or after the bound, or the program ends there: there is room for what comes before
 pub record HasRoom (slots back : List (Option Insn)) (bound : ℕ) : Type 0 where
   pub from : ℕ
   pub above : bound ≤ from
@@ -47,9 +47,9 @@ pub record IsKeeping (maps : ℕ) (old : List (Option Insn)) (found : List Bool)
   pub known : AreKnown back origins places
   pub room : length places ≡ length old
   pub done : (k : ℕ) → bound ≤ k → is_open found k ≡ true → IsDone places k
-  pub above : (place from : ℕ) → Stands back origins place from → bound ≤ from
-  pub comes : (place from : ℕ) → Stands back origins place from → is_open found from ≡ true
-  pub once : (place from : ℕ) → Stands back origins place from → place_at places from ≡ Some place
+  pub above : (place from : ℕ) → IsCopyOfSlot back origins place from → bound ≤ from
+  pub comes : (place from : ℕ) → IsCopyOfSlot back origins place from → is_open found from ≡ true
+  pub once : (place from : ℕ) → IsCopyOfSlot back origins place from → place_at places from ≡ Some place
   pub front : (k : ℕ) → bound ≤ k → is_open found k ≡ true → ((j : ℕ) → bound ≤ j → j < k → is_open found j ≡ true → ⊥) → IsFront back origins k
   pub fits : HasRoom old back bound
 

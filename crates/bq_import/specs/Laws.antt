@@ -2,7 +2,7 @@
 use Rattle.std.specs.Prelude.{◌≡◌, ℕ, ◌↔◌, List, Option, length}
 use Rattle.bq_insn.specs.declared.Insn.{Insn}
 use Rattle.bq_bpf.specs.declared.shape.MapShape.{MapShape}
-use Rattle.bq_bpf.specs.declared.board.Call.{Call as Asked}
+use Rattle.bq_bpf.specs.declared.board.CounterCall.{CounterCall}
 use Rattle.bq_bpf.specs.Memory.{Setting}
 use Rattle.bq_bpf.specs.Runs.{RunFrom, start}
 use Rattle.bq_bpf.specs.Safe.{Safe}
@@ -15,20 +15,20 @@ use Rattle.bq_import.specs.Copies.{IsCopy}
 abbrev pub beside : Setting → List (Option Insn) → Setting
 beside f slots = record f { slots = slots }
 
--- what a run of the one gives, a run of the other gives, in as many steps, with the same calls of counters
+-- whatever a run of one program gives, a run of the copy gives, in as many steps, with the same calls of counters
 abbrev pub SameRuns : Type 0
 SameRuns =
     (maps : ℕ) (old new : List (Option Insn)) (origin : List ℕ) → IsCopy maps old new origin →
-    (f : Setting) (contents : List (List ℕ)) (n : ℕ) (calls : List Asked) (answer : ℕ) (after : List (List ℕ)) → length f.shapes ≡ maps →
+    (f : Setting) (contents : List (List ℕ)) (n : ℕ) (calls : List CounterCall) (answer : ℕ) (after : List (List ℕ)) → length f.shapes ≡ maps →
     RunFrom (beside f old) (start contents) n calls answer after ↔ RunFrom (beside f new) (start contents) n calls answer after
 
--- the one is safe within a budget where the other is
+-- a copy is safe within a budget exactly if the original is
 abbrev pub SameSafety : Type 0
 SameSafety =
     (maps : ℕ) (old new : List (Option Insn)) (origin : List ℕ) → IsCopy maps old new origin →
     (shapes : List MapShape) (context budget : ℕ) → length shapes ≡ maps → Safe old shapes context budget ↔ Safe new shapes context budget
 
--- the longest path of the one has as many instructions as that of the other
+-- the longest path of a copy has as many instructions as that of the original
 abbrev pub SameBudget : Type 0
 SameBudget =
     (maps : ℕ) (old new : List (Option Insn)) (origin : List ℕ) → IsCopy maps old new origin →

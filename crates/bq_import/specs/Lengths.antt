@@ -1,4 +1,4 @@
--- How long a copy may become in which each jump goes forward: a run of instructions is copied at most once for each slot where
+-- The most slots of a copy in which each jump goes forward: a run of instructions is copied at most once for each slot where
 -- control may come into it.
 use Rattle.std.specs.Prelude.{◌≡◌, ℕ, ◌+◌, ◌<◌, ◌⊎◌, ℤ, List, [], ◌∷◌, drop, sum_by, Option, Some, None, if◌then◌else◌}
 use Rattle.bq_insn.specs.declared.Insn.{Insn}
@@ -16,11 +16,12 @@ run_of (Some insn ∷ slots) = if goes_on insn then 1 + run_of slots else 1
 abbrev pub run_at : List (Option Insn) → ℕ → ℕ
 run_at slots slot = run_of (drop slot slots)
 
+-- the number of slots of an instruction, or 0 without one
 abbrev pub width_of : Option Insn → ℕ
 width_of None = 0
 width_of (Some insn) = slots_of insn
 
--- how many slots the instruction takes that begins at the slot; 0 where none does
+-- the slots of the instruction that begins at the slot; 0 if none does
 abbrev pub width_at : List (Option Insn) → ℕ → ℕ
 width_at slots slot = width_of (instruction_at slots slot)
 
@@ -36,6 +37,7 @@ pub record IsJump (slots : List (Option Insn)) (from to : ℕ) : Type 0 where
 abbrev pub IsLanding : List (Option Insn) → ℕ → Type 0
 IsLanding slots slot = (from : ℕ) × IsJump slots from slot
 
+-- a slot is in a list
 abbrev pub IsIn : List ℕ → ℕ → Type 0
 IsIn [] slot = ⊥
 IsIn (first ∷ rest) slot = (slot ≡ first) ⊎ IsIn rest slot

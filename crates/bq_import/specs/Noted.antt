@@ -1,4 +1,4 @@
--- A listing with comments that stand above its instructions.
+-- A listing with comments above its instructions.
 use Rattle.std.specs.Prelude.{◌≡◌, ℕ, List, [], ◌∷◌, ◌++◌, ◌&&◌, ◌⊎◌, Bool, true, codes, nat_lt}
 use Rattle.std.specs.List.{list_all}
 use Rattle.bq_insn.specs.declared.Insn.{Insn}

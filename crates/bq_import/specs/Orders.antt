@@ -5,12 +5,13 @@ use Rattle.bq_verify.specs.Edges.{IsEdge, IsStart}
 use Rattle.bq_verify.specs.Paths.{Path}
 use Rattle.bq_import.specs.Lengths.{IsIn, run_at, width_at}
 
--- control comes to each instruction of the list and goes from there only to later ones of it; none stands twice
+-- control comes to each instruction of the list, and goes from it only to later ones of the list; none comes twice
 abbrev pub IsForwardOrder : List (Option Insn) → List ℕ → Type 0
 IsForwardOrder slots [] = Unit {0}
 IsForwardOrder slots (slot ∷ later) =
     IsStart slots slot × Path slots 0 slot × (IsIn later slot → ⊥) × ((to : ℕ) → IsEdge slots slot to → IsIn later to) × IsForwardOrder slots later
 
+-- a list begins with a slot
 abbrev pub begins_with : List ℕ → ℕ → Bool
 begins_with [] slot = false
 begins_with (first ∷ rest) slot = nat_eq first slot

@@ -1,4 +1,4 @@
--- What it is that stands at a slot, by the cause for which it is refused and two of its fields (RFC 9669, sections 4.3 and 5.4).
+-- The reason for which an instruction is refused, by the cause and two of its fields (RFC 9669, sections 4.3 and 5.4).
 use Rattle.std.specs.Prelude.{ℕ, ◌==◌, ◌||◌, if◌then◌else◌}
 use Rattle.bq_insn.specs.declared.fault.Cause.{Cause}
 use Rattle.bq_insn.specs.declared.fault.Cause.TheVariants as cause
@@ -12,13 +12,15 @@ opcode_reason opcode =
     else if (opcode == 0xc3) || (opcode == 0xdb) then reason.Atomic
     else reason.Opcode
 
--- of a call (85) the source 1 names a function of the program; a wide number (18) has other sources for what a loader fills in
+-- the reason by the source: in a call (85) the source 1 names a function of the program; a wide number (18) has other sources
+-- for what a loader fills in
 abbrev pub source_reason : ℕ → ℕ → Reason
 source_reason opcode source =
     if opcode == 0x85 then (if source == 1 then reason.Function else reason.Kernel)
     else if opcode == 0x18 then reason.Filled
     else reason.Field
 
+-- the reason for a cause, by the opcode and the source of the instruction
 abbrev pub reason_of : Cause → ℕ → ℕ → Reason
 reason_of cause.Length opcode source = reason.Length
 reason_of cause.Opcode opcode source = opcode_reason opcode

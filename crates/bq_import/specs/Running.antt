@@ -22,7 +22,7 @@ pub record IsPut (maps : ℕ) (old before : List (Option Insn)) (origins : List 
   pub same : (IsStart old slot → ⊥) → (after ≡ before) × (origins' ≡ origins)
   pub grown : length after ≡ length before + width_at old slot
 
--- where an instruction begins from the bound on, there is room for what comes before it
+-- if an instruction begins at or after the bound, there is room for what comes before it
 pub record HasPlace (slots : List (Option Insn)) (bound most : ℕ) (back : List (Option Insn)) : Type 0 where
   pub from : ℕ
   pub above : bound ≤ from

@@ -6,20 +6,20 @@ use Rattle.bq_insn.specs.Slots.{slots_of}
 use Rattle.bq_bpf.specs.Instructions.{distance_of, goes_on}
 use Rattle.bq_verify.specs.Edges.{IsEdge, IsStart}
 use Rattle.bq_verify.specs.Paths.{Path}
-use Rattle.bq_verify.specs.Passes.{LeadsOut, IsOf}
+use Rattle.bq_verify.specs.Passes.{LeadsOut, IsAmongTargets}
 use Rattle.bq_verify.specs.declared.edges.Targets.{Targets}
-use Rattle.bq_import.specs.Copies.{Stands}
+use Rattle.bq_import.specs.Copies.{IsCopyOfSlot}
 use Rattle.bq_import.specs.Backward.{IsBuilt, IsFront}
 use Rattle.bq_import.specs.Lengths.{IsIn, IsJump, IsLanding, run_at, width_at}
 use Rattle.bq_import.specs.Orders.{IsForwardOrder, copy_length}
 
--- where control may go from the instruction: on, and where it jumps to
+-- the slots to which control may go from the instruction: the next one, and the one to which it jumps
 pub record AreTargets (slots : List (Option Insn)) (slot : ℕ) (insn : Insn) (targets : Targets) : Type 0 where
   pub out : LeadsOut slots slot targets
   pub next : goes_on insn ≡ true → targets.next ≡ Some (slot + slots_of insn)
   pub jump : (far : ℤ) → distance_of insn ≡ Some far → (to : ℕ) × LeadsTo slot far to × (targets.jump ≡ Some to)
   pub jumps : (to : ℕ) → targets.jump ≡ Some to → IsJump slots slot to
-  pub starts : (to : ℕ) → IsOf targets to → IsStart slots to
+  pub starts : (to : ℕ) → IsAmongTargets targets to → IsStart slots to
   pub later : (to : ℕ) → targets.next ≡ Some to → slot < to
   pub behind : (to : ℕ) → targets.next ≡ Some to → to ≡ slot + slots_of insn
   pub on : (to : ℕ) → targets.next ≡ Some to → goes_on insn ≡ true
@@ -31,22 +31,23 @@ pub record IsNext (slots : List (Option Insn)) (slot next : ℕ) : Type 0 where
   pub on : goes_on insn ≡ true
   pub is : next ≡ slot + slots_of insn
 
+-- the place of the last copy of a slot, if there is one
 abbrev pub place_at : List (Option ℕ) → ℕ → Option ℕ
 place_at places slot = slice_index_or places slot None
 
--- a copy of the slot stands somewhere
+-- a slot has a copy
 abbrev pub IsDone : List (Option ℕ) → ℕ → Type 0
 IsDone places slot = (place : ℕ) × (place_at places slot ≡ Some place)
 
--- each place is that of a copy
+-- each place that is kept is that of a copy
 abbrev pub AreKnown : List (Option Insn) → List ℕ → List (Option ℕ) → Type 0
-AreKnown back origins places = (slot place : ℕ) → place_at places slot ≡ Some place → Stands back origins place slot
+AreKnown back origins places = (slot place : ℕ) → place_at places slot ≡ Some place → IsCopyOfSlot back origins place slot
 
--- where control goes from what is in place, that is in place too
+-- if a slot is in place, so is each slot to which control goes from it
 abbrev pub AreClosed : List (Option Insn) → List (Option ℕ) → Type 0
 AreClosed old places = (from to : ℕ) → IsDone places from → IsEdge old from to → IsDone places to
 
--- the slot is a target that is not in place; all others are, or it is that of the jump
+-- a target is not in place; each other target is, or this one is that of the jump
 abbrev pub IsMissing : List (Option ℕ) → Targets → ℕ → Type 0
 IsMissing places targets to =
     (place_at places to ≡ None)
@@ -58,7 +59,7 @@ pub record JumpsTo (back : List (Option Insn)) (origins : List ℕ) (distance : 
   pub apart : ℕ
   pub distance_is : distance ≡ pos apart
   pub long : length back ≡ landing + 1 + apart
-  pub stands : Stands back origins landing to
+  pub stands : IsCopyOfSlot back origins landing to
 
 -- all to which control may go from the slot is in place
 abbrev pub IsReady : List (Option Insn) → List (Option ℕ) → ℕ → Type 0
@@ -73,7 +74,7 @@ pub record IsCounted (old back : List (Option Insn)) (origins : List ℕ) (place
   pub front : (first : ℕ) (later : List ℕ) → order ≡ first ∷ later → IsFront back origins first
   pub short : length back ≤ copy_length old order
 
--- the copy so far, and the places in it
+-- the copy until now, and the places in it
 pub record IsOrdered (maps : ℕ) (old back : List (Option Insn)) (origins : List ℕ) (places : List (Option ℕ)) : Type 0 where
   pub built : IsBuilt maps old back origins
   pub known : AreKnown back origins places
@@ -81,6 +82,7 @@ pub record IsOrdered (maps : ℕ) (old back : List (Option Insn)) (origins : Lis
   pub counted : IsCounted old back origins places
   pub room : length places ≡ length old
 
+-- a slot was begun
 abbrev pub is_open : List Bool → ℕ → Bool
 is_open opens slot = slice_index_or opens slot false
 
@@ -92,13 +94,13 @@ AreLandings slots marks = (slot : ℕ) → is_open marks slot ≡ true → IsLan
 abbrev pub AllComeTo : List (Option Insn) → List ℕ → Type 0
 AllComeTo slots list = (index : ℕ) → index < length list → Path slots 0 (slice_index list index)
 
--- the slot stands on the stack
-pub record IsOn (stack : List ℕ) (slot : ℕ) : Type 0 where
+-- the slot is on the stack
+pub record IsStacked (stack : List ℕ) (slot : ℕ) : Type 0 where
   pub index : ℕ
   pub inside : index < length stack
   pub slot_is : slice_index stack index ≡ slot
 
--- the slot stands on top of the stack
+-- the slot is on top of the stack
 pub record IsTop (stack : List ℕ) (slot : ℕ) : Type 0 where
   pub below : ℕ
   pub long : length stack ≡ below + 1
@@ -108,12 +110,12 @@ pub record IsTop (stack : List ℕ) (slot : ℕ) : Type 0 where
 abbrev pub IsQueued : List ℕ → Option ℕ → List ℕ → Type 0
 IsQueued before slot after = (after ≡ before) ⊎ ((k : ℕ) × (slot ≡ Some k) × (after ≡ before ++ k ∷ []))
 
--- 1 where the slot was not begun
+-- 1 if the slot was not begun, and 0 otherwise
 abbrev pub unopened : Bool → ℕ
 unopened true = 0
 unopened false = 1
 
--- what was begun and is not done: each slot was opened, none stands twice
+-- the slots that were begun and are not done: each was opened, and none comes twice
 pub record AreWaiting (places : List (Option ℕ)) (opens : List Bool) (stack : List ℕ) : Type 0 where
   pub begun : (slot : ℕ) → IsDone places slot → is_open opens slot ≡ true
   pub opened : (i : ℕ) → i < length stack → is_open opens (slice_index stack i) ≡ true
@@ -124,12 +126,13 @@ pub record AreWaiting (places : List (Option ℕ)) (opens : List Bool) (stack : 
 pub record IsSearching (maps : ℕ) (old back : List (Option Insn)) (origins : List ℕ) (places : List (Option ℕ)) (opens : List Bool) (stack : List ℕ) : Type 0 where
   pub ordered : IsOrdered maps old back origins places
   pub room : length opens ≡ length old
-  pub opened : (slot : ℕ) → is_open opens slot ≡ true → IsDone places slot ⊎ IsOn stack slot
+  pub opened : (slot : ℕ) → is_open opens slot ≡ true → IsDone places slot ⊎ IsStacked stack slot
   pub ways : (i j : ℕ) → i ≤ j → j < length stack → Path old (slice_index stack i) (slice_index stack j)
   pub starts : (i : ℕ) → i < length stack → IsStart old (slice_index stack i)
   pub comes : AllComeTo old stack
   pub waiting : AreWaiting places opens stack
 
+-- each slot that was begun before is so after
 abbrev pub KeepsOpen : List Bool → List Bool → Type 0
 KeepsOpen before after = (slot : ℕ) → is_open before slot ≡ true → is_open after slot ≡ true
 
@@ -137,7 +140,7 @@ KeepsOpen before after = (slot : ℕ) → is_open before slot ≡ true → is_op
 abbrev pub left_of : List Bool → List ℕ → ℕ
 left_of opens stack = 2 * sum_by unopened opens + length stack
 
--- this many slots are enough to put the slot in front: those of its run, or its own if the next instruction is in front
+-- this many slots are enough to put the slot in front: the slots of its run, or only its own if the next instruction is in front
 abbrev pub Suffices : List (Option Insn) → List (Option Insn) → List ℕ → ℕ → ℕ → Type 0
 Suffices old back origins slot most =
     (run_at old slot ≤ most) ⊎ ((next : ℕ) × IsNext old slot next × IsFront back origins next × (width_at old slot ≤ most))

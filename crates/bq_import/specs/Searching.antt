@@ -5,6 +5,7 @@ use Rattle.bq_import.specs.declared.search.Search.{Search}
 use Rattle.bq_import.specs.Budgets.{HasBudget}
 use Rattle.bq_import.specs.Search.{IsSearching, KeepsOpen, left_of}
 
+-- a search has come to a state that is right for this program
 abbrev pub IsAt : ℕ → List (Option Insn) → Search → Type 0
 IsAt maps old search = IsSearching maps old search.copy.slots.items search.copy.origins.items search.places.items search.opens.items search.stack.items
 
@@ -23,6 +24,6 @@ pub record WentOn (maps : ℕ) (old : List (Option Insn)) (before after : Search
 abbrev pub IsWithin : List (Option Insn) → Search → ℕ → Type 0
 IsWithin old search extra = HasBudget old search.copy.slots.items search.copy.origins.items search.places.items search.opens.items search.stack.items extra
 
--- so it does after, if it did before
+-- if the budget sufficed before, it suffices after
 abbrev pub KeepsBudget : List (Option Insn) → Search → Search → Type 0
 KeepsBudget old before after = (extra : ℕ) → IsWithin old before extra → IsWithin old after extra

@@ -19,11 +19,11 @@ use Rattle.bq_policy_file.specs.MarkLines.{marks_text}
 abbrev pub is_hex_byte : ℕ → Bool
 is_hex_byte b = is_ascii_hexdigit b || is_blank b
 
--- the bytes that are read of what is no object: what the input spells if all of it is hex, and else the input itself
+-- the bytes that are read if the input is no object: what it spells if all of it is hex, and otherwise the input itself
 abbrev pub AreRaw : List ℕ → List ℕ → Type 0
 AreRaw input bytes = ((list_all is_hex_byte input ≡ true) × SpellsBytes input bytes) ⊎ ((list_all is_hex_byte input ≡ false) × (bytes ≡ input))
 
--- the program that is read: the policy of an object, and else the bytes of a text section
+-- the program that is read: the policy of an object, or otherwise the bytes of a text section
 abbrev pub IsSection : List ℕ → List ℕ → Type 0
 IsSection input bytes = (IsObject input × IsPolicyOf input bytes) ⊎ ((IsObject input → ⊥) × AreRaw input bytes)
 
@@ -57,7 +57,7 @@ pub record IsTextOf (settings : ImportSettings) (bytes text : List ℕ) : Type 0
   pub imported : Imports (length settings.form.shapes.items) bytes insns origins
   pub text_is : text ≡ settings_marks settings ++ listing_text insns
 
--- the marks of what was asked for, and then the listing of what was imported, in which comments may stand above instructions
+-- the marks of what was asked for, and then the listing of what was imported, which may have comments above instructions
 pub record IsNotedTextOf (settings : ImportSettings) (bytes text : List ℕ) : Type 0 where
   pub insns : List Insn
   pub origins : List ℕ
@@ -66,7 +66,7 @@ pub record IsNotedTextOf (settings : ImportSettings) (bytes text : List ℕ) : T
   pub is_listing : IsNotedListing insns listing
   pub text_is : text ≡ settings_marks settings ++ listing
 
--- the text of an input: of an object that of its policy, with comments; else that of the bytes
+-- the text of an input: of an object the text of its policy, with comments; of other bytes their own text
 abbrev pub IsImportedAs : ImportSettings → List ℕ → List ℕ → Type 0
 IsImportedAs settings input text =
     ((policy : List ℕ) × IsObject input × IsPolicyOf input policy × IsNotedTextOf settings policy text)

@@ -67,7 +67,7 @@ impl Backward {
         Ok(())
     }
 
-    /// The second slot, where the instruction has one.
+    /// Adds the second slot, if the instruction has one.
     fn push_rest(&mut self, insn: Insn, from: usize) -> Result<(), AllocError>
         requires inside { from < 4096 }
         ensures slots { OnOk result (self.new.slots.items ≡ self.old.slots.items ++ replicate (slots_of insn - 1) None) }
@@ -80,7 +80,7 @@ impl Backward {
         Ok(())
     }
 
-    /// The slot of which the first instruction so far is a copy.
+    /// Answers the slot of which the first instruction until now is a copy.
     pub fn front(&self) -> Option<usize>
         requires { (maps : ℕ) × (old : List (Option Insn)) × IsBuilt maps old self.now.slots.items self.now.origins.items }
         ensures some { IfSome result (IsFront self.now.slots.items self.now.origins.items) }
@@ -90,7 +90,7 @@ impl Backward {
     }
 }
 
-/// The copy of an instruction, in a program of this many maps: it has this distance if it jumps.
+/// Answers the copy of an instruction, in a program of this many maps; if it jumps, it has this distance.
 fn copied(insn: Insn, distance: i16, maps: usize) -> Insn
     requires { maps ≤ 8 }
     ensures { result ≡ copied maps insn distance }
@@ -118,7 +118,7 @@ fn copied(insn: Insn, distance: i16, maps: usize) -> Insn
     }
 }
 
-/// A wide number, as the reference of a map where it is one.
+/// Answers the copy of a wide number: the reference of a map, if it is one.
 fn wide_copy(dst: u8, value: u64, maps: usize) -> Insn
     requires { maps ≤ 8 }
     ensures { result ≡ wide_copy (is_reference maps value) dst value }

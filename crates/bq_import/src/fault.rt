@@ -7,7 +7,7 @@ use thiserror::Error;
 /// Why a program has no copy in which each jump goes forward, or none that fits.
 #[derive(Clone, Copy, Debug, Error)]
 pub enum Disorder {
-    /// The jump at this slot leads to where no instruction begins.
+    /// The jump at this slot leads to a place where no instruction begins.
     #[error("slot {slot}: a jump out of the program")]
     Outside { slot: usize },
     /// Control goes on past the end from this slot.

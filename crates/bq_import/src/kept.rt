@@ -45,7 +45,7 @@ pub(crate) fn kept(alloc: Global, old: &[Option<Insn>], maps: usize) -> Result<O
     Ok(ordered)
 }
 
-/// A copy of what control comes to, as far as it is, and the place of each of its instructions.
+/// A copy that grows of the instructions that control comes to, and the place of each instruction in it.
 #[derive(Drop)]
 pub struct Keeping {
     pub copy: Backward,

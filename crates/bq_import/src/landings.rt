@@ -1,8 +1,8 @@
-//! Where jumps lead, of those that control may come to. It decides how good an order is, not whether it is right: a slot that is
-//! marked is only known to be where a jump leads.
+//! The targets of those jumps that control may come to. They decide how good an order is, not whether it is right: of a slot
+//! that is marked it is only known that a jump leads there.
 ghost use Rattle.std.specs.Prelude.{◌≡◌, ◌<◌, ◌⊎◌, ℕ, Some, true, IfOk, OnOk};
 ghost use Rattle.bq_verify.specs.Edges.{IsEdge};
-ghost use Rattle.bq_verify.specs.Passes.{IsOf};
+ghost use Rattle.bq_verify.specs.Passes.{IsAmongTargets};
 ghost use Rattle.bq_import.specs.Faults.{IsLinked};
 ghost use Rattle.bq_import.specs.Lengths.{IsJump};
 ghost use Rattle.bq_import.specs.Search.{AreLandings, IsQueued, is_open};
@@ -15,15 +15,15 @@ use std::alloc::{AllocError, Global};
 /// A walk over all slots that control comes to.
 #[derive(Drop)]
 struct Walk {
-    /// Whether a jump leads to the slot.
+    /// For each slot, whether a jump leads to it.
     landings: Vec<bool>,
-    /// Whether the slot was queued.
+    /// For each slot, whether it was queued.
     seen: Vec<bool>,
     /// The slots that control comes to, as far as they were found.
     queue: Vec<usize>,
 }
 
-/// Marks the slots that jumps lead to from where control may come.
+/// Marks the targets of those jumps that control may come to.
 pub fn landings(alloc: Global, slots: &[Option<Insn>]) -> Result<Vec<bool>, AllocError>
     requires { IsLinked slots.now }
     ensures { IfOk result (λ landings. AreLandings slots.now landings.items) }
@@ -77,11 +77,11 @@ impl Walk {
     }
 }
 
-/// Where control may go from the slot; nowhere where no instruction begins there.
+/// Answers where control may go from the slot; nowhere if no instruction begins there.
 fn targets_of(slots: &[Option<Insn>], slot: usize) -> Targets
     requires { IsLinked slots.now }
     ensures jumps { (to : ℕ) → result.jump ≡ Some to → IsJump slots.now slot to }
-    ensures edges { (to : ℕ) → IsOf result to → IsEdge slots.now slot to }
+    ensures edges { (to : ℕ) → IsAmongTargets result to → IsEdge slots.now slot to }
 {
     if slot >= slots.len() {
         return NOWHERE;

@@ -1,17 +1,17 @@
 //! Laws of copies. Each is a theorem over definitions, and its function does nothing.
 ghost use Rattle.bq_import.specs.Laws.{GoesForward, SameBudget, SameRuns, SameSafety};
 
-/// A copy has the same runs: the same answer, maps and calls of counters, in as many steps.
+/// A copy has the runs of its original: equal answers, maps and calls of counters, in as many steps.
 pub fn same_runs()
     ensures { SameRuns }
 {}
 
-/// A copy is safe within the same budgets.
+/// A copy is safe within a budget exactly if its original is.
 pub fn same_safety()
     ensures { SameSafety }
 {}
 
-/// The longest path of a copy has as many instructions, so the verifier gives it the same budget.
+/// The longest path of a copy has as many instructions as that of its original, so the verifier gives both one budget.
 pub fn same_budget()
     ensures { SameBudget }
 {}

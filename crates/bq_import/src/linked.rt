@@ -11,9 +11,9 @@ use crate::fault::Disorder;
 use bq_bpf::instruction::{distance, may_go_on};
 use bq_insn::{Insn, SLOTS};
 use bq_verify::edges::{Targets, instruction};
-use bq_verify::passes::next_slot;
+use bq_verify::graph_numbers::next_slot;
 
-/// The slot that the jump leads to, where an instruction begins there.
+/// Answers the slot to which the jump leads, if an instruction begins there.
 fn landing(slots: &[Option<Insn>], slot: usize, distance: i64) -> Option<usize>
     requires here { slot < length slots.now }
     requires short { length slots.now ≤ SLOTS }
@@ -31,7 +31,7 @@ fn landing(slots: &[Option<Insn>], slot: usize, distance: i64) -> Option<usize>
     Some(to as usize)
 }
 
-/// Whether control goes on only to instructions.
+/// Checks that control goes on only to instructions.
 fn leads_well(slots: &[Option<Insn>], slot: usize, insn: Insn) -> Result<(), Disorder>
     requires here { instruction_at slots.now slot ≡ Some insn }
     requires inside { slot < length slots.now }
@@ -51,7 +51,7 @@ fn leads_well(slots: &[Option<Insn>], slot: usize, insn: Insn) -> Result<(), Dis
     Ok(())
 }
 
-/// Whether control goes on only to instructions from the slot, if an instruction begins there.
+/// Checks that control goes on only to instructions from the slot, if an instruction begins there.
 fn slot_leads_well(slots: &[Option<Insn>], slot: usize) -> Result<(), Disorder>
     requires inside { slot < length slots.now }
     requires short { length slots.now ≤ SLOTS }
@@ -66,7 +66,7 @@ fn slot_leads_well(slots: &[Option<Insn>], slot: usize) -> Result<(), Disorder>
     Ok(())
 }
 
-/// Whether control goes from each slot only to instructions.
+/// Checks that control goes from each slot only to instructions.
 pub fn check(slots: &[Option<Insn>]) -> Result<(), Disorder>
     requires short { length slots.now ≤ SLOTS }
     requires whole { IsWhole slots.now }
@@ -98,7 +98,7 @@ fn jump_slot(slots: &[Option<Insn>], slot: usize, insn: Insn) -> Option<usize>
     Some(to)
 }
 
-/// Where control may go from a slot.
+/// Answers where control may go from a slot.
 pub fn targets(slots: &[Option<Insn>], slot: usize, insn: Insn) -> Targets
     requires here { instruction_at slots.now slot ≡ Some insn }
     requires inside { slot < length slots.now }

@@ -37,11 +37,11 @@ pub struct Ordered {
 /// The program, beside this many maps, in an order in which each jump goes forward: a copy, by `IsCopy`, with the same runs,
 /// step for step (see `laws`).
 ///
-/// An instruction may stand several times, where control comes to it from several sides: its original is known for each slot.
-/// Instructions that control never comes to are left out. A wide number that is the reference of a map is that reference.
-/// If there is no such order the answer is a loop that control comes to, by its two slots. The answer is `Long` only if some jump goes back, and both
-/// `IsTooLong` and `HasLongOrder` hold: a run is copied at most once for each slot that a jump leads to, and not at all where an instruction stands in
-/// front of the one that control goes on to from it.
+/// An instruction may come several times, if control comes to it from several sides; its original is known for each slot.
+/// Instructions to which control never comes are left out. A wide number that is the reference of a map becomes that reference.
+/// If there is no such order, the error is a loop to which control comes, by its two slots. The error is `Long` only if some
+/// jump goes back and `IsTooLong` and `HasLongOrder` hold: a run is copied at most once for each slot to which a jump leads, and
+/// not at all if an instruction is in front of the one to which control goes on from it.
 pub fn order(alloc: Global, insns: &[Insn], maps: usize) -> Result<Ordered, Disorder>
     requires whole { is_well_formed insns.now ≡ true }
     requires numbers { AllFit insns.now }
@@ -91,7 +91,7 @@ fn kept_of(alloc: Global, searched: &Ordered) -> Result<Ordered, Disorder>
     Ok(Ordered { insns, origins })
 }
 
-/// The program of the slots, of which some jump goes back, in order.
+/// The program of the slots in order, if some jump of it goes back.
 fn searched(alloc: Global, slots: &[Option<Insn>], maps: usize) -> Result<Ordered, Disorder>
     requires linked { IsLinked slots.now }
     requires first { IsStart slots.now 0 }
@@ -110,8 +110,8 @@ fn searched(alloc: Global, slots: &[Option<Insn>], maps: usize) -> Result<Ordere
 }
 
 impl Search {
-    /// Puts all in place: what jumps lead to, from the last to the first, and then the first instruction. That comes to stand in front, as control
-    /// comes from it to all others.
+    /// Puts all in place: the targets of jumps, from the last to the first, and then the first instruction. That one ends up in
+    /// front, because control comes from it to all others.
     fn run(&mut self, old: &[Option<Insn>], maps: usize, landings: &[bool]) -> Result<(), Disorder>
         requires linked { IsLinked old.now }
         requires few { maps ≤ 8 }

@@ -17,7 +17,7 @@ use bq_insn::{Insn, SLOTS};
 use bq_verify::edges::{Targets, instruction};
 
 impl Backward {
-    /// What has to stand in front of the next instruction and does not.
+    /// Answers the next instruction, if it has to be in front and is not.
     fn missing_front(&self, next: Option<usize>) -> Option<usize>
         requires { (maps : ℕ) × (old : List (Option Insn)) × IsBuilt maps old self.now.slots.items self.now.origins.items }
         ensures some { IfSome result (λ n. (next ≡ Some n) × ¬ IsFront self.now.slots.items self.now.origins.items n) }
@@ -30,7 +30,7 @@ impl Backward {
         if front == next { None } else { Some(next) }
     }
 
-    /// How far it is from the next instruction to the copy of its target; 0 where there is no target.
+    /// Answers the distance from the next instruction to the copy of the jump's target; 0 if there is no target.
     fn distance(&self, places: &[Option<usize>], jump: Option<usize>) -> i16
         requires short { length self.now.slots.items ≤ SLOTS }
         requires known { AreKnown self.now.slots.items self.now.origins.items places.now }
@@ -46,7 +46,7 @@ impl Backward {
         (self.slots.len() - place - 1) as i16
     }
 
-    /// Puts a copy of the instruction in front, where what it goes on to stands there.
+    /// Puts a copy of the instruction in front; what it goes on to must be there.
     pub(crate) fn put(
         &mut self,
         old: &[Option<Insn>],
@@ -73,8 +73,7 @@ impl Backward {
         self.push(old, maps, slot, insn, distance)
     }
 
-    /// Puts a copy of the instruction at the slot in front, and behind it copies of what it goes on to, where those do not
-    /// stand there.
+    /// Puts a copy of the instruction at the slot in front, followed by copies of what it goes on to, unless those follow already.
     pub fn place(
         &mut self,
         old: &[Option<Insn>],
@@ -102,7 +101,7 @@ impl Backward {
         Ok(())
     }
 
-    /// The last slot of the run that is put in front: from there control goes on to nothing, or to what stands in front.
+    /// Answers the last slot of the run that is put in front: from there control goes on to nothing, or to what is in front.
     fn run_end(&self, old: &[Option<Insn>], places: &[Option<usize>], slot: usize) -> usize
         requires built { (maps : ℕ) × IsBuilt maps old.now self.now.slots.items self.now.origins.items }
         requires linked { IsLinked old.now }
@@ -120,7 +119,7 @@ impl Backward {
         last
     }
 
-    /// What control goes on to from the slot, where that does not stand in front.
+    /// Answers the slot to which control goes on from this one, if its copy is not in front.
     fn next_missing(&self, old: &[Option<Insn>], slot: usize) -> Option<usize>
         requires built { (maps : ℕ) × IsBuilt maps old.now self.now.slots.items self.now.origins.items }
         requires linked { IsLinked old.now }
@@ -161,7 +160,7 @@ impl Backward {
     }
 }
 
-/// Where the copy of a slot stands, if one does.
+/// Answers the place of the copy of a slot, if there is one.
 pub fn place_at(places: &[Option<usize>], slot: usize) -> Option<usize>
     ensures { result ≡ place_at places.now slot }
 {

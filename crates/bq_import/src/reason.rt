@@ -1,4 +1,4 @@
-//! Why compiled code is no program here, in words: what stands there, and what to write in its place.
+//! Says in words why compiled code is no program here: what is in the code, and what to write instead.
 ghost use Rattle.std.specs.Prelude.{◌≡◌};
 ghost use Rattle.bq_import.specs.Reasons.{opcode_reason, reason_of, source_reason};
 
@@ -6,7 +6,7 @@ use bq_bpf::with_program_bytes;
 use bq_insn::fault::Cause;
 use std::fmt;
 
-/// What is at a slot that is no instruction here, or needs what only a linker has.
+/// What a slot has that is no instruction here, or that only a linker can complete.
 #[derive(Clone, Copy, Debug)]
 pub enum Reason {
     /// The length is 0, no multiple of 8, or too great.
@@ -52,7 +52,7 @@ fn opcode_reason(opcode: u8) -> Reason
     }
 }
 
-/// Why a kind of call or of a wide number is refused, which its source field names.
+/// Why a call or a wide number is refused for its kind, which its source field names.
 fn source_reason(opcode: u8, source: u8) -> Reason
     ensures { result ≡ source_reason opcode source }
 {

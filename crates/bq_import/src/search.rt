@@ -1,8 +1,9 @@
-//! The search that puts each slot in place after all to which control may go from it, and finds a loop where that cannot be.
+//! A depth-first search: it places a slot after all slots to which control may go from it. If that cannot be, there is a loop,
+//! and the search finds it.
 ghost use Rattle.std.specs.Prelude.{◌≡◌, ◌<◌, ◌≤◌, ◌+◌, ◌⊎◌, ℕ, true, false, Option, length, OnOk, IfOk, IfErr, IfSome, IfNone, Some, None, slice_index_or};
 ghost use Rattle.bq_insn.specs.declared.Insn.{Insn};
 ghost use Rattle.bq_verify.specs.Edges.{IsEdge, IsStart};
-ghost use Rattle.bq_verify.specs.Passes.{IsOf};
+ghost use Rattle.bq_verify.specs.Passes.{IsAmongTargets};
 ghost use Rattle.bq_verify.specs.Paths.{Path};
 ghost use Rattle.bq_import.specs.Faults.{IsSearchFault, IsLinked};
 ghost use Rattle.bq_import.specs.Lengths.{IsLanding, run_at};
@@ -43,7 +44,7 @@ impl Search {
         })
     }
 
-    /// Puts the slot in place, and before it all to which control may go from it.
+    /// Puts the slot in place, and before it all slots to which control may go from it.
     pub fn visit(&mut self, old: &[Option<Insn>], maps: usize, root: usize) -> Result<(), Disorder>
         requires linked { IsLinked old.now }
         requires few { maps ≤ 8 }
@@ -88,10 +89,10 @@ impl Search {
         self.enter(old, maps, slot, to)
     }
 
-    /// A target that is not in place: that of the jump first, so that the next instruction comes to stand in front.
+    /// Answers a target that is not in place: that of the jump first, so that the next instruction ends up in front.
     fn missing(&self, targets: Targets) -> Option<usize>
         ensures some { IfSome result (IsMissing self.now.places.items targets) }
-        ensures none { IfNone result ((to : ℕ) → IsOf targets to → IsDone self.now.places.items to) }
+        ensures none { IfNone result ((to : ℕ) → IsAmongTargets targets to → IsDone self.now.places.items to) }
     {
         if let Some(to) = self.not_done(targets.jump) {
             return Some(to);
@@ -99,7 +100,7 @@ impl Search {
         self.not_done(targets.next)
     }
 
-    /// The slot, where there is one that is not in place.
+    /// Answers the slot, if there is one and it is not in place.
     fn not_done(&self, to: Option<usize>) -> Option<usize>
         ensures some { IfSome result (λ n. (to ≡ Some n) × (place_at self.now.places.items n ≡ None)) }
         ensures none { IfNone result ((n : ℕ) → to ≡ Some n → IsDone self.now.places.items n) }
@@ -111,7 +112,7 @@ impl Search {
         }
     }
 
-    /// Begins a slot to which control goes from the last one; where that was begun before, there is a loop.
+    /// Begins a slot to which control goes from the last one. If the slot was begun before, there is a loop.
     fn enter(
         &mut self,
         old: &[Option<Insn>],

@@ -73,7 +73,7 @@ pub fn import(alloc: Global, bytes: &[u8], maps: usize) -> Result<Ordered, Impor
     Ok(ordered)
 }
 
-/// Why bytes are not imported that are no program.
+/// Why bytes that are no program are not imported.
 fn refusal(bytes: &[u8], fault: DecodeFault) -> ImportFault
     requires { IsFault bytes.now fault }
     ensures { IsImportFault bytes.now result }
@@ -114,7 +114,7 @@ fn address_in(insns: &[Insn]) -> Option<usize>
     None
 }
 
-/// Whether it loads a wide number that a move could load.
+/// Answers whether the instruction loads a wide number that a move could load.
 fn is_address(insn: Insn) -> bool
     ensures { result ≡ is_address insn }
 {
@@ -124,7 +124,7 @@ fn is_address(insn: Insn) -> bool
     }
 }
 
-/// Whether the number is that of 32 bits with a sign.
+/// Answers whether the number is one of 32 bits with a sign.
 fn is_short(value: u64) -> bool
     ensures { result ≡ is_short value }
 {

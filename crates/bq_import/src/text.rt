@@ -75,14 +75,14 @@ impl<T: Drop> From<AllocFailed<T>> for ImportRefusal {
 #[derive(Drop)]
 pub struct ImportedText<'a> {
     pub text: String,
-    /// For each of its instructions the line of C that it comes from, where an object says it.
+    /// For each of its instructions the line of C that it comes from, if an object says it.
     pub sources: Vec<Option<SourceLine<'a>>>,
 }
 
-/// The assembler text of a compiled program: the marks of the settings, and the listing of a copy of the program in which every jump
-/// goes forward. The input is an object file, whose function `policy` is the program, or the bytes of a text section. If it is
-/// nothing but digits of hex and blanks, these spell the bytes. Above the instructions of an object stand the lines of C that they
-/// come from, where it says them.
+/// Answers the assembler text of a compiled program: the marks of the settings, and the listing of a copy of the program in
+/// which every jump goes forward. The input is an object file, whose function `policy` is the program, or the bytes of a text
+/// section. If the input has only hex digits and blanks, these spell the bytes. Above the instructions of an object are the
+/// lines of C that they come from, if the object says them.
 pub fn imported(
     alloc: Global,
     settings: &ImportSettings,
@@ -242,7 +242,7 @@ fn maps_line(alloc: Global, maps: &Option<String>) -> Result<String, AllocError>
     }
 }
 
-/// Whether all bytes are digits of hex or blanks.
+/// Answers whether all bytes are hex digits or blanks.
 fn is_hex(input: &[u8]) -> bool
     ensures { result ≡ list_all is_hex_byte input.now }
 {

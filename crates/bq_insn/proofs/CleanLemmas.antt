@@ -28,35 +28,45 @@ in_range : (r : ℕ) → is_register r ≡ true → nat_lt 10 r ≡ false
 in_range r h = grind (arith, nat_tests)
 
 -- an operation on the immediate has no fault
-clean_alu_imm : (w : Width) (o : Operation) (d n : ℕ) (next : Option Slot) → is_register d ≡ true → cause_of (slot (opcode_of (form.Alu w o false)) d 0 (variant_of o) n) next ≡ None
+clean_alu_imm : (w : Width) (o : Operation) (d n : ℕ) (next : Option Slot)
+    → is_register d ≡ true
+    → cause_of (slot (opcode_of (form.Alu w o false)) d 0 (variant_of o) n) next ≡ None
 clean_alu_imm w o d n next h =
     let e = in_range d h in
     ap (λ f. cause_of_form f (slot (opcode_of (form.Alu w o false)) d 0 (variant_of o) n) next) (known_alu w o false)
-    ∙ elim o as (λ x. cause_at (form.Alu w (plain x) false) (slot (opcode_of (form.Alu w x false)) d 0 (variant_of x) n) next ≡ None) [ op.Add ↦ rw e refl | _ ↦ rw e refl ]
+    ∙ elim o as (λ x. cause_at (form.Alu w (plain x) false) (slot (opcode_of (form.Alu w x false)) d 0 (variant_of x) n) next ≡ None)
+    [ op.Add ↦ rw e refl | _ ↦ rw e refl ]
 
 -- an operation on a register has no fault
-clean_alu_reg : (w : Width) (o : Operation) (d s : ℕ) (next : Option Slot) → (is_register d && is_register s) ≡ true → cause_of (slot (opcode_of (form.Alu w o true)) d s (variant_of o) 0) next ≡ None
+clean_alu_reg : (w : Width) (o : Operation) (d s : ℕ) (next : Option Slot)
+    → (is_register d && is_register s) ≡ true
+    → cause_of (slot (opcode_of (form.Alu w o true)) d s (variant_of o) 0) next ≡ None
 clean_alu_reg W32 o d s next h =
     let parts = and_parts (is_register d) (is_register s) h in
     let a = in_range d parts.0 in
     let b = in_range s parts.1 in
     ap (λ f. cause_of_form f (slot (opcode_of (form.Alu W32 o true)) d s (variant_of o) 0) next) (known_alu W32 o true)
-    ∙ elim o as (λ x. cause_at (form.Alu W32 (plain x) true) (slot (opcode_of (form.Alu W32 x true)) d s (variant_of x) 0) next ≡ None) [ op.Add ↦ rw (a, b) refl | _ ↦ rw (a, b) refl ]
+    ∙ elim o as (λ x. cause_at (form.Alu W32 (plain x) true) (slot (opcode_of (form.Alu W32 x true)) d s (variant_of x) 0) next ≡ None)
+    [ op.Add ↦ rw (a, b) refl | _ ↦ rw (a, b) refl ]
 clean_alu_reg W64 o d s next h =
     let parts = and_parts (is_register d) (is_register s) h in
     let a = in_range d parts.0 in
     let b = in_range s parts.1 in
     ap (λ f. cause_of_form f (slot (opcode_of (form.Alu W64 o true)) d s (variant_of o) 0) next) (known_alu W64 o true)
-    ∙ elim o as (λ x. cause_at (form.Alu W64 (plain x) true) (slot (opcode_of (form.Alu W64 x true)) d s (variant_of x) 0) next ≡ None) [ op.Add ↦ rw (a, b) refl | _ ↦ rw (a, b) refl ]
+    ∙ elim o as (λ x. cause_at (form.Alu W64 (plain x) true) (slot (opcode_of (form.Alu W64 x true)) d s (variant_of x) 0) next ≡ None)
+    [ op.Add ↦ rw (a, b) refl | _ ↦ rw (a, b) refl ]
 
 -- a branch on the immediate has no fault
-clean_branch_imm : (w : Width) (c : Condition) (d off n : ℕ) (next : Option Slot) → is_register d ≡ true → cause_of (slot (opcode_of (form.Branch w c false)) d 0 off n) next ≡ None
+clean_branch_imm : (w : Width) (c : Condition) (d off n : ℕ) (next : Option Slot)
+    → is_register d ≡ true → cause_of (slot (opcode_of (form.Branch w c false)) d 0 off n) next ≡ None
 clean_branch_imm w c d off n next h =
     let e = in_range d h in
     ap (λ f. cause_of_form f (slot (opcode_of (form.Branch w c false)) d 0 off n) next) (known_branch w c false) ∙ rw e refl
 
 -- a branch on a register has no fault
-clean_branch_reg : (w : Width) (c : Condition) (d s off : ℕ) (next : Option Slot) → (is_register d && is_register s) ≡ true → cause_of (slot (opcode_of (form.Branch w c true)) d s off 0) next ≡ None
+clean_branch_reg : (w : Width) (c : Condition) (d s off : ℕ) (next : Option Slot)
+    → (is_register d && is_register s) ≡ true
+    → cause_of (slot (opcode_of (form.Branch w c true)) d s off 0) next ≡ None
 clean_branch_reg w c d s off next h =
     let parts = and_parts (is_register d) (is_register s) h in
     let a = in_range d parts.0 in
@@ -79,7 +89,8 @@ two d s h =
 pub spelled_is_clean : (i : Insn) → is_insn i ≡ true → (next : Option Slot) → cause_of (head_of (spelled i)) (after (spelled i) next) ≡ None
 spelled_is_clean (insn.Alu w o d (Imm n)) h next = clean_alu_imm w o d (word32 n) next (and_parts (is_register d) true h).0
 spelled_is_clean (insn.Alu w o d (Reg s)) h next = clean_alu_reg w o d s next h
-spelled_is_clean (insn.Branch w c d (Imm n) off) h next = clean_branch_imm w c d (word16 off) (word32 n) next (and_parts (is_register d) true h).0
+spelled_is_clean (insn.Branch w c d (Imm n) off) h next =
+    clean_branch_imm w c d (word16 off) (word32 n) next (and_parts (is_register d) true h).0
 spelled_is_clean (insn.Branch w c d (Reg s) off) h next = clean_branch_reg w c d s (word16 off) next h
 spelled_is_clean (insn.MovSx W32 B8 d s) h next = two d s h
 spelled_is_clean (insn.MovSx W32 B16 d s) h next = two d s h

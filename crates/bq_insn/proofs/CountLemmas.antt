@@ -25,7 +25,8 @@ pub slot_count-cons : (i : Insn) (insns : List Insn) → slot_count (i ∷ insns
 slot_count-cons i insns = length-append (spelled i) (flat_map spelled insns) ∙ ap (λ n. n + slot_count insns) (slots_of-spelled i)
 
 -- this many of the instructions take this many slots, and one more
-pub count_more : (insns : List Insn) (k : ℕ) (d : Insn) → k < length insns → slot_count (take (suc k) insns) ≡ slot_count (take k insns) + slots_of (get_or insns k d)
+pub count_more : (insns : List Insn) (k : ℕ) (d : Insn) → k < length insns
+    → slot_count (take (suc k) insns) ≡ slot_count (take k insns) + slots_of (get_or insns k d)
 count_more [] k d h = absurd (omega arith)
 count_more (i ∷ insns) zero d h = slot_count-cons i [] ∙ (let e : slots_of i + 0 ≡ 0 + slots_of i = omega arith in e)
 count_more (i ∷ insns) (suc k) d h =

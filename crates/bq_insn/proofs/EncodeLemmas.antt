@@ -82,26 +82,36 @@ on_err (Ok x) h = tt
 on_err (Err e) h = h
 
 -- the instruction at a place is in range, where all from it on are
-pub ranged_here : (insns : List Insn) (i : ℕ) (d : Insn) → i < length insns → list_all is_insn (drop i insns) ≡ true → is_insn (get_or insns i d) ≡ true
-ranged_here insns i d h all = (and_parts (is_insn (get_or insns i d)) (list_all is_insn (drop (suc i) insns)) (ap (list_all is_insn) (sym (drop-cons insns i d h)) ∙ all)).0
+pub ranged_here : (insns : List Insn) (i : ℕ) (d : Insn) → i < length insns → list_all is_insn (drop i insns) ≡ true
+    → is_insn (get_or insns i d) ≡ true
+ranged_here insns i d h all =
+    (and_parts (is_insn (get_or insns i d)) (list_all is_insn (drop (suc i) insns))
+    (ap (list_all is_insn) (sym (drop-cons insns i d h)) ∙ all)).0
 
--- those after it are in range too
-pub ranged_after : (insns : List Insn) (i : ℕ) → i < length insns → list_all is_insn (drop i insns) ≡ true → list_all is_insn (drop (i + 1) insns) ≡ true
+-- the instructions after a place are in range, where all from it on are
+pub ranged_after : (insns : List Insn) (i : ℕ) → i < length insns → list_all is_insn (drop i insns) ≡ true
+    → list_all is_insn (drop (i + 1) insns) ≡ true
 ranged_after insns i h all =
     let next : i + 1 ≡ suc i = omega arith in
-    ap (λ n. list_all is_insn (drop n insns)) next ∙ (and_parts (is_insn (get_or insns i insn.Exit)) (list_all is_insn (drop (suc i) insns)) (ap (list_all is_insn) (sym (drop-cons insns i insn.Exit h)) ∙ all)).1
+    ap (λ n. list_all is_insn (drop n insns)) next
+    ∙ (and_parts (is_insn (get_or insns i insn.Exit)) (list_all is_insn (drop (suc i) insns))
+    (ap (list_all is_insn) (sym (drop-cons insns i insn.Exit h)) ∙ all)).1
 
 -- the bytes of the instruction at a place follow those of the instructions before it
-pub spelled_more : (old out new : List ℕ) (insns : List Insn) (i : ℕ) (d : Insn) → i < length insns → out ≡ old ++ spelling (take i insns) → new ≡ out ++ insn_bytes (get_or insns i d) → new ≡ old ++ spelling (take (i + 1) insns)
+pub spelled_more : (old out new : List ℕ) (insns : List Insn) (i : ℕ) (d : Insn)
+    → i < length insns → out ≡ old ++ spelling (take i insns) → new ≡ out ++ insn_bytes (get_or insns i d)
+    → new ≡ old ++ spelling (take (i + 1) insns)
 spelled_more old out new insns i d h so_far added =
     let next : suc i ≡ i + 1 = omega arith in
     let bytes = insn_bytes (get_or insns i d) in
     added ∙ ap (λ bs. bs ++ bytes) so_far ∙ append_assoc old (spelling (take i insns)) bytes
-    ∙ ap (λ bs. old ++ bs) (ap (λ bs. spelling (take i insns) ++ bs) (sym (append-nil bytes)) ∙ sym (flat_map-append insn_bytes (take i insns) (get_or insns i d ∷ [])))
+    ∙ ap (λ bs. old ++ bs) (ap (λ bs. spelling (take i insns) ++ bs) (sym (append-nil bytes))
+    ∙ sym (flat_map-append insn_bytes (take i insns) (get_or insns i d ∷ [])))
     ∙ ap (λ is. old ++ spelling is) (sym (take-suc insns i d h) ∙ ap (λ n. take n insns) next)
 
 -- the slots of an instruction in range have registers that fit their fields
-pub slots_fit : (i : Insn) (pair : Slot × Option Slot) → is_insn i ≡ true → AreSlots pair (spelled i) → FitRegisters (pair.0 ∷ option_to_list pair.1)
+pub slots_fit : (i : Insn) (pair : Slot × Option Slot) → is_insn i ≡ true → AreSlots pair (spelled i)
+    → FitRegisters (pair.0 ∷ option_to_list pair.1)
 slots_fit i pair h same = subst FitRegisters same (registers_fit i h)
 
 -- an instruction of one slot, appended
@@ -110,7 +120,9 @@ one_appended old new i a first same =
     first ∙ ap (λ bs. old ++ bs) (sym (append-nil (slot_bytes a))) ∙ ap (λ slots. old ++ flat_map slot_bytes slots) (sym same)
 
 -- an instruction of two slots, appended one after the other
-pub two_appended : (old middle new : List ℕ) (i : Insn) (a b : Slot) → middle ≡ old ++ slot_bytes a → new ≡ middle ++ slot_bytes b → spelled i ≡ a ∷ b ∷ [] → new ≡ old ++ insn_bytes i
+pub two_appended : (old middle new : List ℕ) (i : Insn) (a b : Slot)
+    → middle ≡ old ++ slot_bytes a → new ≡ middle ++ slot_bytes b → spelled i ≡ a ∷ b ∷ []
+    → new ≡ old ++ insn_bytes i
 two_appended old middle new i a b first second same =
     second ∙ ap (λ bs. bs ++ slot_bytes b) first ∙ append_assoc old (slot_bytes a) (slot_bytes b)
     ∙ ap (λ bs. old ++ (slot_bytes a ++ bs)) (sym (append-nil (slot_bytes b))) ∙ ap (λ slots. old ++ flat_map slot_bytes slots) (sym same)

@@ -26,7 +26,9 @@ pub record IsClean (f : Form) (s : Slot) (next : Option Slot) : Type 0 where
 
 -- the least cause of five tests
 chain : Bool → Bool → Bool → Bool → Bool → Option Cause
-chain a b c d e = if a then Some cause.Register else if b then Some cause.Field else if c then Some cause.Offset else if d then Some cause.Imm else if e then Some cause.WideCut else None
+chain a b c d e =
+    if a then Some cause.Register else if b then Some cause.Field else if c then Some cause.Offset else if d
+    then Some cause.Imm else if e then Some cause.WideCut else None
 
 -- it names none where no test does
 chain_none : (a b c d e : Bool) → chain a b c d e ≡ None → (a ≡ false) × (b ≡ false) × (c ≡ false) × (d ≡ false) × (e ≡ false)
@@ -42,7 +44,9 @@ chain_none false false false false false h = (refl, refl, refl, refl, refl)
 pub is_clean : (f : Form) (s : Slot) (next : Option Slot) → cause_at f s next ≡ None → IsClean f s next
 unfolding chain
 is_clean f s next h =
-    let all = chain_none (has_bad_register (uses_of f) s) (has_stray_field (uses_of f) s || has_stray_second f s next) (has_no_variant f s) (has_no_width f s) (is_cut f next) h in
+    let all =
+    chain_none (has_bad_register (uses_of f) s) (has_stray_field (uses_of f) s || has_stray_second f s next)
+    (has_no_variant f s) (has_no_width f s) (is_cut f next) h in
     let fields = or_parts (has_stray_field (uses_of f) s) (has_stray_second f s next) all.1 in
     record { registers = all.0; fields = fields.0; second = fields.1; variant = all.2; width = all.3; whole = all.4 }
 
@@ -72,7 +76,8 @@ no_strays_is_kept f s o h clean =
     let a = or_parts (is_stray u.dst s.dst) (is_stray u.src s.src || (is_stray u.offset s.offset || is_stray u.imm s.imm)) clean in
     let b = or_parts (is_stray u.src s.src) (is_stray u.offset s.offset || is_stray u.imm s.imm) a.1 in
     let c = or_parts (is_stray u.offset s.offset) (is_stray u.imm s.imm) b.1 in
-    same_slot s o _ _ _ _ h (kept_same u.dst s.dst a.0) (kept_same u.src s.src b.0) (kept_same u.offset s.offset c.0) (kept_same u.imm s.imm c.1)
+    same_slot s o _ _ _ _ h (kept_same u.dst s.dst a.0) (kept_same u.src s.src b.0) (kept_same u.offset s.offset c.0)
+    (kept_same u.imm s.imm c.1)
 
 -- a field that is not over 10 is a register
 pub register_of : (r : ℕ) → nat_lt 10 r ≡ false → is_register r ≡ true
@@ -88,16 +93,18 @@ never_length false false false true e h = let same : Some cause.Imm ≡ Some cau
 never_length false false false false true h = let same : Some cause.WideCut ≡ Some cause.Length = h in cc
 never_length false false false false false h = let same : None ≡ Some cause.Length = h in cc
 
--- nor at one without a form
+-- the length is no cause at a slot without a form
 cause_is_none_of_length : (o : Option Form) (s : Slot) (next : Option Slot) → cause_of_form o s next ≡ Some cause.Length → ⊥
 unfolding chain
 cause_is_none_of_length None s next h = let same : Some cause.Opcode ≡ Some cause.Length = h in cc
 cause_is_none_of_length (Some f) s next h =
-    never_length (has_bad_register (uses_of f) s) (has_stray_field (uses_of f) s || has_stray_second f s next) (has_no_variant f s) (has_no_width f s) (is_cut f next) h
+    never_length (has_bad_register (uses_of f) s) (has_stray_field (uses_of f) s || has_stray_second f s next)
+    (has_no_variant f s) (has_no_width f s) (is_cut f next) h
 
 -- a fault at a slot
 pub is_fault : (bytes : List ℕ) (slot : ℕ) (c : Cause) → is_length bytes ≡ true → Faulty bytes slot c → IsFault bytes (At slot c)
-is_fault bytes slot cause.Length h f = absurd (cause_is_none_of_length (form_of f.front.slot.opcode) f.front.slot f.front.next f.front.cause_is)
+is_fault bytes slot cause.Length h f =
+    absurd (cause_is_none_of_length (form_of f.front.slot.opcode) f.front.slot f.front.next f.front.cause_is)
 is_fault bytes slot cause.Opcode h f = (h, f)
 is_fault bytes slot cause.Register h f = (h, f)
 is_fault bytes slot cause.Field h f = (h, f)
@@ -111,10 +118,12 @@ has_length bytes whole low high =
     let a : (length bytes % 8 == 0) ≡ true = grind (arith, nat_tests) in
     let b : nat_le 1 (length bytes) ≡ true = grind (arith, nat_tests) in
     let d : nat_le (length bytes) 32768 ≡ true = grind (arith, nat_tests) in
-    ap (λ (x : Bool). x && (nat_le 1 (length bytes) && nat_le (length bytes) 32768)) a ∙ ap (λ (x : Bool). x && nat_le (length bytes) 32768) b ∙ d
+    ap (λ (x : Bool). x && (nat_le 1 (length bytes) && nat_le (length bytes) 32768)) a
+    ∙ ap (λ (x : Bool). x && nat_le (length bytes) 32768) b ∙ d
 
 -- what a fault is: that of the length, or that of a slot
-pub fault_parts : (bytes : List ℕ) (s : ℕ) (c : Cause) → IsFault bytes (At s c) → ((c ≡ cause.Length) × (s ≡ 0) × (is_length bytes ≡ false)) ⊎ ((is_length bytes ≡ true) × Faulty bytes s c)
+pub fault_parts : (bytes : List ℕ) (s : ℕ) (c : Cause) → IsFault bytes (At s c)
+    → ((c ≡ cause.Length) × (s ≡ 0) × (is_length bytes ≡ false)) ⊎ ((is_length bytes ≡ true) × Faulty bytes s c)
 fault_parts bytes s cause.Length f = inl (refl, f.0, f.1)
 fault_parts bytes s cause.Opcode f = inr f
 fault_parts bytes s cause.Register f = inr f

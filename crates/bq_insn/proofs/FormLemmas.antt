@@ -43,7 +43,7 @@ agrees_with : ℕ → Option Form → Bool
 agrees_with n None = true
 agrees_with n (Some f) = (opcode_of f == n) && is_form f
 
--- so it is for each of the 256 opcodes, which is computed
+-- forms agree with their opcodes at each of the 256 opcodes, which is computed
 all_agree : below 256 (λ n. agrees_with n (form_of n)) ≡ true
 unfolding below agrees_with
 all_agree = refl
@@ -52,7 +52,9 @@ all_agree = refl
 pub in_table : (n : ℕ) (f : Form) → n < 2 ^ 8 → form_of n ≡ Some f → (n ≡ opcode_of f) × (is_form f ≡ true)
 unfolding agrees_with
 in_table n f lt h =
-    let parts = and_parts (opcode_of f == n) (is_form f) (sym (ap (agrees_with n) h) ∙ below-at 256 (λ k. agrees_with k (form_of k)) all_agree n lt) in
+    let parts =
+    and_parts (opcode_of f == n) (is_form f)
+    (sym (ap (agrees_with n) h) ∙ below-at 256 (λ k. agrees_with k (form_of k)) all_agree n lt) in
     let test : (opcode_of f == n) ≡ true = parts.0 in
     (grind (arith, nat_tests), parts.1)
 
@@ -64,17 +66,25 @@ plain o = o
 
 -- under the opcode of an operation stands the plain one
 pub known_alu : (w : Width) (o : Operation) (r : Bool) → form_of (opcode_of (form.Alu w o r)) ≡ Some (form.Alu w (plain o) r)
-known_alu W32 o true = elim o as (λ x. form_of (opcode_of (form.Alu W32 x true)) ≡ Some (form.Alu W32 (plain x) true)) [ op.Add ↦ refl | _ ↦ refl ]
-known_alu W32 o false = elim o as (λ x. form_of (opcode_of (form.Alu W32 x false)) ≡ Some (form.Alu W32 (plain x) false)) [ op.Add ↦ refl | _ ↦ refl ]
-known_alu W64 o true = elim o as (λ x. form_of (opcode_of (form.Alu W64 x true)) ≡ Some (form.Alu W64 (plain x) true)) [ op.Add ↦ refl | _ ↦ refl ]
-known_alu W64 o false = elim o as (λ x. form_of (opcode_of (form.Alu W64 x false)) ≡ Some (form.Alu W64 (plain x) false)) [ op.Add ↦ refl | _ ↦ refl ]
+known_alu W32 o true =
+    elim o as (λ x. form_of (opcode_of (form.Alu W32 x true)) ≡ Some (form.Alu W32 (plain x) true)) [ op.Add ↦ refl | _ ↦ refl ]
+known_alu W32 o false =
+    elim o as (λ x. form_of (opcode_of (form.Alu W32 x false)) ≡ Some (form.Alu W32 (plain x) false)) [ op.Add ↦ refl | _ ↦ refl ]
+known_alu W64 o true =
+    elim o as (λ x. form_of (opcode_of (form.Alu W64 x true)) ≡ Some (form.Alu W64 (plain x) true)) [ op.Add ↦ refl | _ ↦ refl ]
+known_alu W64 o false =
+    elim o as (λ x. form_of (opcode_of (form.Alu W64 x false)) ≡ Some (form.Alu W64 (plain x) false)) [ op.Add ↦ refl | _ ↦ refl ]
 
 -- under the opcode of a branch stands that branch
 pub known_branch : (w : Width) (c : Condition) (r : Bool) → form_of (opcode_of (form.Branch w c r)) ≡ Some (form.Branch w c r)
-known_branch W32 c true = elim c as (λ x. form_of (opcode_of (form.Branch W32 x true)) ≡ Some (form.Branch W32 x true)) [ cond.Equal ↦ refl | _ ↦ refl ]
-known_branch W32 c false = elim c as (λ x. form_of (opcode_of (form.Branch W32 x false)) ≡ Some (form.Branch W32 x false)) [ cond.Equal ↦ refl | _ ↦ refl ]
-known_branch W64 c true = elim c as (λ x. form_of (opcode_of (form.Branch W64 x true)) ≡ Some (form.Branch W64 x true)) [ cond.Equal ↦ refl | _ ↦ refl ]
-known_branch W64 c false = elim c as (λ x. form_of (opcode_of (form.Branch W64 x false)) ≡ Some (form.Branch W64 x false)) [ cond.Equal ↦ refl | _ ↦ refl ]
+known_branch W32 c true =
+    elim c as (λ x. form_of (opcode_of (form.Branch W32 x true)) ≡ Some (form.Branch W32 x true)) [ cond.Equal ↦ refl | _ ↦ refl ]
+known_branch W32 c false =
+    elim c as (λ x. form_of (opcode_of (form.Branch W32 x false)) ≡ Some (form.Branch W32 x false)) [ cond.Equal ↦ refl | _ ↦ refl ]
+known_branch W64 c true =
+    elim c as (λ x. form_of (opcode_of (form.Branch W64 x true)) ≡ Some (form.Branch W64 x true)) [ cond.Equal ↦ refl | _ ↦ refl ]
+known_branch W64 c false =
+    elim c as (λ x. form_of (opcode_of (form.Branch W64 x false)) ≡ Some (form.Branch W64 x false)) [ cond.Equal ↦ refl | _ ↦ refl ]
 
 -- a form of the table is plain
 pub is_plain : (w : Width) (o : Operation) (r : Bool) → is_form (form.Alu w o r) ≡ true → plain o ≡ o

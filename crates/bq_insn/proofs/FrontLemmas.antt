@@ -22,12 +22,16 @@ slots_of-spelled (insn.Branch w o d (Reg s) off) = refl
 slots_of-spelled i = refl
 
 -- bytes of two slots and more begin with both
-pub begins_with_two : (bytes rest : List ℕ) (s t : Slot) → bytes ≡ slot_bytes s ++ drop 8 bytes → rest ≡ drop 8 bytes → rest ≡ slot_bytes t ++ drop 8 rest → IsSlot t → BeginsWith bytes s (Some t)
+pub begins_with_two : (bytes rest : List ℕ) (s t : Slot) → bytes ≡ slot_bytes s ++ drop 8 bytes → rest ≡ drop 8 bytes
+    → rest ≡ slot_bytes t ++ drop 8 rest → IsSlot t
+    → BeginsWith bytes s (Some t)
 begins_with_two bytes rest s t first same second fits =
     (fits, drop 8 rest, first ∙ ap (λ (x : List ℕ). slot_bytes s ++ x) (sym same ∙ second))
 
 -- an instruction stands in front where its bytes do
-front_by : (bytes : List ℕ) (i : Insn) (part rest : List ℕ) → is_insn i ≡ true → Fits i → insn_bytes i ≡ part → length part ≡ 8 * slots_of i → bytes ≡ part ++ rest → HasFront bytes i
+front_by : (bytes : List ℕ) (i : Insn) (part rest : List ℕ) → is_insn i ≡ true → Fits i → insn_bytes i ≡ part
+    → length part ≡ 8 * slots_of i → bytes ≡ part ++ rest
+    → HasFront bytes i
 front_by bytes i part rest ranged numbers spells len whole =
     let after : drop (8 * slots_of i) bytes ≡ rest = ap (drop (8 * slots_of i)) whole ∙ drop_at part rest (8 * slots_of i) len in
     record {
@@ -38,19 +42,25 @@ front_by bytes i part rest ranged numbers spells len whole =
     }
 
 -- in one slot
-front_one : (bytes rest : List ℕ) (s : Slot) (i : Insn) → is_insn i ≡ true → Fits i → spelled i ≡ s ∷ [] → bytes ≡ slot_bytes s ++ rest → HasFront bytes i
+front_one : (bytes rest : List ℕ) (s : Slot) (i : Insn) → is_insn i ≡ true → Fits i → spelled i ≡ s ∷ []
+    → bytes ≡ slot_bytes s ++ rest
+    → HasFront bytes i
 front_one bytes rest s i ranged numbers one whole =
     let slots : slots_of i ≡ 1 = slots_of-spelled i ∙ ap length one in
     front_by bytes i (slot_bytes s) rest ranged numbers (ap (flat_map slot_bytes) one) (ap (λ (n : ℕ). 8 * n) (sym slots)) whole
 
 -- in two slots
-front_two : (bytes rest : List ℕ) (s t : Slot) (i : Insn) → is_insn i ≡ true → Fits i → spelled i ≡ s ∷ t ∷ [] → bytes ≡ slot_bytes s ++ (slot_bytes t ++ rest) → HasFront bytes i
+front_two : (bytes rest : List ℕ) (s t : Slot) (i : Insn) → is_insn i ≡ true → Fits i → spelled i ≡ s ∷ t ∷ []
+    → bytes ≡ slot_bytes s ++ (slot_bytes t ++ rest)
+    → HasFront bytes i
 front_two bytes rest s t i ranged numbers two whole =
     let slots : slots_of i ≡ 2 = slots_of-spelled i ∙ ap length two in
-    front_by bytes i (slot_bytes s ++ slot_bytes t) rest ranged numbers (ap (flat_map slot_bytes) two) (ap (λ (n : ℕ). 8 * n) (sym slots)) whole
+    front_by bytes i (slot_bytes s ++ slot_bytes t) rest ranged numbers (ap (flat_map slot_bytes) two)
+    (ap (λ (n : ℕ). 8 * n) (sym slots)) whole
 
 -- what is read of the front stands in front
-pub has_front : (bytes : List ℕ) (s : Slot) (next : Option Slot) (i : Insn) → BeginsWith bytes s next → Reads s next i → Fits i → HasFront bytes i
+pub has_front : (bytes : List ℕ) (s : Slot) (next : Option Slot) (i : Insn)
+    → BeginsWith bytes s next → Reads s next i → Fits i → HasFront bytes i
 has_front bytes s None i begins reads numbers = front_one bytes [] s i reads.0 numbers reads.1 begins
 has_front bytes s (Some t) i begins reads numbers = elim reads.1 as (λ _. HasFront bytes i) [
   | inl one ↦ front_one bytes (slot_bytes t ++ begins.1) s i reads.0 numbers one begins.2

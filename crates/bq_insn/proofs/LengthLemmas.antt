@@ -47,5 +47,7 @@ program_length insns h =
 pub no_program_is_refused : NoProgramIsRefused
 no_program_is_refused insns s c h f g = elim (fault_parts (spelling insns) s c g) as (λ _. ⊥) [
   | inl p ↦ not_both (is_length (spelling insns)) (program_length insns h) p.2
-  | inr p ↦ no_program_is_faulty insns s c (and_parts (list_all is_insn insns) (nat_le 1 (slot_count insns) && nat_le (slot_count insns) 4096) h).0 f p.1
+  | inr p ↦
+      no_program_is_faulty insns s c
+      (and_parts (list_all is_insn insns) (nat_le 1 (slot_count insns) && nat_le (slot_count insns) 4096) h).0 f p.1
 ]

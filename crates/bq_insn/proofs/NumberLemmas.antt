@@ -25,7 +25,8 @@ signed16_fits : (n : ℕ) → n < 2 ^ 16 → FitsSigned w16 (signed16 n)
 signed16_fits n h = sfits_to_z {w = w16} {n = n} (Fits-of_lt {w = w16} {n = n} h)
 
 -- a move has no number
-move_fits : (w : Width) (s : Slot) (b : Bool) → Fits (if b then insn.Alu w op.Mov s.dst (Reg s.src) else insn.MovSx w (bits_of s.offset) s.dst s.src)
+move_fits : (w : Width) (s : Slot) (b : Bool)
+    → Fits (if b then insn.Alu w op.Mov s.dst (Reg s.src) else insn.MovSx w (bits_of s.offset) s.dst s.src)
 move_fits w s true = tt
 move_fits w s false = tt
 
@@ -36,7 +37,8 @@ alu_fits w op.Mov true s h = move_fits w s (s.offset == 0)
 alu_fits w o true s h = tt
 
 -- a number of two halves fits in 64 bits
-wide_fits : (s : Slot) (next : Option Slot) (b : Bool) → s.imm < 2 ^ 32 → second_imm next < 2 ^ 32 → Fits (if b then insn.MapRef s.dst (signed32 s.imm) else insn.Imm64 s.dst (s.imm + 2 ^ 32 * second_imm next))
+wide_fits : (s : Slot) (next : Option Slot) (b : Bool) → s.imm < 2 ^ 32 → second_imm next < 2 ^ 32
+    → Fits (if b then insn.MapRef s.dst (signed32 s.imm) else insn.Imm64 s.dst (s.imm + 2 ^ 32 * second_imm next))
 wide_fits s next true h k = signed32_fits s.imm h
 wide_fits s next false h k = omega arith
 

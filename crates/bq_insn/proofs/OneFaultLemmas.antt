@@ -18,14 +18,20 @@ use Rattle.bq_insn.proofs.ApartLemmas.{front_clean}
 -- nothing is left after two fronts, so they are one
 same_next : (s t : Slot) (a b : Option Slot) (x : List ℕ) → IsSlot s → IsSlot t → BeginsWith x s a → BeginsWith x t b → (s ≡ t) × (a ≡ b)
 same_next s t None None x f g p q =
-    let same = same_front s t [] [] f.dst g.dst f.offset g.offset f.imm g.imm (append-nil (slot_bytes s) ∙ sym p ∙ q ∙ sym (append-nil (slot_bytes t))) in
+    let same =
+    same_front s t [] [] f.dst g.dst f.offset g.offset f.imm g.imm
+    (append-nil (slot_bytes s) ∙ sym p ∙ q ∙ sym (append-nil (slot_bytes t))) in
     (same.0, refl)
 same_next s t None (Some v) x f g p q =
-    let same = same_front s t [] (slot_bytes v ++ q.1) f.dst g.dst f.offset g.offset f.imm g.imm (append-nil (slot_bytes s) ∙ sym p ∙ q.2) in
+    let same =
+    same_front s t [] (slot_bytes v ++ q.1) f.dst g.dst f.offset g.offset f.imm g.imm
+    (append-nil (slot_bytes s) ∙ sym p ∙ q.2) in
     let none = same.1 in
     absurd (cc)
 same_next s t (Some u) None x f g p q =
-    let same = same_front s t (slot_bytes u ++ p.1) [] f.dst g.dst f.offset g.offset f.imm g.imm (sym p.2 ∙ q ∙ sym (append-nil (slot_bytes t))) in
+    let same =
+    same_front s t (slot_bytes u ++ p.1) [] f.dst g.dst f.offset g.offset f.imm g.imm
+    (sym p.2 ∙ q ∙ sym (append-nil (slot_bytes t))) in
     let none = same.1 in
     absurd (cc)
 same_next s t (Some u) (Some v) x f g p q =
@@ -37,7 +43,8 @@ same_next s t (Some u) (Some v) x f g p q =
 one_cause : (x : List ℕ) (c d : Cause) → FrontHasCause x c → FrontHasCause x d → c ≡ d
 one_cause x c d p q =
     let same = same_next p.slot q.slot p.next q.next x p.is_slot q.is_slot p.begins q.begins in
-    same_Some c d (sym p.cause_is ∙ ap (λ (s : Slot). cause_of s p.next) same.0 ∙ ap (λ (n : Option Slot). cause_of q.slot n) same.1 ∙ q.cause_is)
+    same_Some c d
+    (sym p.cause_is ∙ ap (λ (s : Slot). cause_of s p.next) same.0 ∙ ap (λ (n : Option Slot). cause_of q.slot n) same.1 ∙ q.cause_is)
 
 -- an instruction in range stands in front of no fault
 no_fault_in_front : (i : Insn) (x : List ℕ) (c : Cause) → is_insn i ≡ true → Fits i → FrontHasCause (insn_bytes i ++ x) c → ⊥
@@ -50,16 +57,20 @@ one_way : (xs ys : List Insn) (x y : List ℕ) (c d : Cause) → list_all is_ins
 one_way [] [] x y c d ha fa hb fb e p q = (refl, one_cause y c d (subst (λ (l : List ℕ). FrontHasCause l c) e p) q)
 one_way [] (b ∷ ys) x y c d ha fa hb fb e p q =
     let k = and_parts (is_insn b) (list_all is_insn ys) hb in
-    absurd (no_fault_in_front b (spelling ys ++ y) c k.0 fb.0 (subst (λ (l : List ℕ). FrontHasCause l c) (e ∙ append_assoc (insn_bytes b) (spelling ys) y) p))
+    absurd (no_fault_in_front b (spelling ys ++ y) c k.0 fb.0
+    (subst (λ (l : List ℕ). FrontHasCause l c) (e ∙ append_assoc (insn_bytes b) (spelling ys) y) p))
 one_way (a ∷ xs) [] x y c d ha fa hb fb e p q =
     let k = and_parts (is_insn a) (list_all is_insn xs) ha in
-    absurd (no_fault_in_front a (spelling xs ++ x) d k.0 fa.0 (subst (λ (l : List ℕ). FrontHasCause l d) (sym e ∙ append_assoc (insn_bytes a) (spelling xs) x) q))
+    absurd (no_fault_in_front a (spelling xs ++ x) d k.0 fa.0
+    (subst (λ (l : List ℕ). FrontHasCause l d) (sym e ∙ append_assoc (insn_bytes a) (spelling xs) x) q))
 one_way (a ∷ xs) (b ∷ ys) x y c d ha fa hb fb e p q =
     let k = and_parts (is_insn a) (list_all is_insn xs) ha in
     let l = and_parts (is_insn b) (list_all is_insn ys) hb in
     let e2 = sym (append_assoc (insn_bytes a) (spelling xs) x) ∙ e ∙ append_assoc (insn_bytes b) (spelling ys) y in
     let same = one_spelling a b (spelling xs ++ x) (spelling ys ++ y) k.0 l.0 fa.0 fb.0 e2 in
-    let left = front_cancelled (insn_bytes b) (spelling xs ++ x) (spelling ys ++ y) (ap (λ (i : Insn). insn_bytes i ++ (spelling xs ++ x)) (sym same) ∙ e2) in
+    let left =
+    front_cancelled (insn_bytes b) (spelling xs ++ x) (spelling ys ++ y)
+    (ap (λ (i : Insn). insn_bytes i ++ (spelling xs ++ x)) (sym same) ∙ e2) in
     let rest = one_way xs ys x y c d k.1 fa.1 l.1 fb.1 left p q in
     (ap (λ (i : Insn). i ∷ xs) same ∙ ap (λ (is : List Insn). b ∷ is) rest.0, rest.1)
 
@@ -72,7 +83,10 @@ one_fault bytes s t c d f g = elim (fault_parts bytes s c f) as (λ _. (s ≡ t)
   ]
   | inr p ↦ elim (fault_parts bytes t d g) as (λ _. (s ≡ t) × (c ≡ d)) [
     | inl q ↦ not_both (is_length bytes) p.0 q.2
-    | inr q ↦ let same = one_way p.1.before q.1.before p.1.rest q.1.rest c d p.1.are_insns p.1.numbers q.1.are_insns q.1.numbers (sym p.1.bytes_are ∙ q.1.bytes_are) p.1.front q.1.front in
+    | inr q ↦
+        let same =
+        one_way p.1.before q.1.before p.1.rest q.1.rest c d p.1.are_insns p.1.numbers q.1.are_insns q.1.numbers
+        (sym p.1.bytes_are ∙ q.1.bytes_are) p.1.front q.1.front in
         (p.1.slot_is ∙ ap slot_count same.0 ∙ sym q.1.slot_is, same.1)
   ]
 ]

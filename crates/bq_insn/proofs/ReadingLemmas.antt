@@ -77,11 +77,13 @@ two_slots : (a b s t : Slot) → a ≡ s → b ≡ t → a ∷ b ∷ [] ≡ s �
 two_slots a b s t h k = ap (λ (x : Slot). x ∷ b ∷ []) h ∙ ap (λ (x : Slot). s ∷ x ∷ []) k
 
 -- a wide instruction
-reads_wide : (s : Slot) (next : Option Slot) → IsSlot s → s.opcode ≡ opcode_of form.Wide → IsClean form.Wide s next → Reads s next (insn_of form.Wide s next)
+reads_wide : (s : Slot) (next : Option Slot) → IsSlot s → s.opcode ≡ opcode_of form.Wide → IsClean form.Wide s next
+    → Reads s next (insn_of form.Wide s next)
 reads_wide s None fits opcode clean = absurd (let e : true ≡ false = clean.whole in cc)
 reads_wide s (Some t) fits opcode clean = by_test (s.src == 5) refl second.4
   where
-    a : (nat_lt 0 t.opcode ≡ false) × ((nat_lt 0 t.dst || (nat_lt 0 t.src || (nat_lt 0 t.offset || ((s.src == 5) && nat_lt 0 t.imm)))) ≡ false)
+    a : (nat_lt 0 t.opcode ≡ false)
+        × ((nat_lt 0 t.dst || (nat_lt 0 t.src || (nat_lt 0 t.offset || ((s.src == 5) && nat_lt 0 t.imm)))) ≡ false)
     a = or_parts (nat_lt 0 t.opcode) _ clean.second
 
     b : (nat_lt 0 t.dst ≡ false) × ((nat_lt 0 t.src || (nat_lt 0 t.offset || ((s.src == 5) && nat_lt 0 t.imm))) ≡ false)
@@ -106,8 +108,8 @@ reads_wide s (Some t) fits opcode clean = by_test (s.src == 5) refl second.4
         → Reads s (Some t) (if b then insn.MapRef s.dst (signed32 s.imm) else insn.Imm64 s.dst (s.imm + 2 ^ 32 * t.imm))
     by_test true five stray = (
       ranged,
-      inr (two_slots _ _ s t
-          (ap (λ (x : ℕ). slot (opcode_of form.Wide) s.dst x 0 (word32 (signed32 s.imm))) (is_five s.src five) ∙ ap (λ (x : ℕ). slot (opcode_of form.Wide) s.dst s.src 0 x) (word32_of_signed32 s.imm fits.imm) ∙ first)
+      inr (two_slots _ _ s t (ap (λ (x : ℕ). slot (opcode_of form.Wide) s.dst x 0 (word32 (signed32 s.imm))) (is_five s.src five)
+          ∙ ap (λ (x : ℕ). slot (opcode_of form.Wide) s.dst s.src 0 x) (word32_of_signed32 s.imm fits.imm) ∙ first)
           (same_slot t 0 0 0 0 0 second.0 second.1 second.2 second.3 (zero_of t.imm stray))),
     )
     by_test false other stray = (
@@ -119,7 +121,9 @@ reads_wide s (Some t) fits opcode clean = by_test (s.src == 5) refl second.4
     )
 
 -- by form
-reads_form : (f : Form) (s : Slot) (next : Option Slot) → IsSlot s → is_form f ≡ true → s.opcode ≡ opcode_of f → IsClean f s next → Reads s next (insn_of f s next)
+reads_form : (f : Form) (s : Slot) (next : Option Slot) → IsSlot s → is_form f ≡ true
+    → s.opcode ≡ opcode_of f → IsClean f s next
+    → Reads s next (insn_of f s next)
 reads_form (form.Alu w o false) s next fits known opcode clean = reads_alu_imm w o s next fits (plain_of w o false known) opcode clean
 reads_form (form.Alu w o true) s next fits known opcode clean = reads_alu_reg w o s next fits (plain_of w o true known) opcode clean
 reads_form (form.Neg w) s next fits known opcode clean =
@@ -134,29 +138,35 @@ reads_form (form.Load size signed) s next fits known opcode clean =
     (load_ranged size signed s.dst s.src (signed16 s.offset) known ∙ two_registers s.dst s.src clean.registers)
     (one_slot _ _ _ _ _ _ _ _ _ _ refl refl refl (word16_of_signed16 s.offset fits.offset) refl)
 reads_form (form.StoreImm size) s next fits known opcode clean =
-    reads_by (form.StoreImm size) s next (insn.StoreImm size s.dst (signed16 s.offset) (signed32 s.imm)) opcode clean
-    (one_register s.dst clean.registers) (one_slot _ _ _ _ _ _ _ _ _ _ refl refl refl (word16_of_signed16 s.offset fits.offset) (word32_of_signed32 s.imm fits.imm))
+    reads_by (form.StoreImm size) s next (insn.StoreImm size s.dst (signed16 s.offset) (signed32 s.imm))
+    opcode clean (one_register s.dst clean.registers)
+    (one_slot _ _ _ _ _ _ _ _ _ _ refl refl refl (word16_of_signed16 s.offset fits.offset) (word32_of_signed32 s.imm fits.imm))
 reads_form (form.StoreReg size) s next fits known opcode clean =
     reads_by (form.StoreReg size) s next (insn.StoreReg size s.dst (signed16 s.offset) s.src) opcode clean
     (two_registers s.dst s.src clean.registers) (one_slot _ _ _ _ _ _ _ _ _ _ refl refl refl (word16_of_signed16 s.offset fits.offset) refl)
 reads_form form.Wide s next fits known opcode clean = reads_wide s next fits opcode clean
 reads_form form.Goto s next fits known opcode clean =
-    reads_by form.Goto s next (insn.Goto (signed16 s.offset)) opcode clean refl (one_slot _ _ _ _ _ _ _ _ _ _ refl refl refl (word16_of_signed16 s.offset fits.offset) refl)
+    reads_by form.Goto s next (insn.Goto (signed16 s.offset)) opcode clean refl
+    (one_slot _ _ _ _ _ _ _ _ _ _ refl refl refl (word16_of_signed16 s.offset fits.offset) refl)
 reads_form form.Goto32 s next fits known opcode clean =
-    reads_by form.Goto32 s next (insn.Goto32 (signed32 s.imm)) opcode clean refl (one_slot _ _ _ _ _ _ _ _ _ _ refl refl refl refl (word32_of_signed32 s.imm fits.imm))
+    reads_by form.Goto32 s next (insn.Goto32 (signed32 s.imm)) opcode clean refl
+    (one_slot _ _ _ _ _ _ _ _ _ _ refl refl refl refl (word32_of_signed32 s.imm fits.imm))
 reads_form (form.Branch w c false) s next fits known opcode clean =
-    reads_by (form.Branch w c false) s next (insn.Branch w c s.dst (Imm (signed32 s.imm)) (signed16 s.offset)) opcode clean
-    (and_from (is_register s.dst) true (one_register s.dst clean.registers) refl) (one_slot _ _ _ _ _ _ _ _ _ _ refl refl refl (word16_of_signed16 s.offset fits.offset) (word32_of_signed32 s.imm fits.imm))
+    reads_by (form.Branch w c false) s next (insn.Branch w c s.dst (Imm (signed32 s.imm)) (signed16 s.offset))
+    opcode clean (and_from (is_register s.dst) true (one_register s.dst clean.registers) refl)
+    (one_slot _ _ _ _ _ _ _ _ _ _ refl refl refl (word16_of_signed16 s.offset fits.offset) (word32_of_signed32 s.imm fits.imm))
 reads_form (form.Branch w c true) s next fits known opcode clean =
     reads_by (form.Branch w c true) s next (insn.Branch w c s.dst (Reg s.src) (signed16 s.offset)) opcode clean
     (two_registers s.dst s.src clean.registers) (one_slot _ _ _ _ _ _ _ _ _ _ refl refl refl (word16_of_signed16 s.offset fits.offset) refl)
 reads_form form.Call s next fits known opcode clean =
-    reads_by form.Call s next (insn.Call (signed32 s.imm)) opcode clean refl (one_slot _ _ _ _ _ _ _ _ _ _ refl refl (sym (is_zero s.src clean.variant)) refl (word32_of_signed32 s.imm fits.imm))
+    reads_by form.Call s next (insn.Call (signed32 s.imm)) opcode clean refl
+    (one_slot _ _ _ _ _ _ _ _ _ _ refl refl (sym (is_zero s.src clean.variant)) refl (word32_of_signed32 s.imm fits.imm))
 reads_form form.Exit s next fits known opcode clean =
     reads_by form.Exit s next insn.Exit opcode clean refl refl
 
 -- slots without a fault spell the instruction that is read
-pub faultless_slots_read : (f : Form) (s : Slot) (next : Option Slot) → IsSlot s → form_of s.opcode ≡ Some f → cause_at f s next ≡ None → Reads s next (insn_of f s next)
+pub faultless_slots_read : (f : Form) (s : Slot) (next : Option Slot)
+    → IsSlot s → form_of s.opcode ≡ Some f → cause_at f s next ≡ None → Reads s next (insn_of f s next)
 faultless_slots_read f s next fits known none =
     let table = in_table s.opcode f fits.opcode known in
     reads_form f s next fits table.1 table.0 (is_clean f s next none)

@@ -37,10 +37,14 @@ word32_of_signed32 n h = of_z-to_z w32 n h
 
 -- the fields that a form uses, and zeros
 abbrev pub cleaned_slot : Form → Slot → Slot
-cleaned_slot f s = slot (opcode_of f) (kept (uses_of f).dst s.dst) (kept (uses_of f).src s.src) (kept (uses_of f).offset s.offset) (kept (uses_of f).imm s.imm)
+cleaned_slot f s =
+    slot (opcode_of f) (kept (uses_of f).dst s.dst) (kept (uses_of f).src s.src) (kept (uses_of f).offset s.offset)
+    (kept (uses_of f).imm s.imm)
 
 -- an instruction of one slot is read where it is in range and spelled by what its form keeps
-pub reads_by : (f : Form) (s : Slot) (next : Option Slot) (i : Insn) → s.opcode ≡ opcode_of f → IsClean f s next → is_insn i ≡ true → spelled i ≡ cleaned_slot f s ∷ [] → Reads s next i
+pub reads_by : (f : Form) (s : Slot) (next : Option Slot) (i : Insn)
+    → s.opcode ≡ opcode_of f → IsClean f s next → is_insn i ≡ true → spelled i ≡ cleaned_slot f s ∷ []
+    → Reads s next i
 reads_by f s next i opcode clean ranged e =
     (ranged, by_one s next i (e ∙ ap (λ (x : Slot). x ∷ []) (no_strays_is_kept f s (opcode_of f) (sym opcode) clean.fields)))
 

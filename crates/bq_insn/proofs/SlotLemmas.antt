@@ -6,8 +6,10 @@ use Rattle.byteorder.specs.Endian.{little_number}
 use Rattle.bq_insn.specs.Spelling.{slot, slot_bytes}
 
 -- eight bytes are the bytes of the numbers that stand in them
-pub read_back : (bytes : List ℕ) (offset imm : ℕ) → 8 ≤ length bytes → ((i : ℕ) → Fits w8 (slice_index_or bytes i 0)) → offset ≡ little_number 2 (drop 2 bytes) → imm ≡ little_number 4 (drop 4 bytes)
-    → bytes ≡ slot_bytes (slot (slice_index_or bytes 0 0) (slice_index_or bytes 1 0 % 16) (slice_index_or bytes 1 0 / 16) offset imm) ++ drop 8 bytes
+pub read_back : (bytes : List ℕ) (offset imm : ℕ) → 8 ≤ length bytes → ((i : ℕ) → Fits w8 (slice_index_or bytes i 0))
+    → offset ≡ little_number 2 (drop 2 bytes) → imm ≡ little_number 4 (drop 4 bytes)
+    → bytes ≡ slot_bytes (slot (slice_index_or bytes 0 0) (slice_index_or bytes 1 0 % 16) (slice_index_or bytes 1 0 / 16) offset imm)
+    ++ drop 8 bytes
 read_back (a ∷ b ∷ c ∷ d ∷ e ∷ f ∷ g ∷ h ∷ rest) offset imm long fits to ti =
     let tc : c < 2 ^ 8 = Fits-lt-pow (fits 2) in
     let td : d < 2 ^ 8 = Fits-lt-pow (fits 3) in

@@ -40,20 +40,26 @@ same32 : (z : ℤ) → FitsSigned w32 z → signed32 (word32 z) ≡ z
 same32 z h = to_z-of_z w32 z h
 
 -- an operation on the immediate is read again
-again_alu_imm : (w : Width) (o : Operation) (d : ℕ) (n : ℤ) (next : Option Slot) → FitsSigned w32 n → read (slot (opcode_of (form.Alu w o false)) d 0 (variant_of o) (word32 n)) next ≡ Some (insn.Alu w o d (Imm n))
+again_alu_imm : (w : Width) (o : Operation) (d : ℕ) (n : ℤ) (next : Option Slot)
+    → FitsSigned w32 n
+    → read (slot (opcode_of (form.Alu w o false)) d 0 (variant_of o) (word32 n)) next ≡ Some (insn.Alu w o d (Imm n))
 again_alu_imm w o d n next h =
     ap (option_map (λ f. insn_of f (slot (opcode_of (form.Alu w o false)) d 0 (variant_of o) (word32 n)) next)) (known_alu w o false)
     ∙ ap (λ (x : Operation). Some (insn.Alu w x d (Imm (signed32 (word32 n))))) (variant-again o)
     ∙ ap (λ (z : ℤ). Some (insn.Alu w o d (Imm z))) (same32 n h)
 
 -- an operation on a register is read again
-again_alu_reg : (w : Width) (o : Operation) (d s : ℕ) (next : Option Slot) → read (slot (opcode_of (form.Alu w o true)) d s (variant_of o) 0) next ≡ Some (insn.Alu w o d (Reg s))
+again_alu_reg : (w : Width) (o : Operation) (d s : ℕ) (next : Option Slot)
+    → read (slot (opcode_of (form.Alu w o true)) d s (variant_of o) 0) next ≡ Some (insn.Alu w o d (Reg s))
 again_alu_reg w o d s next =
     ap (option_map (λ f. insn_of f (slot (opcode_of (form.Alu w o true)) d s (variant_of o) 0) next)) (known_alu w o true)
-    ∙ elim o as (λ x. Some (insn_of (form.Alu w (plain x) true) (slot (opcode_of (form.Alu w x true)) d s (variant_of x) 0) next) ≡ Some (insn.Alu w x d (Reg s))) [ op.Add ↦ refl | _ ↦ refl ]
+    ∙ elim o as (λ x.
+    Some (insn_of (form.Alu w (plain x) true) (slot (opcode_of (form.Alu w x true)) d s (variant_of x) 0) next)
+    ≡ Some (insn.Alu w x d (Reg s))) [ op.Add ↦ refl | _ ↦ refl ]
 
 -- a branch is read by its form
-again_branch : (w : Width) (c : Condition) (r : Bool) (s : Slot) (next : Option Slot) → s.opcode ≡ opcode_of (form.Branch w c r) → read s next ≡ Some (insn_of (form.Branch w c r) s next)
+again_branch : (w : Width) (c : Condition) (r : Bool) (s : Slot) (next : Option Slot)
+    → s.opcode ≡ opcode_of (form.Branch w c r) → read s next ≡ Some (insn_of (form.Branch w c r) s next)
 again_branch w c r s next h = ap (option_map (λ f. insn_of f s next)) (ap form_of h ∙ known_branch w c r)
 
 -- the first slot
@@ -72,7 +78,8 @@ halves : (v : ℕ) → v % 2 ^ 32 + 2 ^ 32 * (v / 2 ^ 32) ≡ v
 halves v = omega arith
 
 -- what an instruction is spelled by is read as that instruction
-pub spelled_reads_back : (i : Insn) → is_insn i ≡ true → Fits i → (next : Option Slot) → read (head_of (spelled i)) (after (spelled i) next) ≡ Some i
+pub spelled_reads_back : (i : Insn) → is_insn i ≡ true → Fits i
+    → (next : Option Slot) → read (head_of (spelled i)) (after (spelled i) next) ≡ Some i
 spelled_reads_back (insn.Alu w o d (Imm n)) h fits next = again_alu_imm w o d n next fits
 spelled_reads_back (insn.Alu w o d (Reg s)) h fits next = again_alu_reg w o d s next
 spelled_reads_back (insn.MovSx W32 B8 d s) h fits next = refl
@@ -103,10 +110,18 @@ spelled_reads_back (insn.Load Byte false d s off) h fits next = ap (λ (z : ℤ)
 spelled_reads_back (insn.Load Half false d s off) h fits next = ap (λ (z : ℤ). Some (insn.Load Half false d s z)) (same16 off fits)
 spelled_reads_back (insn.Load Word false d s off) h fits next = ap (λ (z : ℤ). Some (insn.Load Word false d s z)) (same16 off fits)
 spelled_reads_back (insn.Load Double false d s off) h fits next = ap (λ (z : ℤ). Some (insn.Load Double false d s z)) (same16 off fits)
-spelled_reads_back (insn.StoreImm Byte d off n) h fits next = ap (λ (z : ℤ). Some (insn.StoreImm Byte d z (signed32 (word32 n)))) (same16 off fits.0) ∙ ap (λ (z : ℤ). Some (insn.StoreImm Byte d off z)) (same32 n fits.1)
-spelled_reads_back (insn.StoreImm Half d off n) h fits next = ap (λ (z : ℤ). Some (insn.StoreImm Half d z (signed32 (word32 n)))) (same16 off fits.0) ∙ ap (λ (z : ℤ). Some (insn.StoreImm Half d off z)) (same32 n fits.1)
-spelled_reads_back (insn.StoreImm Word d off n) h fits next = ap (λ (z : ℤ). Some (insn.StoreImm Word d z (signed32 (word32 n)))) (same16 off fits.0) ∙ ap (λ (z : ℤ). Some (insn.StoreImm Word d off z)) (same32 n fits.1)
-spelled_reads_back (insn.StoreImm Double d off n) h fits next = ap (λ (z : ℤ). Some (insn.StoreImm Double d z (signed32 (word32 n)))) (same16 off fits.0) ∙ ap (λ (z : ℤ). Some (insn.StoreImm Double d off z)) (same32 n fits.1)
+spelled_reads_back (insn.StoreImm Byte d off n) h fits next =
+    ap (λ (z : ℤ). Some (insn.StoreImm Byte d z (signed32 (word32 n)))) (same16 off fits.0)
+    ∙ ap (λ (z : ℤ). Some (insn.StoreImm Byte d off z)) (same32 n fits.1)
+spelled_reads_back (insn.StoreImm Half d off n) h fits next =
+    ap (λ (z : ℤ). Some (insn.StoreImm Half d z (signed32 (word32 n)))) (same16 off fits.0)
+    ∙ ap (λ (z : ℤ). Some (insn.StoreImm Half d off z)) (same32 n fits.1)
+spelled_reads_back (insn.StoreImm Word d off n) h fits next =
+    ap (λ (z : ℤ). Some (insn.StoreImm Word d z (signed32 (word32 n)))) (same16 off fits.0)
+    ∙ ap (λ (z : ℤ). Some (insn.StoreImm Word d off z)) (same32 n fits.1)
+spelled_reads_back (insn.StoreImm Double d off n) h fits next =
+    ap (λ (z : ℤ). Some (insn.StoreImm Double d z (signed32 (word32 n)))) (same16 off fits.0)
+    ∙ ap (λ (z : ℤ). Some (insn.StoreImm Double d off z)) (same32 n fits.1)
 spelled_reads_back (insn.StoreReg Byte d off s) h fits next = ap (λ (z : ℤ). Some (insn.StoreReg Byte d z s)) (same16 off fits)
 spelled_reads_back (insn.StoreReg Half d off s) h fits next = ap (λ (z : ℤ). Some (insn.StoreReg Half d z s)) (same16 off fits)
 spelled_reads_back (insn.StoreReg Word d off s) h fits next = ap (λ (z : ℤ). Some (insn.StoreReg Word d z s)) (same16 off fits)
@@ -117,8 +132,10 @@ spelled_reads_back (insn.Goto off) h fits next = ap (λ (z : ℤ). Some (insn.Go
 spelled_reads_back (insn.Goto32 n) h fits next = ap (λ (z : ℤ). Some (insn.Goto32 z)) (same32 n fits)
 spelled_reads_back (insn.Branch w c d (Imm n) off) h fits next =
     again_branch w c false (slot (opcode_of (form.Branch w c false)) d 0 (word16 off) (word32 n)) next refl
-    ∙ ap (λ (z : ℤ). Some (insn.Branch w c d (Imm z) (signed16 (word16 off)))) (same32 n fits.0) ∙ ap (λ (z : ℤ). Some (insn.Branch w c d (Imm n) z)) (same16 off fits.1)
+    ∙ ap (λ (z : ℤ). Some (insn.Branch w c d (Imm z) (signed16 (word16 off)))) (same32 n fits.0)
+    ∙ ap (λ (z : ℤ). Some (insn.Branch w c d (Imm n) z)) (same16 off fits.1)
 spelled_reads_back (insn.Branch w c d (Reg s) off) h fits next =
-    again_branch w c true (slot (opcode_of (form.Branch w c true)) d s (word16 off) 0) next refl ∙ ap (λ (z : ℤ). Some (insn.Branch w c d (Reg s) z)) (same16 off fits.1)
+    again_branch w c true (slot (opcode_of (form.Branch w c true)) d s (word16 off) 0) next refl
+    ∙ ap (λ (z : ℤ). Some (insn.Branch w c d (Reg s) z)) (same16 off fits.1)
 spelled_reads_back (insn.Call n) h fits next = ap (λ (z : ℤ). Some (insn.Call z)) (same32 n fits)
 spelled_reads_back insn.Exit h fits next = refl

@@ -28,8 +28,9 @@ FitNumbers [] = Unit {0}
 FitNumbers (s ∷ rest) = (s.offset < 2 ^ 16) × (s.imm < 2 ^ 32) × FitNumbers rest
 
 -- slots in front of equal bytes are equal, and so is what follows them
-pub same_front : (s t : Slot) (x y : List ℕ) → s.dst < 16 → t.dst < 16 → s.offset < 2 ^ 16 → t.offset < 2 ^ 16 → s.imm < 2 ^ 32 → t.imm < 2 ^ 32
-    → slot_bytes s ++ x ≡ slot_bytes t ++ y → (s ≡ t) × (x ≡ y)
+pub same_front : (s t : Slot) (x y : List ℕ) → s.dst < 16 → t.dst < 16 → s.offset < 2 ^ 16 → t.offset < 2 ^ 16
+    → s.imm < 2 ^ 32 → t.imm < 2 ^ 32 → slot_bytes s ++ x ≡ slot_bytes t ++ y
+    → (s ≡ t) × (x ≡ y)
 same_front s t x y sd td so to si ti h =
     let opcode : s.opcode ≡ t.opcode = cc in
     let registers : s.dst + 16 * s.src ≡ t.dst + 16 * t.src = cc in
@@ -38,8 +39,11 @@ same_front s t x y sd td so to si ti h =
     let rest : x ≡ y = cc in
     let dst : s.dst ≡ t.dst = omega (arith, registers) in
     let src : s.src ≡ t.src = omega (arith, registers) in
-    let offset : s.offset ≡ t.offset = sym (from_le_bytes-to_le_bytes_2 s.offset so) ∙ ap (from_le_bytes w16) offsets ∙ from_le_bytes-to_le_bytes_2 t.offset to in
-    let imm : s.imm ≡ t.imm = sym (from_le_bytes-to_le_bytes_4 s.imm si) ∙ ap (from_le_bytes w32) imms ∙ from_le_bytes-to_le_bytes_4 t.imm ti in
+    let offset : s.offset ≡ t.offset =
+    sym (from_le_bytes-to_le_bytes_2 s.offset so) ∙ ap (from_le_bytes w16) offsets
+    ∙ from_le_bytes-to_le_bytes_2 t.offset to in
+    let imm : s.imm ≡ t.imm =
+    sym (from_le_bytes-to_le_bytes_4 s.imm si) ∙ ap (from_le_bytes w32) imms ∙ from_le_bytes-to_le_bytes_4 t.imm ti in
     (same_slot t s.opcode s.dst s.src s.offset s.imm opcode dst src offset imm, rest)
 
 -- an offset fits its field
@@ -105,20 +109,28 @@ same_read : (s t : Slot) (next : Option Slot) (a b : Insn) → s ≡ t → read 
 same_read s t next a b e h k = some_same (read t next) a b (sym (ap (λ (u : Slot). read u next) e) ∙ h) k
 
 -- lists of slots in front of equal bytes are read as one instruction
-unique : (la lb : List Slot) (a b : Insn) (x y : List ℕ) → IsRead la a → IsRead lb b → flat_map slot_bytes la ++ x ≡ flat_map slot_bytes lb ++ y → a ≡ b
+unique : (la lb : List Slot) (a b : Insn) (x y : List ℕ) → IsRead la a → IsRead lb b
+    → flat_map slot_bytes la ++ x ≡ flat_map slot_bytes lb ++ y
+    → a ≡ b
 unique [] lb a b x y h k e = absurd (let none = h.some in omega arith)
 unique (s ∷ la) [] a b x y h k e = absurd (let none = k.some in omega arith)
 unique (s ∷ []) (t ∷ []) a b x y h k e =
     let front = same_front s t x y h.registers.0 k.registers.0 h.numbers.0 k.numbers.0 h.numbers.1 k.numbers.1 e in
     same_read s t None a b front.0 (h.read_as None) (k.read_as None)
 unique (s ∷ []) (t ∷ u ∷ lb) a b x y h k e =
-    let front = same_front s t x (flat_map slot_bytes (u ∷ lb) ++ y) h.registers.0 k.registers.0 h.numbers.0 k.numbers.0 h.numbers.1 k.numbers.1 e in
+    let front =
+    same_front s t x (flat_map slot_bytes (u ∷ lb) ++ y) h.registers.0 k.registers.0 h.numbers.0
+    k.numbers.0 h.numbers.1 k.numbers.1 e in
     same_read s t (Some u) a b front.0 (h.read_as (Some u)) (k.read_as None)
 unique (s ∷ u ∷ la) (t ∷ []) a b x y h k e =
-    let front = same_front s t (flat_map slot_bytes (u ∷ la) ++ x) y h.registers.0 k.registers.0 h.numbers.0 k.numbers.0 h.numbers.1 k.numbers.1 e in
+    let front =
+    same_front s t (flat_map slot_bytes (u ∷ la) ++ x) y h.registers.0 k.registers.0 h.numbers.0
+    k.numbers.0 h.numbers.1 k.numbers.1 e in
     same_read s t (Some u) a b front.0 (h.read_as None) (k.read_as (Some u))
 unique (s ∷ u ∷ la) (t ∷ v ∷ lb) a b x y h k e =
-    let front = same_front s t (flat_map slot_bytes (u ∷ la) ++ x) (flat_map slot_bytes (v ∷ lb) ++ y) h.registers.0 k.registers.0 h.numbers.0 k.numbers.0 h.numbers.1 k.numbers.1 e in
+    let front =
+    same_front s t (flat_map slot_bytes (u ∷ la) ++ x) (flat_map slot_bytes (v ∷ lb) ++ y) h.registers.0 k.registers.0
+    h.numbers.0 k.numbers.0 h.numbers.1 k.numbers.1 e in
     let hr = h.registers.2 in
     let kr = k.registers.2 in
     let hn = h.numbers.2 in
@@ -142,7 +154,7 @@ is_read i h fits = record {
     some_slot (insn.Branch w c d (Reg s) off) = omega arith
     some_slot j = omega arith
 
--- so no instruction's bytes begin another's
+-- no instruction's bytes begin another's
 pub one_spelling : OneSpelling
 one_spelling a b x y ha hb fa fb e = unique (spelled a) (spelled b) a b x y (is_read a ha fa) (is_read b hb fb) e
 
@@ -163,10 +175,13 @@ front_cancelled front x y e = sym (drop_at front x (length front) refl) ∙ ap (
 pub one_program : OneProgram
 one_program [] [] ha hb fa fb e = refl
 one_program [] (b ∷ bs) ha hb fa fb e = absurd (some_bytes b (spelling bs) (and_parts (is_insn b) (list_all is_insn bs) hb).0 fb.0 e)
-one_program (a ∷ more) [] ha hb fa fb e = absurd (some_bytes a (spelling more) (and_parts (is_insn a) (list_all is_insn more) ha).0 fa.0 (sym e))
+one_program (a ∷ more) [] ha hb fa fb e =
+    absurd (some_bytes a (spelling more) (and_parts (is_insn a) (list_all is_insn more) ha).0 fa.0 (sym e))
 one_program (a ∷ more) (b ∷ bs) ha hb fa fb e =
     let pa = and_parts (is_insn a) (list_all is_insn more) ha in
     let pb = and_parts (is_insn b) (list_all is_insn bs) hb in
     let same = one_spelling a b (spelling more) (spelling bs) pa.0 pb.0 fa.0 fb.0 e in
-    let rest = front_cancelled (insn_bytes b) (spelling more) (spelling bs) (ap (λ (i : Insn). insn_bytes i ++ spelling more) (sym same) ∙ e) in
+    let rest =
+    front_cancelled (insn_bytes b) (spelling more) (spelling bs)
+    (ap (λ (i : Insn). insn_bytes i ++ spelling more) (sym same) ∙ e) in
     ap (λ (i : Insn). i ∷ more) same ∙ ap (λ (l : List Insn). b ∷ l) (one_program more bs pa.1 pb.1 fa.1 fb.1 rest)

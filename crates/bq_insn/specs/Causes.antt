@@ -16,11 +16,11 @@ cause_number Offset = 5
 cause_number Imm = 6
 cause_number WideCut = 7
 
--- a cause by its letter and number, and the line or slot that has it
+-- the text of a cause: its letter, its number, and the line or slot that has it
 abbrev pub cause_and_place : List ℕ → ℕ → ℕ → List ℕ
 cause_and_place letter number place = letter ++ (decimal number ++ (codes " " ++ decimal place))
 
--- a fault by its cause and the slot; lack of memory is no fault of the bytes
+-- the text of a fault: its cause and its slot; lack of memory is no fault of the bytes and has a text of its own
 abbrev pub fault_text : DecodeFault → List ℕ
 fault_text (At slot cause) = cause_and_place (codes "I") (cause_number cause) slot
 fault_text OutOfMemory = codes "out of memory"

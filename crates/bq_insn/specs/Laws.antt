@@ -1,4 +1,5 @@
--- Laws of the spelling and of the table (RFC 9669, sections 3 to 5): neither says two things.
+-- Laws of the spelling and of the table (RFC 9669, sections 3 to 5): bytes spell at most one instruction or program,
+-- and an opcode has at most one form.
 use Rattle.std.specs.Prelude.{◌≡◌, ◌↔◌, ℕ, ◌^◌, ◌<◌, true, List, [], ◌∷◌, ◌++◌, Some, FitsSigned}
 use Rattle.std.specs.List.{list_all}
 use Rattle.std.specs.Int.{w16, w32}
@@ -10,12 +11,12 @@ use Rattle.bq_insn.specs.declared.form.Form.{Form}
 use Rattle.bq_insn.specs.Table.{opcode_of, is_form, form_of}
 use Rattle.bq_insn.specs.Spelling.{is_insn, insn_bytes, spelling}
 
--- the immediate has 32 bits
+-- an immediate fits 32 bits with a sign
 abbrev pub SourceFits : Source → Type 0
 SourceFits (Imm n) = FitsSigned w32 n
 SourceFits (Reg r) = Unit {0}
 
--- the numbers of an instruction are those of its fields' types
+-- the numbers of an instruction fit the types of its fields
 abbrev pub Fits : Insn → Type 0
 Fits (Alu w o d src) = SourceFits src
 Fits (Load size signed d s off) = FitsSigned w16 off
@@ -29,19 +30,19 @@ Fits (Branch w c d src off) = SourceFits src × FitsSigned w16 off
 Fits (Call n) = FitsSigned w32 n
 Fits insn = Unit {0}
 
--- each instruction has one spelling, and none begins another
+-- if bytes begin with the spellings of two instructions, both are the same instruction
 abbrev pub OneSpelling : Type 0
 OneSpelling = (a b : Insn) (x y : List ℕ) → is_insn a ≡ true → is_insn b ≡ true → Fits a → Fits b → insn_bytes a ++ x ≡ insn_bytes b ++ y → a ≡ b
 
--- all numbers of a program are those of its fields' types
+-- all numbers of a program fit the types of their fields
 abbrev pub AllFit : List Insn → Type 0
 AllFit [] = Unit {0}
 AllFit (i ∷ insns) = Fits i × AllFit insns
 
--- bytes spell at most one program, so what is decoded after it was encoded is what it was
+-- bytes spell at most one program, so encoding a program and decoding the bytes gives the program back
 abbrev pub OneProgram : Type 0
 OneProgram = (a b : List Insn) → list_all is_insn a ≡ true → list_all is_insn b ≡ true → AllFit a → AllFit b → spelling a ≡ spelling b → a ≡ b
 
--- an opcode has a form exactly where it is the opcode of that form, and that form is one of the table
+-- an opcode has a form exactly when it is the opcode of that form and the form is in the table
 abbrev pub OneTable : Type 0
 OneTable = (n : ℕ) (f : Form) → n < 2 ^ 8 → (form_of n ≡ Some f) ↔ ((n ≡ opcode_of f) × (is_form f ≡ true))

@@ -1,5 +1,5 @@
--- The instruction that slots without a fault spell (RFC 9669, sections 3 to 5), field by field; `decode` promises that its
--- spelling is what was read.
+-- The instruction that slots without a fault spell (RFC 9669, sections 3 to 5), field by field. `decode` promises that
+-- the spelling of its answer is what it read.
 use Rattle.std.specs.Prelude.{ℕ, ◌+◌, ◌*◌, ◌^◌, ℤ, Bool, true, false, ◌==◌, Option, Some, None, if◌then◌else◌}
 use Rattle.std.specs.Int.{w16, w32, cast_signed}
 use Rattle.bq_insn.specs.declared.Operation.{Operation}
@@ -14,29 +14,30 @@ use Rattle.bq_insn.specs.declared.form.Form.{Form}
 use Rattle.bq_insn.specs.declared.form.Form.TheVariants as form
 use Rattle.bq_insn.specs.declared.slot.Slot.{Slot}
 
--- the signed number that the bits of a field are
+-- the signed number that the bits of a 16-bit field spell
 abbrev pub signed16 : ℕ → ℤ
 signed16 n = cast_signed w16 n
 
+-- the signed number that the bits of a 32-bit field spell
 abbrev pub signed32 : ℕ → ℤ
 signed32 n = cast_signed w32 n
 
--- a number of bits, as it is named
+-- the name of a number of bits; every number but 8, 16 and 32 counts as 64
 abbrev pub bits_of : ℕ → Bits
 bits_of n = if n == 8 then B8 else if n == 16 then B16 else if n == 32 then B32 else B64
 
--- the operation that an offset names (section 4.1)
+-- the operation that the opcode and the offset name together: offset 1 makes a division or a remainder signed (section 4.1)
 abbrev pub variant : Operation → ℕ → Operation
 variant op.Div n = if n == 1 then op.Sdiv else op.Div
 variant op.Rem n = if n == 1 then op.Srem else op.Rem
 variant o n = o
 
--- the immediate of the second slot
+-- the immediate of the second slot, or 0 if there is no second slot
 abbrev pub second_imm : Option Slot → ℕ
 second_imm None = 0
 second_imm (Some t) = t.imm
 
--- a move from a register, or one that extends the sign
+-- a move from a register; if the offset is not 0, the move extends the sign from that many bits
 abbrev pub move_of : Width → Slot → Insn
 move_of w s = if s.offset == 0 then insn.Alu w op.Mov s.dst (Reg s.src) else insn.MovSx w (bits_of s.offset) s.dst s.src
 
@@ -46,7 +47,7 @@ alu_of w o false s = insn.Alu w (variant o s.offset) s.dst (Imm (signed32 s.imm)
 alu_of w op.Mov true s = move_of w s
 alu_of w o true s = insn.Alu w (variant o s.offset) s.dst (Reg s.src)
 
--- by form
+-- the instruction that a slot of this form spells, with the slot after it if there is one
 abbrev pub insn_of : Form → Slot → Option Slot → Insn
 insn_of (form.Alu w o by_register) s next = alu_of w o by_register s
 insn_of (form.Neg w) s next = insn.Neg w s.dst

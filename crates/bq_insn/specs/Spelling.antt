@@ -1,5 +1,5 @@
 -- How instructions are spelled as bytes (RFC 9669, section 3): slots of eight bytes with an opcode, two registers, an
--- offset and an immediate, numbers little-endian. A wide instruction takes two slots.
+-- offset and an immediate, all numbers little-endian. A wide instruction takes two slots.
 use Rattle.std.specs.Prelude.{◌≡◌, ℕ, ◌+◌, ◌*◌, ◌/◌, ◌%◌, ◌^◌, ℤ, Bool, true, false, ◌&&◌, nat_le, List, [], ◌∷◌, ◌++◌, length, Option, option_to_list}
 use Rattle.std.specs.Int.{w16, w32, to_le_bytes, cast_unsigned}
 use Rattle.std.specs.List.{flat_map, list_all}
@@ -21,32 +21,34 @@ use Rattle.bq_insn.specs.Table.{opcode_of}
 abbrev pub slot_bytes : Slot → List ℕ
 slot_bytes s = s.opcode ∷ (s.dst + 16 * s.src) ∷ (to_le_bytes w16 s.offset ++ to_le_bytes w32 s.imm)
 
--- a slot by its opcode, registers, offset and immediate
+-- a slot made of its opcode, registers, offset and immediate
 abbrev pub slot : ℕ → ℕ → ℕ → ℕ → ℕ → Slot
 slot opcode dst src offset imm = record { opcode = opcode; dst = dst; src = src; offset = offset; imm = imm }
 
--- the offset of a signed division or remainder is 1, and of all other operations 0 (section 4.1)
+-- the offset that names a variant: 1 for a signed division or remainder, 0 for every other operation (section 4.1)
 abbrev pub variant_of : Operation → ℕ
 variant_of op.Sdiv = 1
 variant_of op.Srem = 1
 variant_of o = 0
 
+-- the number that a `Bits` names
 abbrev pub bits_number : Bits → ℕ
 bits_number B8 = 8
 bits_number B16 = 16
 bits_number B32 = 32
 bits_number B64 = 64
 
--- a signed number as the bits of its field
+-- the bits of a signed number in a field of 16 bits
 abbrev pub word16 : ℤ → ℕ
 word16 z = cast_unsigned w16 z
 
+-- the bits of a signed number in a field of 32 bits
 abbrev pub word32 : ℤ → ℕ
 word32 z = cast_unsigned w32 z
 
--- the slots that spell an instruction; what a line writes as 0 is not used
+-- the slots that spell an instruction; an unused field is written as 0
 abbrev pub spelled : Insn → List Slot
--- arithmetic (section 4.1), with its variants told by the offset: signed ones, and moves that extend the sign
+-- arithmetic (section 4.1); the offset tells the signed variants, and the moves that extend the sign
 spelled (Alu w o d (Imm n)) = slot (opcode_of (form.Alu w o false)) d 0 (variant_of o) (word32 n) ∷ []
 spelled (Alu w o d (Reg s)) = slot (opcode_of (form.Alu w o true)) d s (variant_of o) 0 ∷ []
 spelled (MovSx w b d s) = slot (opcode_of (form.Alu w op.Mov true)) d s (bits_number b) 0 ∷ []
@@ -57,7 +59,7 @@ spelled (End order b d) = slot (opcode_of (form.End order)) d 0 0 (bits_number b
 spelled (Load size signed d s off) = slot (opcode_of (form.Load size signed)) d s (word16 off) 0 ∷ []
 spelled (StoreImm size d off n) = slot (opcode_of (form.StoreImm size)) d 0 (word16 off) (word32 n) ∷ []
 spelled (StoreReg size d off s) = slot (opcode_of (form.StoreReg size)) d s (word16 off) 0 ∷ []
--- wide instructions (sections 3.2 and 5.4): the halves of a number, source 0; or a map by its index, source 5 (5.4.1)
+-- wide instructions (sections 3.2 and 5.4): source 0 is a number in two halves, source 5 a map by its index (5.4.1)
 spelled (Imm64 d v) = slot (opcode_of form.Wide) d 0 0 (v % 2 ^ 32) ∷ slot 0 0 0 0 (v / 2 ^ 32) ∷ []
 spelled (MapRef d i) = slot (opcode_of form.Wide) d 5 0 (word32 i) ∷ slot 0 0 0 0 0 ∷ []
 -- jumps (section 4.3), calls of helpers (4.3.1) and the exit
@@ -80,16 +82,17 @@ spelling insns = flat_map insn_bytes insns
 abbrev pub slot_count : List Insn → ℕ
 slot_count insns = length (flat_map spelled insns)
 
--- there are the registers R0 to R10
+-- whether the number is a register: R0 to R10
 abbrev pub is_register : ℕ → Bool
 is_register r = nat_le r 10
 
+-- whether an operand is a number or a register that exists
 abbrev pub is_source : Source → Bool
 is_source (Imm n) = true
 is_source (Reg r) = is_register r
 
--- registers and widths are in range: a sign is extended from fewer bits than the width has, a byte order has 16, 32 or 64
--- bits, and a load with a sign fewer than eight bytes
+-- registers and widths are in range: a move extends the sign from fewer bits than the width has, a byte order has 16,
+-- 32 or 64 bits, and a load that extends the sign moves fewer than eight bytes
 abbrev pub is_insn : Insn → Bool
 is_insn (Alu w o d src) = is_register d && is_source src
 is_insn (MovSx w B8 d s) = is_register d && is_register s
@@ -108,10 +111,10 @@ is_insn (MapRef d i) = is_register d
 is_insn (Branch w c d src off) = is_register d && is_source src
 is_insn insn = true
 
--- what a program is: instructions in range, of 1 to 4096 slots
+-- whether a list is a program: all instructions are in range, and together they take 1 to 4096 slots
 abbrev pub is_well_formed : List Insn → Bool
 is_well_formed insns = list_all is_insn insns && (nat_le 1 (slot_count insns) && nat_le (slot_count insns) 4096)
 
--- a slot, and one after it if there is one, are these
+-- the list is this slot, followed by the second slot if there is one
 abbrev pub AreSlots : (Slot × Option Slot) → List Slot → Type 0
 AreSlots pair slots = slots ≡ pair.0 ∷ option_to_list pair.1

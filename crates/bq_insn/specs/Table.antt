@@ -1,4 +1,4 @@
--- The table of opcodes (RFC 9669, sections 3.3, 4 and 5). An opcode has its class in the low three bits. In arithmetic
+-- The table of opcodes (RFC 9669, sections 3.3, 4 and 5). The low three bits of an opcode are its class. In arithmetic
 -- and jumps the next bit says that the second operand is a register, and the high four bits are a code; in loads and
 -- stores the next two bits are the size, and the high three the mode.
 use Rattle.std.specs.Prelude.{ℕ, ◌+◌, ◌*◌, ◌/◌, ◌%◌, Bool, true, false, ◌==◌, Option, Some, None, option_map, if◌then◌else◌}
@@ -24,8 +24,8 @@ abbrev pub jump_class : Width → ℕ
 jump_class W64 = 5
 jump_class W32 = 6
 
--- the codes of arithmetic (section 4.1): the signed division and remainder have those of the unsigned, and are distinguished by the
--- offset
+-- the codes of arithmetic (section 4.1). The signed division and remainder share the codes of the unsigned ones; the
+-- offset tells them apart
 abbrev pub code_of : Operation → ℕ
 code_of op.Add = 0
 code_of op.Sub = 1
@@ -85,16 +85,18 @@ opcode_of (Branch w c by_register) = jump_class w + source_bit by_register + 16 
 opcode_of Call = 0x85
 opcode_of Exit = 0x95
 
--- the forms of the table: division and remainder stand there without their signed variants, and no load extends the sign
--- of eight bytes
+-- whether a form is in the table: the signed division and remainder are not, and no load extends the sign of eight
+-- bytes
 abbrev pub is_form : Form → Bool
 is_form (Alu w op.Sdiv by_register) = false
 is_form (Alu w op.Srem by_register) = false
 is_form (Load Double true) = false
 is_form f = true
 
--- The same table read from the opcode, as the decoder reads it: `OneTable` in Laws says that it is the same.
+-- The table read in the other direction, from the opcode to the form, as the decoder reads it. `OneTable` in Laws says
+-- that both directions agree.
 
+-- the operation of a code of arithmetic, unsigned for division and remainder; none if no operation has the code
 abbrev pub operation_of : ℕ → Option Operation
 operation_of n =
     if n == 0 then Some op.Add else if n == 1 then Some op.Sub else if n == 2 then Some op.Mul else if n == 3 then Some op.Div
@@ -102,6 +104,7 @@ operation_of n =
     else if n == 9 then Some op.Rem else if n == 10 then Some op.Xor else if n == 11 then Some op.Mov else if n == 12 then Some op.Arsh
     else None
 
+-- the condition of a code of branches; none if no condition has the code
 abbrev pub condition_of : ℕ → Option Condition
 condition_of n =
     if n == 1 then Some cond.Equal else if n == 2 then Some cond.Greater else if n == 3 then Some cond.GreaterEqual else if n == 4 then Some cond.AnyBit
@@ -109,6 +112,7 @@ condition_of n =
     else if n == 10 then Some cond.Less else if n == 11 then Some cond.LessEqual else if n == 12 then Some cond.SignedLess else if n == 13 then Some cond.SignedLessEqual
     else None
 
+-- the size of a two-bit code
 abbrev pub size_of : ℕ → Size
 size_of n = if n == 0 then Word else if n == 1 then Half else if n == 2 then Byte else Double
 
@@ -144,7 +148,7 @@ load_form_of size mode =
     else if mode == 4 then (if size_code size == 3 then None else Some (Load size true))
     else None
 
--- the form of an opcode, where it is in the table
+-- the form of an opcode; none if the opcode is not in the table
 abbrev pub form_of : ℕ → Option Form
 form_of n =
     if n % 8 == 0 then (if n == 0x18 then Some Wide else None)

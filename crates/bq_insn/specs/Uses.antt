@@ -8,10 +8,11 @@ use Rattle.bq_insn.specs.declared.uses.Use.{Use}
 use Rattle.bq_insn.specs.declared.uses.Use.TheVariants.{Unused, Register, Value}
 use Rattle.bq_insn.specs.declared.uses.Uses.{Uses}
 
--- the second operand's two fields
+-- what the source field is for: it names the second operand's register if the opcode says so, else it is unused
 abbrev pub src_use : Bool → Use
 src_use by_register = if by_register then Register else Unused
 
+-- what the immediate is for: it is unused if the second operand is a register
 abbrev pub imm_use : Bool → Use
 imm_use by_register = if by_register then Unused else Value
 
@@ -22,12 +23,12 @@ variant_use op.Rem = Value
 variant_use op.Mov = Value
 variant_use _ = Unused
 
--- destination, source, offset and immediate
+-- what four fields are for: destination, source, offset and immediate
 abbrev pub row : Use → Use → Use → Use → Uses
 row dst src offset imm = record { dst = dst; src = src; offset = offset; imm = imm }
 
--- by form: what is not used must be zero (section 3.1). The source field of a wide instruction and of a call names a kind
--- (sections 5.4 and 4.3)
+-- what the fields of a form are for; an unused field must be zero (section 3.1). The source field of a wide instruction
+-- or a call names a kind (sections 5.4 and 4.3)
 abbrev pub uses_of : Form → Uses
 uses_of (Alu w o by_register) = row Register (src_use by_register) (variant_use o) (imm_use by_register)
 uses_of (Neg w) = row Register Unused Unused Unused

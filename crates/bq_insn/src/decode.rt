@@ -12,8 +12,9 @@ use crate::slot::Slot;
 use crate::{Insn, SLOTS};
 use std::alloc::Global;
 
-/// The instructions that the bytes spell (RFC 9669, section 3): a program of 1 to 4096 slots, registers and widths in range.
-/// Else the least slot at which a faulty instruction begins, and there the least cause; a wrong length first, at slot 0.
+/// Answers the instructions that the bytes spell (RFC 9669, section 3): a program of 1 to 4096 slots, with registers
+/// and widths in range. If the bytes are no program, the error names the first slot at which a faulty instruction
+/// begins, and its least cause. A wrong length is named before any other fault, at slot 0.
 pub fn decode(alloc: Global, bytes: &[u8]) -> Result<Vec<Insn>, DecodeFault>
     ensures well_formed { IfOk result (λ insns. is_well_formed insns.items ≡ true) }
     ensures numbers { IfOk result (λ insns. AllFit insns.items) }
@@ -41,7 +42,7 @@ pub fn decode(alloc: Global, bytes: &[u8]) -> Result<Vec<Insn>, DecodeFault>
     Ok(insns)
 }
 
-/// The instruction at the front, or its least cause.
+/// The instruction at the front of the bytes, or the least cause of its fault.
 fn first(bytes: &[u8]) -> Result<Insn, Cause>
     requires some { 8 ≤ length bytes.now }
     requires whole { length bytes.now % 8 ≡ 0 }
@@ -58,7 +59,7 @@ fn first(bytes: &[u8]) -> Result<Insn, Cause>
     Ok(insn_of(form, slot, next))
 }
 
-/// The slot at the front, and the one after it if there is one.
+/// The slot at the front of the bytes, and the slot after it if there is one.
 fn front(bytes: &[u8]) -> (Slot, Option<Slot>)
     requires some { 8 ≤ length bytes.now }
     requires whole { length bytes.now % 8 ≡ 0 }

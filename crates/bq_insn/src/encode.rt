@@ -8,8 +8,8 @@ use crate::spelling::slots_of;
 use crate::{Bits, Insn, SLOTS, Size, Source, Width};
 use std::alloc::AllocError;
 
-/// Whether the list is a program: every register is at most 10, every width is one that its form has, and the
-/// instructions take from 1 to 4096 slots.
+/// Answers whether the list is a program: every register is at most 10, each instruction has a width that it may have,
+/// and the instructions take from 1 to 4096 slots.
 pub fn well_formed(insns: &[Insn]) -> bool
     ensures { result ≡ is_well_formed insns.now }
 {
@@ -26,7 +26,7 @@ pub fn well_formed(insns: &[Insn]) -> bool
     slots >= 1
 }
 
-/// Whether registers and widths are in range.
+/// Whether the registers and the widths of an instruction are in range.
 fn is_insn(insn: &Insn) -> bool
     ensures { result ≡ is_insn insn.now }
 {
@@ -68,7 +68,7 @@ fn is_insn(insn: &Insn) -> bool
     }
 }
 
-/// Whether the operand is a number or a register that there is.
+/// Whether the operand is a number or a register that exists.
 fn is_source(source: Source) -> bool
     ensures { result ≡ is_source source }
 {
@@ -78,14 +78,14 @@ fn is_source(source: Source) -> bool
     }
 }
 
-/// Whether there is such a register.
+/// Whether a register of this number exists.
 fn is_register(register: u8) -> bool
     ensures { result ≡ is_register register }
 {
     register <= 10
 }
 
-/// Appends the bytes that spell the program (RFC 9669, section 3). Where memory is refused, nothing is appended.
+/// Appends the bytes that spell the program (RFC 9669, section 3). If memory runs out, nothing is appended.
 pub fn encode(insns: &[Insn], out: &mut Vec<u8>) -> Result<(), AllocError>
     requires { is_well_formed insns.now ≡ true }
     ensures ok { OnOk result (out.new.items ≡ out.old.items ++ spelling insns.now) }
@@ -99,8 +99,8 @@ pub fn encode(insns: &[Insn], out: &mut Vec<u8>) -> Result<(), AllocError>
     Ok(())
 }
 
-/// Appends the bytes that spell these instructions, for any list in range. Where memory is refused, a part of the
-/// bytes may stand there.
+/// Appends the bytes that spell these instructions, for any list of instructions in range. If memory runs out, a part
+/// of the bytes may remain appended.
 fn append_all(insns: &[Insn], out: &mut Vec<u8>) -> Result<(), AllocError>
     requires { list_all is_insn insns.now ≡ true }
     ensures ok { OnOk result (out.new.items ≡ out.old.items ++ spelling insns.now) }
@@ -112,7 +112,7 @@ fn append_all(insns: &[Insn], out: &mut Vec<u8>) -> Result<(), AllocError>
     Ok(())
 }
 
-/// Appends the bytes of an instruction. Where memory is refused, a part of them may stand there.
+/// Appends the bytes of an instruction. If memory runs out, a part of the bytes may remain appended.
 fn append(insn: Insn, out: &mut Vec<u8>) -> Result<(), AllocError>
     requires { is_insn insn ≡ true }
     ensures ok { OnOk result (out.new.items ≡ out.old.items ++ insn_bytes insn) }

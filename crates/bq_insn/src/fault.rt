@@ -6,11 +6,11 @@ use std::alloc::AllocFailed;
 use std::error::Error;
 use std::fmt;
 
-/// What is wrong with an instruction, or with the whole. The order is that in which causes are named: an instruction that
-/// has several is refused for the first.
+/// What is wrong with an instruction, or with the bytes as a whole. If an instruction has several causes, it is refused
+/// for the first of them in this order.
 #[derive(Clone, Copy, Debug, PartialEq, Eq)]
 pub enum Cause {
-    /// The length of the whole is 0, no multiple of 8, or over 4096 slots of 8 bytes.
+    /// The number of bytes is 0, no multiple of 8, or over 4096 slots of 8 bytes.
     Length,
     /// The opcode is not in the table (RFC 9669, sections 4 and 5, without atomic and packet instructions).
     Opcode,
@@ -23,12 +23,12 @@ pub enum Cause {
     Offset,
     /// The immediate of a byte order is not 16, 32 or 64 (section 4.2).
     Imm,
-    /// A wide instruction stands in the last slot (section 3.2).
+    /// A wide instruction begins at the last slot, so its second slot is missing (section 3.2).
     WideCut,
 }
 
 impl Cause {
-    /// The number by which it is named, after the letter I.
+    /// The number of the cause, as texts name it after the letter I.
     pub fn number(self) -> u8
         ensures { result ≡ cause_number self }
     {
@@ -47,14 +47,14 @@ impl Cause {
 /// Why bytes are refused.
 #[derive(Clone, Copy, Debug, PartialEq, Eq)]
 pub enum DecodeFault {
-    /// A fault of the bytes. `slot` is the slot of 8 bytes at which the instruction begins, counted from 0; for the length it
-    /// is 0.
+    /// A fault of the bytes. `slot` is the slot of 8 bytes at which the faulty instruction begins, counted from 0. If
+    /// the length is wrong, `slot` is 0.
     At { slot: usize, cause: Cause },
     /// Memory ran out.
     OutOfMemory,
 }
 
-/// The text that an input is answered: `I2 5`, the number of the cause and the slot.
+/// The text of a fault, such as `I2 5`: the number of the cause, then the slot.
 impl fmt::Display for DecodeFault {
     ghost use Rattle.std.specs.Prelude.{Some};
     ghost use Rattle.bq_insn.specs.Causes.{fault_text};

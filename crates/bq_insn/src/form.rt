@@ -1,11 +1,11 @@
-//! What an opcode says, read from the opcode.
+//! What an opcode says about an instruction.
 ghost use Rattle.std.specs.Prelude.{◌≡◌, option_map};
 ghost use Rattle.bq_insn.specs.Table.{operation_of, condition_of, size_of, form_of, alu_form_of, jump_form_of, load_form_of, end_form_of};
 
 use crate::{Condition, Operation, Order, Size, Width};
 
-/// What an opcode says: the kind of instruction, and those of its parts that no field holds (RFC 9669, sections 3.3 to
-/// 5). The signed division and remainder have no opcode of their own, so no opcode has a form with `Sdiv` or `Srem`.
+/// What an opcode says: the kind of instruction, and the parts of it that no field holds (RFC 9669, sections 3.3 to 5).
+/// The signed division and remainder have no opcode of their own, so no opcode has a form with `Sdiv` or `Srem`.
 #[derive(Clone, Copy)]
 pub enum Form {
     /// An operation on a register, or on the immediate.
@@ -41,7 +41,7 @@ pub enum Form {
     Goto,
     /// A jump by the immediate.
     Goto32,
-    /// A branch on a register and another, or the immediate.
+    /// A branch that compares a register with another register or with the immediate.
     Branch {
         width: Width,
         cond: Condition,
@@ -54,7 +54,7 @@ pub enum Form {
 }
 
 impl Form {
-    /// The form of an opcode, where it is in the table.
+    /// The form of an opcode; `None` if the opcode is not in the table.
     pub fn of(opcode: u8) -> Option<Form>
         ensures { result ≡ form_of opcode }
     {
@@ -125,7 +125,7 @@ fn end_form_of(width: Width, by_register: bool) -> Option<Form>
     }
 }
 
-/// The operation of a code.
+/// The operation of a code of arithmetic; `None` if no operation has the code.
 fn operation_of(code: u8) -> Option<Operation>
     ensures { result ≡ operation_of code }
 {
@@ -172,7 +172,7 @@ fn branch_form_of(width: Width, code: u8, by_register: bool) -> Option<Form>
     })
 }
 
-/// The condition of a code.
+/// The condition of a code of branches; `None` if no condition has the code.
 fn condition_of(code: u8) -> Option<Condition>
     ensures { result ≡ condition_of code }
 {
@@ -192,7 +192,7 @@ fn condition_of(code: u8) -> Option<Condition>
     }
 }
 
-/// Loads, by size and mode.
+/// Loads, by size and mode. No load extends the sign of eight bytes.
 fn load_form_of(size: Size, mode: u8) -> Option<Form>
     ensures { result ≡ load_form_of size mode }
 {

@@ -8,8 +8,8 @@ use crate::slot::Slot;
 use crate::uses::{Use, Uses};
 use crate::{Operation, Width};
 
-/// The least cause at a slot of this form, by the slot after it if there is one; None where there is no fault. The
-/// causes of an opcode without a form and of a wrong length are found before.
+/// The least cause at a slot of this form, with the slot after it if there is one; `None` if there is no fault. The
+/// decoder finds an opcode without a form and a wrong length before it asks this.
 pub fn cause_at(form: Form, slot: Slot, next: Option<Slot>) -> Option<Cause>
     ensures { result ≡ cause_at form slot next }
 {
@@ -31,21 +31,21 @@ pub fn cause_at(form: Form, slot: Slot, next: Option<Slot>) -> Option<Cause>
     None
 }
 
-/// A field that names a register is over 10.
+/// Whether a field that names a register is over 10.
 fn has_bad_register(uses: Uses, slot: Slot) -> bool
     ensures { result ≡ has_bad_register uses slot }
 {
     is_no_register(uses.dst, slot.dst) || is_no_register(uses.src, slot.src)
 }
 
-/// The field names a register that does not exist.
+/// Whether the field should name a register, but its number is over 10.
 fn is_no_register(used: Use, register: u8) -> bool
     ensures { result ≡ is_no_register used register }
 {
     matches!(used, Use::Register) && register > 10
 }
 
-/// A field that is not used is not zero (RFC 9669, section 3.1).
+/// Whether a field is unused, but is not zero (RFC 9669, section 3.1).
 fn has_stray_field(uses: Uses, slot: Slot) -> bool
     ensures { result ≡ has_stray_field uses slot }
 {
@@ -55,15 +55,15 @@ fn has_stray_field(uses: Uses, slot: Slot) -> bool
         || is_stray(uses.imm, slot.imm)
 }
 
-/// The field is not used, and not zero.
+/// Whether the field is unused, but is not zero.
 fn is_stray(used: Use, value: u32) -> bool
     ensures { result ≡ is_stray used value }
 {
     matches!(used, Use::Unused) && value > 0
 }
 
-/// The second slot of a wide instruction has more than its immediate (RFC 9669, section 3.2), or even that where it
-/// belongs to a map reference (section 5.4).
+/// Whether a field of a wide instruction's second slot, other than the immediate, is not zero (RFC 9669, section 3.2).
+/// In a map reference the immediate must be zero, too (section 5.4).
 fn has_stray_second(form: Form, slot: Slot, next: Option<Slot>) -> bool
     ensures { result ≡ has_stray_second form slot next }
 {
@@ -79,7 +79,7 @@ fn has_stray_second(form: Form, slot: Slot, next: Option<Slot>) -> bool
     }
 }
 
-/// The offset names no variant of the operation, or the source field no kind of wide instruction or of call.
+/// Whether the offset names no variant of the operation, or the source field names no kind of wide instruction or call.
 fn has_no_variant(form: Form, slot: Slot) -> bool
     ensures { result ≡ has_no_variant form slot }
 {
@@ -95,7 +95,7 @@ fn has_no_variant(form: Form, slot: Slot) -> bool
     }
 }
 
-/// The offset names a variant of the operation (RFC 9669, section 4.1).
+/// Whether the offset names a variant of the operation (RFC 9669, section 4.1).
 fn is_variant(width: Width, op: Operation, by_register: bool, offset: u16) -> bool
     ensures { result ≡ is_variant width op by_register offset }
 {
@@ -110,14 +110,14 @@ fn is_variant(width: Width, op: Operation, by_register: bool, offset: u16) -> bo
     }
 }
 
-/// The immediate of a byte order is no width (RFC 9669, section 4.2).
+/// Whether the immediate of a byte order is not 16, 32 or 64 (RFC 9669, section 4.2).
 fn has_no_width(form: Form, slot: Slot) -> bool
     ensures { result ≡ has_no_width form slot }
 {
     matches!(form, Form::End { .. }) && !(slot.imm == 16 || slot.imm == 32 || slot.imm == 64)
 }
 
-/// A wide instruction has no second slot.
+/// Whether a wide instruction has no second slot.
 fn is_cut(form: Form, next: Option<Slot>) -> bool
     ensures { result ≡ is_cut form next }
 {

@@ -2,22 +2,22 @@
 ghost use Rattle.bq_insn.specs.Laws.{OneSpelling, OneProgram, OneTable};
 ghost use Rattle.bq_insn.specs.Faults.{NoProgramIsFaulty, NoProgramIsRefused, OneFault};
 
-/// Each instruction has one spelling, and none begins another.
+/// If bytes begin with the spellings of two instructions, both are the same instruction.
 pub fn one_spelling()
     ensures { OneSpelling }
 {}
 
-/// Bytes spell at most one program, so what is decoded after it was encoded is what it was.
+/// Bytes spell at most one program, so encoding a program and decoding the bytes gives the program back.
 pub fn one_program()
     ensures { OneProgram }
 {}
 
-/// The bytes of a program are never refused for a fault.
+/// No instruction in the bytes of a program is faulty.
 pub fn no_program_is_faulty()
     ensures { NoProgramIsFaulty }
 {}
 
-/// The bytes of a program have no fault at all, so they are refused only if memory runs out.
+/// The bytes of a program have no fault, of length or of an instruction, so they are refused only if memory runs out.
 pub fn no_program_is_refused()
     ensures { NoProgramIsRefused }
 {}
@@ -27,7 +27,7 @@ pub fn one_fault()
     ensures { OneFault }
 {}
 
-/// The table of opcodes is one, whether it is read from the opcode or from the form.
+/// The table of opcodes says the same whether you read it from the opcode or from the form.
 pub fn one_table()
     ensures { OneTable }
 {}

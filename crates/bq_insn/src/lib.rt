@@ -17,8 +17,11 @@ mod uses;
 ghost use Rattle.std.specs.Prelude.{◌≡◌};
 ghost use Rattle.bq_insn.specs.Slots.{byte_count, slots_of};
 
-/// How many slots of eight bytes a program has at most.
+/// The greatest number of slots of eight bytes in a program.
 pub const SLOTS: usize = 4096;
+
+/// How many registers there are: r0 to r10 (RFC 9669, section 3.1).
+pub const REGISTERS: usize = 11;
 
 /// How many low bits of its operands an instruction works on (RFC 9669, section 3.3).
 #[derive(Clone, Copy, PartialEq, Eq)]
@@ -39,23 +42,23 @@ pub enum Operation {
     Sub,
     /// The product.
     Mul,
-    /// The quotient of unsigned numbers; 0 where the divisor is 0.
+    /// The quotient of unsigned numbers; 0 if the divisor is 0.
     Div,
-    /// The quotient of signed numbers, towards zero; 0 where the divisor is 0.
+    /// The quotient of signed numbers, rounded towards zero; 0 if the divisor is 0.
     Sdiv,
-    /// The bits of either.
+    /// The bits that either operand has.
     Or,
-    /// The bits of both.
+    /// The bits that both operands have.
     And,
     /// A shift to the left.
     Lsh,
     /// A shift to the right that brings in zeros.
     Rsh,
-    /// The remainder of unsigned numbers; the destination where the divisor is 0.
+    /// The remainder of unsigned numbers; the destination if the divisor is 0.
     Rem,
-    /// The remainder of `Sdiv`, with the destination's sign; the destination where the divisor is 0.
+    /// The remainder of `Sdiv`, with the destination's sign; the destination if the divisor is 0.
     Srem,
-    /// The bits of exactly one.
+    /// The bits that exactly one operand has.
     Xor,
     /// The second operand.
     Mov,
@@ -85,30 +88,30 @@ pub enum Size {
     Double,
 }
 
-/// When a branch is taken: how its first operand stands to its second (RFC 9669, section 4.3).
+/// When a branch is taken: how its first operand compares with its second (RFC 9669, section 4.3).
 #[derive(Clone, Copy, PartialEq, Eq)]
 pub enum Condition {
-    /// Both are equal.
+    /// The operands are equal.
     Equal,
-    /// It is greater, without signs.
+    /// The first is greater, without signs.
     Greater,
-    /// It is greater or equal, without signs.
+    /// The first is greater or equal, without signs.
     GreaterEqual,
-    /// They have a bit in common.
+    /// Both operands have a bit in common.
     AnyBit,
-    /// They differ.
+    /// The operands differ.
     NotEqual,
-    /// It is greater, with signs.
+    /// The first is greater, with signs.
     SignedGreater,
-    /// It is greater or equal, with signs.
+    /// The first is greater or equal, with signs.
     SignedGreaterEqual,
-    /// It is less, without signs.
+    /// The first is less, without signs.
     Less,
-    /// It is less or equal, without signs.
+    /// The first is less or equal, without signs.
     LessEqual,
-    /// It is less, with signs.
+    /// The first is less, with signs.
     SignedLess,
-    /// It is less or equal, with signs.
+    /// The first is less or equal, with signs.
     SignedLessEqual,
 }
 
@@ -119,11 +122,11 @@ pub enum Order {
     Little,
     /// To big-endian: the low bytes are reversed.
     Big,
-    /// To the other one: the low bytes are reversed.
+    /// To the opposite byte order: the low bytes are reversed.
     Swapped,
 }
 
-/// How many low bits are kept, by an extension of the sign or a byte order.
+/// How many low bits an extension of the sign or a byte order keeps.
 #[derive(Clone, Copy, PartialEq, Eq)]
 pub enum Bits {
     /// Eight; no byte order has it.
@@ -136,7 +139,7 @@ pub enum Bits {
     B64,
 }
 
-/// One instruction. Registers are numbered from 0 to 10; which values the fields may have is `well_formed`'s.
+/// One instruction. Registers are numbered from 0 to 10. `well_formed` says which values the fields may have.
 #[derive(Clone, Copy, PartialEq, Eq)]
 pub enum Insn {
     /// `dst` becomes the result of the operation on `dst` and `src` (RFC 9669, section 4.1).
@@ -164,8 +167,8 @@ pub enum Insn {
         bits: Bits,
         dst: u8,
     },
-    /// `dst` becomes the bytes at the address `src` + `off`, with zeros above them or, where it is signed, with their
-    /// sign (sections 5.1 and 5.2).
+    /// `dst` becomes the bytes at the address `src` + `off`. Above them are zeros, or their sign if `signed` is true
+    /// (sections 5.1 and 5.2).
     Load {
         size: Size,
         signed: bool,
@@ -173,26 +176,27 @@ pub enum Insn {
         src: u8,
         off: i16,
     },
-    /// The bytes at the address `dst` + `off` become the low ones of `imm`, its sign extended (section 5.1).
+    /// The bytes at the address `dst` + `off` become the low bytes of `imm`, whose sign is extended first (section
+    /// 5.1).
     StoreImm {
         size: Size,
         dst: u8,
         off: i16,
         imm: i32,
     },
-    /// The bytes at the address `dst` + `off` become the low ones of `src` (section 5.1).
+    /// The bytes at the address `dst` + `off` become the low bytes of `src` (section 5.1).
     StoreReg {
         size: Size,
         dst: u8,
         off: i16,
         src: u8,
     },
-    /// `dst` becomes the number; takes two slots (section 5.4).
+    /// `dst` becomes the number; the instruction takes two slots (section 5.4).
     Imm64 {
         dst: u8,
         value: u64,
     },
-    /// `dst` becomes the reference of the program's map of that index; takes two slots (section 5.4.1).
+    /// `dst` becomes the reference of the program's map of that index; the instruction takes two slots (section 5.4.1).
     MapRef {
         dst: u8,
         index: i32,
@@ -205,7 +209,7 @@ pub enum Insn {
     Goto32 {
         imm: i32,
     },
-    /// Goes on this many slots after the next one where the condition holds of `dst` and `src` (section 4.3).
+    /// If the condition holds of `dst` and `src`, goes on this many slots after the next one (section 4.3).
     Branch {
         width: Width,
         cond: Condition,
@@ -222,7 +226,7 @@ pub enum Insn {
 }
 
 impl Size {
-    /// The number of bytes: 1, 2, 4 or 8.
+    /// Answers the number of bytes: 1, 2, 4 or 8.
     pub fn bytes(self) -> usize
         ensures { result ≡ byte_count self }
     {
@@ -236,7 +240,8 @@ impl Size {
 }
 
 impl Insn {
-    /// How many slots of eight bytes the instruction takes: two where it is wide (RFC 9669, section 3.2), else one.
+    /// Answers how many slots of eight bytes the instruction takes: two if it is wide (RFC 9669, section 3.2), else
+    /// one.
     pub fn slots(self) -> usize
         ensures { result ≡ slots_of self }
     {

@@ -6,7 +6,7 @@ use crate::form::Form;
 use crate::{Condition, Operation, Order, Size, Width};
 
 impl Form {
-    /// The opcode under which the form stands.
+    /// The opcode of the form.
     pub fn opcode(self) -> u8
         ensures { result ≡ opcode_of self }
     {
@@ -68,7 +68,8 @@ fn source_bit(by_register: bool) -> u8
     if by_register { 8 } else { 0 }
 }
 
-/// The code of an operation (RFC 9669, section 4.1); the signed ones share that of the unsigned.
+/// The code of an operation (RFC 9669, section 4.1); the signed division and remainder share the codes of the unsigned
+/// ones.
 fn code_of(op: Operation) -> u8
     ensures code { result ≡ code_of op }
     ensures small { result ≤ 13 }

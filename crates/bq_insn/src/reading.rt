@@ -6,7 +6,7 @@ use crate::form::Form;
 use crate::slot::Slot;
 use crate::{Bits, Condition, Insn, Operation, Order, Size, Source, Width};
 
-/// The instruction of this form that the slots spell, where they have no fault.
+/// The instruction of this form that the slots spell, if they have no fault.
 pub fn insn_of(form: Form, slot: Slot, next: Option<Slot>) -> Insn
     ensures { result ≡ insn_of form slot next }
 {
@@ -43,7 +43,7 @@ pub fn insn_of(form: Form, slot: Slot, next: Option<Slot>) -> Insn
     }
 }
 
-/// An operation, by the variant that its offset names.
+/// An operation on an immediate or a register, in the variant that its offset names.
 fn alu_of(width: Width, op: Operation, by_register: bool, slot: Slot) -> Insn
     ensures { result ≡ alu_of width op by_register slot }
 {
@@ -67,7 +67,8 @@ fn alu_of(width: Width, op: Operation, by_register: bool, slot: Slot) -> Insn
     }
 }
 
-/// The operation that an offset names (RFC 9669, section 4.1).
+/// The operation that the opcode and the offset name together: offset 1 makes a division or a remainder signed (RFC
+/// 9669, section 4.1).
 fn variant(op: Operation, offset: u16) -> Operation
     ensures { result ≡ variant op offset }
 {
@@ -78,7 +79,7 @@ fn variant(op: Operation, offset: u16) -> Operation
     }
 }
 
-/// A move from a register, or one that extends the sign.
+/// A move from a register. If the offset is not 0, the move extends the sign from that many bits.
 fn move_of(width: Width, slot: Slot) -> Insn
     ensures { result ≡ move_of width slot }
 {
@@ -98,7 +99,7 @@ fn move_of(width: Width, slot: Slot) -> Insn
     }
 }
 
-/// The number of bits, as it is named.
+/// The name of a number of bits.
 fn bits_of(number: u32) -> Bits
     ensures { result ≡ bits_of number }
 {
@@ -110,7 +111,7 @@ fn bits_of(number: u32) -> Bits
     }
 }
 
-/// A byte order, of the bits that its immediate names (RFC 9669, section 4.2).
+/// A byte order, on as many bits as its immediate says (RFC 9669, section 4.2).
 fn end_of(order: Order, slot: Slot) -> Insn
     ensures { result ≡ insn_of (Form.End order) slot None }
 {
@@ -121,7 +122,7 @@ fn end_of(order: Order, slot: Slot) -> Insn
     }
 }
 
-/// A load from where the source register and the offset say (RFC 9669, section 5).
+/// A load from the address that the source register and the offset give (RFC 9669, section 5).
 fn load_of(size: Size, signed: bool, slot: Slot) -> Insn
     ensures { result ≡ insn_of (Form.Load size signed) slot None }
 {
@@ -191,7 +192,7 @@ fn wide_of(slot: Slot, next: Option<Slot>) -> Insn
     }
 }
 
-/// The immediate of the second slot.
+/// The immediate of the second slot, or 0 if there is no second slot.
 fn second_imm(next: Option<Slot>) -> u32
     ensures { result ≡ second_imm next }
 {

@@ -7,10 +7,10 @@ ghost use Rattle.bq_insn.specs.Reading.{signed16, signed32};
 use byteorder::{ByteOrder, LittleEndian};
 use std::alloc::AllocError;
 
-/// The fields of eight bytes. Each register has four bits; offset and immediate are as they stand there, without a sign.
+/// The fields of eight bytes. Each register has four bits; offset and immediate are read without a sign.
 #[derive(Clone, Copy)]
 pub struct Slot {
-    /// What kind of instruction it is.
+    /// Which kind of instruction the slot begins.
     pub opcode: u8,
     /// The low four bits of the second byte.
     pub dst: u8,
@@ -52,7 +52,7 @@ impl Slot {
         self.imm.cast_signed()
     }
 
-    /// Appends the eight bytes of the slot. Where memory is refused, nothing is appended.
+    /// Appends the eight bytes of the slot. If memory runs out, nothing is appended.
     pub fn append_to(self, out: &mut Vec<u8>) -> Result<(), AllocError>
         requires dst { self.dst < 16 }
         requires src { self.src < 16 }

@@ -7,7 +7,7 @@ use crate::form::Form;
 use crate::slot::Slot;
 use crate::{Bits, Condition, Insn, Operation, Order, Size, Source, Width};
 
-/// The slot that spells an instruction, and the second one where it is wide.
+/// The slot that spells an instruction, and the second one if it is wide.
 pub fn slots_of(insn: Insn) -> (Slot, Option<Slot>)
     ensures { AreSlots result (spelled insn) }
 {
@@ -73,7 +73,7 @@ pub fn slots_of(insn: Insn) -> (Slot, Option<Slot>)
     }
 }
 
-/// The slot of an operation, by where its second operand stands.
+/// The slot of an operation, by whether its second operand is a number or a register.
 fn operation_slots(width: Width, op: Operation, dst: u8, src: Source) -> (Slot, Option<Slot>)
     ensures { AreSlots result (spelled (Insn.Alu width op dst src)) }
 {
@@ -95,7 +95,7 @@ fn alu(width: Width, op: Operation, by_register: bool) -> Form
     }
 }
 
-/// The slot of a move that extends the sign, the number of bits in its offset.
+/// The slot of a move that extends the sign. Its offset is the number of bits.
 fn extension_slots(width: Width, bits: Bits, dst: u8, src: u8) -> (Slot, Option<Slot>)
     ensures { AreSlots result (spelled (Insn.MovSx width bits dst src)) }
 {
@@ -108,14 +108,14 @@ fn extension_slots(width: Width, bits: Bits, dst: u8, src: u8) -> (Slot, Option<
     )
 }
 
-/// The slot of a byte order, the number of bits in its immediate.
+/// The slot of a byte order. Its immediate is the number of bits.
 fn end_slots(order: Order, bits: Bits, dst: u8) -> (Slot, Option<Slot>)
     ensures { AreSlots result (spelled (Insn.End order bits dst)) }
 {
     one(Form::End { order }, dst, 0, 0, u32::from(bits_number(bits)))
 }
 
-/// The slot of a branch, by where its second operand stands.
+/// The slot of a branch, by whether its second operand is a number or a register.
 fn branch_slots(
     width: Width,
     cond: Condition,
@@ -146,7 +146,7 @@ fn branch_slots(
     }
 }
 
-/// The two slots of a number, its low half in the first.
+/// The two slots of a number; the low half is in the first.
 fn number_slots(dst: u8, value: u64) -> (Slot, Option<Slot>)
     ensures { AreSlots result (spelled (Insn.Imm64 dst value)) }
 {
@@ -155,7 +155,7 @@ fn number_slots(dst: u8, value: u64) -> (Slot, Option<Slot>)
     two(dst, 0, low, high)
 }
 
-/// A single slot of that form.
+/// A single slot of that form, with these fields.
 fn one(form: Form, dst: u8, src: u8, offset: u16, imm: u32) -> (Slot, Option<Slot>)
     ensures { AreSlots result (slot (opcode_of form) dst src offset imm ∷ []) }
 {
@@ -169,7 +169,7 @@ fn two(dst: u8, src: u8, low: u32, high: u32) -> (Slot, Option<Slot>)
     (slot(0x18, dst, src, 0, low), Some(slot(0, 0, 0, 0, high)))
 }
 
-/// A slot by its fields.
+/// A slot made of its fields.
 fn slot(opcode: u8, dst: u8, src: u8, offset: u16, imm: u32) -> Slot
     ensures { result ≡ slot opcode dst src offset imm }
 {
@@ -189,7 +189,7 @@ fn variant_of(op: Operation) -> u16
     u16::from(matches!(op, Operation::Sdiv | Operation::Srem))
 }
 
-/// The number of bits.
+/// The number that a `Bits` names.
 fn bits_number(bits: Bits) -> u16
     ensures { result ≡ bits_number bits }
 {

@@ -13,7 +13,7 @@ pub enum Use {
     Unused,
     /// It names a register.
     Register,
-    /// It is a number, or names a variant.
+    /// It is a number, or it names a variant or a kind.
     Value,
 }
 
@@ -31,7 +31,7 @@ pub struct Uses {
 }
 
 impl Form {
-    /// What its fields are for.
+    /// What the fields of this form are for.
     pub fn uses(self) -> Uses
         ensures { result ≡ uses_of self }
     {
@@ -66,7 +66,7 @@ impl Form {
     }
 }
 
-/// What four fields are for.
+/// The uses of the four fields.
 fn row(dst: Use, src: Use, offset: Use, imm: Use) -> Uses
     ensures { result ≡ row dst src offset imm }
 {
@@ -78,14 +78,14 @@ fn row(dst: Use, src: Use, offset: Use, imm: Use) -> Uses
     }
 }
 
-/// What the source register's field is for.
+/// What the source register's field is for: it is unused if the second operand is the immediate.
 fn src_use(by_register: bool) -> Use
     ensures { result ≡ src_use by_register }
 {
     if by_register { Register } else { Unused }
 }
 
-/// What the offset is for: division, remainder and move have variants.
+/// What the offset is for: it names a variant of a division, a remainder or a move, and is unused otherwise.
 fn variant_use(op: Operation) -> Use
     ensures { result ≡ variant_use op }
 {
@@ -95,7 +95,7 @@ fn variant_use(op: Operation) -> Use
     }
 }
 
-/// What the immediate is for.
+/// What the immediate is for: it is unused if the second operand is a register.
 fn imm_use(by_register: bool) -> Use
     ensures { result ≡ imm_use by_register }
 {

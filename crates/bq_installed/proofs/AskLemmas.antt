@@ -2,7 +2,7 @@
 use Rattle.std.proofs.Common.{◌≡◌, ℕ, ◌<◌, ◌^◌, true, List, length, Option, Some, None, ap, sym, subst, ◌∙◌}
 use Rattle.std.specs.Prelude.{IfSome, is_some, slice_index}
 use Rattle.std.proofs.lemmas.Bool.{false≢true}
-use Rattle.bq_bpf.specs.declared.board.Call.{Call as Asked}
+use Rattle.bq_bpf.specs.declared.board.CounterCall.{CounterCall}
 use Rattle.bq_hooks.specs.Hooks.{context_length_of}
 use Rattle.bq_bpf.specs.Memory.{HaveShapes}
 use Rattle.bq_interp.specs.declared.runs.Done.{Done}
@@ -16,20 +16,28 @@ abbrev pub attached_of : ℕ → Option (Accepted × List (List ℕ)) → Attach
 attached_of generation equipped = record { policy = policy_in equipped; generation = generation; maps = maps_in equipped }
 
 -- where none stands, none is asked
-pub none_asked : (generation : ℕ) (equipped : Option (Accepted × List (List ℕ))) (a : Attached) → attached_of generation equipped ≡ a → equipped ≡ None → is_some a.policy ≡ true → ⊥
+pub none_asked : (generation : ℕ) (equipped : Option (Accepted × List (List ℕ))) (a : Attached)
+    → attached_of generation equipped ≡ a → equipped ≡ None → is_some a.policy ≡ true → ⊥
 none_asked generation equipped a view none some =
     false≢true (ap (λ o. is_some (policy_in o)) (sym none) ∙ ap (λ (b : Attached). is_some b.policy) view ∙ some)
 
 -- the policy that stands there with its maps is what is attached
-pub stands : (generation : ℕ) (equipped : Option (Accepted × List (List ℕ))) (e : Accepted × List (List ℕ)) (a : Attached) → attached_of generation equipped ≡ a → equipped ≡ Some e → attached_of generation (Some e) ≡ a
+pub stands : (generation : ℕ) (equipped : Option (Accepted × List (List ℕ))) (e : Accepted × List (List ℕ)) (a : Attached)
+    → attached_of generation equipped ≡ a → equipped ≡ Some e → attached_of generation (Some e) ≡ a
 stands generation equipped e a view some = ap (attached_of generation) (sym some) ∙ view
 
 -- what it answered may be remembered of it
-pub remembered : (generation : ℕ) (equipped : Option (Accepted × List (List ℕ))) (e left : Accepted × List (List ℕ)) (a : Attached) (context : List ℕ) (now processor : ℕ) (calls : List Asked) (done : Done) →
-    attached_of generation equipped ≡ a → equipped ≡ Some e → IsEquipped (policy_in equipped) (maps_in equipped) → IfSome a.policy (λ p. length context ≡ context_length_of p.hook p.version) → ((i : ℕ) → slice_index context i < 256) →
-    now < 2 ^ 64 → processor < 2 ^ 32 → Answers e.0 context e.1 now processor done.r0 left.1 done.steps calls → IsWithin e.0 done.steps calls → left.0 ≡ e.0 → HasAnswered left.0 done
+pub remembered : (generation : ℕ) (equipped : Option (Accepted × List (List ℕ))) (e left : Accepted × List (List ℕ))
+    (a : Attached) (context : List ℕ) (now processor : ℕ) (calls : List CounterCall) (done : Done)
+    → attached_of generation equipped ≡ a → equipped ≡ Some e → IsEquipped (policy_in equipped) (maps_in equipped)
+    → IfSome a.policy (λ p. length context ≡ context_length_of p.hook p.version) → ((i : ℕ) → slice_index context i < 256)
+    → now < 2 ^ 64 → processor < 2 ^ 32 → Answers e.0 context e.1 now processor done.r0 left.1 done.steps calls
+    → IsWithin e.0 done.steps calls → left.0 ≡ e.0
+    → HasAnswered left.0 done
 remembered generation equipped e left a context now processor calls done view some ready asked bytes l k answers within same =
-    let long = subst (λ (b : Attached). IfSome b.policy (λ p. length context ≡ context_length_of p.hook p.version)) (sym (stands generation equipped e a view some)) asked in
+    let long =
+    subst (λ (b : Attached). IfSome b.policy (λ p. length context ≡ context_length_of p.hook p.version))
+    (sym (stands generation equipped e a view some)) asked in
     let there = subst (λ o. IsEquipped (policy_in o) (maps_in o)) some ready in
     subst (λ p. HasAnswered p done) (sym same) (record {
       context = context;
@@ -43,16 +51,19 @@ remembered generation equipped e left a context now processor calls done view so
       within = within;
     })
 
--- so it stays what is attached, except for the maps that it leaves, and what it answered is the answer of what is attached
-pub asked : (generation : ℕ) (equipped : Option (Accepted × List (List ℕ))) (e left : Accepted × List (List ℕ)) (a : Attached) (context : List ℕ) (now processor : ℕ) (calls : List Asked) (done : Done) →
-    attached_of generation equipped ≡ a → equipped ≡ Some e → Answers e.0 context e.1 now processor done.r0 left.1 done.steps calls → IsWithin e.0 done.steps calls →
-    HaveShapes left.0.shapes left.1 → left.0 ≡ e.0 →
-    AnswersAt a context now processor done.r0 left.1 done.steps calls × IfSome a.policy (λ p. IsWithin p done.steps calls) ×
+-- after a run the same policy is attached, with the maps that the run leaves, and the answer is that of what is attached
+pub asked : (generation : ℕ) (equipped : Option (Accepted × List (List ℕ))) (e left : Accepted × List (List ℕ)) (a : Attached)
+    (context : List ℕ) (now processor : ℕ) (calls : List CounterCall) (done : Done)
+    → attached_of generation equipped ≡ a → equipped ≡ Some e
+    → Answers e.0 context e.1 now processor done.r0 left.1 done.steps calls → IsWithin e.0 done.steps calls
+    → HaveShapes left.0.shapes left.1 → left.0 ≡ e.0
+    → AnswersAt a context now processor done.r0 left.1 done.steps calls × IfSome a.policy (λ p. IsWithin p done.steps calls) ×
     IfSome a.policy (λ p. HaveShapes p.shapes left.1) × (attached_of generation (Some left) ≡ record a { maps = left.1 })
 asked generation equipped e left a context now processor calls done view some answers within shapes same =
     let here = stands generation equipped e a view some in (
       subst (λ (b : Attached). AnswersAt b context now processor done.r0 left.1 done.steps calls) here answers,
       subst (λ (b : Attached). IfSome b.policy (λ p. IsWithin p done.steps calls)) here within,
-      subst (λ (b : Attached). IfSome b.policy (λ p. HaveShapes p.shapes left.1)) here (subst (λ (p : Accepted). HaveShapes p.shapes left.1) same shapes),
+      subst (λ (b : Attached). IfSome b.policy (λ p. HaveShapes p.shapes left.1)) here
+          (subst (λ (p : Accepted). HaveShapes p.shapes left.1) same shapes),
       ap (λ (p : Accepted). attached_of generation (Some (p, left.1))) same ∙ ap (λ (b : Attached). record b { maps = left.1 }) here,
     )

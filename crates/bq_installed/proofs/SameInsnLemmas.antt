@@ -47,10 +47,11 @@ source_decides : (a b : Source) → Decides (same_source.eq-value.it a b) (a ≡
 source_decides =
     by_decides source.enum _ (last_field Decides-int_eq &then last_field Decides-eqb &then tt)
 
--- and on two instructions: for each variant, by its fields in their order
+-- `==` tells whether two instructions are the same: for each variant, by its fields in their order
 pub insn_decides : (a b : Insn) → Decides (same_insn.eq-value.it a b) (a ≡ b)
-insn_decides = by_decides insn.enum _ (
-    and_field width_decides (and_field operation_decides (and_field Decides-eqb (last_field source_decides)))
+insn_decides =
+    by_decides insn.enum _ (and_field width_decides
+    (and_field operation_decides (and_field Decides-eqb (last_field source_decides)))
     &then and_field width_decides (and_field bits_decides (and_field Decides-eqb (last_field Decides-eqb)))
     &then and_field width_decides (last_field Decides-eqb)
     &then and_field order_decides (and_field bits_decides (last_field Decides-eqb))
@@ -61,8 +62,8 @@ insn_decides = by_decides insn.enum _ (
     &then and_field Decides-eqb (last_field Decides-int_eq)
     &then last_field Decides-int_eq
     &then last_field Decides-int_eq
-    &then and_field width_decides (and_field condition_decides (and_field Decides-eqb (and_field source_decides (last_field Decides-int_eq))))
+    &then and_field width_decides
+    (and_field condition_decides (and_field Decides-eqb (and_field source_decides (last_field Decides-int_eq))))
     &then last_field Decides-int_eq
     &then no_field
-    &then tt
-    )
+    &then tt)

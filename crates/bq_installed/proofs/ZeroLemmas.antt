@@ -23,5 +23,6 @@ zero_bytes_are_zero_maps [] (m ∷ ms) e sizes h = cc
 zero_bytes_are_zero_maps (s ∷ ss) [] e sizes h = cc
 zero_bytes_are_zero_maps (s ∷ ss) (m ∷ ms) e sizes h =
     let first : m ≡ zeros_of s = all_zero m (s.value_size * s.entries) (sizes 0 s refl) (h 0) in
-    let rest : ms ≡ map zeros_of ss = zero_bytes_are_zero_maps ss ms (omega arith) (λ n shape f. sizes (suc n) shape f) (λ n i. h (suc n) i) in
+    let rest : ms ≡ map zeros_of ss =
+    zero_bytes_are_zero_maps ss ms (omega arith) (λ n shape f. sizes (suc n) shape f) (λ n i. h (suc n) i) in
     cc

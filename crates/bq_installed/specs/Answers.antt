@@ -1,7 +1,7 @@
 -- What a policy answers when it is asked.
 use Rattle.std.specs.Prelude.{ℕ, ◌*◌, ◌≤◌, List, [], length, map, replicate, Option, Some, None}
 use Rattle.bq_bpf.specs.declared.shape.MapShape.{MapShape}
-use Rattle.bq_bpf.specs.declared.board.Call.{Call as Asked}
+use Rattle.bq_bpf.specs.declared.board.CounterCall.{CounterCall}
 use Rattle.bq_bpf.specs.Runs.{RunFrom, start}
 use Rattle.bq_bpf.specs.Safe.{most_calls}
 use Rattle.bq_interp.specs.Progress.{setting_of}
@@ -16,11 +16,11 @@ abbrev pub fresh_maps : Option Accepted → List (List ℕ)
 fresh_maps None = []
 fresh_maps (Some policy) = map zeros_of policy.shapes
 
--- On a context, on maps, at a clock reading and at a processor of that number the policy answers r0, leaves these maps,
--- takes this many steps, and makes these calls of counters: so a run of its program goes.
-abbrev pub Answers : Accepted → List ℕ → List (List ℕ) → ℕ → ℕ → ℕ → List (List ℕ) → ℕ → List Asked → Type 0
+-- A run of the policy's program, on this context and these maps, at this clock reading and processor: it answers r0, leaves
+-- the maps maps', takes this many steps and makes these calls of counters
+abbrev pub Answers : Accepted → List ℕ → List (List ℕ) → ℕ → ℕ → ℕ → List (List ℕ) → ℕ → List CounterCall → Type 0
 Answers policy context maps now processor r0 maps' steps calls = RunFrom (setting_of policy context now processor) (start maps) steps calls r0 maps'
 
--- it is within the policy's budget to take this many steps, with these calls of counters: there are no more than a run may make
-abbrev pub IsWithin : Accepted → ℕ → List Asked → Type 0
+-- this many steps and these calls of counters are no more than a run of the policy may take and make
+abbrev pub IsWithin : Accepted → ℕ → List CounterCall → Type 0
 IsWithin policy steps calls = (steps ≤ policy.budget) × (length calls ≤ most_calls)

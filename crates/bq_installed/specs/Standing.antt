@@ -1,10 +1,10 @@
--- What may stand at a hook: nothing, or a policy that was accepted for it, with maps of its shapes.
+-- What may be installed at a hook: nothing, or a policy that was accepted for it, with maps of its shapes.
 use Rattle.std.specs.Prelude.{◌≡◌, ℕ, ◌^◌, ◌<◌, List, length, slice_index, Option, Some, None}
 use Rattle.bq_bpf.specs.Memory.{HaveShapes}
 use Rattle.bq_hooks.specs.declared.hook.Hook.{Hook}
 use Rattle.bq_verify.specs.Accepted.{Accepted, IsAccepted}
 use Rattle.bq_hooks.specs.Hooks.{context_length_of}
-use Rattle.bq_bpf.specs.declared.board.Call.{Call as Asked}
+use Rattle.bq_bpf.specs.declared.board.CounterCall.{CounterCall}
 use Rattle.bq_interp.specs.declared.runs.Done.{Done}
 use Rattle.bq_installed.specs.Answers.{Answers, IsWithin}
 use Rattle.bq_installed.specs.Attachments.{Attached, Attachments, at_hook, IsFor}
@@ -13,16 +13,16 @@ use Rattle.bq_installed.specs.Attachments.{Attached, Attachments, at_hook, IsFor
 abbrev pub WasAccepted : Accepted → Type 0
 WasAccepted policy = IsAccepted policy.slots policy.shapes (context_length_of policy.hook policy.version) policy.budget
 
--- there is no policy; or it was accepted, and these maps are of its shapes
+-- there is no policy, or it was accepted and the maps are of its shapes
 abbrev pub IsEquipped : Option Accepted → List (List ℕ) → Type 0
 IsEquipped None maps = Unit {0}
 IsEquipped (Some policy) maps = WasAccepted policy × HaveShapes policy.shapes maps
 
--- and it was accepted for that hook
+-- what is attached may be at this hook: its policy, if any, was accepted for it
 abbrev pub MayStand : Hook → Attached → Type 0
 MayStand hook attached = IsFor hook attached.policy × IsEquipped attached.policy attached.maps
 
--- whatever stands at the hooks of a processor may stand there
+-- whatever is attached at the hooks of a processor may be there
 abbrev pub AreReady : Attachments → Type 0
 AreReady hooks = (hook : Hook) → MayStand hook (at_hook hook hooks)
 
@@ -42,12 +42,12 @@ pub record HasAnswered (policy : Accepted) (done : Done) : Type 0 where
   pub left : List (List ℕ)
   pub now : ℕ
   pub processor : ℕ
-  pub calls : List Asked
+  pub calls : List CounterCall
   pub asked : IsAsked policy context maps now processor
   pub answers : Answers policy context maps now processor done.r0 left done.steps calls
   pub within : IsWithin policy done.steps calls
 
--- what is remembered of a policy is an answer of that policy; where none stands, nothing is
+-- what is remembered is an answer of that policy; nothing is remembered if there is no policy
 abbrev pub WasAnswered : Option Accepted → Option Done → Type 0
 WasAnswered policy None = Unit {0}
 WasAnswered None (Some done) = ⊥

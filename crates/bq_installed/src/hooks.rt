@@ -14,7 +14,7 @@ use bq_hooks::{Hook, Version};
 use bq_interp::{Done, Env};
 use std::marker::Model;
 
-/// What is installed at each hook of a processor: nothing that was verified for another hook.
+/// What is installed at each hook of a processor. Nothing here was verified for another hook.
 #[derive(Drop)]
 pub struct Hooks {
     place: Installed,
@@ -34,7 +34,7 @@ impl Model for Hooks {
 }
 
 impl Hooks {
-    /// Hooks at which nothing was installed yet.
+    /// Hooks at which nothing has been installed yet.
     pub fn new() -> Hooks
         ensures { result ≡ none_attached }
     {
@@ -45,7 +45,7 @@ impl Hooks {
         }
     }
 
-    /// The generation that stands at a hook.
+    /// The generation of what is installed at a hook; 0 if nothing has been installed.
     pub fn generation(&self, hook: Hook) -> u64
         ensures { result ≡ (at_hook hook self.now).generation }
     {
@@ -56,7 +56,7 @@ impl Hooks {
         }
     }
 
-    /// Something else stands at a hook from now on.
+    /// Replaces what is installed at a hook.
     pub fn install(&mut self, hook: Hook, installed: Installed)
         requires { IsFor hook installed.policy }
         ensures { self.new ≡ with_attached hook self.old installed }
@@ -68,7 +68,7 @@ impl Hooks {
         }
     }
 
-    /// The version of the image of the policy that stands at a hook; `None` where none stands there.
+    /// The version of the image of the policy at a hook; `None` if there is no policy.
     #[inline(always)]
     pub fn version(&self, hook: Hook) -> Option<Version>
         ensures { result ≡ option_map (λ p. p.version) (at_hook hook self.now).policy }
@@ -80,7 +80,7 @@ impl Hooks {
         }
     }
 
-    /// What the policy at a hook answered when it was asked last; `None` where it was not asked since it was installed.
+    /// The policy's last answer at a hook; `None` if it has not been asked since it was installed.
     pub fn answered(&self, hook: Hook) -> Option<Done>
         ensures { WasAnswered (at_hook hook self.now).policy result }
     {
@@ -91,8 +91,8 @@ impl Hooks {
         }
     }
 
-    /// What the policy at a hook answers on a context, and in how many steps. Its maps are then as it left them, and the
-    /// list of the scratch space holds its calls of counters.
+    /// Asks the policy at a hook about a context: its answer, and the steps that it took. Afterwards its maps are as it left
+    /// them, and the scratch space holds its calls of counters.
     pub fn ask<B: Board>(
         &mut self,
         hook: Hook,

@@ -16,8 +16,8 @@ use bq_maps::Maps;
 use std::alloc::{AllocError, Global};
 use std::marker::Model;
 
-/// A policy or none, its generation, and the policy's own maps. The generation is 0 where nothing was installed yet. It also
-/// remembers what the policy answered last; contracts see no state in that.
+/// A policy or none, its generation, and the policy's own maps. The generation is 0 if nothing has been installed yet. The
+/// policy's last answer is kept too; contracts do not see it.
 #[derive(Drop)]
 pub struct Installed {
     equipped: Option<Equipped>,
@@ -37,7 +37,7 @@ impl Model for Installed {
 }
 
 impl Installed {
-    /// Nothing.
+    /// What a hook has before anything is installed: no policy, generation 0.
     pub fn nothing() -> Installed
         ensures { result ≡ nothing_attached }
     {
@@ -48,8 +48,8 @@ impl Installed {
         }
     }
 
-    /// A policy or none, as this generation, with maps of zeros. Lack of memory for the maps is the only error, so nothing that
-    /// is no policy is refused.
+    /// A policy or none, as this generation, with maps of zeros. The only error is that memory runs out for the maps, so
+    /// without a policy the call does not fail.
     pub fn new(
         alloc: Global,
         policy: Option<Policy>,
@@ -77,21 +77,21 @@ impl Installed {
         self.generation
     }
 
-    /// It is this generation from now on. So its maps can be made before the number is drawn.
+    /// Sets the generation. So the maps can be made before the number is drawn.
     pub fn set_generation(&mut self, generation: u64)
         ensures { self.new ≡ record self.old { generation = generation } }
     {
         self.generation = generation;
     }
 
-    /// What stands here is gone, and this stands here instead.
+    /// Replaces what is installed here.
     pub(crate) fn give_way_to(&mut self, installed: Installed)
         ensures { self.new ≡ installed }
     {
         *self = installed;
     }
 
-    /// The policy, if one stands here.
+    /// The policy, if there is one.
     pub fn policy(&self) -> Option<&Policy>
         ensures { option_map (λ p. p.now) result ≡ self.now.policy }
     {
@@ -101,7 +101,7 @@ impl Installed {
         }
     }
 
-    /// The version of the policy's image; `None` where no policy stands.
+    /// The version of the policy's image; `None` if there is no policy.
     #[inline(always)]
     pub fn version(&self) -> Option<Version>
         ensures { result ≡ option_map (λ p. p.version) self.now.policy }
@@ -112,15 +112,15 @@ impl Installed {
         }
     }
 
-    /// What the policy answered when it was asked last: a run of it on some context gives so, in this many steps. `None` where it
-    /// was not asked since it was installed.
+    /// The policy's last answer, with its steps: some run of the policy on some context gives it. `None` if it has not been
+    /// asked since it was installed.
     pub fn answered(&self) -> Option<Done>
         ensures { WasAnswered self.now.policy result }
     {
         self.answered
     }
 
-    /// What the policy answers on a context, and in how many steps. Its maps are then as it left them, and the list of
+    /// Asks the policy about a context: its answer, and the steps that it took. Afterwards its maps are as it left them, and
     /// the scratch space holds its calls of counters. It takes no memory, and ends within the policy's budget.
     pub fn ask<B: Board>(
         &mut self,
@@ -188,7 +188,7 @@ impl Equipped {
         self.policy.version()
     }
 
-    /// What the policy answers.
+    /// Asks the policy about a context.
     fn ask<B: Board>(
         &mut self,
         context: &[u8],

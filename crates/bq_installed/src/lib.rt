@@ -1,6 +1,6 @@
 //! What is installed at the hooks of a processor, and what it answers.
-//! Promises that a policy's answer, its steps, its calls of counters and what its maps are afterwards are those of one
-//! run of the accepted program. Stands on the interpreter only by its contract.
+//! Promises that a policy's answer, its steps, its calls of counters and the maps that it leaves are those of one run of the
+//! accepted program. Uses the interpreter only by its contract.
 #![tactic(auto)]
 
 pub mod hooks;

@@ -10,8 +10,8 @@ use std::alloc::{AllocError, Global};
 use std::marker::Model;
 use std::sync::Arc;
 
-/// A verified program that makes a hook's choice. It may be installed at many processors, which share its code; each
-/// has maps of its own. Contracts see the accepted program.
+/// A verified program that makes a hook's choice. It may be installed at many processors, which share its code. Each of them
+/// has its own maps. Contracts see the accepted program.
 #[derive(Drop)]
 pub struct Policy {
     program: Arc<Verified>,
@@ -30,7 +30,7 @@ impl Model for Policy {
 }
 
 impl Policy {
-    /// The policy of a verified program. Lack of memory is the only error.
+    /// The policy of a verified program. The only error is that memory runs out.
     pub fn new(alloc: Global, program: Verified) -> Result<Policy, AllocError>
         ensures { IfOk result (λ p. p ≡ program) }
     {
@@ -54,7 +54,7 @@ impl Policy {
         self.program().hook()
     }
 
-    /// The version of its image, on which the length of a context rests.
+    /// The version of its image, on which the length of a place context depends.
     pub fn version(&self) -> Version
         ensures { result ≡ self.now.version }
     {
@@ -87,8 +87,7 @@ impl Clone for Policy {
 
     ghost is_clone = { λ p q. q ≡ p };
 
-    /// A copy of the policy, to be installed elsewhere. It takes no memory; there is an error where a policy would
-    /// stand in more places than can be counted.
+    /// A copy of the policy, to be installed elsewhere. It takes no memory. Fails only if the reference count would overflow.
     fn clone(&self) -> Result<Policy, AllocError> {
         let program = Arc::try_clone(&self.program)?;
         Ok(Policy { program })

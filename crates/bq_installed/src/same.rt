@@ -3,7 +3,7 @@ ghost use Rattle.std.specs.Prelude.{◌≡◌, ◌↔◌, IsTrue};
 
 use bq_insn::Insn;
 
-/// Whether both lists have the same instructions in the same slots.
+/// Whether both lists have equal instructions in the same slots.
 pub(crate) fn same_slots(slots: &[Option<Insn>], other: &[Option<Insn>]) -> bool
     ensures { IsTrue result ↔ (slots.now ≡ other.now) }
 {

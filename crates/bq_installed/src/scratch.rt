@@ -2,22 +2,22 @@
 ghost use Rattle.std.specs.Prelude.{◌≡◌, ◌≤◌, [], length};
 
 use arrayvec::ArrayVec;
-use bq_bpf::Call;
+use bq_bpf::CounterCall;
 use bq_bpf::board::MOST_CALLS;
 use bq_interp::Stack;
 use std::marker::Model;
 
-/// A stack for policies to run on, and the calls of counters of the run that was the last. One serves any number of runs
-/// one after another: what an earlier run left on the stack no policy can read. Contracts see only the calls.
+/// A stack for policies to run on, and the last run's calls of counters. One scratch space serves any number of runs, one
+/// after another: no policy can read what an earlier run left on the stack. Contracts see only the calls.
 #[derive(Drop)]
 pub struct Scratch {
     pub(crate) stack: Stack,
-    pub(crate) calls: ArrayVec<Call, MOST_CALLS>,
+    pub(crate) calls: ArrayVec<CounterCall, MOST_CALLS>,
 }
 
 impl Model for Scratch {
     ghost use Rattle.std.specs.Prelude.{List};
-    ghost use Rattle.bq_bpf.specs.declared.board.Call.{Call as Asked};
+    ghost use Rattle.bq_bpf.specs.declared.board.CounterCall.{CounterCall as Asked};
 
     ghost Value = { List Asked };
 
@@ -25,7 +25,7 @@ impl Model for Scratch {
 }
 
 impl Scratch {
-    /// A clean stack, and no call.
+    /// A clean stack, and no calls.
     pub fn new() -> Scratch
         ensures { result ≡ [] }
     {
@@ -35,7 +35,7 @@ impl Scratch {
         }
     }
 
-    /// The calls are forgotten.
+    /// Forgets the calls.
     pub fn clear(&mut self)
         ensures { self.new ≡ [] }
     {
@@ -43,7 +43,7 @@ impl Scratch {
     }
 
     /// The calls of counters of the last run, in their order.
-    pub fn calls(&self) -> &[Call]
+    pub fn calls(&self) -> &[CounterCall]
         ensures value { result.now ≡ self.now }
         ensures few { length result.now ≤ MOST_CALLS }
     {

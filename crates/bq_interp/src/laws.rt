@@ -2,8 +2,8 @@
 
 ghost use Rattle.bq_interp.specs.Laws.{OneRun};
 
-/// Two runs of one program on one context, maps, clock and processor whose counters answered alike, as far as both
-/// lists of calls go, are one run: they have the same calls, answer, maps and number of instructions.
+/// Two runs of one program on the same context, maps, clock and processor are the same run if their counters gave the
+/// same answers, as far as both lists of calls go. They have the same calls, answer, maps and number of instructions.
 pub fn one_run()
     ensures { OneRun }
 {}

@@ -13,12 +13,14 @@ and_true true = refl
 and_true false = refl
 
 -- one byte more passed, or did not
-pub all_step : (p : ℕ → Bool) (line : List ℕ) (b : Bool) (i : ℕ) (at : Bool) → i < length line → at ≡ p (get_or line i 0) → list_all p line ≡ (b && list_all p (drop i line))
+pub all_step : (p : ℕ → Bool) (line : List ℕ) (b : Bool) (i : ℕ) (at : Bool)
+    → i < length line → at ≡ p (get_or line i 0) → list_all p line ≡ (b && list_all p (drop i line))
     → list_all p line ≡ ((b && at) && list_all p (drop (i + 1) line))
 all_step p line b i at h is so_far =
     so_far ∙ ap (λ l. b && list_all p l) (drop-cons line i 0 h ∙ ap (λ k. get_or line i 0 ∷ drop k line) (sym (add-one i)))
     ∙ ap (λ x. b && (x && list_all p (drop (i + 1) line))) (sym is) ∙ and_assoc b at (list_all p (drop (i + 1) line))
 
 -- no byte is left
-pub all_end : (p : ℕ → Bool) (line : List ℕ) (b : Bool) (i : ℕ) → length line ≤ i → list_all p line ≡ (b && list_all p (drop i line)) → b ≡ list_all p line
+pub all_end : (p : ℕ → Bool) (line : List ℕ) (b : Bool) (i : ℕ)
+    → length line ≤ i → list_all p line ≡ (b && list_all p (drop i line)) → b ≡ list_all p line
 all_end p line b i h so_far = sym (so_far ∙ ap (λ l. b && list_all p l) (drop_all i line h) ∙ and_true b)

@@ -4,8 +4,8 @@ use Rattle.std.specs.Prelude.{slice_index}
 use Rattle.std.specs.Str.Lines.{strip_carriage_return}
 use Rattle.std.proofs.lemmas.Bool.Decides.{nat_tests}
 use Rattle.std.proofs.lemmas.Grind.{common_steps}
-use Rattle.bq_lines.specs.Kept.{StandsFor, heard}
-use Rattle.bq_lines.specs.Lines.{reading_of, reading_heard}
+use Rattle.bq_lines.specs.Kept.{StandsFor, short_line}
+use Rattle.bq_lines.specs.Lines.{reading_of, reading_of_short_line}
 use Rattle.bq_lines.specs.declared.command.LineReading.TheVariants.{Bad}
 
 -- where nothing is kept the line is too long
@@ -21,8 +21,8 @@ unfolding reading_of
 reading_of-long line e = rw e refl
 
 -- nothing is heard of a line that is too long
-heard-long : (line : List ℕ) → 131072 < length line → heard line ≡ None
-heard-long line long = let e : ltb 131072 (length line) ≡ true = grind (arith, nat_tests) in rw e refl
+short_line-long : (line : List ℕ) → 131072 < length line → short_line line ≡ None
+short_line-long line long = let e : ltb 131072 (length line) ≡ true = grind (arith, nat_tests) in rw e refl
 
 length-strip : (line : List ℕ) → length line ≤ length (strip_carriage_return line) + 1
 length-strip line = stripped (eqb (slice_index line (length line - 1)) 13)
@@ -32,17 +32,17 @@ length-strip line = stripped (eqb (slice_index line (length line - 1)) 13)
     stripped false = omega arith
 
 -- of a line of which nothing is kept nothing is heard
-pub heard-unkept : (line : List ℕ) → StandsFor None line → heard line ≡ None
-heard-unkept line h = heard-long line (omega (arith, length_unkept line h))
+pub short_line-unkept : (line : List ℕ) → StandsFor None line → short_line line ≡ None
+short_line-unkept line h = short_line-long line (omega (arith, length_unkept line h))
 
 -- of a line of which nothing is kept nothing is heard without its carriage return either
-pub heard-strip_unkept : (line : List ℕ) → StandsFor None line → heard (strip_carriage_return line) ≡ None
-heard-strip_unkept line h = heard-long (strip_carriage_return line) (omega (arith, length_unkept line h, length-strip line))
+pub short_line-strip_unkept : (line : List ℕ) → StandsFor None line → short_line (strip_carriage_return line) ≡ None
+short_line-strip_unkept line h = short_line-long (strip_carriage_return line) (omega (arith, length_unkept line h, length-strip line))
 
 -- what is heard of a line says what the line says
-pub reading_heard-line : (line : List ℕ) → reading_heard (heard line) ≡ reading_of line
-reading_heard-line line = said (ltb 131072 (length line)) refl
+pub reading_of_short_line-line : (line : List ℕ) → reading_of_short_line (short_line line) ≡ reading_of line
+reading_of_short_line-line line = by_length (ltb 131072 (length line)) refl
   where
-    said : (b : Bool) → ltb 131072 (length line) ≡ b → reading_heard (cond b None (Some line)) ≡ reading_of line
-    said true e = sym (reading_of-long line e)
-    said false e = refl
+    by_length : (b : Bool) → ltb 131072 (length line) ≡ b → reading_of_short_line (cond b None (Some line)) ≡ reading_of line
+    by_length true e = sym (reading_of-long line e)
+    by_length false e = refl

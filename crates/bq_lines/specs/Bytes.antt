@@ -1,4 +1,4 @@
--- The bytes that may stand in a line of a trace.
+-- The bytes that a line of a trace may have.
 use Rattle.std.specs.Prelude.{ℕ, Bool, ◌&&◌, ◌||◌, ◌==◌, nat_le}
 
 -- printable ASCII and tab are allowed

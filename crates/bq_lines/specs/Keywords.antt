@@ -23,7 +23,7 @@ keyword_word keywords.Pull = codes "pull"
 keyword_word keywords.Show = codes "show"
 keyword_word keywords.Counter = codes "counter"
 
--- of the lines that set a machine up or show it, the keyword of that word
+-- the keyword that a word is, if it is one of those that few lines have
 abbrev pub setting_keyword_of : List ℕ → Option Keyword
 setting_keyword_of word =
     if bytes_eq word (keyword_word keywords.Install) then Some keywords.Install
@@ -35,7 +35,7 @@ setting_keyword_of word =
     else if bytes_eq word (keyword_word keywords.Counter) then Some keywords.Counter
     else None
 
--- the keyword of that word
+-- the keyword that a word is, if it is one
 abbrev pub keyword_of : List ℕ → Option Keyword
 keyword_of word =
     if bytes_eq word (keyword_word keywords.Begin) then Some keywords.Begin

@@ -18,24 +18,27 @@ use Rattle.bq_lines.specs.declared.keyword.Keyword.TheVariants as keywords
 use Rattle.bq_lines.specs.declared.command.Command.{Command}
 use Rattle.bq_lines.specs.declared.command.Command.TheVariants.{Machine, Does, Wake, Load, Show, Counter}
 use Rattle.bq_lines.specs.declared.command.LineReading.{LineReading}
-use Rattle.bq_lines.specs.declared.command.LineReading.TheVariants.{Skipped, Bad, Says}
+use Rattle.bq_lines.specs.declared.command.LineReading.TheVariants.{Skipped, Bad, Asks}
 
--- the words after a command's name, as numbers
+-- what the words after a command's name write
 
+-- a rule and a number of processors
 abbrev pub machine_words : List (List ℕ) → Option (Rule × ProcessorCount)
 machine_words operands = option_and_then (λ w. option_and_then (λ r. option_map (λ s. (r, s)) (size_of w.1)) (rule_of w.0)) (two_of operands)
 
+-- a task, its nice value, its mask and its slice
 abbrev pub admit_words : List (List ℕ) → Option (ℕ × ℤ × ℕ × ℕ)
 admit_words operands =
     option_and_then
     (λ w. option_and_then (λ t. option_and_then (λ n. option_and_then (λ m. option_map (λ s. (t, n, m, s)) (decimal_of w.3)) (mask_of w.2)) (nice_of w.1)) (task_of w.0))
     (four_of operands)
 
--- the processor, the generation, the hook, and what spells an image
+-- a processor, a generation, a hook, and the word that spells an image
 abbrev pub install_words : List (List ℕ) → Option (ℕ × ℕ × Hook × List ℕ)
 install_words operands =
     option_and_then (λ w. option_and_then (λ c. option_and_then (λ g. option_map (λ h. (c, g, h, w.3)) (hook_of w.2)) (decimal_of w.1)) (processor_of w.0)) (four_of operands)
 
+-- a task
 abbrev pub one_task : List (List ℕ) → Option ℕ
 one_task operands = option_and_then task_of (one_of operands)
 
@@ -43,66 +46,84 @@ one_task operands = option_and_then task_of (one_of operands)
 abbrev pub one_number : List (List ℕ) → Option ℕ
 one_number operands = option_and_then processor_of (one_of operands)
 
+-- a processor and a task
 abbrev pub processor_and_task : List (List ℕ) → Option (ℕ × ℕ)
 processor_and_task operands = option_and_then (λ w. option_and_then (λ c. option_map (λ i. (c, i)) (task_of w.1)) (processor_of w.0)) (two_of operands)
 
+-- a processor and a clock reading
 abbrev pub processor_and_time : List (List ℕ) → Option (ℕ × ℕ)
 processor_and_time operands = option_and_then (λ w. option_and_then (λ c. option_map (λ t. (c, t)) (decimal_of w.1)) (processor_of w.0)) (two_of operands)
 
+-- a processor, a task and a clock reading
 abbrev pub wake_words : List (List ℕ) → Option (ℕ × ℕ × ℕ)
 wake_words operands =
     option_and_then (λ w. option_and_then (λ c. option_and_then (λ i. option_map (λ t. (c, i, t)) (decimal_of w.2)) (task_of w.1)) (processor_of w.0)) (three_of operands)
 
+-- two processors and a clock reading
 abbrev pub pull_words : List (List ℕ) → Option (ℕ × ℕ × ℕ)
 pull_words operands =
     option_and_then (λ w. option_and_then (λ c. option_and_then (λ s. option_map (λ t. (c, s, t)) (decimal_of w.2)) (processor_of w.1)) (processor_of w.0)) (three_of operands)
 
--- what each command asks
+-- what each command asks for
 
+-- `machine` makes a machine
 abbrev pub machine_of : List (List ℕ) → Option Command
 machine_of operands = option_map (λ w. Machine w.0 w.1) (machine_words operands)
 
+-- `admit` admits a task
 abbrev pub admit_of : List (List ℕ) → Option Command
 admit_of operands = option_map (λ w. Does (Admit w.0 w.1 w.2 w.3)) (admit_words operands)
 
+-- `retire` makes a task leave
 abbrev pub retire_of : List (List ℕ) → Option Command
 retire_of operands = option_map (λ t. Does (Retire t)) (one_task operands)
 
+-- `draw` draws a generation, and has no words after it
 abbrev pub draw_of : List (List ℕ) → Option Command
 draw_of [] = Some (Does Draw)
 draw_of other = None
 
--- a policy is taken away by `none`, and else comes as an image
+-- `none` takes a policy away, and another word is an image to load
 abbrev pub installing : ℕ × ℕ × Hook × List ℕ → Command
 installing (c, g, h, image) = if bytes_eq image (codes "none") then Does (Install c h g None) else Load c h g image
 
+-- `install` installs a policy or takes one away
 abbrev pub install_of : List (List ℕ) → Option Command
 install_of operands = option_map installing (install_words operands)
 
+-- `begin` begins a wake
 abbrev pub begin_of : List (List ℕ) → Option Command
 begin_of operands = option_map (λ w. Does (BeginWake w.0 w.1)) (processor_and_task operands)
 
+-- `end` ends a wake
 abbrev pub end_of : List (List ℕ) → Option Command
 end_of operands = option_map (λ w. Does (EndWake w.0 w.1)) (processor_and_time operands)
 
+-- `wake` begins a wake and ends it at once
 abbrev pub wake_of : List (List ℕ) → Option Command
 wake_of operands = option_map (λ w. Wake w.0 w.1 w.2) (wake_words operands)
 
+-- `drain` makes a processor take in the tasks that were placed on it
 abbrev pub drain_of : List (List ℕ) → Option Command
 drain_of operands = option_map (λ w. Does (Drain w.0 w.1)) (processor_and_time operands)
 
+-- `tick` lets a processor's clock tick
 abbrev pub tick_of : List (List ℕ) → Option Command
 tick_of operands = option_map (λ w. Does (Tick w.0 w.1)) (processor_and_time operands)
 
+-- `block` puts the running task to sleep
 abbrev pub block_of : List (List ℕ) → Option Command
 block_of operands = option_map (λ w. Does (Block w.0 w.1)) (processor_and_time operands)
 
+-- `pull` makes a processor take a task from another
 abbrev pub pull_of : List (List ℕ) → Option Command
 pull_of operands = option_map (λ w. Does (Pull w.0 w.1 w.2)) (pull_words operands)
 
+-- `show` shows a processor
 abbrev pub show_of : List (List ℕ) → Option Command
 show_of operands = option_map (λ c. Show c) (one_number operands)
 
+-- `counter` shows a counter
 abbrev pub counter_of : List (List ℕ) → Option Command
 counter_of operands = option_map (λ i. Counter i) (one_number operands)
 
@@ -123,24 +144,25 @@ command_after keywords.Pull operands = pull_of operands
 command_after keywords.Show operands = show_of operands
 command_after keywords.Counter operands = counter_of operands
 
--- a command by its name and the words after it
+-- what a command asks for, by its name and the words after it
 abbrev pub command_of : List ℕ → List (List ℕ) → Option Command
 command_of name operands = option_and_then (λ k. command_after k operands) (keyword_of name)
 
-abbrev pub said : Option Command → LineReading
-said None = Bad
-said (Some c) = Says c
+-- a line says its command, or is bad if it has none
+abbrev pub reading_of_command : Option Command → LineReading
+reading_of_command None = Bad
+reading_of_command (Some c) = Asks c
 
--- a line without words, or whose first word begins with `#`, is skipped
+-- what a line's words say: a line without words, or whose first word begins with `#`, is skipped
 abbrev pub reading_of_words : List (List ℕ) → LineReading
 reading_of_words [] = Skipped
-reading_of_words (name ∷ operands) = if starts_with nat_eq name (codes "#") then Skipped else said (command_of name operands)
+reading_of_words (name ∷ operands) = if starts_with nat_eq name (codes "#") then Skipped else reading_of_command (command_of name operands)
 
--- a line that is too long or has a byte that is not allowed is bad, whatever it says
+-- what a line says: a line that is too long or has a byte that is not allowed is bad, whatever its words are
 unfoldable pub reading_of : List ℕ → LineReading
 reading_of line = if nat_lt LONGEST (length line) || not (list_all is_allowed line) then Bad else reading_of_words (words line)
 
--- what is said by what is heard of a line
-abbrev pub reading_heard : Option (List ℕ) → LineReading
-reading_heard None = Bad
-reading_heard (Some line) = reading_of line
+-- what a line says, by what was kept of it: a line that was too long is bad
+abbrev pub reading_of_short_line : Option (List ℕ) → LineReading
+reading_of_short_line None = Bad
+reading_of_short_line (Some line) = reading_of line

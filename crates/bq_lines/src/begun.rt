@@ -3,24 +3,24 @@ ghost use Rattle.std.specs.Prelude.{◌≡◌, ◌↔◌, IsTrue, ◌==◌, ◌+
 ghost use Rattle.std.specs.Borrow.{Bor};
 ghost use Rattle.std.specs.Option.{option_map};
 ghost use Rattle.std.specs.Str.Lines.{strip_carriage_return};
-ghost use Rattle.bq_lines.specs.Kept.{IsOneLine, StandsFor, heard};
+ghost use Rattle.bq_lines.specs.Kept.{IsOneLine, StandsFor, short_line};
 
 use crate::lines::LONGEST;
 use memchr::memchr;
 use std::alloc::{AllocError, Global};
 use std::marker::Model;
 
-/// One byte more than the longest line, for a CR at its end.
+/// The longest line, and one byte more for a CR at its end.
 const KEPT: usize = LONGEST + 1;
 
-/// What is kept of a line that has begun: its bytes, unless it is too long whatever ends it.
+/// What is kept of a line that has begun: its bytes, unless it is already too long, even if a CR ends it.
 #[derive(Drop)]
-pub struct Begun {
+pub struct PartialLine {
     bytes: Vec<u8>,
     is_too_long: bool,
 }
 
-impl Model for Begun {
+impl Model for PartialLine {
     ghost use Rattle.std.specs.Prelude.{ℕ, List, Option, Some, None, if◌then◌else◌, ◌≤◌, length};
     ghost use Rattle.bq_lines.specs.declared.begun.TheConstants.{KEPT};
 
@@ -31,12 +31,12 @@ impl Model for Begun {
     ghost view = { λ b. if b.is_too_long then None else Some b.bytes.items };
 }
 
-impl Begun {
-    /// Nothing has begun.
-    pub fn new(alloc: Global) -> Begun
+impl PartialLine {
+    /// A line of which nothing has come.
+    pub fn new(alloc: Global) -> PartialLine
         ensures { result ≡ Some [] }
     {
-        Begun {
+        PartialLine {
             bytes: Vec::new(alloc),
             is_too_long: false,
         }
@@ -50,13 +50,13 @@ impl Begun {
         !self.is_too_long && self.bytes.is_empty()
     }
 
-    /// The line that these bytes and a line feed end, if it comes whole: nothing of it had begun, and it is not too long.
+    /// The line that `tail` and a line feed end. `None` if a part of the line came before `tail`, or if the line is too long.
     pub fn whole_line<'a>(&self, tail: &'a [u8]) -> Option<&'a [u8]>
-        ensures { MatchOption result ((self.now ≡ Some []) → heard (strip_carriage_return tail.now) ≡ None)
-            (λ l. (self.now ≡ Some []) × (heard (strip_carriage_return tail.now) ≡ Some l.now)) }
+        ensures { MatchOption result ((self.now ≡ Some []) → short_line (strip_carriage_return tail.now) ≡ None)
+            (λ l. (self.now ≡ Some []) × (short_line (strip_carriage_return tail.now) ≡ Some l.now)) }
     {
         if self.is_empty() {
-            heard(without_cr(tail))
+            short_line(without_cr(tail))
         } else {
             None
         }
@@ -79,29 +79,29 @@ impl Begun {
         self.bytes.extend_from_slice(piece)
     }
 
-    /// What is heard of the line, where the text ends.
+    /// The line, if the text ends here. `None` if the line is too long.
     pub fn last(&self) -> Option<&[u8]>
-        ensures { (line : List ℕ) → StandsFor self.now line → option_map (λ (l : Bor (List ℕ)). l.now) result ≡ heard line }
+        ensures { (line : List ℕ) → StandsFor self.now line → option_map (λ (l : Bor (List ℕ)). l.now) result ≡ short_line line }
     {
         if self.is_too_long {
             None
         } else {
-            heard(self.bytes.as_slice())
+            short_line(self.bytes.as_slice())
         }
     }
 
-    /// What is heard of the line, where a line feed ends it.
+    /// The line, if a line feed ends it here: without the CR at its end. `None` if the line is too long.
     pub fn ended(&self) -> Option<&[u8]>
-        ensures { (line : List ℕ) → StandsFor self.now line → option_map (λ (l : Bor (List ℕ)). l.now) result ≡ heard (strip_carriage_return line) }
+        ensures { (line : List ℕ) → StandsFor self.now line → option_map (λ (l : Bor (List ℕ)). l.now) result ≡ short_line (strip_carriage_return line) }
     {
         if self.is_too_long {
             None
         } else {
-            heard(without_cr(self.bytes.as_slice()))
+            short_line(without_cr(self.bytes.as_slice()))
         }
     }
 
-    /// Nothing has begun any more.
+    /// Forgets what has begun.
     pub fn clear(&mut self)
         ensures { self.new ≡ Some [] }
     {
@@ -110,9 +110,9 @@ impl Begun {
     }
 }
 
-/// What is heard of a line.
-fn heard(line: &[u8]) -> Option<&[u8]>
-    ensures { option_map (λ (l : Bor (List ℕ)). l.now) result ≡ heard line.now }
+/// The line. `None` if it is too long.
+fn short_line(line: &[u8]) -> Option<&[u8]>
+    ensures { option_map (λ (l : Bor (List ℕ)). l.now) result ≡ short_line line.now }
 {
     if line.len() > LONGEST {
         None
@@ -121,7 +121,7 @@ fn heard(line: &[u8]) -> Option<&[u8]>
     }
 }
 
-/// The first line, and what follows its line feed.
+/// The first line, and what follows its line feed. `None` if there is no line feed.
 pub fn first_line(bytes: &[u8]) -> Option<(&[u8], &[u8])>
     ensures found { IfSome result (λ p. (bytes.now ≡ p.0.now ++ 10 ∷ p.1.now) × IsOneLine p.0.now) }
     ensures none { IfNone result (IsOneLine bytes.now) }
@@ -132,7 +132,7 @@ pub fn first_line(bytes: &[u8]) -> Option<(&[u8], &[u8])>
     }
 }
 
-/// The line without the one CR at its end, if it has one.
+/// The line without one CR at its end, if it has one.
 fn without_cr(line: &[u8]) -> &[u8]
     ensures { result.now ≡ strip_carriage_return line.now }
 {

@@ -1,4 +1,4 @@
-//! The bytes that may stand in a line.
+//! The bytes that a line may have.
 ghost use Rattle.std.specs.Prelude.{◌≡◌};
 ghost use Rattle.std.specs.List.{list_all};
 ghost use Rattle.bq_lines.specs.Bytes.{is_allowed};
@@ -9,7 +9,7 @@ fn is_allowed(byte: u8) -> bool
     (b' ' <= byte && byte <= b'~') || byte == b'\t'
 }
 
-/// Whether each byte may stand in a line.
+/// Whether a line may have each of these bytes.
 pub fn is_allowed_line(line: &[u8]) -> bool
     ensures { result ≡ list_all is_allowed line.now }
 {

@@ -5,7 +5,7 @@ use bq_hooks::Hook;
 use bq_parts::Event;
 use bq_words::{ProcessorCount, Rule};
 
-/// What a line may ask. An image stays where the line has it.
+/// What a line may ask. An image stays in the bytes of its line.
 #[derive(Drop)]
 pub enum Command<'a> {
     /// A machine is made.
@@ -13,7 +13,7 @@ pub enum Command<'a> {
         rule: Rule,
         size: ProcessorCount,
     },
-    /// An event happens in it.
+    /// An event happens in the machine.
     Does(Event),
     /// A wake begins, and ends at once.
     Wake {
@@ -41,10 +41,10 @@ pub enum Command<'a> {
 /// What a line is.
 #[derive(Drop)]
 pub enum LineReading<'a> {
-    /// It has no words, or is a comment.
+    /// The line has no words, or is a comment.
     Skipped,
-    /// It says nothing known.
+    /// The line is not of the format.
     Bad,
-    /// It asks for this.
-    Says(Command<'a>),
+    /// The line asks for this.
+    Asks(Command<'a>),
 }

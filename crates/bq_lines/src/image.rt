@@ -3,7 +3,7 @@ ghost use Rattle.std.specs.Prelude.{◌≡◌};
 
 use std::marker::Model;
 
-/// The word of a line that spells an image in hex, if it spells any. Contracts see its bytes.
+/// The word at the place of an image in a line. It may or may not spell one in hex. Contracts see its bytes.
 #[derive(Drop)]
 pub struct HexWord<'a> {
     word: &'a [u8],
@@ -25,7 +25,7 @@ impl<'a> HexWord<'a> {
         HexWord { word }
     }
 
-    /// Its bytes.
+    /// The bytes of the word.
     pub fn as_bytes(&self) -> &'a [u8]
         ensures { result.now ≡ self.now }
     {

@@ -24,7 +24,7 @@ pub enum Keyword {
     End,
     /// A wake begins, and ends at once.
     Wake,
-    /// A processor takes in what was placed on it.
+    /// A processor takes in the tasks that were placed on it.
     Drain,
     /// A clock ticks.
     Tick,
@@ -38,7 +38,7 @@ pub enum Keyword {
     Counter,
 }
 
-/// A text with how a trace begins, and an example of that, in it.
+/// A text that says with an example how a trace begins, between `before` and `behind`.
 #[macro_export]
 macro_rules! with_first_line {
     ($before:literal, $behind:literal) => {
@@ -51,7 +51,7 @@ macro_rules! with_first_line {
 }
 
 impl Keyword {
-    /// The word itself, as `tick`.
+    /// The word itself, such as `tick`.
     #[inline(always)]
     pub fn word(self) -> &'static str
         ensures { result.now ≡ keyword_word self }
@@ -74,7 +74,7 @@ impl Keyword {
         }
     }
 
-    /// Whether a word is this one.
+    /// Whether a word is the word of this keyword.
     #[inline(always)]
     fn is_word(self, word: &[u8]) -> bool
         ensures { result ≡ bytes_eq word.now (keyword_word self) }
@@ -106,7 +106,7 @@ impl Keyword {
         }
     }
 
-    /// The keyword of a line that sets a machine up or shows it, by its word.
+    /// The other half of `of_word`: the keywords that few lines have.
     #[inline(always)]
     fn of_setting_word(word: &[u8]) -> Option<Keyword>
         ensures { result ≡ setting_keyword_of word.now }

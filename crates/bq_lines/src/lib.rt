@@ -1,6 +1,6 @@
 //! The lines of a trace: what a line asks, and the line that has begun of a text in pieces.
 //! Promises that each line is read as the format says, whatever its bytes.
-//! Stands on the events of `bq_parts`, on the hooks of `bq_hooks`, and on `bq_words` for words, numbers, rules and sizes.
+//! Builds on the events of `bq_parts`, on the hooks of `bq_hooks`, and on `bq_words` for words, numbers, rules and sizes.
 #![tactic(auto)]
 
 pub mod begun;
@@ -10,8 +10,8 @@ pub mod image;
 pub mod keyword;
 pub mod lines;
 
-pub use begun::{Begun, first_line};
+pub use begun::{PartialLine, first_line};
 pub use command::{Command, LineReading};
 pub use image::HexWord;
 pub use keyword::Keyword;
-pub use lines::read_heard;
+pub use lines::read_short_line;

@@ -3,7 +3,7 @@ ghost use Rattle.std.specs.Prelude.{◌≡◌, ℕ, List};
 ghost use Rattle.std.specs.Borrow.{Bor};
 ghost use Rattle.std.specs.Option.{option_map};
 ghost use Rattle.bq_words.specs.Words.{words};
-ghost use Rattle.bq_lines.specs.Lines.{machine_of, admit_of, retire_of, draw_of, install_words, install_of, begin_of, end_of, wake_of, drain_of, tick_of, block_of, pull_of, show_of, counter_of, command_of, machine_words, admit_words, one_task, one_number, processor_and_task, processor_and_time, wake_words, pull_words, said, reading_of_words, reading_of, reading_heard};
+ghost use Rattle.bq_lines.specs.Lines.{machine_of, admit_of, retire_of, draw_of, install_words, install_of, begin_of, end_of, wake_of, drain_of, tick_of, block_of, pull_of, show_of, counter_of, command_of, machine_words, admit_words, one_task, one_number, processor_and_task, processor_and_time, wake_words, pull_words, reading_of_command, reading_of_words, reading_of, reading_of_short_line};
 
 use crate::bytes::is_allowed_line;
 use crate::command::{Command, LineReading};
@@ -16,10 +16,10 @@ use bq_words::{
     two_words,
 };
 
-/// The longest line.
+/// The most bytes of a line.
 pub const LONGEST: usize = 131_072;
 
-/// What a line says, without what ends it.
+/// What a line says. `line` comes without its line feed, and without the CR before that.
 #[tactic(auto, unfolding(crate::specs::Lines::reading_of))]
 pub fn read_line(line: &[u8]) -> LineReading<'_>
     ensures { result ≡ reading_of line.now }
@@ -30,11 +30,11 @@ pub fn read_line(line: &[u8]) -> LineReading<'_>
     read_words(line)
 }
 
-/// What is said by what is heard of a line: nothing is heard of one that is too long.
-pub fn read_heard(heard: Option<&[u8]>) -> LineReading<'_>
-    ensures { result ≡ reading_heard (option_map (λ (l : Bor (List ℕ)). l.now) heard.entry) }
+/// What a line says, by what was kept of it. `None` is a line that was too long.
+pub fn read_short_line(short_line: Option<&[u8]>) -> LineReading<'_>
+    ensures { result ≡ reading_of_short_line (option_map (λ (l : Bor (List ℕ)). l.now) short_line.entry) }
 {
-    match heard {
+    match short_line {
         None => LineReading::Bad,
         Some(line) => read_line(line),
     }
@@ -53,10 +53,10 @@ fn read_words(line: &[u8]) -> LineReading<'_>
     command(name, operands)
 }
 
-/// What is said by the name of a command and the words after it. Each command is made where it is answered, since it would
-/// else be moved on the way of each line.
+/// What the name of a command and the words after it say. Each arm builds its own `LineReading`: one return for all would copy
+/// a large value for every line.
 fn command<'a>(name: &[u8], operands: &'a [u8]) -> LineReading<'a>
-    ensures { result ≡ said (command_of name.now (words operands.now)) }
+    ensures { result ≡ reading_of_command (command_of name.now (words operands.now)) }
 {
     match Keyword::of_word(name) {
         Some(Keyword::Install) => install(operands),
@@ -143,8 +143,8 @@ fn processor_and_task(operands: &[u8]) -> Option<(u8, u16)>
     }
 }
 
-/// A processor and a clock reading, as most lines of a trace have them: read one after another,
-/// which takes a fifth fewer instructions than a pair of both readings.
+/// A processor and a clock reading, which most lines of a trace have. The words are read one after the other, which takes a
+/// fifth fewer instructions than pairing both readings.
 fn processor_and_time(operands: &[u8]) -> Option<(u8, u64)>
     ensures { result ≡ processor_and_time (words operands.now) }
 {
@@ -154,7 +154,7 @@ fn processor_and_time(operands: &[u8]) -> Option<(u8, u64)>
     Some((processor, now))
 }
 
-/// A processor, a task and a clock reading, read one after another as above.
+/// A processor, a task and a clock reading. The words are read one after the other, as in `processor_and_time`.
 fn wake_words(operands: &[u8]) -> Option<(u8, u16, u64)>
     ensures { result ≡ wake_words (words operands.now) }
 {
@@ -179,20 +179,22 @@ fn pull_words(operands: &[u8]) -> Option<(u8, (u8, u64))>
     }
 }
 
+/// What the words after `machine` say.
 fn machine(operands: &[u8]) -> LineReading<'_>
-    ensures { result ≡ said (machine_of (words operands.now)) }
+    ensures { result ≡ reading_of_command (machine_of (words operands.now)) }
 {
     match machine_words(operands) {
-        Some((rule, size)) => LineReading::Says(Command::Machine { rule, size }),
+        Some((rule, size)) => LineReading::Asks(Command::Machine { rule, size }),
         None => LineReading::Bad,
     }
 }
 
+/// What the words after `admit` say.
 fn admit(operands: &[u8]) -> LineReading<'_>
-    ensures { result ≡ said (admit_of (words operands.now)) }
+    ensures { result ≡ reading_of_command (admit_of (words operands.now)) }
 {
     match admit_words(operands) {
-        Some((task, (nice, (mask, slice)))) => LineReading::Says(Command::Does(Event::Admit {
+        Some((task, (nice, (mask, slice)))) => LineReading::Asks(Command::Does(Event::Admit {
             task,
             nice,
             mask,
@@ -202,39 +204,42 @@ fn admit(operands: &[u8]) -> LineReading<'_>
     }
 }
 
+/// What the words after `retire` say.
 fn retire(operands: &[u8]) -> LineReading<'_>
-    ensures { result ≡ said (retire_of (words operands.now)) }
+    ensures { result ≡ reading_of_command (retire_of (words operands.now)) }
 {
     match one_task(operands) {
-        Some(task) => LineReading::Says(Command::Does(Event::Retire { task })),
+        Some(task) => LineReading::Asks(Command::Does(Event::Retire { task })),
         None => LineReading::Bad,
     }
 }
 
+/// What the words after `draw` say.
 fn draw(operands: &[u8]) -> LineReading<'_>
-    ensures { result ≡ said (draw_of (words operands.now)) }
+    ensures { result ≡ reading_of_command (draw_of (words operands.now)) }
 {
     match end_of_words(operands) {
-        Some(()) => LineReading::Says(Command::Does(Event::Draw)),
+        Some(()) => LineReading::Asks(Command::Does(Event::Draw)),
         None => LineReading::Bad,
     }
 }
 
+/// What the words after `install` say.
 fn install(operands: &[u8]) -> LineReading<'_>
-    ensures { result ≡ said (install_of (words operands.now)) }
+    ensures { result ≡ reading_of_command (install_of (words operands.now)) }
 {
     let Some((processor, (generation, (hook, image)))) = install_words(operands) else {
         return LineReading::Bad;
     };
     if image == b"none".as_slice() {
-        return LineReading::Says(Command::Does(Event::Install {
+        return LineReading::Asks(Command::Does(Event::Install {
             processor,
             hook,
             generation,
             policy: None,
         }));
     }
-    LineReading::Says(Command::Load {
+    LineReading::Asks(Command::Load {
         processor,
         hook,
         generation,
@@ -242,33 +247,36 @@ fn install(operands: &[u8]) -> LineReading<'_>
     })
 }
 
+/// What the words after `begin` say.
 fn begin(operands: &[u8]) -> LineReading<'_>
-    ensures { result ≡ said (begin_of (words operands.now)) }
+    ensures { result ≡ reading_of_command (begin_of (words operands.now)) }
 {
     match processor_and_task(operands) {
         Some((processor, task)) => {
-            LineReading::Says(Command::Does(Event::BeginWake { processor, task }))
+            LineReading::Asks(Command::Does(Event::BeginWake { processor, task }))
         }
         None => LineReading::Bad,
     }
 }
 
+/// What the words after `end` say.
 fn end(operands: &[u8]) -> LineReading<'_>
-    ensures { result ≡ said (end_of (words operands.now)) }
+    ensures { result ≡ reading_of_command (end_of (words operands.now)) }
 {
     match processor_and_time(operands) {
         Some((processor, now)) => {
-            LineReading::Says(Command::Does(Event::EndWake { processor, now }))
+            LineReading::Asks(Command::Does(Event::EndWake { processor, now }))
         }
         None => LineReading::Bad,
     }
 }
 
+/// What the words after `wake` say.
 fn wake(operands: &[u8]) -> LineReading<'_>
-    ensures { result ≡ said (wake_of (words operands.now)) }
+    ensures { result ≡ reading_of_command (wake_of (words operands.now)) }
 {
     match wake_words(operands) {
-        Some((processor, task, now)) => LineReading::Says(Command::Wake {
+        Some((processor, task, now)) => LineReading::Asks(Command::Wake {
             processor,
             task,
             now,
@@ -277,38 +285,42 @@ fn wake(operands: &[u8]) -> LineReading<'_>
     }
 }
 
+/// What the words after `drain` say.
 fn drain(operands: &[u8]) -> LineReading<'_>
-    ensures { result ≡ said (drain_of (words operands.now)) }
+    ensures { result ≡ reading_of_command (drain_of (words operands.now)) }
 {
     match processor_and_time(operands) {
-        Some((processor, now)) => LineReading::Says(Command::Does(Event::Drain { processor, now })),
+        Some((processor, now)) => LineReading::Asks(Command::Does(Event::Drain { processor, now })),
         None => LineReading::Bad,
     }
 }
 
+/// What the words after `tick` say.
 fn tick(operands: &[u8]) -> LineReading<'_>
-    ensures { result ≡ said (tick_of (words operands.now)) }
+    ensures { result ≡ reading_of_command (tick_of (words operands.now)) }
 {
     match processor_and_time(operands) {
-        Some((processor, now)) => LineReading::Says(Command::Does(Event::Tick { processor, now })),
+        Some((processor, now)) => LineReading::Asks(Command::Does(Event::Tick { processor, now })),
         None => LineReading::Bad,
     }
 }
 
+/// What the words after `block` say.
 fn block(operands: &[u8]) -> LineReading<'_>
-    ensures { result ≡ said (block_of (words operands.now)) }
+    ensures { result ≡ reading_of_command (block_of (words operands.now)) }
 {
     match processor_and_time(operands) {
-        Some((processor, now)) => LineReading::Says(Command::Does(Event::Block { processor, now })),
+        Some((processor, now)) => LineReading::Asks(Command::Does(Event::Block { processor, now })),
         None => LineReading::Bad,
     }
 }
 
+/// What the words after `pull` say.
 fn pull(operands: &[u8]) -> LineReading<'_>
-    ensures { result ≡ said (pull_of (words operands.now)) }
+    ensures { result ≡ reading_of_command (pull_of (words operands.now)) }
 {
     match pull_words(operands) {
-        Some((processor, (from, now))) => LineReading::Says(Command::Does(Event::Pull {
+        Some((processor, (from, now))) => LineReading::Asks(Command::Does(Event::Pull {
             processor,
             from,
             now,
@@ -317,20 +329,22 @@ fn pull(operands: &[u8]) -> LineReading<'_>
     }
 }
 
+/// What the words after `show` say.
 fn show(operands: &[u8]) -> LineReading<'_>
-    ensures { result ≡ said (show_of (words operands.now)) }
+    ensures { result ≡ reading_of_command (show_of (words operands.now)) }
 {
     match one_number(operands) {
-        Some(processor) => LineReading::Says(Command::Show { processor }),
+        Some(processor) => LineReading::Asks(Command::Show { processor }),
         None => LineReading::Bad,
     }
 }
 
+/// What the words after `counter` say.
 fn counter(operands: &[u8]) -> LineReading<'_>
-    ensures { result ≡ said (counter_of (words operands.now)) }
+    ensures { result ≡ reading_of_command (counter_of (words operands.now)) }
 {
     match one_number(operands) {
-        Some(counter) => LineReading::Says(Command::Counter { counter }),
+        Some(counter) => LineReading::Asks(Command::Counter { counter }),
         None => LineReading::Bad,
     }
 }

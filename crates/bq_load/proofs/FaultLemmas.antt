@@ -69,18 +69,23 @@ hook_cut [] h = refl
 hook_cut (b ∷ bytes) h = absurd (omega arith)
 
 -- a number that was read from two bytes is spelled by them
-two_bytes : (field rest : List ℕ) → AreBytes field → length field ≡ 2 → (n : ℕ) × (n < 2 ^ 16) × (field ≡ to_le_bytes w16 n) × (number_at 2 (field ++ rest) ≡ Ok (n, rest))
+two_bytes : (field rest : List ℕ) → AreBytes field → length field ≡ 2
+    → (n : ℕ) × (n < 2 ^ 16) × (field ≡ to_le_bytes w16 n) × (number_at 2 (field ++ rest) ≡ Ok (n, rest))
 two_bytes field rest fits two =
     let made = half_ok field (little_number 2 field) (drop 2 field) fits (record { long = omega (arith, two); is = refl; after = refl }) in
     let none : drop 2 field ≡ [] = nil_from_length (drop 2 field) (omega (arith, length-drop 2 field, two)) in
-    let is : field ≡ to_le_bytes w16 (little_number 2 field) = made.0 ∙ ap (λ (x : List ℕ). to_le_bytes w16 (little_number 2 field) ++ x) none ∙ append-nil (to_le_bytes w16 (little_number 2 field)) in (
+    let is : field ≡ to_le_bytes w16 (little_number 2 field) =
+    made.0 ∙ ap (λ (x : List ℕ). to_le_bytes w16 (little_number 2 field) ++ x) none
+    ∙ append-nil (to_le_bytes w16 (little_number 2 field)) in (
       little_number 2 field,
       made.1,
       is,
       ap (λ (x : List ℕ). number_at 2 (x ++ rest)) is ∙ half_again (little_number 2 field) rest made.1,
     )
 
-count_bad : (field rest : List ℕ) → AreBytes field → length field ≡ 2 → ((count : ℕ) → count ≤ 8 → field ≢ to_le_bytes w16 count) → count_at (field ++ rest) ≡ Err fault.Shape
+count_bad : (field rest : List ℕ) → AreBytes field → length field ≡ 2
+    → ((count : ℕ) → count ≤ 8 → field ≢ to_le_bytes w16 count)
+    → count_at (field ++ rest) ≡ Err fault.Shape
 unfolding count_at
 count_bad field rest fits two bad =
     let n = two_bytes field rest fits two in
@@ -89,18 +94,26 @@ count_bad field rest fits two bad =
 
 count_cut : (bytes : List ℕ) → length bytes < 2 → count_at bytes ≡ Err fault.Cut
 unfolding count_at
-count_cut bytes h = ap (λ (r : Result (ℕ × List ℕ) LoadFault). r >>= λ count. cond (nat_le count.0 8) (Ok count) (Err fault.Shape)) (number_cut 2 bytes h)
+count_cut bytes h =
+    ap (λ (r : Result (ℕ × List ℕ) LoadFault). r >>= λ count. cond (nat_le count.0 8) (Ok count) (Err fault.Shape))
+    (number_cut 2 bytes h)
 
-shape_bad : (field rest : List ℕ) → AreBytes field → length field ≡ 4 → ((s : MapShape) → field ≢ shape_bytes s) → shape_at (field ++ rest) ≡ Err fault.Shape
+shape_bad : (field rest : List ℕ) → AreBytes field → length field ≡ 4 → ((s : MapShape) → field ≢ shape_bytes s)
+    → shape_at (field ++ rest) ≡ Err fault.Shape
 unfolding shape_at
 shape_bad (a ∷ b ∷ c ∷ d ∷ []) rest fits four bad =
     let size = two_bytes (a ∷ b ∷ []) (c ∷ d ∷ rest) (AreBytes-front (a ∷ b ∷ []) (c ∷ d ∷ []) fits) refl in
     let entries = two_bytes (c ∷ d ∷ []) rest (AreBytes-after (a ∷ b ∷ []) (c ∷ d ∷ []) fits) refl in
     let joined : a ∷ b ∷ c ∷ d ∷ [] ≡ to_le_bytes w16 size.0 ++ to_le_bytes w16 entries.0 =
     ap (λ (x : List ℕ). x ++ (c ∷ d ∷ [])) size.2 ∙ ap (λ (x : List ℕ). to_le_bytes w16 size.0 ++ x) entries.2 in
-    let out : is_shape size.0 entries.0 ≡ false = false_from_ne_true _ (λ e. bad (shape_of size.0 entries.0 (is_shape-limits size.0 entries.0 e)) (joined ∙ sym (shape_of-bytes size.0 entries.0 (is_shape-limits size.0 entries.0 e)))) in
-    ap (λ (r : Result (ℕ × List ℕ) LoadFault). r >>= λ size. number_at 2 size.1 >>= λ entries. cond (is_shape size.0 entries.0) (Ok entries.1) (Err fault.Shape)) size.3
-    ∙ ap (λ (r : Result (ℕ × List ℕ) LoadFault). r >>= λ entries. cond (is_shape size.0 entries.0) (Ok entries.1) (Err fault.Shape)) entries.3
+    let out : is_shape size.0 entries.0 ≡ false =
+    false_from_ne_true _ (λ e.
+    bad (shape_of size.0 entries.0 (is_shape-limits size.0 entries.0 e))
+    (joined ∙ sym (shape_of-bytes size.0 entries.0 (is_shape-limits size.0 entries.0 e)))) in
+    ap (λ (r : Result (ℕ × List ℕ) LoadFault).
+    r >>= λ size. number_at 2 size.1 >>= λ entries. cond (is_shape size.0 entries.0) (Ok entries.1) (Err fault.Shape)) size.3
+    ∙ ap (λ (r : Result (ℕ × List ℕ) LoadFault). r >>= λ entries. cond (is_shape size.0 entries.0) (Ok entries.1) (Err fault.Shape))
+    entries.3
     ∙ ap (λ (t : Bool). cond t (Ok rest) (Err fault.Shape)) out
 shape_bad [] rest fits four bad = absurd (omega arith)
 shape_bad (a ∷ []) rest fits four bad = absurd (omega arith)
@@ -112,14 +125,22 @@ shape_cut : (bytes : List ℕ) → length bytes < 4 → shape_at bytes ≡ Err f
 unfolding shape_at
 shape_cut bytes h =
     elim (cases_lt (length bytes) 2) [
-      | inl lt ↦ ap (λ (r : Result (ℕ × List ℕ) LoadFault). r >>= λ size. number_at 2 size.1 >>= λ entries. cond (is_shape size.0 entries.0) (Ok entries.1) (Err fault.Shape)) (number_cut 2 bytes lt)
+      | inl lt ↦
+          ap (λ (r : Result (ℕ × List ℕ) LoadFault).
+          r >>= λ size. number_at 2 size.1 >>= λ entries. cond (is_shape size.0 entries.0) (Ok entries.1) (Err fault.Shape))
+          (number_cut 2 bytes lt)
       | inr le ↦
-          ap (λ (r : Result (ℕ × List ℕ) LoadFault). r >>= λ size. number_at 2 size.1 >>= λ entries. cond (is_shape size.0 entries.0) (Ok entries.1) (Err fault.Shape)) (number_again 2 bytes le)
-          ∙ ap (λ (r : Result (ℕ × List ℕ) LoadFault). r >>= λ entries. cond (is_shape (little_number 2 bytes) entries.0) (Ok entries.1) (Err fault.Shape)) (number_cut 2 (drop 2 bytes) (omega (arith, length-drop 2 bytes)))
+          ap (λ (r : Result (ℕ × List ℕ) LoadFault).
+          r >>= λ size. number_at 2 size.1 >>= λ entries. cond (is_shape size.0 entries.0) (Ok entries.1) (Err fault.Shape))
+          (number_again 2 bytes le)
+          ∙ ap (λ (r : Result (ℕ × List ℕ) LoadFault).
+          r >>= λ entries. cond (is_shape (little_number 2 bytes) entries.0) (Ok entries.1) (Err fault.Shape))
+          (number_cut 2 (drop 2 bytes) (omega (arith, length-drop 2 bytes)))
     ]
 
 -- some of the shapes, and then a fault
-shapes_stop : (n : ℕ) (shapes : List MapShape) (rest : List ℕ) (f : LoadFault) → length shapes < n → shape_at rest ≡ Err f → shapes_at n (shapes_bytes shapes ++ rest) ≡ Err f
+shapes_stop : (n : ℕ) (shapes : List MapShape) (rest : List ℕ) (f : LoadFault)
+    → length shapes < n → shape_at rest ≡ Err f → shapes_at n (shapes_bytes shapes ++ rest) ≡ Err f
 unfolding shapes_at
 shapes_stop zero shapes rest f h e = absurd (omega arith)
 shapes_stop (suc n) [] rest f h e = ap (λ (r : Result (List ℕ) LoadFault). r >>= shapes_at n) e
@@ -131,11 +152,14 @@ shapes_stop (suc n) (s ∷ shapes) rest f h e =
     ∙ shapes_stop n shapes rest f (omega arith) e
 
 -- all shapes are there, and then less than the number of slots
-slots_cut : (v : Version) (h : Hook) (n : ℕ) (shapes : List MapShape) (part : List ℕ) → n ≡ length shapes → length part < 4 → after_count v h (n, shapes_bytes shapes ++ part) ≡ Err fault.Cut
+slots_cut : (v : Version) (h : Hook) (n : ℕ) (shapes : List MapShape) (part : List ℕ)
+    → n ≡ length shapes → length part < 4 → after_count v h (n, shapes_bytes shapes ++ part) ≡ Err fault.Cut
 slots_cut v h n shapes part is short =
     let maps : List ℕ = shapes_bytes shapes ++ part in
     ap (λ (r : Result (List ℕ) LoadFault). r >>= after_shapes v h n maps) (ap (λ (m : ℕ). shapes_at m maps) is ∙ shapes_again shapes part)
-    ∙ ap (λ (r : Result (ℕ × List ℕ) LoadFault). r >>= λ slots. Ok (record { version = v; hook = h; shapes = take (4 * n) maps; slots = slots.0 }, slots.1)) (number_cut 4 part short)
+    ∙ ap (λ (r : Result (ℕ × List ℕ) LoadFault).
+    r >>= λ slots. Ok (record { version = v; hook = h; shapes = take (4 * n) maps; slots = slots.0 }, slots.1))
+    (number_cut 4 part short)
 
 one_byte : (field : List ℕ) → length field ≡ 1 → (b : ℕ) × (field ≡ b ∷ [])
 one_byte [] h = absurd (omega arith)
@@ -143,10 +167,12 @@ one_byte (b ∷ []) h = (b, refl)
 one_byte (b ∷ c ∷ more) h = absurd (omega arith)
 
 -- good fields and then a bad one
-bad_at : (front : Front) (field rest : List ℕ) (f : LoadFault) → AreBytes field → IsGood front → length field ≡ next_width front → IsBadNext front field f
+bad_at : (front : Front) (field rest : List ℕ) (f : LoadFault)
+    → AreBytes field → IsGood front → length field ≡ next_width front → IsBadNext front field f
     → header_at (front_bytes front ++ (field ++ rest)) ≡ Err f
 unfolding header_at
-bad_at Nothing field rest fault.Magic fits good whole bad = ap (λ (r : Result (List ℕ) LoadFault). r >>= after_magic) (magic_bad field rest whole bad)
+bad_at Nothing field rest fault.Magic fits good whole bad =
+    ap (λ (r : Result (List ℕ) LoadFault). r >>= after_magic) (magic_bad field rest whole bad)
 bad_at Marked field rest fault.Version fits good whole bad =
     let one = one_byte field whole in
     let worse : (v : Version) → one.0 ∷ [] ≢ version_number v ∷ [] = λ v e. bad v (one.1 ∙ e) in
@@ -158,10 +184,13 @@ bad_at (Versioned v) field rest fault.Hook fits good whole bad =
     ap (λ (x : List ℕ). header_at (magic ++ (version_number v ∷ (x ++ rest)))) one.1 ∙ read_versioned v (one.0 ∷ rest)
     ∙ ap (λ (r : Result (Hook × List ℕ) LoadFault). r >>= after_hook v) (hook_bad one.0 rest worse)
 bad_at (Hooked v h) field rest fault.Shape fits good whole bad =
-    read_hooked v h (field ++ rest) ∙ ap (λ (r : Result (ℕ × List ℕ) LoadFault). r >>= after_count v h) (count_bad field rest fits whole bad)
+    read_hooked v h (field ++ rest)
+    ∙ ap (λ (r : Result (ℕ × List ℕ) LoadFault). r >>= after_count v h) (count_bad field rest fits whole bad)
 bad_at (Mapped v h n shapes) field rest fault.Shape fits good whole bad =
-    ap header_at (append_assoc (opening v h n) (shapes_bytes shapes) (field ++ rest)) ∙ read_counted v h n (shapes_bytes shapes ++ (field ++ rest)) good.0
-    ∙ ap (λ (r : Result (List ℕ) LoadFault). r >>= after_shapes v h n (shapes_bytes shapes ++ (field ++ rest))) (shapes_stop n shapes (field ++ rest) fault.Shape bad.0 (shape_bad field rest fits whole bad.1))
+    ap header_at (append_assoc (opening v h n) (shapes_bytes shapes) (field ++ rest))
+    ∙ read_counted v h n (shapes_bytes shapes ++ (field ++ rest)) good.0
+    ∙ ap (λ (r : Result (List ℕ) LoadFault). r >>= after_shapes v h n (shapes_bytes shapes ++ (field ++ rest)))
+    (shapes_stop n shapes (field ++ rest) fault.Shape bad.0 (shape_bad field rest fits whole bad.1))
 bad_at front field rest f fits good whole bad = absurd bad
 
 -- good fields and then less than the next; behind the header that is the program
@@ -172,13 +201,19 @@ IsCutAt front part = header_at (front_bytes front ++ part) ≡ Err fault.Cut
 cut_at : (front : Front) (part : List ℕ) → IsGood front → length part < next_width front → IsCutAt front part
 unfolding header_at
 cut_at Nothing part good short = ap (λ (r : Result (List ℕ) LoadFault). r >>= after_magic) (magic_cut part short)
-cut_at Marked part good short = read_marked part ∙ ap (λ (r : Result (Version × List ℕ) LoadFault). r >>= after_version) (version_cut part short)
-cut_at (Versioned v) part good short = read_versioned v part ∙ ap (λ (r : Result (Hook × List ℕ) LoadFault). r >>= after_hook v) (hook_cut part short)
-cut_at (Hooked v h) part good short = read_hooked v h part ∙ ap (λ (r : Result (ℕ × List ℕ) LoadFault). r >>= after_count v h) (count_cut part short)
+cut_at Marked part good short =
+    read_marked part ∙ ap (λ (r : Result (Version × List ℕ) LoadFault). r >>= after_version) (version_cut part short)
+cut_at (Versioned v) part good short =
+    read_versioned v part ∙ ap (λ (r : Result (Hook × List ℕ) LoadFault). r >>= after_hook v) (hook_cut part short)
+cut_at (Hooked v h) part good short =
+    read_hooked v h part ∙ ap (λ (r : Result (ℕ × List ℕ) LoadFault). r >>= after_count v h) (count_cut part short)
 cut_at (Mapped v h n shapes) part good short =
-    ap header_at (append_assoc (opening v h n) (shapes_bytes shapes) part) ∙ read_counted v h n (shapes_bytes shapes ++ part) good.0
+    ap header_at (append_assoc (opening v h n) (shapes_bytes shapes) part)
+    ∙ read_counted v h n (shapes_bytes shapes ++ part) good.0
     ∙ elim (cases_lt (length shapes) n) [
-      | inl lt ↦ ap (λ (r : Result (List ℕ) LoadFault). r >>= after_shapes v h n (shapes_bytes shapes ++ part)) (shapes_stop n shapes part fault.Cut lt (shape_cut part short))
+      | inl lt ↦
+          ap (λ (r : Result (List ℕ) LoadFault). r >>= after_shapes v h n (shapes_bytes shapes ++ part))
+          (shapes_stop n shapes part fault.Cut lt (shape_cut part short))
       | inr le ↦ slots_cut v h n shapes part (omega (arith, good.1)) short
     ]
 cut_at (Headed h) part good short = header_again h part good
@@ -206,7 +241,8 @@ bad_again bytes f fits b =
     let after : AreBytes (b.field ++ b.rest) = AreBytes-after (front_bytes b.front) (b.field ++ b.rest) (subst AreBytes b.bytes_are fits) in
     ap header_at b.bytes_are ∙ bad_at b.front b.field b.rest f (AreBytes-front b.field b.rest after) b.good b.whole b.bad
 
-cut_again : (front : Front) (part : List ℕ) → IsGood front → length part < next_width front → frame_at (front_bytes front ++ part) ≡ Err fault.Cut
+cut_again : (front : Front) (part : List ℕ) → IsGood front → length part < next_width front
+    → frame_at (front_bytes front ++ part) ≡ Err fault.Cut
 cut_again (Headed h) part good short = frame_short h part good short
 cut_again Nothing part good short = frame_stop part fault.Cut (cut_at Nothing part good short)
 cut_again Marked part good short = frame_stop (magic ++ part) fault.Cut (cut_at Marked part good short)

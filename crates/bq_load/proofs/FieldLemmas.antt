@@ -51,7 +51,8 @@ IsRefusedField front bytes f =
     ⊎ ((field : List ℕ) × (rest : List ℕ) × (bytes ≡ field ++ rest) × (length field ≡ next_width front) × IsBadNext front field f)
 
 -- the fault of a step, or of what follows it
-pub bind_err : {A B : Type 0} (r : Result A LoadFault) (f : A → Result B LoadFault) (e : LoadFault) → (r >>= f) ≡ Err e → (r ≡ Err e) ⊎ ((x : A) × (r ≡ Ok x) × (f x ≡ Err e))
+pub bind_err : {A B : Type 0} (r : Result A LoadFault) (f : A → Result B LoadFault) (e : LoadFault)
+    → (r >>= f) ≡ Err e → (r ≡ Err e) ⊎ ((x : A) × (r ≡ Ok x) × (f x ≡ Err e))
 bind_err (Ok x) f e h = inr (x, refl, h)
 bind_err (Err d) f e h = inl cc
 
@@ -83,7 +84,8 @@ chosen_by_test false x y z e = inr (refl, e)
 pub magic_ok : (bytes rest : List ℕ) → magic_at bytes ≡ Ok rest → bytes ≡ magic ++ rest
 unfolding magic_at
 magic_ok bytes rest e =
-    elim (chosen_by_test (ltb (length bytes) 4) (Err fault.Cut) (cond (bytes_eq (take 4 bytes) magic) (Ok (drop 4 bytes)) (Err fault.Magic)) (Ok rest) e) [
+    elim (chosen_by_test (ltb (length bytes) 4) (Err fault.Cut)
+    (cond (bytes_eq (take 4 bytes) magic) (Ok (drop 4 bytes)) (Err fault.Magic)) (Ok rest) e) [
       | inl p ↦ absurd (let q = p.1 in cc)
       | inr p ↦
           let g = met_ok (bytes_eq (take 4 bytes) magic) fault.Magic (drop 4 bytes) rest p.1 in
@@ -95,13 +97,23 @@ magic_ok bytes rest e =
 pub magic_err : (bytes : List ℕ) (f : LoadFault) → magic_at bytes ≡ Err f → IsRefusedField Nothing bytes f
 unfolding magic_at
 magic_err bytes f e =
-    elim (chosen_by_test (ltb (length bytes) 4) (Err fault.Cut) (cond (bytes_eq (take 4 bytes) magic) (Ok (drop 4 bytes)) (Err fault.Magic)) (Err f) e) [
+    elim (chosen_by_test (ltb (length bytes) 4) (Err fault.Cut)
+    (cond (bytes_eq (take 4 bytes) magic) (Ok (drop 4 bytes)) (Err fault.Magic)) (Err f) e) [
       | inl p ↦ inl (sym (err_is {A = List ℕ} fault.Cut f p.1), ltb-true _ _ p.0)
       | inr p ↦
           let g = met_err (bytes_eq (take 4 bytes) magic) fault.Magic f (drop 4 bytes) p.1 in
           let long : 4 ≤ length bytes = ltb-false _ _ p.0 in
-          let bad : take 4 bytes ≢ magic = λ h. let t : bytes_eq (take 4 bytes) magic ≡ true = (bytes_eq-Decides (take 4 bytes) magic).1 h in let u = g.0 in absurd cc in
-          inr (take 4 bytes, drop 4 bytes, sym (take-append-drop 4 bytes), omega (arith, length-take 4 bytes), subst (λ (d : LoadFault). IsBadNext Nothing (take 4 bytes) d) g.1 bad)
+          let bad : take 4 bytes ≢ magic =
+          λ h.
+          let t : bytes_eq (take 4 bytes) magic ≡ true = (bytes_eq-Decides (take 4 bytes) magic).1 h in
+          let u = g.0 in absurd cc in
+          inr (
+            take 4 bytes,
+            drop 4 bytes,
+            sym (take-append-drop 4 bytes),
+            omega (arith, length-take 4 bytes),
+            subst (λ (d : LoadFault). IsBadNext Nothing (take 4 bytes) d) g.1 bad,
+          )
     ]
 
 -- ---- the version
@@ -134,7 +146,13 @@ version_err (b ∷ bs) f e =
       | inl p ↦ absurd (let q = p.1 in cc)
       | inr p ↦
           let g = met_err (b == 2) fault.Version f (Second, bs) p.1 in
-          inr (b ∷ [], bs, refl, refl, subst (λ (d : LoadFault). IsBadNext Marked (b ∷ []) d) g.1 (no_version b (eqb-false _ _ p.0) (eqb-false _ _ g.0)))
+          inr (
+            b ∷ [],
+            bs,
+            refl,
+            refl,
+            subst (λ (d : LoadFault). IsBadNext Marked (b ∷ []) d) g.1 (no_version b (eqb-false _ _ p.0) (eqb-false _ _ g.0)),
+          )
     ]
 
 -- ---- the hook
@@ -144,7 +162,8 @@ pub hook_ok : (bytes : List ℕ) (h : Hook) (rest : List ℕ) → hook_at bytes 
 unfolding hook_at
 hook_ok [] h rest e = absurd cc
 hook_ok (b ∷ bs) h rest e =
-    elim (chosen_by_test (b == 0) (Ok (Place, bs)) (cond (b == 1) (Ok (Preempt, bs)) (cond (b == 2) (Ok (Pull, bs)) (Err fault.Hook))) (Ok (h, rest)) e) [
+    elim (chosen_by_test (b == 0) (Ok (Place, bs))
+    (cond (b == 1) (Ok (Preempt, bs)) (cond (b == 2) (Ok (Pull, bs)) (Err fault.Hook))) (Ok (h, rest)) e) [
       | inl p ↦
           let is : b ≡ 0 = eqb-true _ _ p.0 in
           subst (λ (x : Hook × List ℕ). b ∷ bs ≡ hook_byte x.0 ∷ x.1) (ok_is (Place, bs) (h, rest) p.1) (ap (λ (x : ℕ). x ∷ bs) is)
@@ -169,14 +188,23 @@ pub hook_err : (v : Version) (bytes : List ℕ) (f : LoadFault) → hook_at byte
 unfolding hook_at
 hook_err v [] f e = inl (sym (err_is {A = Hook × List ℕ} fault.Cut f e), omega arith)
 hook_err v (b ∷ bs) f e =
-    elim (chosen_by_test (b == 0) (Ok (Place, bs)) (cond (b == 1) (Ok (Preempt, bs)) (cond (b == 2) (Ok (Pull, bs)) (Err fault.Hook))) (Err f) e) [
+    elim (chosen_by_test (b == 0) (Ok (Place, bs))
+    (cond (b == 1) (Ok (Preempt, bs)) (cond (b == 2) (Ok (Pull, bs)) (Err fault.Hook))) (Err f) e) [
       | inl p ↦ absurd (let q = p.1 in cc)
-      | inr p ↦ elim (chosen_by_test (b == 1) (Ok (Preempt, bs)) (cond (b == 2) (Ok (Pull, bs)) (Err fault.Hook)) (Err f) p.1) [
-        | inl q ↦ absurd (let r = q.1 in cc)
-        | inr q ↦
-            let g = met_err (b == 2) fault.Hook f (Pull, bs) q.1 in
-            inr (b ∷ [], bs, refl, refl, subst (λ (d : LoadFault). IsBadNext (Versioned v) (b ∷ []) d) g.1 (no_hook b (eqb-false _ _ p.0) (eqb-false _ _ q.0) (eqb-false _ _ g.0)))
-      ]
+      | inr p ↦
+          elim (chosen_by_test (b == 1) (Ok (Preempt, bs)) (cond (b == 2) (Ok (Pull, bs)) (Err fault.Hook)) (Err f) p.1) [
+            | inl q ↦ absurd (let r = q.1 in cc)
+            | inr q ↦
+                let g = met_err (b == 2) fault.Hook f (Pull, bs) q.1 in
+                inr (
+                  b ∷ [],
+                  bs,
+                  refl,
+                  refl,
+                  subst (λ (d : LoadFault). IsBadNext (Versioned v) (b ∷ []) d) g.1
+                      (no_hook b (eqb-false _ _ p.0) (eqb-false _ _ q.0) (eqb-false _ _ g.0)),
+                )
+          ]
     ]
 
 -- ---- numbers
@@ -189,7 +217,8 @@ number_err width bytes f e =
     (sym g.1, ltb-true _ _ g.0)
 
 -- a number that was read from two bytes is below 2 to the 16th, and stands there before what was left
-pub half_ok : (bytes : List ℕ) (n : ℕ) (rest : List ℕ) → AreBytes bytes → IsNumber 2 bytes n rest → (bytes ≡ to_le_bytes w16 n ++ rest) × (n < 2 ^ 16)
+pub half_ok : (bytes : List ℕ) (n : ℕ) (rest : List ℕ) → AreBytes bytes → IsNumber 2 bytes n rest
+    → (bytes ≡ to_le_bytes w16 n ++ rest) × (n < 2 ^ 16)
 half_ok (a ∷ b ∷ bs) n rest fits r =
     let fa : a < 256 = fits 0 in
     let fb : b < 256 = fits 1 in
@@ -202,7 +231,8 @@ half_ok (a ∷ []) n rest fits r = absurd (omega (arith, r.long))
 half_ok [] n rest fits r = absurd (omega (arith, r.long))
 
 -- a number that was read from four bytes is below 2 to the 32nd, and stands there before what was left
-pub word_ok : (bytes : List ℕ) (n : ℕ) (rest : List ℕ) → AreBytes bytes → IsNumber 4 bytes n rest → (bytes ≡ to_le_bytes w32 n ++ rest) × (n < 2 ^ 32)
+pub word_ok : (bytes : List ℕ) (n : ℕ) (rest : List ℕ) → AreBytes bytes → IsNumber 4 bytes n rest
+    → (bytes ≡ to_le_bytes w32 n ++ rest) × (n < 2 ^ 32)
 word_ok (a ∷ b ∷ c ∷ d ∷ bs) n rest fits r =
     let fa : a < 256 = fits 0 in
     let fb : b < 256 = fits 1 in
@@ -227,7 +257,8 @@ one_half m n lm ln e = sym (from_le_bytes-to_le_bytes_2 m lm) ∙ ap (from_le_by
 -- ---- the number of maps
 
 -- a number of maps that was read is at most 8, and stands there before what was left
-pub count_ok : (bytes : List ℕ) (n : ℕ) (rest : List ℕ) → AreBytes bytes → count_at bytes ≡ Ok (n, rest) → (bytes ≡ to_le_bytes w16 n ++ rest) × (n ≤ 8)
+pub count_ok : (bytes : List ℕ) (n : ℕ) (rest : List ℕ) → AreBytes bytes → count_at bytes ≡ Ok (n, rest)
+    → (bytes ≡ to_le_bytes w16 n ++ rest) × (n ≤ 8)
 unfolding count_at
 count_ok bytes n rest fits e =
     let a = bind_ok (number_at 2 bytes) (λ count. cond (nat_le count.0 8) (Ok count) (Err fault.Shape)) (n, rest) e in
@@ -236,7 +267,8 @@ count_ok bytes n rest fits e =
     subst (λ (x : ℕ × List ℕ). (bytes ≡ to_le_bytes w16 x.0 ++ x.1) × (x.0 ≤ 8)) g.1 (made.0, leb-true _ _ g.0)
 
 -- where reading the number of maps failed, its two bytes are cut, or spell no number up to 8
-pub count_err : (v : Version) (h : Hook) (bytes : List ℕ) (f : LoadFault) → AreBytes bytes → count_at bytes ≡ Err f → IsRefusedField (Hooked v h) bytes f
+pub count_err : (v : Version) (h : Hook) (bytes : List ℕ) (f : LoadFault)
+    → AreBytes bytes → count_at bytes ≡ Err f → IsRefusedField (Hooked v h) bytes f
 unfolding count_at
 count_err v h bytes f fits e =
     elim (bind_err (number_at 2 bytes) (λ count. cond (nat_le count.0 8) (Ok count) (Err fault.Shape)) f e) [
@@ -246,7 +278,8 @@ count_err v h bytes f fits e =
           let g = met_err (nat_le x.0 8) fault.Shape f x p.2 in
           let made = half_ok bytes x.0 x.1 fits (number_ok 2 bytes x.0 x.1 p.1) in
           let over : 8 < x.0 = leb-false _ _ g.0 in
-          let bad : (count : ℕ) → count ≤ 8 → to_le_bytes w16 x.0 ≢ to_le_bytes w16 count = λ (count : ℕ) (few : count ≤ 8) (same : to_le_bytes w16 x.0 ≡ to_le_bytes w16 count).
+          let bad : (count : ℕ) → count ≤ 8 → to_le_bytes w16 x.0 ≢ to_le_bytes w16 count =
+          λ (count : ℕ) (few : count ≤ 8) (same : to_le_bytes w16 x.0 ≡ to_le_bytes w16 count).
           let is : x.0 ≡ count = one_half x.0 count made.1 (omega arith) same in absurd (omega arith) in
           inr (to_le_bytes w16 x.0, x.1, made.0, refl, subst (λ (d : LoadFault). IsBadNext (Hooked v h) (to_le_bytes w16 x.0) d) g.1 bad)
     ]
@@ -265,7 +298,8 @@ shape_of size entries h = record {
 }
 
 -- the bytes of a shape that is made of two numbers are those of the numbers
-pub shape_of-bytes : (size entries : ℕ) (h : IsShape size entries) → shape_bytes (shape_of size entries h) ≡ to_le_bytes w16 size ++ to_le_bytes w16 entries
+pub shape_of-bytes : (size entries : ℕ) (h : IsShape size entries)
+    → shape_bytes (shape_of size entries h) ≡ to_le_bytes w16 size ++ to_le_bytes w16 entries
 unfolding shape_of
 shape_of-bytes size entries h = refl
 
@@ -310,7 +344,9 @@ pub record IsRead (bytes rest : List ℕ) (size entries : ℕ) : Type 0 where
   pub entries_fit : entries < 2 ^ 16
 
 -- two numbers that were read, from two bytes each, stand there one after the other, and are below 2 to the 16th
-pub two_halves : (bytes : List ℕ) (size entries : ℕ) (middle rest : List ℕ) → AreBytes bytes → number_at 2 bytes ≡ Ok (size, middle) → number_at 2 middle ≡ Ok (entries, rest) → IsRead bytes rest size entries
+pub two_halves : (bytes : List ℕ) (size entries : ℕ) (middle rest : List ℕ)
+    → AreBytes bytes → number_at 2 bytes ≡ Ok (size, middle) → number_at 2 middle ≡ Ok (entries, rest)
+    → IsRead bytes rest size entries
 two_halves bytes size entries middle rest fits e f =
     let a = half_ok bytes size middle fits (number_ok 2 bytes size middle e) in
     let after : AreBytes (to_le_bytes w16 size ++ middle) = subst AreBytes a.0 fits in
@@ -325,7 +361,9 @@ two_halves bytes size entries middle rest fits e f =
 pub shape_ok : (bytes rest : List ℕ) → AreBytes bytes → shape_at bytes ≡ Ok rest → (s : MapShape) × (bytes ≡ shape_bytes s ++ rest)
 unfolding shape_at shape_of
 shape_ok bytes rest fits e =
-    let a = bind_ok (number_at 2 bytes) (λ size. number_at 2 size.1 >>= λ entries. cond (is_shape size.0 entries.0) (Ok entries.1) (Err fault.Shape)) rest e in
+    let a =
+    bind_ok (number_at 2 bytes)
+    (λ size. number_at 2 size.1 >>= λ entries. cond (is_shape size.0 entries.0) (Ok entries.1) (Err fault.Shape)) rest e in
     let b = bind_ok (number_at 2 a.0.1) (λ entries. cond (is_shape a.0.0 entries.0) (Ok entries.1) (Err fault.Shape)) rest a.2 in
     let g = met_ok (is_shape a.0.0 b.0.0) fault.Shape b.0.1 rest b.2 in
     let read = two_halves bytes a.0.0 b.0.0 a.0.1 b.0.1 fits a.1 b.1 in
@@ -337,9 +375,11 @@ shape_ok bytes rest fits e =
 abbrev pub IsRefusedShape : List ℕ → LoadFault → Type 0
 IsRefusedShape bytes f =
     ((f ≡ fault.Cut) × (length bytes < 4))
-    ⊎ ((field : List ℕ) × (rest : List ℕ) × (bytes ≡ field ++ rest) × (length field ≡ 4) × (f ≡ fault.Shape) × ((s : MapShape) → field ≢ shape_bytes s))
+    ⊎ ((field : List ℕ) × (rest : List ℕ) × (bytes ≡ field ++ rest) × (length field ≡ 4) × (f ≡ fault.Shape)
+    × ((s : MapShape) → field ≢ shape_bytes s))
 
-no_shape : (size entries : ℕ) → size < 2 ^ 16 → entries < 2 ^ 16 → is_shape size entries ≡ false → (s : MapShape) → to_le_bytes w16 size ++ to_le_bytes w16 entries ≢ shape_bytes s
+no_shape : (size entries : ℕ) → size < 2 ^ 16 → entries < 2 ^ 16 → is_shape size entries ≡ false
+    → (s : MapShape) → to_le_bytes w16 size ++ to_le_bytes w16 entries ≢ shape_bytes s
 no_shape size entries ls le out s e =
     let sizes : to_le_bytes w16 size ≡ to_le_bytes w16 s.value_size = cc in
     let counts : to_le_bytes w16 entries ≡ to_le_bytes w16 s.entries = cc in
@@ -353,22 +393,32 @@ no_shape size entries ls le out s e =
 pub shape_err : (bytes : List ℕ) (f : LoadFault) → AreBytes bytes → shape_at bytes ≡ Err f → IsRefusedShape bytes f
 unfolding shape_at
 shape_err bytes f fits e =
-    elim (bind_err (number_at 2 bytes) (λ size. number_at 2 size.1 >>= λ entries. cond (is_shape size.0 entries.0) (Ok entries.1) (Err fault.Shape)) f e) [
+    elim (bind_err (number_at 2 bytes)
+    (λ size. number_at 2 size.1 >>= λ entries. cond (is_shape size.0 entries.0) (Ok entries.1) (Err fault.Shape)) f e) [
       | inl p ↦ let n = number_err 2 bytes f p in inl (n.0, omega (arith, n.1))
-      | inr p ↦ elim (bind_err (number_at 2 p.0.1) (λ entries. cond (is_shape p.0.0 entries.0) (Ok entries.1) (Err fault.Shape)) f p.2) [
-        | inl q ↦
-            let n = number_err 2 p.0.1 f q in
-            let first = number_ok 2 bytes p.0.0 p.0.1 p.1 in
-            inl (n.0, omega (arith, n.1, first.long, ap length first.after, length-drop 2 bytes))
-        | inr q ↦
-            let g = met_err (is_shape p.0.0 q.0.0) fault.Shape f q.0.1 q.2 in
-            let read = two_halves bytes p.0.0 q.0.0 p.0.1 q.0.1 fits p.1 q.1 in
-            inr (to_le_bytes w16 p.0.0 ++ to_le_bytes w16 q.0.0, q.0.1, read.bytes_are, refl, sym g.1, no_shape p.0.0 q.0.0 read.size_fits read.entries_fit g.0)
-      ]
+      | inr p ↦
+          elim (bind_err (number_at 2 p.0.1) (λ entries. cond (is_shape p.0.0 entries.0) (Ok entries.1) (Err fault.Shape)) f p.2) [
+            | inl q ↦
+                let n = number_err 2 p.0.1 f q in
+                let first = number_ok 2 bytes p.0.0 p.0.1 p.1 in
+                inl (n.0, omega (arith, n.1, first.long, ap length first.after, length-drop 2 bytes))
+            | inr q ↦
+                let g = met_err (is_shape p.0.0 q.0.0) fault.Shape f q.0.1 q.2 in
+                let read = two_halves bytes p.0.0 q.0.0 p.0.1 q.0.1 fits p.1 q.1 in
+                inr (
+                  to_le_bytes w16 p.0.0 ++ to_le_bytes w16 q.0.0,
+                  q.0.1,
+                  read.bytes_are,
+                  refl,
+                  sym g.1,
+                  no_shape p.0.0 q.0.0 read.size_fits read.entries_fit g.0,
+                )
+          ]
     ]
 
 -- where this many shapes were read, the bytes of as many are there, and what was left stands after them
-pub shapes_ok : (n : ℕ) (bytes rest : List ℕ) → AreBytes bytes → shapes_at n bytes ≡ Ok rest → (shapes : List MapShape) × (length shapes ≡ n) × (bytes ≡ shapes_bytes shapes ++ rest)
+pub shapes_ok : (n : ℕ) (bytes rest : List ℕ) → AreBytes bytes → shapes_at n bytes ≡ Ok rest
+    → (shapes : List MapShape) × (length shapes ≡ n) × (bytes ≡ shapes_bytes shapes ++ rest)
 unfolding shapes_at
 shapes_ok zero bytes rest fits e = ([], refl, ok_is bytes rest e)
 shapes_ok (suc n) bytes rest fits e =
@@ -376,7 +426,9 @@ shapes_ok (suc n) bytes rest fits e =
     let s = shape_ok bytes a.0 fits a.1 in
     let after : AreBytes a.0 = AreBytes-after (shape_bytes s.0) a.0 (subst AreBytes s.1 fits) in
     let others = shapes_ok n a.0 rest after a.2 in
-    let joined : shape_bytes s.0 ++ (shapes_bytes others.0 ++ rest) ≡ shapes_bytes (s.0 ∷ others.0) ++ rest = sym (append_assoc (shape_bytes s.0) (shapes_bytes others.0) rest) ∙ ap (λ (x : List ℕ). x ++ rest) (sym (flat_map-cons shape_bytes s.0 others.0)) in
+    let joined : shape_bytes s.0 ++ (shapes_bytes others.0 ++ rest) ≡ shapes_bytes (s.0 ∷ others.0) ++ rest =
+    sym (append_assoc (shape_bytes s.0) (shapes_bytes others.0) rest)
+    ∙ ap (λ (x : List ℕ). x ++ rest) (sym (flat_map-cons shape_bytes s.0 others.0)) in
     (s.0 ∷ others.0, ap suc others.1, s.1 ∙ ap (λ (x : List ℕ). shape_bytes s.0 ++ x) others.2 ∙ joined)
 
 -- some good shapes, and then one that is refused
@@ -398,8 +450,10 @@ shapes_err (suc n) bytes f fits e =
           let s = shape_ok bytes p.0 fits p.1 in
           let after : AreBytes p.0 = AreBytes-after (shape_bytes s.0) p.0 (subst AreBytes s.1 fits) in
           let others = shapes_err n p.0 f after p.2 in
-          let joined : shape_bytes s.0 ++ (shapes_bytes others.shapes ++ others.rest) ≡ shapes_bytes (s.0 ∷ others.shapes) ++ others.rest =
-          sym (append_assoc (shape_bytes s.0) (shapes_bytes others.shapes) others.rest) ∙ ap (λ (x : List ℕ). x ++ others.rest) (sym (flat_map-cons shape_bytes s.0 others.shapes)) in
+          let joined : shape_bytes s.0 ++ (shapes_bytes others.shapes ++ others.rest)
+          ≡ shapes_bytes (s.0 ∷ others.shapes) ++ others.rest =
+          sym (append_assoc (shape_bytes s.0) (shapes_bytes others.shapes) others.rest)
+          ∙ ap (λ (x : List ℕ). x ++ others.rest) (sym (flat_map-cons shape_bytes s.0 others.shapes)) in
           record {
             shapes = s.0 ∷ others.shapes;
             rest = others.rest;

@@ -21,7 +21,8 @@ use Rattle.bq_load.proofs.HeaderLemmas.{length-shapes_bytes, header_ok, header_e
 -- where the program ends
 ended_ok : (x y : Spelled × List ℕ) → ended x ≡ Ok y → (x ≡ y) × (length x.1 ≡ 8 * x.0.slots)
 ended_ok x y e =
-    elim (chosen_by_test (ltb (length x.1) (8 * x.0.slots)) (Err fault.Cut) (cond (ltb (8 * x.0.slots) (length x.1)) (Err fault.Rest) (Ok x)) (Ok y) e) [
+    elim (chosen_by_test (ltb (length x.1) (8 * x.0.slots)) (Err fault.Cut)
+    (cond (ltb (8 * x.0.slots) (length x.1)) (Err fault.Rest) (Ok x)) (Ok y) e) [
       | inl p ↦ absurd (let q = p.1 in cc)
       | inr p ↦ elim (chosen_by_test (ltb (8 * x.0.slots) (length x.1)) (Err fault.Rest) (Ok x) (Ok y) p.1) [
         | inl q ↦ absurd (let r = q.1 in cc)
@@ -50,7 +51,8 @@ frame_ok bytes x fits e =
 ended_err : (bytes : List ℕ) (x : Spelled × List ℕ) (f : LoadFault) → HasHeader bytes x.0 x.1 → ended x ≡ Err f → IsFault bytes f
 ended_err bytes x f there e =
     let h = with_shapes x.0 there.shapes in
-    elim (chosen_by_test (ltb (length x.1) (8 * x.0.slots)) (Err fault.Cut) (cond (ltb (8 * x.0.slots) (length x.1)) (Err fault.Rest) (Ok x)) (Err f) e) [
+    elim (chosen_by_test (ltb (length x.1) (8 * x.0.slots)) (Err fault.Cut)
+    (cond (ltb (8 * x.0.slots) (length x.1)) (Err fault.Rest) (Ok x)) (Err f) e) [
       | inl p ↦
           subst (IsFault bytes) (err_is {A = Spelled × List ℕ} fault.Cut f p.1)
           (record { front = Headed h; part = x.1; good = there.good; bytes_are = there.bytes_are; short = ltb-true _ _ p.0 })
@@ -101,27 +103,36 @@ no_length n h = grind (arith, nat_tests)
 
 -- eight bytes for each of more than 4096 slots are no length of a program
 pub bad_length_of : (n slots : ℕ) → n ≡ 8 * slots → 4096 < slots → ((n % 8 == 0) && (nat_le 1 n && nat_le n 32768)) ≡ false
-bad_length_of n slots whole over = subst (λ (m : ℕ). ((m % 8 == 0) && (nat_le 1 m && nat_le m 32768)) ≡ false) (sym whole) (no_length slots (inr over))
+bad_length_of n slots whole over =
+    subst (λ (m : ℕ). ((m % 8 == 0) && (nat_le 1 m && nat_le m 32768)) ≡ false) (sym whole) (no_length slots (inr over))
 
 -- a program of no slot, or of more than 4096, has the fault of its length
-pub bad_length : (bytes : List ℕ) (s : Spelled) (program : List ℕ) → Frames bytes s program → (s.slots ≡ 0) ⊎ (4096 < s.slots) → HasFaultyProgram bytes 0 Length
+pub bad_length : (bytes : List ℕ) (s : Spelled) (program : List ℕ)
+    → Frames bytes s program → (s.slots ≡ 0) ⊎ (4096 < s.slots) → HasFaultyProgram bytes 0 Length
 bad_length bytes s program frames out = record {
   header = with_shapes s frames.shapes;
   program = program;
   framed = frames.framed;
-  faulty = (refl, subst (λ (n : ℕ). ((n % 8 == 0) && (nat_le 1 n && nat_le n 32768)) ≡ false) (sym frames.framed.whole) (no_length s.slots out));
+  faulty = (
+    refl,
+    subst (λ (n : ℕ). ((n % 8 == 0) && (nat_le 1 n && nat_le n 32768)) ≡ false) (sym frames.framed.whole)
+        (no_length s.slots out),
+  );
 }
 
 -- ---- images
 
-same_header : (s : Spelled) (shapes others : List MapShape) → shapes_bytes shapes ≡ shapes_bytes others → header_bytes (with_shapes s shapes) ≡ header_bytes (with_shapes s others)
+same_header : (s : Spelled) (shapes others : List MapShape) → shapes_bytes shapes ≡ shapes_bytes others
+    → header_bytes (with_shapes s shapes) ≡ header_bytes (with_shapes s others)
 same_header s shapes others same =
     let count : length shapes ≡ length others = omega (arith, length-shapes_bytes shapes, length-shapes_bytes others, ap length same) in
     ap (λ (n : ℕ). opening s.version s.hook n ++ (shapes_bytes shapes ++ to_le_bytes w32 s.slots)) count
     ∙ ap (λ (x : List ℕ). opening s.version s.hook (length others) ++ (x ++ to_le_bytes w32 s.slots)) same
 
 -- a header and its program of 1 to 4096 slots are an image of any shapes that have the header's bytes
-pub is_image : (bytes : List ℕ) (s : Spelled) (program : List ℕ) (shapes : List MapShape) → HasParts bytes s program → s.shapes ≡ shapes_bytes shapes → IsImage bytes s.version s.hook shapes program
+pub is_image : (bytes : List ℕ) (s : Spelled) (program : List ℕ) (shapes : List MapShape)
+    → HasParts bytes s program → s.shapes ≡ shapes_bytes shapes
+    → IsImage bytes s.version s.hook shapes program
 is_image bytes s program shapes parts is =
     let frames = parts.frames in
     let same : shapes_bytes frames.shapes ≡ shapes_bytes shapes = sym frames.shapes_are ∙ is in

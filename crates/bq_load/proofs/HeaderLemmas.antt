@@ -21,12 +21,19 @@ use Rattle.bq_load.proofs.FieldLemmas.{AreBytes, AreBytes-after, IsRefusedField,
 -- a shape has four bytes
 pub length-shapes_bytes : (shapes : List MapShape) → length (shapes_bytes shapes) ≡ 4 * length shapes
 length-shapes_bytes [] = refl
-length-shapes_bytes (s ∷ shapes) = omega (arith, ap length (flat_map-cons shape_bytes s shapes), length-append (shape_bytes s) (shapes_bytes shapes), length-shapes_bytes shapes)
+length-shapes_bytes (s ∷ shapes) = omega (
+  arith,
+  ap length (flat_map-cons shape_bytes s shapes),
+  length-append (shape_bytes s) (shapes_bytes shapes),
+  length-shapes_bytes shapes,
+)
 
 -- the header as one
-pub regroup_header : (h : Header) (rest : List ℕ) → opening h.version h.hook (length h.shapes) ++ (shapes_bytes h.shapes ++ (to_le_bytes w32 h.slots ++ rest)) ≡ header_bytes h ++ rest
+pub regroup_header : (h : Header) (rest : List ℕ)
+    → opening h.version h.hook (length h.shapes) ++ (shapes_bytes h.shapes ++ (to_le_bytes w32 h.slots ++ rest)) ≡ header_bytes h ++ rest
 regroup_header h rest =
-    ap (λ (x : List ℕ). opening h.version h.hook (length h.shapes) ++ x) (sym (append_assoc (shapes_bytes h.shapes) (to_le_bytes w32 h.slots) rest))
+    ap (λ (x : List ℕ). opening h.version h.hook (length h.shapes) ++ x)
+    (sym (append_assoc (shapes_bytes h.shapes) (to_le_bytes w32 h.slots) rest))
     ∙ sym (append_assoc (opening h.version h.hook (length h.shapes)) (shapes_bytes h.shapes ++ to_le_bytes w32 h.slots) rest)
 
 -- the shapes and the number of slots behind what stands before them
@@ -35,8 +42,10 @@ spelled_maps : (v : Version) (h : Hook) (n : ℕ) (maps : List ℕ) (shapes : Li
     → opening v h n ++ maps ≡ header_bytes (record { version = v; hook = h; shapes = shapes; slots = slots }) ++ rest
 spelled_maps v h n maps shapes slots after rest count maps-is after-is =
     let counted : opening v h n ++ maps ≡ opening v h (length shapes) ++ maps = ap (λ (m : ℕ). opening v h m ++ maps) (sym count) in
-    let whole : maps ≡ shapes_bytes shapes ++ (to_le_bytes w32 slots ++ rest) = maps-is ∙ ap (λ (y : List ℕ). shapes_bytes shapes ++ y) after-is in
-    counted ∙ ap (λ (y : List ℕ). opening v h (length shapes) ++ y) whole ∙ regroup_header (record { version = v; hook = h; shapes = shapes; slots = slots }) rest
+    let whole : maps ≡ shapes_bytes shapes ++ (to_le_bytes w32 slots ++ rest) =
+    maps-is ∙ ap (λ (y : List ℕ). shapes_bytes shapes ++ y) after-is in
+    counted ∙ ap (λ (y : List ℕ). opening v h (length shapes) ++ y) whole
+    ∙ regroup_header (record { version = v; hook = h; shapes = shapes; slots = slots }) rest
 
 -- good fields and then one that is refused
 pub record IsRefused (bytes : List ℕ) (f : LoadFault) : Type 0 where
@@ -47,7 +56,8 @@ pub record IsRefused (bytes : List ℕ) (f : LoadFault) : Type 0 where
   pub refused : IsRefusedField front rest f
 
 -- from a refused shape
-from_shape : (v : Version) (h : Hook) (n : ℕ) (rest : List ℕ) (f : LoadFault) → n ≤ 8 → HasRefusedShape n rest f → IsRefused (opening v h n ++ rest) f
+from_shape : (v : Version) (h : Hook) (n : ℕ) (rest : List ℕ) (f : LoadFault)
+    → n ≤ 8 → HasRefusedShape n rest f → IsRefused (opening v h n ++ rest) f
 from_shape v h n rest f few r = record {
   front = Mapped v h n r.shapes;
   rest = r.rest;
@@ -66,7 +76,8 @@ from_shape v h n rest f few r = record {
 
 -- behind the shapes: the number of slots, and the header is whole
 abbrev pub after_shapes : Version → Hook → ℕ → List ℕ → List ℕ → Result (Spelled × List ℕ) LoadFault
-after_shapes v h n maps after = number_at 4 after >>= λ slots. Ok (record { version = v; hook = h; shapes = take (4 * n) maps; slots = slots.0 }, slots.1)
+after_shapes v h n maps after =
+    number_at 4 after >>= λ slots. Ok (record { version = v; hook = h; shapes = take (4 * n) maps; slots = slots.0 }, slots.1)
 
 -- behind the number of maps: as many shapes, and what follows them
 abbrev pub after_count : Version → Hook → (ℕ × List ℕ) → Result (Spelled × List ℕ) LoadFault
@@ -86,13 +97,15 @@ after_magic rest = version_at rest >>= λ version. after_version version
 
 -- ---- a header that is refused
 
-refused_maps : (v : Version) (h : Hook) (n : ℕ) (maps : List ℕ) (f : LoadFault) → AreBytes maps → n ≤ 8 → after_count v h (n, maps) ≡ Err f → IsRefused (opening v h n ++ maps) f
+refused_maps : (v : Version) (h : Hook) (n : ℕ) (maps : List ℕ) (f : LoadFault)
+    → AreBytes maps → n ≤ 8 → after_count v h (n, maps) ≡ Err f → IsRefused (opening v h n ++ maps) f
 refused_maps v h n maps f fits few e =
     elim (bind_err (shapes_at n maps) (after_shapes v h n maps) f e) [
       | inl p ↦ from_shape v h n maps f few (shapes_err n maps f fits p)
       | inr p ↦
           let s = shapes_ok n maps p.0 fits p.1 in
-          elim (bind_err (number_at 4 p.0) (λ slots. Ok (record { version = v; hook = h; shapes = take (4 * n) maps; slots = slots.0 }, slots.1)) f p.2) [
+          elim (bind_err (number_at 4 p.0)
+          (λ slots. Ok (record { version = v; hook = h; shapes = take (4 * n) maps; slots = slots.0 }, slots.1)) f p.2) [
             | inl q ↦
                 record {
                   front = Mapped v h n s.0;
@@ -105,17 +118,21 @@ refused_maps v h n maps f fits few e =
           ]
     ]
 
-refused_count : (v : Version) (h : Hook) (rest : List ℕ) (f : LoadFault) → AreBytes rest → after_hook v (h, rest) ≡ Err f → IsRefused (magic ++ (version_number v ∷ hook_byte h ∷ rest)) f
+refused_count : (v : Version) (h : Hook) (rest : List ℕ) (f : LoadFault)
+    → AreBytes rest → after_hook v (h, rest) ≡ Err f
+    → IsRefused (magic ++ (version_number v ∷ hook_byte h ∷ rest)) f
 refused_count v h rest f fits e =
     elim (bind_err (count_at rest) (after_count v h) f e) [
       | inl p ↦ record { front = Hooked v h; rest = rest; good = tt; bytes_are = refl; refused = count_err v h rest f fits p }
       | inr p ↦
           let c = count_ok rest p.0.0 p.0.1 fits p.1 in
           let after : AreBytes p.0.1 = AreBytes-after (to_le_bytes w16 p.0.0) p.0.1 (subst AreBytes c.0 fits) in
-          subst (λ (x : List ℕ). IsRefused (magic ++ (version_number v ∷ hook_byte h ∷ x)) f) (sym c.0) (refused_maps v h p.0.0 p.0.1 f after c.1 p.2)
+          subst (λ (x : List ℕ). IsRefused (magic ++ (version_number v ∷ hook_byte h ∷ x)) f) (sym c.0)
+          (refused_maps v h p.0.0 p.0.1 f after c.1 p.2)
     ]
 
-refused_hook : (v : Version) (rest : List ℕ) (f : LoadFault) → AreBytes rest → after_version (v, rest) ≡ Err f → IsRefused (magic ++ (version_number v ∷ rest)) f
+refused_hook : (v : Version) (rest : List ℕ) (f : LoadFault) → AreBytes rest → after_version (v, rest) ≡ Err f
+    → IsRefused (magic ++ (version_number v ∷ rest)) f
 refused_hook v rest f fits e =
     elim (bind_err (hook_at rest) (after_hook v) f e) [
       | inl p ↦ record { front = Versioned v; rest = rest; good = tt; bytes_are = refl; refused = hook_err v rest f p }
@@ -149,12 +166,15 @@ header_err bytes f fits e =
 
 -- ---- a header that is read
 
-read_maps : (v : Version) (h : Hook) (n : ℕ) (maps : List ℕ) (x : Spelled × List ℕ) → AreBytes maps → n ≤ 8 → after_count v h (n, maps) ≡ Ok x → HasHeader (opening v h n ++ maps) x.0 x.1
+read_maps : (v : Version) (h : Hook) (n : ℕ) (maps : List ℕ) (x : Spelled × List ℕ)
+    → AreBytes maps → n ≤ 8 → after_count v h (n, maps) ≡ Ok x → HasHeader (opening v h n ++ maps) x.0 x.1
 read_maps v h n maps x fits few e =
     let g = bind_ok (shapes_at n maps) (after_shapes v h n maps) x e in
     let s = shapes_ok n maps g.0 fits g.1 in
     let after : AreBytes g.0 = AreBytes-after (shapes_bytes s.0) g.0 (subst AreBytes s.2 fits) in
-    let k = bind_ok (number_at 4 g.0) (λ slots. Ok (record { version = v; hook = h; shapes = take (4 * n) maps; slots = slots.0 }, slots.1)) x g.2 in
+    let k =
+    bind_ok (number_at 4 g.0)
+    (λ slots. Ok (record { version = v; hook = h; shapes = take (4 * n) maps; slots = slots.0 }, slots.1)) x g.2 in
     let w = word_ok g.0 k.0.0 k.0.1 after (number_ok 4 g.0 k.0.0 k.0.1 k.1) in
     let made : Spelled = record { version = v; hook = h; shapes = take (4 * n) maps; slots = k.0.0 } in
     let long : length (shapes_bytes s.0) ≡ 4 * n = omega (arith, length-shapes_bytes s.0, s.1) in
@@ -166,14 +186,18 @@ read_maps v h n maps x fits few e =
       bytes_are = spelled_maps v h n maps s.0 k.0.0 g.0 k.0.1 s.1 s.2 w.0;
     })
 
-read_count : (v : Version) (h : Hook) (rest : List ℕ) (x : Spelled × List ℕ) → AreBytes rest → after_hook v (h, rest) ≡ Ok x → HasHeader (magic ++ (version_number v ∷ hook_byte h ∷ rest)) x.0 x.1
+read_count : (v : Version) (h : Hook) (rest : List ℕ) (x : Spelled × List ℕ)
+    → AreBytes rest → after_hook v (h, rest) ≡ Ok x
+    → HasHeader (magic ++ (version_number v ∷ hook_byte h ∷ rest)) x.0 x.1
 read_count v h rest x fits e =
     let p = bind_ok (count_at rest) (after_count v h) x e in
     let c = count_ok rest p.0.0 p.0.1 fits p.1 in
     let after : AreBytes p.0.1 = AreBytes-after (to_le_bytes w16 p.0.0) p.0.1 (subst AreBytes c.0 fits) in
-    subst (λ (y : List ℕ). HasHeader (magic ++ (version_number v ∷ hook_byte h ∷ y)) x.0 x.1) (sym c.0) (read_maps v h p.0.0 p.0.1 x after c.1 p.2)
+    subst (λ (y : List ℕ). HasHeader (magic ++ (version_number v ∷ hook_byte h ∷ y)) x.0 x.1) (sym c.0)
+    (read_maps v h p.0.0 p.0.1 x after c.1 p.2)
 
-read_hook : (v : Version) (rest : List ℕ) (x : Spelled × List ℕ) → AreBytes rest → after_version (v, rest) ≡ Ok x → HasHeader (magic ++ (version_number v ∷ rest)) x.0 x.1
+read_hook : (v : Version) (rest : List ℕ) (x : Spelled × List ℕ)
+    → AreBytes rest → after_version (v, rest) ≡ Ok x → HasHeader (magic ++ (version_number v ∷ rest)) x.0 x.1
 read_hook v rest x fits e =
     let p = bind_ok (hook_at rest) (after_hook v) x e in
     let is = hook_ok rest p.0.0 p.0.1 p.1 in
@@ -241,7 +265,9 @@ bad_field bytes fault.OutOfMemory b = b
 pub refused_is : (bytes : List ℕ) (f : LoadFault) → IsRefused bytes f → IsFault bytes f
 refused_is bytes f r =
     elim r.refused [
-      | inl p ↦ subst (IsFault bytes) (sym p.0) (record { front = r.front; part = r.rest; good = r.good; bytes_are = r.bytes_are; short = p.1 })
+      | inl p ↦
+          subst (IsFault bytes) (sym p.0)
+          (record { front = r.front; part = r.rest; good = r.good; bytes_are = r.bytes_are; short = p.1 })
       | inr p ↦
           bad_field bytes f (record {
             front = r.front;

@@ -66,11 +66,14 @@ header_fits h good = omega (arith, length-header_bytes h, good.few)
 -- bytes that begin with two headers begin with one
 pub one_header : (h k : Header) (x y : List ℕ) → IsHeader h → IsHeader k → header_bytes h ++ x ≡ header_bytes k ++ y → (h ≡ k) × (x ≡ y)
 one_header h k x y gh gk e =
-    let same : (spelled h, x) ≡ (spelled k, y) = ok_is (spelled h, x) (spelled k, y) (sym (header_again h x gh) ∙ ap header_at e ∙ header_again k y gk) in
+    let same : (spelled h, x) ≡ (spelled k, y) =
+    ok_is (spelled h, x) (spelled k, y) (sym (header_again h x gh) ∙ ap header_at e ∙ header_again k y gk) in
     (one_spelled h k (ap (λ (p : Spelled × List ℕ). p.0) same), ap (λ (p : Spelled × List ℕ). p.1) same)
 
 -- a header that is cut is short
-short_front : (front : Front) (rest : List ℕ) → IsGood front → length rest < next_width front → header_at (front_bytes front ++ rest) ≡ Err fault.Cut → length (front_bytes front ++ rest) < 44
+short_front : (front : Front) (rest : List ℕ) → IsGood front → length rest < next_width front
+    → header_at (front_bytes front ++ rest) ≡ Err fault.Cut
+    → length (front_bytes front ++ rest) < 44
 short_front Nothing rest good short e = omega arith
 short_front Marked rest good short e = omega arith
 short_front (Versioned v) rest good short e = omega arith
@@ -108,7 +111,8 @@ all_held held bytes past none h =
     h.bytes_are ∙ ap (λ (x : List ℕ). held ++ x) empty ∙ append-nil held
 
 -- the first 44 bytes behind a program that is too long have its header
-front_too_long : (held piece : List ℕ) (l : IsTooLong held) → take 44 (held ++ piece) ≡ header_bytes l.header ++ take (44 - length (header_bytes l.header)) (l.part ++ piece)
+front_too_long : (held piece : List ℕ) (l : IsTooLong held)
+    → take 44 (held ++ piece) ≡ header_bytes l.header ++ take (44 - length (header_bytes l.header)) (l.part ++ piece)
 front_too_long held piece l =
     ap (λ (x : List ℕ). take 44 (x ++ piece)) l.held_is ∙ ap (take 44) (append_assoc (header_bytes l.header) l.part piece)
     ∙ take_past 44 (header_bytes l.header) (l.part ++ piece) (header_fits l.header l.good)
@@ -116,7 +120,9 @@ front_too_long held piece l =
 -- where the first 44 bytes of held and piece are refused, no program that is too long is held
 pub not_too_long : (held piece : List ℕ) (f : LoadFault) → header_at (take 44 (held ++ piece)) ≡ Err f → IsTooLong held → ⊥
 not_too_long held piece f e l =
-    let ok = ap header_at (front_too_long held piece l) ∙ header_again l.header (take (44 - length (header_bytes l.header)) (l.part ++ piece)) l.good in
+    let ok =
+    ap header_at (front_too_long held piece l)
+    ∙ header_again l.header (take (44 - length (header_bytes l.header)) (l.part ++ piece)) l.good in
     absurd cc
 
 -- without a program that is too long all is held
@@ -136,14 +142,18 @@ pub record Joined (front held piece bytes : List ℕ) (past : ℕ) (s : Spelled)
   pub long_is : (l : IsTooLong held) → l.header ≡ header
 
 -- the header of the first 44 bytes is that of all bytes, and of a program held that is too long
-pub header_of_all : (held piece bytes : List ℕ) (past : ℕ) (s : Spelled) (r : List ℕ) → HasHeader (take 44 (held ++ piece)) s r → Holds held past bytes → Joined (take 44 (held ++ piece)) held piece bytes past s r
+pub header_of_all : (held piece bytes : List ℕ) (past : ℕ) (s : Spelled) (r : List ℕ)
+    → HasHeader (take 44 (held ++ piece)) s r → Holds held past bytes
+    → Joined (take 44 (held ++ piece)) held piece bytes past s r
 header_of_all held piece bytes past s r there h = elim h.only [ inl e ↦ whole e | inr l ↦ counted l ]
   where
     header : Header
     header = with_shapes s there.shapes
 
     same : (l : IsTooLong held) → l.header ≡ header
-    same l = (one_header l.header header (take (44 - length (header_bytes l.header)) (l.part ++ piece)) r l.good there.good (sym (front_too_long held piece l) ∙ there.bytes_are)).0
+    same l =
+        (one_header l.header header (take (44 - length (header_bytes l.header)) (l.part ++ piece)) r l.good there.good
+        (sym (front_too_long held piece l) ∙ there.bytes_are)).0
 
     whole : past ≡ 0 → Joined (take 44 (held ++ piece)) held piece bytes past s r
     whole none = record {
@@ -152,8 +162,10 @@ header_of_all held piece bytes past s r there h = elim h.only [ inl e ↦ whole 
       slots_are = refl;
       front_is = there.bytes_are;
       tail = r ++ drop 44 (held ++ piece);
-      bytes_are = ap (λ (x : List ℕ). x ++ piece) (all_held held bytes past none h) ∙ sym (take-append-drop 44 (held ++ piece))
-          ∙ ap (λ (x : List ℕ). x ++ drop 44 (held ++ piece)) there.bytes_are ∙ append_assoc (header_bytes header) r (drop 44 (held ++ piece));
+      bytes_are =
+          ap (λ (x : List ℕ). x ++ piece) (all_held held bytes past none h) ∙ sym (take-append-drop 44 (held ++ piece))
+          ∙ ap (λ (x : List ℕ). x ++ drop 44 (held ++ piece)) there.bytes_are
+          ∙ append_assoc (header_bytes header) r (drop 44 (held ++ piece));
       long_is = same;
     }
 
@@ -164,8 +176,11 @@ header_of_all held piece bytes past s r there h = elim h.only [ inl e ↦ whole 
       slots_are = refl;
       front_is = there.bytes_are;
       tail = (l.part ++ h.rest) ++ piece;
-      bytes_are = ap (λ (x : List ℕ). x ++ piece) (h.bytes_are ∙ ap (λ (x : List ℕ). x ++ h.rest) l.held_is ∙ append_assoc (header_bytes l.header) l.part h.rest)
-          ∙ append_assoc (header_bytes l.header) (l.part ++ h.rest) piece ∙ ap (λ (k : Header). header_bytes k ++ ((l.part ++ h.rest) ++ piece)) (same l);
+      bytes_are =
+          ap (λ (x : List ℕ). x ++ piece)
+          (h.bytes_are ∙ ap (λ (x : List ℕ). x ++ h.rest) l.held_is ∙ append_assoc (header_bytes l.header) l.part h.rest)
+          ∙ append_assoc (header_bytes l.header) (l.part ++ h.rest) piece
+          ∙ ap (λ (k : Header). header_bytes k ++ ((l.part ++ h.rest) ++ piece)) (same l);
       long_is = same;
     }
 
@@ -212,18 +227,23 @@ field_of bytes f other r =
     ]
 
 -- what the first 44 bytes are refused for, unless they are cut, no further bytes take away
-pub refused_final : (held piece : List ℕ) (f : LoadFault) → AreBytes (take 44 (held ++ piece)) → f ≢ fault.Cut → header_at (take 44 (held ++ piece)) ≡ Err f → IsFinal f
+pub refused_final : (held piece : List ℕ) (f : LoadFault) → AreBytes (take 44 (held ++ piece)) → f ≢ fault.Cut
+    → header_at (take 44 (held ++ piece)) ≡ Err f
+    → IsFinal f
 refused_final held piece f fits other e =
     let b = field_of (take 44 (held ++ piece)) f other (header_err (take 44 (held ++ piece)) f fits e) in
     final_field b.front b.field f b.bad
 
 -- what the first 44 bytes are refused for, unless they are cut, is a fault of all bytes that stays
-pub refused_stays : (held piece bytes : List ℕ) (past : ℕ) (f : LoadFault) → AreBytes (take 44 (held ++ piece)) → f ≢ fault.Cut → header_at (take 44 (held ++ piece)) ≡ Err f → Holds held past bytes → HasFailed (bytes ++ piece) f
+pub refused_stays : (held piece bytes : List ℕ) (past : ℕ) (f : LoadFault)
+    → AreBytes (take 44 (held ++ piece)) → f ≢ fault.Cut → header_at (take 44 (held ++ piece)) ≡ Err f → Holds held past bytes
+    → HasFailed (bytes ++ piece) f
 refused_stays held piece bytes past f fits other e h =
     let b = field_of (take 44 (held ++ piece)) f other (header_err (take 44 (held ++ piece)) f fits e) in
     let none = only_held held bytes past (not_too_long held piece f e) h in
     let more = bad_stays (take 44 (held ++ piece)) (drop 44 (held ++ piece)) f b in
-    let is : take 44 (held ++ piece) ++ drop 44 (held ++ piece) ≡ bytes ++ piece = take-append-drop 44 (held ++ piece) ∙ ap (λ (x : List ℕ). x ++ piece) (sym (all_held held bytes past none h)) in
+    let is : take 44 (held ++ piece) ++ drop 44 (held ++ piece) ≡ bytes ++ piece =
+    take-append-drop 44 (held ++ piece) ∙ ap (λ (x : List ℕ). x ++ piece) (sym (all_held held bytes past none h)) in
     (final_field b.front b.field f b.bad, bad_field (bytes ++ piece) f (subst (λ (x : List ℕ). HasBadField x f) is more))
 
 -- ---- a header that is still cut
@@ -236,31 +256,42 @@ cut_stands held piece bytes past e h =
     let all : take (length piece) piece ≡ piece = take_all (length piece) piece (omega arith) in
     record {
       rest = [];
-      bytes_are = ap (λ (x : List ℕ). x ++ piece) (all_held held bytes past none h) ∙ ap (λ (x : List ℕ). held ++ x) (sym all) ∙ sym (append-nil (held ++ take (length piece) piece));
+      bytes_are =
+          ap (λ (x : List ℕ). x ++ piece) (all_held held bytes past none h) ∙ ap (λ (x : List ℕ). held ++ x) (sym all)
+          ∙ sym (append-nil (held ++ take (length piece) piece));
       counted = omega arith;
       only = inl (omega arith);
     }
 
 -- the first 44 bytes are all of them
-cut_is_all : (held piece : List ℕ) → AreBytes (take 44 (held ++ piece)) → header_at (take 44 (held ++ piece)) ≡ Err fault.Cut → (take 44 (held ++ piece) ≡ held ++ piece) × (length (held ++ piece) < 44)
+cut_is_all : (held piece : List ℕ) → AreBytes (take 44 (held ++ piece)) → header_at (take 44 (held ++ piece)) ≡ Err fault.Cut
+    → (take 44 (held ++ piece) ≡ held ++ piece) × (length (held ++ piece) < 44)
 cut_is_all held piece fits e =
     let short = cut_is_short (take 44 (held ++ piece)) fits e in
     let all : length (held ++ piece) < 44 = omega (arith, length-take 44 (held ++ piece)) in
     (take_all 44 (held ++ piece) (omega arith), all)
 
 -- where the header is still cut, held bytes and piece are together fewer than 44
-pub cut_bounded : (held piece : List ℕ) → AreBytes (take 44 (held ++ piece)) → header_at (take 44 (held ++ piece)) ≡ Err fault.Cut → length held + length piece < 44
+pub cut_bounded : (held piece : List ℕ) → AreBytes (take 44 (held ++ piece))
+    → header_at (take 44 (held ++ piece)) ≡ Err fault.Cut
+    → length held + length piece < 44
 cut_bounded held piece fits e = omega (arith, (cut_is_all held piece fits e).1, length-append held piece)
 
 cut_is_not_final : (f : LoadFault) → fault.Cut ≡ f → IsFinal f → ⊥
 cut_is_not_final f e final = subst IsFinal (sym e) final
 
 -- where the header is still cut, all bytes have no fault that stays
-pub cut_going : (held piece bytes : List ℕ) (past : ℕ) (f : LoadFault) → AreBytes (take 44 (held ++ piece)) → header_at (take 44 (held ++ piece)) ≡ Err fault.Cut → Holds held past bytes → AreBytes (bytes ++ piece) → HasFailed (bytes ++ piece) f → ⊥
+pub cut_going : (held piece bytes : List ℕ) (past : ℕ) (f : LoadFault)
+    → AreBytes (take 44 (held ++ piece)) → header_at (take 44 (held ++ piece)) ≡ Err fault.Cut → Holds held past bytes
+    → AreBytes (bytes ++ piece) → HasFailed (bytes ++ piece) f
+    → ⊥
 cut_going held piece bytes past f fits e h whole_fits failed =
     let none = only_held held bytes past (not_too_long held piece fault.Cut e) h in
-    let is : take 44 (held ++ piece) ≡ bytes ++ piece = (cut_is_all held piece fits e).0 ∙ ap (λ (x : List ℕ). x ++ piece) (sym (all_held held bytes past none h)) in
-    let cut : IsFault (bytes ++ piece) fault.Cut = subst (λ (x : List ℕ). IsFault x fault.Cut) is (refused_is (take 44 (held ++ piece)) fault.Cut (header_err (take 44 (held ++ piece)) fault.Cut fits e)) in
+    let is : take 44 (held ++ piece) ≡ bytes ++ piece =
+    (cut_is_all held piece fits e).0 ∙ ap (λ (x : List ℕ). x ++ piece) (sym (all_held held bytes past none h)) in
+    let cut : IsFault (bytes ++ piece) fault.Cut =
+    subst (λ (x : List ℕ). IsFault x fault.Cut) is
+    (refused_is (take 44 (held ++ piece)) fault.Cut (header_err (take 44 (held ++ piece)) fault.Cut fits e)) in
     cut_is_not_final f (one_fault (bytes ++ piece) fault.Cut f whole_fits cut failed.1) failed.0
 
 -- ---- behind a whole header
@@ -280,16 +311,21 @@ not_rest : (bytes : List ℕ) (f : LoadFault) → IsFinal f → frame_at bytes �
 not_rest bytes f final e d = cut_is_not_final f (let x : fault.Cut ≡ f = cc in x) final
 
 -- no fault stays where the program is not past its end
-pub within_going : (bytes : List ℕ) (h : Header) (tail : List ℕ) (f : LoadFault) → IsHeader h → bytes ≡ header_bytes h ++ tail → length tail ≤ 8 * h.slots → AreBytes bytes → HasFailed bytes f → ⊥
+pub within_going : (bytes : List ℕ) (h : Header) (tail : List ℕ) (f : LoadFault)
+    → IsHeader h → bytes ≡ header_bytes h ++ tail → length tail ≤ 8 * h.slots → AreBytes bytes → HasFailed bytes f
+    → ⊥
 within_going bytes h tail f good is within fits failed =
     let found = final_found bytes f failed.0 (fault_again bytes f fits failed.1) in
     elim (cases_lt (length tail) (8 * h.slots)) [
       | inl lt ↦ not_rest bytes f failed.0 (ap frame_at is ∙ frame_short h tail good lt) found
-      | inr le ↦ not_framed bytes (spelled h, tail) f (frame_again bytes h tail (record { header = good; whole = omega arith; bytes_are = is })) found
+      | inr le ↦
+          not_framed bytes (spelled h, tail) f
+          (frame_again bytes h tail (record { header = good; whole = omega arith; bytes_are = is })) found
     ]
 
 -- bytes past the end stay so
-pub past_fails : (bytes : List ℕ) (h : Header) (tail : List ℕ) → IsHeader h → bytes ≡ header_bytes h ++ tail → 8 * h.slots < length tail → HasFailed bytes fault.Rest
+pub past_fails : (bytes : List ℕ) (h : Header) (tail : List ℕ)
+    → IsHeader h → bytes ≡ header_bytes h ++ tail → 8 * h.slots < length tail → HasFailed bytes fault.Rest
 past_fails bytes h tail good is more = (tt, record { header = h; rest = tail; good = good; bytes_are = is; more = more })
 
 -- all of the piece is kept
@@ -300,19 +336,26 @@ kept_stands held piece bytes past not_long h =
     let all : take (length piece) piece ≡ piece = take_all (length piece) piece (omega arith) in
     record {
       rest = [];
-      bytes_are = ap (λ (x : List ℕ). x ++ piece) (all_held held bytes past none h) ∙ ap (λ (x : List ℕ). held ++ x) (sym all) ∙ sym (append-nil (held ++ take (length piece) piece));
+      bytes_are =
+          ap (λ (x : List ℕ). x ++ piece) (all_held held bytes past none h) ∙ ap (λ (x : List ℕ). held ++ x) (sym all)
+          ∙ sym (append-nil (held ++ take (length piece) piece));
       counted = omega arith;
       only = inl (omega arith);
     }
 
 -- beyond its header a program that is too long is only counted
-up_to_header : (held piece whole : List ℕ) (h : Header) (tail : List ℕ) (kept : ℕ) → IsHeader h → 4096 < h.slots → whole ≡ held → whole ++ piece ≡ header_bytes h ++ tail → length (header_bytes h) ≤ length held + kept
+up_to_header : (held piece whole : List ℕ) (h : Header) (tail : List ℕ) (kept : ℕ)
+    → IsHeader h → 4096 < h.slots → whole ≡ held → whole ++ piece ≡ header_bytes h ++ tail
+    → length (header_bytes h) ≤ length held + kept
     → IsTooLong (held ++ take kept piece)
 up_to_header held piece whole h tail kept good over is bytes_are reach =
     let first : take (length held + kept) (held ++ piece) ≡ held ++ take kept piece =
-    take_past (length held + kept) held piece (omega arith) ∙ ap (λ (n : ℕ). held ++ take n piece) (let e : length held + kept - length held ≡ kept = omega arith in e) in
-    let second : take (length held + kept) (held ++ piece) ≡ header_bytes h ++ take (length held + kept - length (header_bytes h)) tail =
-    ap (λ (x : List ℕ). take (length held + kept) (x ++ piece)) (sym is) ∙ ap (take (length held + kept)) bytes_are ∙ take_past (length held + kept) (header_bytes h) tail reach in
+    take_past (length held + kept) held piece (omega arith)
+    ∙ ap (λ (n : ℕ). held ++ take n piece) (let e : length held + kept - length held ≡ kept = omega arith in e) in
+    let second : take (length held + kept) (held ++ piece)
+    ≡ header_bytes h ++ take (length held + kept - length (header_bytes h)) tail =
+    ap (λ (x : List ℕ). take (length held + kept) (x ++ piece)) (sym is) ∙ ap (take (length held + kept)) bytes_are
+    ∙ take_past (length held + kept) (header_bytes h) tail reach in
     record {
       header = h;
       part = take (length held + kept - length (header_bytes h)) tail;
@@ -322,44 +365,67 @@ up_to_header held piece whole h tail kept good over is bytes_are reach =
     }
 
 -- of a program that is too long, what is held with the header's last bytes, and a count of the others, stands for all bytes
-pub counted_stands : (front held piece bytes : List ℕ) (past : ℕ) (s : Spelled) (r : List ℕ) (kept : ℕ) (j : Joined front held piece bytes past s r) → 4096 < s.slots → kept ≡ length (header_bytes j.header) - length held
-    → Holds held past bytes → Holds (held ++ take kept piece) (past + (length piece - kept)) (bytes ++ piece)
+pub counted_stands : (front held piece bytes : List ℕ) (past : ℕ) (s : Spelled) (r : List ℕ) (kept : ℕ)
+    (j : Joined front held piece bytes past s r)
+    → 4096 < s.slots → kept ≡ length (header_bytes j.header) - length held → Holds held past bytes
+    → Holds (held ++ take kept piece) (past + (length piece - kept)) (bytes ++ piece)
 counted_stands front held piece bytes past s r kept j over kept_is h =
     elim h.only [
       | inl none ↦
           let all = all_held held bytes past none h in
           record {
             rest = drop kept piece;
-            bytes_are = ap (λ (x : List ℕ). x ++ piece) all ∙ ap (λ (x : List ℕ). held ++ x) (sym (take-append-drop kept piece)) ∙ sym (append_assoc held (take kept piece) (drop kept piece));
+            bytes_are =
+                ap (λ (x : List ℕ). x ++ piece) all ∙ ap (λ (x : List ℕ). held ++ x) (sym (take-append-drop kept piece))
+                ∙ sym (append_assoc held (take kept piece) (drop kept piece));
             counted = omega (arith, length-drop kept piece, none);
-            only = inr (up_to_header held piece bytes j.header j.tail kept j.good (omega (arith, over, j.slots_are)) all j.bytes_are (omega arith));
+            only =
+                inr (up_to_header held piece bytes j.header j.tail kept j.good (omega (arith, over, j.slots_are)) all
+                j.bytes_are (omega arith));
           }
       | inr l ↦
-          let same : length (header_bytes l.header) ≡ length (header_bytes j.header) = ap (λ (k : Header). length (header_bytes k)) (j.long_is l) in
+          let same : length (header_bytes l.header) ≡ length (header_bytes j.header) =
+          ap (λ (k : Header). length (header_bytes k)) (j.long_is l) in
           let none : kept ≡ 0 = omega (arith, kept_is, same, ap length l.held_is, length-append (header_bytes l.header) l.part) in
           let empty : held ++ take kept piece ≡ held = ap (λ (n : ℕ). held ++ take n piece) none ∙ append-nil held in
           record {
             rest = h.rest ++ piece;
-            bytes_are = ap (λ (x : List ℕ). x ++ piece) h.bytes_are ∙ append_assoc held h.rest piece ∙ ap (λ (x : List ℕ). x ++ (h.rest ++ piece)) (sym empty);
+            bytes_are =
+                ap (λ (x : List ℕ). x ++ piece) h.bytes_are ∙ append_assoc held h.rest piece
+                ∙ ap (λ (x : List ℕ). x ++ (h.rest ++ piece)) (sym empty);
             counted = omega (arith, length-append h.rest piece, h.counted, none);
             only = inr (subst IsTooLong (sym empty) l);
           }
     ]
 
 -- the program is not too long
-pub not_over : (front held piece bytes : List ℕ) (past : ℕ) (s : Spelled) (r : List ℕ) (j : Joined front held piece bytes past s r) → s.slots ≤ 4096 → IsTooLong held → ⊥
+pub not_over : (front held piece bytes : List ℕ) (past : ℕ) (s : Spelled) (r : List ℕ)
+    (j : Joined front held piece bytes past s r)
+    → s.slots ≤ 4096 → IsTooLong held → ⊥
 not_over front held piece bytes past s r j most l =
     let same : l.header.slots ≡ j.header.slots = ap (λ (k : Header). k.slots) (j.long_is l) in
     absurd (omega (arith, l.over, j.slots_are, same))
 
 -- how many bytes stand behind the header
-pub length-tail : (front held piece bytes : List ℕ) (past : ℕ) (s : Spelled) (r : List ℕ) (j : Joined front held piece bytes past s r) → Holds held past bytes
+pub length-tail : (front held piece bytes : List ℕ) (past : ℕ) (s : Spelled) (r : List ℕ)
+    (j : Joined front held piece bytes past s r)
+    → Holds held past bytes
     → length j.tail + length (header_bytes j.header) ≡ length held + past + length piece
 length-tail front held piece bytes past s r j h =
-    omega (arith, ap length j.bytes_are, length-append bytes piece, length-append (header_bytes j.header) j.tail, ap length h.bytes_are, length-append held h.rest, h.counted)
+    omega (
+      arith,
+      ap length j.bytes_are,
+      length-append bytes piece,
+      length-append (header_bytes j.header) j.tail,
+      ap length h.bytes_are,
+      length-append held h.rest,
+      h.counted,
+    )
 
 -- the first bytes are as many as those of their header and what was left behind it
-pub length-front : (front held piece bytes : List ℕ) (past : ℕ) (s : Spelled) (r : List ℕ) (j : Joined front held piece bytes past s r) → length front ≡ length (header_bytes j.header) + length r
+pub length-front : (front held piece bytes : List ℕ) (past : ℕ) (s : Spelled) (r : List ℕ)
+    (j : Joined front held piece bytes past s r)
+    → length front ≡ length (header_bytes j.header) + length r
 length-front front held piece bytes past s r j = omega (arith, ap length j.front_is, length-append (header_bytes j.header) r)
 
 -- ---- for the code
@@ -372,23 +438,33 @@ pub record Begins (held piece r : List ℕ) : Type 0 where
   pub rest : length r ≤ length (take 44 (held ++ piece))
 
 -- what a header leaves of the first 44 bytes is no longer than they are
-pub rest_is_within : (held piece : List ℕ) (s : Spelled) (r : List ℕ) → AreBytes (take 44 (held ++ piece)) → header_at (take 44 (held ++ piece)) ≡ Ok (s, r) → Begins held piece r
+pub rest_is_within : (held piece : List ℕ) (s : Spelled) (r : List ℕ)
+    → AreBytes (take 44 (held ++ piece)) → header_at (take 44 (held ++ piece)) ≡ Ok (s, r)
+    → Begins held piece r
 rest_is_within held piece s r fits e =
     let there = header_ok (take 44 (held ++ piece)) (s, r) fits e in
     record { rest = omega (arith, ap length there.bytes_are, length-append (header_bytes (with_shapes s there.shapes)) r) }
 
 -- the header that was read of the first 44 bytes is that of all bytes
-pub read_header_of_all : (held piece bytes : List ℕ) (past : ℕ) (s : Spelled) (r : List ℕ) → AreBytes (take 44 (held ++ piece)) → header_at (take 44 (held ++ piece)) ≡ Ok (s, r) → Holds held past bytes → Joined (take 44 (held ++ piece)) held piece bytes past s r
-read_header_of_all held piece bytes past s r fits e h = header_of_all held piece bytes past s r (header_ok (take 44 (held ++ piece)) (s, r) fits e) h
+pub read_header_of_all : (held piece bytes : List ℕ) (past : ℕ) (s : Spelled) (r : List ℕ)
+    → AreBytes (take 44 (held ++ piece)) → header_at (take 44 (held ++ piece)) ≡ Ok (s, r) → Holds held past bytes
+    → Joined (take 44 (held ++ piece)) held piece bytes past s r
+read_header_of_all held piece bytes past s r fits e h =
+    header_of_all held piece bytes past s r (header_ok (take 44 (held ++ piece)) (s, r) fits e) h
 
 -- the first bytes of both, part after part
-pub front_joined : (held piece : List ℕ) (old new : ℕ) (none one two : List ℕ) → none ≡ [] → old ≡ min (length held) 44 → new ≡ min (length piece) (44 - old) → one ≡ none ++ take old held → two ≡ one ++ take new piece → two ≡ take 44 (held ++ piece)
+pub front_joined : (held piece : List ℕ) (old new : ℕ) (none one two : List ℕ)
+    → none ≡ [] → old ≡ min (length held) 44 → new ≡ min (length piece) (44 - old) → one ≡ none ++ take old held
+    → two ≡ one ++ take new piece
+    → two ≡ take 44 (held ++ piece)
 front_joined held piece old new none one two empty old_is new_is first second =
     elim (cases_lt 44 (length held)) [
       | inl lt ↦
           let o : old ≡ 44 = omega arith in
           let n : new ≡ 0 = omega arith in
-          second ∙ ap (λ (m : ℕ). one ++ take m piece) n ∙ append-nil one ∙ first ∙ ap (λ (x : List ℕ). x ++ take old held) empty ∙ ap (λ (m : ℕ). take m held) o ∙ sym (take-append-le 44 held piece (omega arith))
+          second ∙ ap (λ (m : ℕ). one ++ take m piece) n ∙ append-nil one ∙ first
+          ∙ ap (λ (x : List ℕ). x ++ take old held) empty ∙ ap (λ (m : ℕ). take m held) o
+          ∙ sym (take-append-le 44 held piece (omega arith))
       | inr le ↦
           let o : old ≡ length held = omega arith in
           let all : take old held ≡ held = take_all old held (omega arith) in
@@ -405,7 +481,8 @@ pub on_ok : {X E P : Type 0} (r : Result X E) (v : X) → r ≡ Ok v → OnOk r 
 on_ok {X} {E} {P} r v e h = subst (λ (x : Result X E). OnOk x P) e h
 
 -- the header of these first bytes is the one that is read of a slice that shows them
-pub read_front : (held piece shown : List ℕ) (read : Result (Spelled × List ℕ) LoadFault) → shown ≡ take 44 (held ++ piece) → header_at shown ≡ read → header_at (take 44 (held ++ piece)) ≡ read
+pub read_front : (held piece shown : List ℕ) (read : Result (Spelled × List ℕ) LoadFault)
+    → shown ≡ take 44 (held ++ piece) → header_at shown ≡ read → header_at (take 44 (held ++ piece)) ≡ read
 read_front held piece shown read same is = ap header_at (sym same) ∙ is
 
 -- how many bytes there are, counted up to the greatest number of 64 bits
@@ -413,21 +490,42 @@ abbrev pub count_up : ℕ → ℕ → ℕ → ℕ
 count_up held past piece = min (min (held + past) (2 ^ 64 - 1) + piece) (2 ^ 64 - 1)
 
 -- where all bytes reach no further than the end of the program, no fault stays
-pub read_going : (held piece bytes : List ℕ) (past : ℕ) (s : Spelled) (r : List ℕ) (f : LoadFault) → AreBytes (take 44 (held ++ piece)) → header_at (take 44 (held ++ piece)) ≡ Ok (s, r)
-    → count_up (length held) past (length piece) ≤ length (take 44 (held ++ piece)) - length r + 8 * s.slots → Holds held past bytes → AreBytes (bytes ++ piece) → HasFailed (bytes ++ piece) f → ⊥
+pub read_going : (held piece bytes : List ℕ) (past : ℕ) (s : Spelled) (r : List ℕ) (f : LoadFault)
+    → AreBytes (take 44 (held ++ piece)) → header_at (take 44 (held ++ piece)) ≡ Ok (s, r)
+    → count_up (length held) past (length piece) ≤ length (take 44 (held ++ piece)) - length r + 8 * s.slots
+    → Holds held past bytes → AreBytes (bytes ++ piece) → HasFailed (bytes ++ piece) f
+    → ⊥
 read_going held piece bytes past s r f fits read near h whole failed =
     let front = take 44 (held ++ piece) in
     let j = read_header_of_all held piece bytes past s r fits read h in
     let within : length j.tail ≤ 8 * j.header.slots =
-    omega (arith, near, length-take 44 (held ++ piece), length-front front held piece bytes past s r j, length-tail front held piece bytes past s r j h, j.slots_are, j.good.slots) in
+    omega (
+      arith,
+      near,
+      length-take 44 (held ++ piece),
+      length-front front held piece bytes past s r j,
+      length-tail front held piece bytes past s r j h,
+      j.slots_are,
+      j.good.slots,
+    ) in
     within_going (bytes ++ piece) j.header j.tail f j.good j.bytes_are within whole failed
 
 -- where they reach further, the bytes behind the program are a fault
-pub read_past : (held piece bytes : List ℕ) (past : ℕ) (s : Spelled) (r : List ℕ) → AreBytes (take 44 (held ++ piece)) → header_at (take 44 (held ++ piece)) ≡ Ok (s, r)
-    → length (take 44 (held ++ piece)) - length r + 8 * s.slots < count_up (length held) past (length piece) → Holds held past bytes → HasFailed (bytes ++ piece) fault.Rest
+pub read_past : (held piece bytes : List ℕ) (past : ℕ) (s : Spelled) (r : List ℕ)
+    → AreBytes (take 44 (held ++ piece)) → header_at (take 44 (held ++ piece)) ≡ Ok (s, r)
+    → length (take 44 (held ++ piece)) - length r + 8 * s.slots < count_up (length held) past (length piece)
+    → Holds held past bytes
+    → HasFailed (bytes ++ piece) fault.Rest
 read_past held piece bytes past s r fits read far h =
     let front = take 44 (held ++ piece) in
     let j = read_header_of_all held piece bytes past s r fits read h in
     let more : 8 * j.header.slots < length j.tail =
-    omega (arith, far, length-take 44 (held ++ piece), length-front front held piece bytes past s r j, length-tail front held piece bytes past s r j h, j.slots_are) in
+    omega (
+      arith,
+      far,
+      length-take 44 (held ++ piece),
+      length-front front held piece bytes past s r j,
+      length-tail front held piece bytes past s r j h,
+      j.slots_are,
+    ) in
     past_fails (bytes ++ piece) j.header j.tail j.good j.bytes_are more

@@ -17,7 +17,9 @@ use Rattle.bq_load.proofs.UniqueLemmas.{frame_again, one_frame}
 -- bytes that are two images have one version, one hook, the same shapes and the same program
 pub one_image : OneImage
 one_image bytes v w h k a b p q x y =
-    let same = one_frame bytes (record { version = v; hook = h; shapes = a; slots = x.slots }) (record { version = w; hook = k; shapes = b; slots = y.slots }) p q x.framed y.framed in (
+    let same =
+    one_frame bytes (record { version = v; hook = h; shapes = a; slots = x.slots })
+    (record { version = w; hook = k; shapes = b; slots = y.slots }) p q x.framed y.framed in (
       ap (λ (r : Header). r.version) same.0,
       ap (λ (r : Header). r.hook) same.0,
       ap (λ (r : Header). r.shapes) same.0,
@@ -33,10 +35,12 @@ pub not_framed : (bytes : List ℕ) (x : Spelled × List ℕ) (f : LoadFault) �
 not_framed bytes x f e g = cc
 
 -- where header and program are the bytes, reading them does not fail
-pub framed_does_not_fail : (bytes : List ℕ) (h : Header) (program : List ℕ) (f : LoadFault) → IsFramed bytes h program → frame_at bytes ≡ Err f → ⊥
+pub framed_does_not_fail : (bytes : List ℕ) (h : Header) (program : List ℕ) (f : LoadFault)
+    → IsFramed bytes h program → frame_at bytes ≡ Err f → ⊥
 framed_does_not_fail bytes h program f framed e = not_framed bytes (spelled h, program) f (frame_again bytes h program framed) e
 
-whole_program : (bytes : List ℕ) (h : Header) (program : List ℕ) (slot : ℕ) → IsFramed bytes h program → 1 ≤ h.slots → h.slots ≤ 4096 → HasFaultyProgram bytes slot Length → ⊥
+whole_program : (bytes : List ℕ) (h : Header) (program : List ℕ) (slot : ℕ)
+    → IsFramed bytes h program → 1 ≤ h.slots → h.slots ≤ 4096 → HasFaultyProgram bytes slot Length → ⊥
 whole_program bytes h program slot framed some most b =
     let same = one_frame bytes h b.header program b.program framed b.framed in
     let good : is_length program ≡ true = good_length (length program) h.slots framed.whole some most in
@@ -44,20 +48,23 @@ whole_program bytes h program slot framed some most b =
     let moved : is_length program ≡ false = ap is_length same.1 ∙ bad in
     cc
 
-no_fault : (bytes : List ℕ) (h : Header) (program : List ℕ) (f : LoadFault) → IsFramed bytes h program → 1 ≤ h.slots → h.slots ≤ 4096 → IsFound bytes f → ⊥
+no_fault : (bytes : List ℕ) (h : Header) (program : List ℕ) (f : LoadFault)
+    → IsFramed bytes h program → 1 ≤ h.slots → h.slots ≤ 4096 → IsFound bytes f → ⊥
 no_fault bytes h program (fault.Decode slot Length) framed some most b = whole_program bytes h program slot framed some most b
 no_fault bytes h program f framed some most b = framed_does_not_fail bytes h program _ framed b
 
 -- bytes that are an image have no fault
 pub no_image_is_faulty : NoImageIsFaulty
 no_image_is_faulty bytes v h shapes program f fits image b =
-    no_fault bytes (record { version = v; hook = h; shapes = shapes; slots = image.slots }) program f image.framed image.some image.most (fault_again bytes f fits b)
+    no_fault bytes (record { version = v; hook = h; shapes = shapes; slots = image.slots }) program f image.framed
+    image.some image.most (fault_again bytes f fits b)
 
 -- two faults that reading found
 same_found : (bytes : List ℕ) (f g : LoadFault) → frame_at bytes ≡ Err f → frame_at bytes ≡ Err g → f ≡ g
 same_found bytes f g e d = cc
 
-of_length : (bytes : List ℕ) (slot : ℕ) (g : LoadFault) → HasFaultyProgram bytes slot Length → IsFound bytes g → fault.Decode slot Length ≡ g
+of_length : (bytes : List ℕ) (slot : ℕ) (g : LoadFault) → HasFaultyProgram bytes slot Length → IsFound bytes g
+    → fault.Decode slot Length ≡ g
 of_length bytes slot (fault.Decode other Length) b d = ap (λ (n : ℕ). fault.Decode n Length) (b.faulty.0 ∙ sym d.faulty.0)
 of_length bytes slot g b d = absurd (framed_does_not_fail bytes b.header b.program _ b.framed d)
 

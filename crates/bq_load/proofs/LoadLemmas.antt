@@ -18,7 +18,7 @@ use Rattle.bq_verify.specs.Faults.{IsFaultless}
 use Rattle.bq_verify.specs.Paths.{IsGreatest, PathOut}
 use Rattle.bq_verify.specs.Refusals.{IsVerdictOn}
 use Rattle.bq_verify.specs.Straight.{IsStraightProgram}
-use Rattle.bq_verify.specs.Subjects.{subject_of}
+use Rattle.bq_verify.specs.Subjects.{subject_of_insns}
 use Rattle.bq_verify.specs.declared.refused.Refused.{Refused}
 use Rattle.bq_verify.specs.declared.refused.Refused.TheVariants as refused
 use Rattle.bq_insn.proofs.LengthLemmas.{well_formed_in_range}
@@ -65,8 +65,9 @@ fault_is_unloaded bytes (fault.Decode slot Offset) b = absurd (no_decode slot Of
 fault_is_unloaded bytes (fault.Decode slot Imm) b = absurd (no_decode slot Imm b.front b.field b.bad)
 fault_is_unloaded bytes (fault.Decode slot WideCut) b = absurd (no_decode slot WideCut b.front b.field b.bad)
 
--- so is one of the program
-pub unloaded_program : (bytes : List ℕ) (s : Spelled) (code : List ℕ) (f : DecodeFault) → HasParts bytes s code → IsProgramFault code f → IsUnloaded bytes (of_program f)
+-- a fault of the program is answered
+pub unloaded_program : (bytes : List ℕ) (s : Spelled) (code : List ℕ) (f : DecodeFault)
+    → HasParts bytes s code → IsProgramFault code f → IsUnloaded bytes (of_program f)
 unloaded_program bytes s code program.OutOfMemory parts b = has_image bytes s code parts
 unloaded_program bytes s code (program.At slot cause) parts b = record {
   header = with_shapes s parts.frames.shapes;
@@ -78,10 +79,15 @@ unloaded_program bytes s code (program.At slot cause) parts b = record {
 not_memory : (slot : ℕ) (cause : Reason) → refused.At slot cause ≡ refused.OutOfMemory → ⊥
 not_memory slot cause e = cc
 
--- and the verifier's verdict on the program of the image, where that is not straight
-pub unloaded_refusal : (bytes : List ℕ) (s : Spelled) (code : List ℕ) (insns : List Insn) (shapes : List MapShape) (r : Refused) → HasParts bytes s code → code ≡ spelling insns → is_well_formed insns ≡ true
-    → AllFit insns → s.shapes ≡ shapes_bytes shapes → IsVerdictOn (subject_of insns s.hook s.version shapes) r → (HasStraightProgram bytes → r ≡ refused.OutOfMemory) → IsUnloaded bytes (of_refusal r)
-unloaded_refusal bytes s code insns shapes refused.OutOfMemory parts is well_formed numbers shapes-are verdict memory = has_image bytes s code parts
+-- the verifier's verdict on the program of the image is answered, where that is not straight
+pub unloaded_refusal : (bytes : List ℕ) (s : Spelled) (code : List ℕ) (insns : List Insn)
+    (shapes : List MapShape) (r : Refused)
+    → HasParts bytes s code → code ≡ spelling insns → is_well_formed insns ≡ true → AllFit insns
+    → s.shapes ≡ shapes_bytes shapes → IsVerdictOn (subject_of_insns insns s.hook s.version shapes) r
+    → (HasStraightProgram bytes → r ≡ refused.OutOfMemory)
+    → IsUnloaded bytes (of_refusal r)
+unloaded_refusal bytes s code insns shapes refused.OutOfMemory parts is well_formed numbers shapes-are verdict memory =
+    has_image bytes s code parts
 unloaded_refusal bytes s code insns shapes (refused.At slot cause) parts is well_formed numbers shapes-are verdict memory = (
   record {
     insns = insns;
@@ -99,19 +105,26 @@ unloaded_refusal bytes s code insns shapes (refused.At slot cause) parts is well
 )
 
 -- what was accepted is loaded
-pub accepted_is_loaded : (bytes : List ℕ) (s : Spelled) (code : List ℕ) (insns : List Insn) (shapes : List MapShape) (v : Accepted) → HasParts bytes s code → code ≡ spelling insns → is_well_formed insns ≡ true → AllFit insns
+pub accepted_is_loaded : (bytes : List ℕ) (s : Spelled) (code : List ℕ) (insns : List Insn)
+    (shapes : List MapShape) (v : Accepted)
+    → HasParts bytes s code → code ≡ spelling insns → is_well_formed insns ≡ true → AllFit insns
     → s.shapes ≡ shapes_bytes shapes → v.slots ≡ spread insns → v.shapes ≡ shapes → v.hook ≡ s.hook → v.version ≡ s.version
-    → IsFaultless v.slots → IsAccepted v.slots v.shapes (context_length_of v.hook v.version) v.budget → IsGreatest (PathOut v.slots 0) v.budget → Loads bytes v
-accepted_is_loaded bytes s code insns shapes v parts is well_formed numbers shapes-are slots same_shapes same_hook same_version faultless accepted longest = record {
-  insns = insns;
-  image = rw (same_shapes, same_hook, same_version) (subst (λ (p : List ℕ). IsImage bytes s.version s.hook shapes p) is (is_image bytes s code shapes parts shapes-are));
-  well_formed = well_formed;
-  numbers = numbers;
-  slots = slots;
-  faultless = faultless;
-  accepted = accepted;
-  longest = longest;
-}
+    → IsFaultless v.slots → IsAccepted v.slots v.shapes (context_length_of v.hook v.version) v.budget
+    → IsGreatest (PathOut v.slots 0) v.budget
+    → Loads bytes v
+accepted_is_loaded bytes s code insns shapes v parts is well_formed numbers shapes-are slots same_shapes same_hook
+    same_version faultless accepted longest = record {
+      insns = insns;
+      image =
+          rw (same_shapes, same_hook, same_version)
+          (subst (λ (p : List ℕ). IsImage bytes s.version s.hook shapes p) is (is_image bytes s code shapes parts shapes-are));
+      well_formed = well_formed;
+      numbers = numbers;
+      slots = slots;
+      faultless = faultless;
+      accepted = accepted;
+      longest = longest;
+    }
 
 -- ---- straight programs
 
@@ -138,18 +151,24 @@ is_of bytes s code st parts =
     }
 
 -- the program of a straight image is refused only if memory runs out
-pub straight_code : (bytes : List ℕ) (s : Spelled) (code : List ℕ) (f : DecodeFault) → HasParts bytes s code → HasStraightProgram bytes → IsProgramFault code f → of_program f ≡ fault.OutOfMemory
+pub straight_code : (bytes : List ℕ) (s : Spelled) (code : List ℕ) (f : DecodeFault)
+    → HasParts bytes s code → HasStraightProgram bytes → IsProgramFault code f
+    → of_program f ≡ fault.OutOfMemory
 straight_code bytes s code program.OutOfMemory parts st b = refl
 straight_code bytes s code (program.At slot cause) parts st b =
     let of = is_of bytes s code st parts in
-    absurd (lengths.no_program_is_refused st.insns slot cause st.well_formed st.numbers (subst (λ (x : List ℕ). IsProgramFault x (program.At slot cause)) of.code_is b))
+    absurd (lengths.no_program_is_refused st.insns slot cause st.well_formed st.numbers
+    (subst (λ (x : List ℕ). IsProgramFault x (program.At slot cause)) of.code_is b))
 
 -- instructions and shapes that were read of a straight image are a straight program for its hook and version
-pub straight_program : (bytes : List ℕ) (s : Spelled) (code : List ℕ) (insns : List Insn) (shapes : List MapShape) → HasParts bytes s code → HasStraightProgram bytes
-    → code ≡ spelling insns → is_well_formed insns ≡ true → AllFit insns → s.shapes ≡ shapes_bytes shapes → IsStraightProgram (subject_of insns s.hook s.version shapes)
+pub straight_program : (bytes : List ℕ) (s : Spelled) (code : List ℕ) (insns : List Insn) (shapes : List MapShape)
+    → HasParts bytes s code → HasStraightProgram bytes → code ≡ spelling insns → is_well_formed insns ≡ true
+    → AllFit insns → s.shapes ≡ shapes_bytes shapes
+    → IsStraightProgram (subject_of_insns insns s.hook s.version shapes)
 straight_program bytes s code insns shapes parts st is well_formed numbers shapes-are =
     let of = is_of bytes s code st parts in
     let same_insns : insns ≡ st.insns =
-    insn.one_program insns st.insns (well_formed_in_range insns well_formed) (well_formed_in_range st.insns st.well_formed) numbers st.numbers (sym is ∙ of.code_is) in
+    insn.one_program insns st.insns (well_formed_in_range insns well_formed) (well_formed_in_range st.insns st.well_formed)
+    numbers st.numbers (sym is ∙ of.code_is) in
     let same_shapes : shapes ≡ st.shapes = one_shapes shapes st.shapes (sym shapes-are ∙ of.shapes) in
     rw (same_insns, same_shapes, of.hook, of.version) st.straight

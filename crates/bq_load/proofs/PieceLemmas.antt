@@ -15,7 +15,8 @@ use Rattle.bq_load.specs.Reading.{Spelled, frame_at}
 use Rattle.bq_load.proofs.FramingLemmas.{frame_ok, frame_err, bad_length, has_image}
 
 -- by what reading gives
-answer : (bytes : List ℕ) → AreBytes bytes → (r : Result (Spelled × List ℕ) LoadFault) → frame_at bytes ≡ r → HasImage bytes ⊎ ((f : LoadFault) × IsFault bytes f)
+answer : (bytes : List ℕ) → AreBytes bytes → (r : Result (Spelled × List ℕ) LoadFault) → frame_at bytes ≡ r
+    → HasImage bytes ⊎ ((f : LoadFault) × IsFault bytes f)
 answer bytes fits (Err f) e = inr (f, frame_err bytes f fits e)
 answer bytes fits (Ok x) e =
     let frames = frame_ok bytes x fits e in
@@ -32,11 +33,16 @@ pub each_is_answered : EachIsAnswered
 each_is_answered bytes fits = answer bytes fits (frame_at bytes) refl
 
 -- from any bytes on
-joins : (pieces : List (List ℕ)) (old new : Fed) (bytes : List ℕ) → StandsFor old bytes → TakesAll old pieces new → StandsFor new (bytes ++ flat_map (λ piece. piece) pieces)
-joins [] old new bytes h same = subst (λ (x : List ℕ). StandsFor new x) (sym (append-nil bytes)) (subst (λ (f : Fed). StandsFor f bytes) same h)
+joins : (pieces : List (List ℕ)) (old new : Fed) (bytes : List ℕ)
+    → StandsFor old bytes → TakesAll old pieces new
+    → StandsFor new (bytes ++ flat_map (λ piece. piece) pieces)
+joins [] old new bytes h same =
+    subst (λ (x : List ℕ). StandsFor new x) (sym (append-nil bytes)) (subst (λ (f : Fed). StandsFor f bytes) same h)
 joins (piece ∷ pieces) old new bytes h takes =
-    let regrouped : (bytes ++ piece) ++ flat_map (λ piece. piece) pieces ≡ bytes ++ flat_map (λ piece. piece) (piece ∷ pieces) =
-    append_assoc bytes piece (flat_map (λ piece. piece) pieces) ∙ ap (λ (x : List ℕ). bytes ++ x) (sym (flat_map-cons (λ (piece : List ℕ). piece) piece pieces)) in
+    let regrouped : (bytes ++ piece) ++ flat_map (λ piece. piece) pieces
+    ≡ bytes ++ flat_map (λ piece. piece) (piece ∷ pieces) =
+    append_assoc bytes piece (flat_map (λ piece. piece) pieces)
+    ∙ ap (λ (x : List ℕ). bytes ++ x) (sym (flat_map-cons (λ (piece : List ℕ). piece) piece pieces)) in
     subst (λ (x : List ℕ). StandsFor new x) regrouped (joins pieces takes.0 new (bytes ++ piece) (takes.1 bytes h) takes.2)
 
 -- a reader that took pieces from the start on stands for all of them together

@@ -6,7 +6,7 @@ use Rattle.bq_load.specs.declared.fault.LoadFault.TheVariants as fault
 use Rattle.bq_load.specs.Layout.{Header, header_bytes, IsHeader}
 use Rattle.bq_load.specs.Fields.{Headed}
 use Rattle.bq_load.specs.Faults.{IsCut, HasMore, HasFaultyProgram}
-use Rattle.bq_load.specs.Feeding.{Fed, HasFailed, IsTooLong, Holds, stands, StandsFor, GoesOn}
+use Rattle.bq_load.specs.Feeding.{Fed, HasFailed, IsTooLong, Holds, stands, StandsFor, FeedsPiece}
 use Rattle.bq_load.specs.Headers.{with_shapes}
 use Rattle.bq_load.specs.Laws.{AreBytes}
 use Rattle.bq_load.specs.Reading.{Spelled, header_at}
@@ -45,12 +45,16 @@ stands_failed : (fed : Fed) (bytes : List ℕ) (f : LoadFault) → fed.failed �
 stands_failed fed bytes f e h = subst (λ (o : Option LoadFault). stands fed.held fed.past o bytes) (sym e) h
 
 -- a reader that has failed stands for any further piece too, and stays as it is
-pub failed_goes_on : (fed : Fed) (piece : List ℕ) (f : LoadFault) → fed.failed ≡ Some f → GoesOn fed piece fed
+pub failed_goes_on : (fed : Fed) (piece : List ℕ) (f : LoadFault) → fed.failed ≡ Some f → FeedsPiece fed piece fed
 failed_goes_on fed piece f e bytes h = stands_failed fed (bytes ++ piece) f e (failed_stays bytes piece f (failed_of fed bytes f e h))
 
 -- the fault that a reader has answered is the only one that stays, of its bytes and any further piece
-pub failed_exact : (fed : Fed) (piece : List ℕ) (f : LoadFault) → fed.failed ≡ Some f → (bytes : List ℕ) (g : LoadFault) → StandsFor fed bytes → AreBytes (bytes ++ piece) → HasFailed (bytes ++ piece) g → f ≡ g
-failed_exact fed piece f e bytes g h fits d = one_fault (bytes ++ piece) f g fits (failed_stays bytes piece f (failed_of fed bytes f e h)).1 d.1
+pub failed_exact : (fed : Fed) (piece : List ℕ) (f : LoadFault)
+    → fed.failed ≡ Some f → (bytes : List ℕ) (g : LoadFault) → StandsFor fed bytes → AreBytes (bytes ++ piece)
+    → HasFailed (bytes ++ piece) g
+    → f ≡ g
+failed_exact fed piece f e bytes g h fits d =
+    one_fault (bytes ++ piece) f g fits (failed_stays bytes piece f (failed_of fed bytes f e h)).1 d.1
 
 -- a reader that has not
 none_of : (o : Option LoadFault) → ((f : LoadFault) → o ≡ Some f → ⊥) → o ≡ None
@@ -58,9 +62,13 @@ none_of None h = refl
 none_of (Some f) h = absurd (h f refl)
 
 -- a reader that has not failed holds the bytes that it stands for, or has counted those past what it holds
-pub not_failed_holds : (fed : Fed) (held : List ℕ) (past : ℕ) (failed : Option LoadFault) (bytes : List ℕ) → record { held = held; past = past; failed = failed } ≡ fed → ((f : LoadFault) → failed ≡ Some f → ⊥) → StandsFor fed bytes → Holds held past bytes
+pub not_failed_holds : (fed : Fed) (held : List ℕ) (past : ℕ) (failed : Option LoadFault) (bytes : List ℕ)
+    → record { held = held; past = past; failed = failed } ≡ fed → ((f : LoadFault) → failed ≡ Some f → ⊥)
+    → StandsFor fed bytes
+    → Holds held past bytes
 not_failed_holds fed held past failed bytes view not_failed h =
-    let moved : StandsFor (record { held = held; past = past; failed = failed }) bytes = subst (λ (x : Fed). StandsFor x bytes) (sym view) h in
+    let moved : StandsFor (record { held = held; past = past; failed = failed }) bytes =
+    subst (λ (x : Fed). StandsFor x bytes) (sym view) h in
     subst (λ (o : Option LoadFault). stands held past o bytes) (none_of failed not_failed) moved
 
 -- ---- a program that is too long
@@ -86,7 +94,9 @@ record HasTail (bytes : List ℕ) (slots past : ℕ) (part : List ℕ) : Type 0 
   bytes_are : bytes ≡ header_bytes header ++ tail
   long : length tail ≡ length part + past
 
-tail_of : (held bytes : List ℕ) (past : ℕ) (s : Spelled) (part : List ℕ) → AreBytes held → header_at held ≡ Ok (s, part) → 0 < past → Holds held past bytes → HasTail bytes s.slots past part
+tail_of : (held bytes : List ℕ) (past : ℕ) (s : Spelled) (part : List ℕ)
+    → AreBytes held → header_at held ≡ Ok (s, part) → 0 < past → Holds held past bytes
+    → HasTail bytes s.slots past part
 tail_of held bytes past s part fits e some h =
     let l = past_is_too_long held bytes past some h in
     let there = header_ok held (s, part) fits e in
@@ -104,19 +114,31 @@ tail_of held bytes past s part fits e some h =
     }
 
 -- where the program's bytes, held and counted, are fewer than its slots need, the bytes are cut
-pub past_cut : (held bytes : List ℕ) (past : ℕ) (s : Spelled) (part : List ℕ) → AreBytes held → header_at held ≡ Ok (s, part) → 0 < past → length part + past < 8 * s.slots → Holds held past bytes → IsCut bytes
+pub past_cut : (held bytes : List ℕ) (past : ℕ) (s : Spelled) (part : List ℕ)
+    → AreBytes held → header_at held ≡ Ok (s, part) → 0 < past → length part + past < 8 * s.slots → Holds held past bytes
+    → IsCut bytes
 past_cut held bytes past s part fits e some short h =
     let t = tail_of held bytes past s part fits e some h in
-    record { front = Headed t.header; part = t.tail; good = t.good; bytes_are = t.bytes_are; short = omega (arith, short, t.long, t.slots_are) }
+    record {
+      front = Headed t.header;
+      part = t.tail;
+      good = t.good;
+      bytes_are = t.bytes_are;
+      short = omega (arith, short, t.long, t.slots_are);
+    }
 
 -- where the program's bytes, held and counted, are more than its slots need, bytes stand after the end
-pub past_more : (held bytes : List ℕ) (past : ℕ) (s : Spelled) (part : List ℕ) → AreBytes held → header_at held ≡ Ok (s, part) → 0 < past → 8 * s.slots < length part + past → Holds held past bytes → HasMore bytes
+pub past_more : (held bytes : List ℕ) (past : ℕ) (s : Spelled) (part : List ℕ)
+    → AreBytes held → header_at held ≡ Ok (s, part) → 0 < past → 8 * s.slots < length part + past → Holds held past bytes
+    → HasMore bytes
 past_more held bytes past s part fits e some long h =
     let t = tail_of held bytes past s part fits e some h in
     record { header = t.header; rest = t.tail; good = t.good; bytes_are = t.bytes_are; more = omega (arith, long, t.long, t.slots_are) }
 
 -- where the program's bytes, held and counted, are as many as its slots need, its length is the fault
-pub past_length : (held bytes : List ℕ) (past : ℕ) (s : Spelled) (part : List ℕ) → AreBytes held → header_at held ≡ Ok (s, part) → 0 < past → length part + past ≡ 8 * s.slots → Holds held past bytes → HasFaultyProgram bytes 0 Length
+pub past_length : (held bytes : List ℕ) (past : ℕ) (s : Spelled) (part : List ℕ)
+    → AreBytes held → header_at held ≡ Ok (s, part) → 0 < past → length part + past ≡ 8 * s.slots → Holds held past bytes
+    → HasFaultyProgram bytes 0 Length
 past_length held bytes past s part fits e some whole h =
     let t = tail_of held bytes past s part fits e some h in
     let all : length t.tail ≡ 8 * t.header.slots = omega (arith, whole, t.long, t.slots_are) in

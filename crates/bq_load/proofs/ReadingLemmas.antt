@@ -7,7 +7,8 @@ use Rattle.bq_load.specs.declared.fault.LoadFault.TheVariants as fault
 use Rattle.bq_load.specs.Reading.{◌>>=◌, number_at, shape_at, shapes_at, is_shape}
 
 -- the value of a step that did not fail
-pub bind_ok : {A B : Type 0} (r : Result A LoadFault) (f : A → Result B LoadFault) (y : B) → (r >>= f) ≡ Ok y → (x : A) × (r ≡ Ok x) × (f x ≡ Ok y)
+pub bind_ok : {A B : Type 0} (r : Result A LoadFault) (f : A → Result B LoadFault) (y : B)
+    → (r >>= f) ≡ Ok y → (x : A) × (r ≡ Ok x) × (f x ≡ Ok y)
 bind_ok (Ok x) f y e = (x, refl, e)
 bind_ok (Err d) f y e = absurd cc
 
@@ -49,15 +50,28 @@ number_ok width bytes n rest e =
 pub shape_length : (bytes rest : List ℕ) → shape_at bytes ≡ Ok rest → length rest + 4 ≡ length bytes
 unfolding shape_at
 shape_length bytes rest e =
-    let a = bind_ok (number_at 2 bytes) (λ size. number_at 2 size.1 >>= λ entries. cond (is_shape size.0 entries.0) (Ok entries.1) (Err fault.Shape)) rest e in
+    let a =
+    bind_ok (number_at 2 bytes)
+    (λ size. number_at 2 size.1 >>= λ entries. cond (is_shape size.0 entries.0) (Ok entries.1) (Err fault.Shape)) rest e in
     let b = bind_ok (number_at 2 a.0.1) (λ entries. cond (is_shape a.0.0 entries.0) (Ok entries.1) (Err fault.Shape)) rest a.2 in
     let g = met_ok (is_shape a.0.0 b.0.0) fault.Shape b.0.1 rest b.2 in
     let first = number_ok 2 bytes a.0.0 a.0.1 a.1 in
     let second = number_ok 2 a.0.1 b.0.0 b.0.1 b.1 in
-    omega (arith, first.long, second.long, ap length first.after, ap length second.after, ap length g.1, length-drop 2 bytes, length-drop 2 a.0.1)
+    omega (
+      arith,
+      first.long,
+      second.long,
+      ap length first.after,
+      ap length second.after,
+      ap length g.1,
+      length-drop 2 bytes,
+      length-drop 2 a.0.1,
+    )
 
 -- one more shape
-pub shapes_on : (count i : ℕ) (rest after bytes : List ℕ) → i < count → shape_at rest ≡ Ok after → shapes_at (count - i) rest ≡ shapes_at count bytes → shapes_at (count - (i + 1)) after ≡ shapes_at count bytes
+pub shapes_on : (count i : ℕ) (rest after bytes : List ℕ) → i < count → shape_at rest ≡ Ok after
+    → shapes_at (count - i) rest ≡ shapes_at count bytes
+    → shapes_at (count - (i + 1)) after ≡ shapes_at count bytes
 unfolding shapes_at
 shapes_on count i rest after bytes lt h so_far =
     let k : count - i ≡ suc (count - (i + 1)) = omega arith in
@@ -65,7 +79,9 @@ shapes_on count i rest after bytes lt h so_far =
     sym one ∙ so_far
 
 -- a fault of a shape is one of the shapes
-pub shapes_fail : (count i : ℕ) (rest bytes : List ℕ) (e : LoadFault) → i < count → shape_at rest ≡ Err e → shapes_at (count - i) rest ≡ shapes_at count bytes → shapes_at count bytes ≡ Err e
+pub shapes_fail : (count i : ℕ) (rest bytes : List ℕ) (e : LoadFault)
+    → i < count → shape_at rest ≡ Err e → shapes_at (count - i) rest ≡ shapes_at count bytes
+    → shapes_at count bytes ≡ Err e
 unfolding shapes_at
 shapes_fail count i rest bytes e lt h so_far =
     let k : count - i ≡ suc (count - (i + 1)) = omega arith in
@@ -73,7 +89,8 @@ shapes_fail count i rest bytes e lt h so_far =
     sym so_far ∙ one
 
 -- no shape is left
-pub shapes_end : (count i : ℕ) (rest bytes : List ℕ) → count ≤ i → shapes_at (count - i) rest ≡ shapes_at count bytes → shapes_at count bytes ≡ Ok rest
+pub shapes_end : (count i : ℕ) (rest bytes : List ℕ) → count ≤ i → shapes_at (count - i) rest ≡ shapes_at count bytes
+    → shapes_at count bytes ≡ Ok rest
 unfolding shapes_at
 shapes_end count i rest bytes le so_far =
     let k : count - i ≡ 0 = omega arith in

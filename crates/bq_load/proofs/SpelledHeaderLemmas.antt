@@ -21,7 +21,8 @@ use Rattle.bq_load.proofs.FieldLemmas.{is_shape-met, shape_facts}
 use Rattle.bq_load.proofs.HeaderLemmas.{length-shapes_bytes, regroup_header, after_shapes, after_count, after_hook, after_version, after_magic}
 
 -- a number with enough bytes
-pub number_again : (width : ℕ) (bytes : List ℕ) → width ≤ length bytes → number_at width bytes ≡ Ok (little_number width bytes, drop width bytes)
+pub number_again : (width : ℕ) (bytes : List ℕ) → width ≤ length bytes
+    → number_at width bytes ≡ Ok (little_number width bytes, drop width bytes)
 unfolding number_at
 number_again width bytes h = rw (le-ltb _ _ h) refl
 
@@ -73,8 +74,10 @@ shape_again s rest =
     let size = half_again s.value_size (to_le_bytes w16 s.entries ++ rest) (omega (arith, facts.greatest_size)) in
     let entries = half_again s.entries rest (omega (arith, facts.greatest_entries)) in
     let met : is_shape s.value_size s.entries ≡ true = is_shape-met s.value_size s.entries facts in
-    ap (λ (r : Result (ℕ × List ℕ) LoadFault). r >>= λ size. number_at 2 size.1 >>= λ entries. cond (is_shape size.0 entries.0) (Ok entries.1) (Err fault.Shape)) size
-    ∙ ap (λ (r : Result (ℕ × List ℕ) LoadFault). r >>= λ entries. cond (is_shape s.value_size entries.0) (Ok entries.1) (Err fault.Shape)) entries
+    ap (λ (r : Result (ℕ × List ℕ) LoadFault).
+    r >>= λ size. number_at 2 size.1 >>= λ entries. cond (is_shape size.0 entries.0) (Ok entries.1) (Err fault.Shape)) size
+    ∙ ap (λ (r : Result (ℕ × List ℕ) LoadFault). r >>= λ entries. cond (is_shape s.value_size entries.0) (Ok entries.1) (Err fault.Shape))
+    entries
     ∙ ap (λ (b : Bool). cond b (Ok rest) (Err fault.Shape)) met
 
 -- the bytes of some shapes are read again as this many, and the rest is left
@@ -101,7 +104,8 @@ read_versioned v rest =
     read_marked (version_number v ∷ rest) ∙ ap (λ (r : Result (Version × List ℕ) LoadFault). r >>= after_version) (version_again v rest)
 
 -- where letters, version and hook stand, the header is read on from the number of maps
-pub read_hooked : (v : Version) (h : Hook) (rest : List ℕ) → header_at (magic ++ (version_number v ∷ hook_byte h ∷ rest)) ≡ after_hook v (h, rest)
+pub read_hooked : (v : Version) (h : Hook) (rest : List ℕ)
+    → header_at (magic ++ (version_number v ∷ hook_byte h ∷ rest)) ≡ after_hook v (h, rest)
 read_hooked v h rest =
     read_versioned v (hook_byte h ∷ rest) ∙ ap (λ (r : Result (Hook × List ℕ) LoadFault). r >>= after_hook v) (hook_again h rest)
 
@@ -119,9 +123,12 @@ pub header_again : (h : Header) (rest : List ℕ) → IsHeader h → header_at (
 header_again h rest good =
     let n = length h.shapes in
     let maps : List ℕ = shapes_bytes h.shapes ++ (to_le_bytes w32 h.slots ++ rest) in
-    let front : take (4 * n) maps ≡ shapes_bytes h.shapes = take_at (shapes_bytes h.shapes) (to_le_bytes w32 h.slots ++ rest) (4 * n) (length-shapes_bytes h.shapes) in
-    ap header_at (sym (regroup_header h rest))
-    ∙ read_counted h.version h.hook n maps good.few
-    ∙ ap (λ (r : Result (List ℕ) LoadFault). r >>= after_shapes h.version h.hook n maps) (shapes_again h.shapes (to_le_bytes w32 h.slots ++ rest))
-    ∙ ap (λ (r : Result (ℕ × List ℕ) LoadFault). r >>= λ slots. Ok (record { version = h.version; hook = h.hook; shapes = take (4 * n) maps; slots = slots.0 }, slots.1)) (word_again h.slots rest good.slots)
+    let front : take (4 * n) maps ≡ shapes_bytes h.shapes =
+    take_at (shapes_bytes h.shapes) (to_le_bytes w32 h.slots ++ rest) (4 * n) (length-shapes_bytes h.shapes) in
+    ap header_at (sym (regroup_header h rest)) ∙ read_counted h.version h.hook n maps good.few
+    ∙ ap (λ (r : Result (List ℕ) LoadFault). r >>= after_shapes h.version h.hook n maps)
+    (shapes_again h.shapes (to_le_bytes w32 h.slots ++ rest))
+    ∙ ap (λ (r : Result (ℕ × List ℕ) LoadFault).
+    r >>= λ slots. Ok (record { version = h.version; hook = h.hook; shapes = take (4 * n) maps; slots = slots.0 }, slots.1))
+    (word_again h.slots rest good.slots)
     ∙ ap (λ (s : List ℕ). Ok (record { version = h.version; hook = h.hook; shapes = s; slots = h.slots }, rest)) front

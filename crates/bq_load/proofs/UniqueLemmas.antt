@@ -42,11 +42,14 @@ one_shapes [] [] e = refl
 one_shapes [] (t ∷ ts) e = absurd (let f : 0 ≡ length (shapes_bytes (t ∷ ts)) = ap length e in omega (arith, length-shapes_bytes (t ∷ ts)))
 one_shapes (s ∷ ss) [] e = absurd (let f : length (shapes_bytes (s ∷ ss)) ≡ 0 = ap length e in omega (arith, length-shapes_bytes (s ∷ ss)))
 one_shapes (s ∷ ss) (t ∷ ts) e =
-    let f : shape_bytes s ++ shapes_bytes ss ≡ shape_bytes t ++ shapes_bytes ts = sym (flat_map-cons shape_bytes s ss) ∙ e ∙ flat_map-cons shape_bytes t ts in
+    let f : shape_bytes s ++ shapes_bytes ss ≡ shape_bytes t ++ shapes_bytes ts =
+    sym (flat_map-cons shape_bytes s ss) ∙ e ∙ flat_map-cons shape_bytes t ts in
     let sizes : to_le_bytes w16 s.value_size ≡ to_le_bytes w16 t.value_size = cc in
     let counts : to_le_bytes w16 s.entries ≡ to_le_bytes w16 t.entries = cc in
     let rest : shapes_bytes ss ≡ shapes_bytes ts = cc in
-    let first : s ≡ t = same_shape s t (one_half s.value_size t.value_size (small_size s) (small_size t) sizes) (one_half s.entries t.entries (small_entries s) (small_entries t) counts) in
+    let first : s ≡ t =
+    same_shape s t (one_half s.value_size t.value_size (small_size s) (small_size t) sizes)
+    (one_half s.entries t.entries (small_entries s) (small_entries t) counts) in
     ap (λ (x : MapShape). x ∷ ss) first ∙ ap (λ (x : List MapShape). t ∷ x) (one_shapes ss ts rest)
 
 -- a header is determined by what is spelled
@@ -74,5 +77,6 @@ frame_again bytes h program framed =
 -- bytes are at most one header with its program
 pub one_frame : (bytes : List ℕ) (h k : Header) (p q : List ℕ) → IsFramed bytes h p → IsFramed bytes k q → (h ≡ k) × (p ≡ q)
 one_frame bytes h k p q a b =
-    let same : (spelled h, p) ≡ (spelled k, q) = ok_is (spelled h, p) (spelled k, q) (sym (frame_again bytes h p a) ∙ frame_again bytes k q b) in
+    let same : (spelled h, p) ≡ (spelled k, q) =
+    ok_is (spelled h, p) (spelled k, q) (sym (frame_again bytes h p a) ∙ frame_again bytes k q b) in
     (one_spelled h k (ap (λ (x : Spelled × List ℕ). x.0) same), ap (λ (x : Spelled × List ℕ). x.1) same)

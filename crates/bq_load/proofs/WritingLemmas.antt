@@ -22,7 +22,8 @@ at_most n h = grind (arith, nat_tests)
 pub is_written : (image : Image) → is_length image.program.items ≡ true → Spells (written image) image
 is_written image whole =
     let slots = length image.program.items / 8 in
-    let header : Header = record { version = image.form.version; hook = image.form.hook; shapes = image.form.shapes.items; slots = slots } in
+    let header : Header =
+    record { version = image.form.version; hook = image.form.hook; shapes = image.form.shapes.items; slots = slots } in
     let most : slots ≤ 4096 = at_most (length image.program.items) whole in
     record {
       slots = slots;

@@ -1,4 +1,4 @@
--- What bytes are answered by: an image, a program that is accepted, or why not.
+-- What readers and loaders answer for bytes: an image, a program that is accepted, or a fault.
 use Rattle.std.specs.Prelude.{◌≡◌, ℕ, List, ◌++◌, true}
 use Rattle.bq_verify.specs.Faults.{IsFaultless}
 use Rattle.bq_verify.specs.Paths.{IsGreatest, PathOut}
@@ -10,7 +10,7 @@ use Rattle.bq_bpf.specs.declared.shape.MapShape.{MapShape}
 use Rattle.bq_verify.specs.Accepted.{Accepted, IsAccepted}
 use Rattle.bq_hooks.specs.Hooks.{context_length_of}
 use Rattle.bq_verify.specs.Refusals.{IsVerdictOn}
-use Rattle.bq_verify.specs.Subjects.{subject_of}
+use Rattle.bq_verify.specs.Subjects.{subject_of_insns}
 use Rattle.bq_hooks.specs.declared.hook.Hook.{Hook}
 use Rattle.bq_hooks.specs.declared.hook.Version.{Version}
 use Rattle.bq_verify.specs.declared.refused.Refused.{Refused}
@@ -34,12 +34,12 @@ pub record HasImage (bytes : List ℕ) : Type 0 where
   pub program : List ℕ
   pub image : IsImage bytes version hook shapes program
 
--- no image is read of the bytes: they have that fault, or are an image and memory was refused
+-- why no image is read from the bytes: they have this fault, or they are an image and memory ran out
 abbrev pub IsUnread : List ℕ → LoadFault → Type 0
 IsUnread bytes fault.OutOfMemory = HasImage bytes
 IsUnread bytes named = IsFault bytes named
 
--- the bytes are an image of those instructions
+-- the bytes are an image of these instructions
 pub record HasProgram (bytes : List ℕ) (insns : List Insn) : Type 0 where
   pub version : Version
   pub hook : Hook
@@ -48,7 +48,7 @@ pub record HasProgram (bytes : List ℕ) (insns : List Insn) : Type 0 where
   pub well_formed : is_well_formed insns ≡ true
   pub numbers : AllFit insns
 
--- the bytes are an image of that program; its control graph has no fault, it is safe, and its budget is the longest path
+-- the bytes are an image of this program, which is accepted: its control graph has no fault, and its budget is the longest path
 pub record Loads (bytes : List ℕ) (v : Accepted) : Type 0 where
   pub insns : List Insn
   pub image : IsImage bytes v.version v.hook v.shapes (spelling insns)
@@ -63,16 +63,16 @@ pub record Loads (bytes : List ℕ) (v : Accepted) : Type 0 where
 pub record HasRefusedProgram (bytes : List ℕ) (answer : Refused) : Type 0 where
   pub insns : List Insn
   pub program : HasProgram bytes insns
-  pub refused : IsVerdictOn (subject_of insns program.hook program.version program.shapes) answer
+  pub refused : IsVerdictOn (subject_of_insns insns program.hook program.version program.shapes) answer
 
--- no program is loaded from the bytes: they or their program have that fault, or the verifier refuses it, which it does to no
--- straight program; or they are an image and memory was refused
+-- why no program is loaded from the bytes: they or their program have this fault; or the verifier refuses the program,
+-- which it never does to a straight program; or they are an image and memory ran out
 abbrev pub IsUnloaded : List ℕ → LoadFault → Type 0
 IsUnloaded bytes fault.OutOfMemory = HasImage bytes
 IsUnloaded bytes (fault.Decode slot cause) = HasFaultyProgram bytes slot cause
 IsUnloaded bytes (fault.Refused slot cause) = HasRefusedProgram bytes (refused.At slot cause) × (HasStraightProgram bytes → ⊥)
 IsUnloaded bytes named = IsFault bytes named
 
--- the new bytes are the old ones and then that image
+-- the new bytes are the old bytes, followed by bytes that spell this image
 abbrev pub AppendsImage : List ℕ → List ℕ → Image → Type 0
 AppendsImage old new image = (bytes : List ℕ) × Spells bytes image × (new ≡ old ++ bytes)

@@ -9,7 +9,7 @@ use Rattle.bq_load.specs.declared.fault.LoadFault.TheVariants as fault
 use Rattle.bq_load.specs.Layout.{Header, IsHeader, IsFramed, header_bytes}
 use Rattle.bq_load.specs.Fields.{Front, IsGood, front_bytes, next_width, IsBadNext}
 
--- good fields, and then a bad one
+-- the bytes begin with good fields, followed by a whole field that is bad
 pub record HasBadField (bytes : List ℕ) (named : LoadFault) : Type 0 where
   pub front : Front
   pub field : List ℕ
@@ -19,7 +19,7 @@ pub record HasBadField (bytes : List ℕ) (named : LoadFault) : Type 0 where
   pub whole : length field ≡ next_width front
   pub bad : IsBadNext front field named
 
--- good fields, and then less than the next
+-- the bytes are good fields, followed by less than the next field has
 pub record IsCut (bytes : List ℕ) : Type 0 where
   pub front : Front
   pub part : List ℕ
@@ -27,7 +27,7 @@ pub record IsCut (bytes : List ℕ) : Type 0 where
   pub bytes_are : bytes ≡ front_bytes front ++ part
   pub short : length part < next_width front
 
--- all fields, the program too, and then more
+-- the bytes have a whole header and its whole program, and more bytes after it
 pub record HasMore (bytes : List ℕ) : Type 0 where
   pub header : Header
   pub rest : List ℕ
@@ -35,15 +35,15 @@ pub record HasMore (bytes : List ℕ) : Type 0 where
   pub bytes_are : bytes ≡ header_bytes header ++ rest
   pub more : 8 * header.slots < length rest
 
--- header and program are there, but the bytes are no program: at that slot it has that fault
+-- header and program are whole, but the program has this fault at this slot
 pub record HasFaultyProgram (bytes : List ℕ) (slot : ℕ) (cause : Cause) : Type 0 where
   pub header : Header
   pub program : List ℕ
   pub framed : IsFramed bytes header program
   pub faulty : IsProgramFault program (At slot cause)
 
--- the first fault: bytes that are cut or too many, of the program only its length, and else a field that is bad, which is Magic, Version,
--- Hook or Shape (IsBadNext has no other)
+-- the first fault of bytes: they are cut; bytes are left after the program; the program has a wrong length; or a field
+-- is bad. A bad field is Magic, Version, Hook or Shape, because IsBadNext has no others
 abbrev pub IsFault : List ℕ → LoadFault → Type 0
 IsFault bytes fault.Cut = IsCut bytes
 IsFault bytes fault.Rest = HasMore bytes

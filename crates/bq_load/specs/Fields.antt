@@ -1,4 +1,4 @@
--- The fields of an image from left to right: what stands so far, and which field is next.
+-- The fields of an image from left to right: which fields have come, and which field is next.
 use Rattle.std.specs.Prelude.{◌≢◌, ℕ, ◌*◌, ◌<◌, ◌≤◌, List, [], ◌∷◌, ◌++◌, length}
 use Rattle.std.specs.Int.{w16, to_le_bytes}
 use Rattle.bq_bpf.specs.declared.shape.MapShape.{MapShape}
@@ -9,7 +9,8 @@ use Rattle.bq_load.specs.declared.fault.LoadFault.{LoadFault}
 use Rattle.bq_load.specs.declared.fault.LoadFault.TheVariants as fault
 use Rattle.bq_load.specs.Layout.{magic, hook_byte, shape_bytes, shapes_bytes, opening, Header, header_bytes, IsHeader}
 
--- fields that stand so far: none, the letters, the version too, the hook too, the number of maps and some shapes too, all of the header
+-- the fields at the front: none; the letters; also the version; also the hook; also the number of maps and some shapes;
+-- or the whole header
 pub data Front : Type 0 where
   Nothing : Front
   Marked : Front
@@ -18,12 +19,13 @@ pub data Front : Type 0 where
   Mapped : Version → Hook → (count : ℕ) → (shapes : List MapShape) → Front
   Headed : Header → Front
 
--- all of them are good
+-- all fields at the front are good
 abbrev pub IsGood : Front → Type 0
 IsGood (Mapped version hook count shapes) = (count ≤ 8) × (length shapes ≤ count)
 IsGood (Headed h) = IsHeader h
 IsGood _ = Unit {0}
 
+-- the bytes of the fields at the front
 abbrev pub front_bytes : Front → List ℕ
 front_bytes Nothing = []
 front_bytes Marked = magic
@@ -32,7 +34,8 @@ front_bytes (Hooked version hook) = magic ++ (version_number version ∷ hook_by
 front_bytes (Mapped version hook count shapes) = opening version hook count ++ shapes_bytes shapes
 front_bytes (Headed h) = header_bytes h
 
--- how many bytes the next field has; after the last shape it is the number of slots, and at the end the program
+-- how many bytes the next field has. After the last shape the next field is the number of slots, and after the header
+-- it is the program
 abbrev pub next_width : Front → ℕ
 next_width Nothing = 4
 next_width Marked = 1
@@ -41,7 +44,7 @@ next_width (Hooked version hook) = 2
 next_width (Mapped version hook count shapes) = 4
 next_width (Headed h) = 8 * h.slots
 
--- the next field is whole and spells nothing that may stand there
+-- the next field spells nothing that may come there, and this is the fault
 abbrev pub IsBadNext : Front → List ℕ → LoadFault → Type 0
 IsBadNext Nothing field fault.Magic = field ≢ magic
 IsBadNext Marked field fault.Version = (version : Version) → field ≢ version_number version ∷ []

@@ -1,18 +1,19 @@
--- What a header of the code says, and that it stands there.
+-- What a header of the code says, and which bytes have it.
 use Rattle.std.specs.Prelude.{◌≡◌, ℕ, ◌≤◌, List, ◌++◌}
 use Rattle.bq_bpf.specs.declared.shape.MapShape.{MapShape}
 use Rattle.bq_load.specs.declared.header.Header.{Header as Read}
 use Rattle.bq_load.specs.Layout.{shapes_bytes, Header, header_bytes, IsHeader, IsFramed}
 use Rattle.bq_load.specs.Reading.{Spelled}
 
+-- a header of the code as the specification has it
 abbrev pub spelled_of : Read → Spelled
 spelled_of h = record { version = h.version; hook = h.hook; shapes = h.shapes.now; slots = h.slots }
 
--- a header with shapes in place of the bytes that spell them
+-- the header with these shapes in place of the bytes that spell shapes
 abbrev pub with_shapes : Spelled → List MapShape → Header
 with_shapes s shapes = record { version = s.version; hook = s.hook; shapes = shapes; slots = s.slots }
 
--- the bytes are a header, and then the rest
+-- the bytes are this header, followed by the rest
 pub record HasHeader (bytes : List ℕ) (s : Spelled) (rest : List ℕ) : Type 0 where
   pub shapes : List MapShape
   pub shapes_are : s.shapes ≡ shapes_bytes shapes
@@ -25,7 +26,7 @@ pub record Frames (bytes : List ℕ) (s : Spelled) (program : List ℕ) : Type 0
   pub shapes_are : s.shapes ≡ shapes_bytes shapes
   pub framed : IsFramed bytes (with_shapes s shapes) program
 
--- the bytes are those of shapes
+-- the bytes spell shapes
 abbrev pub AreShapes : List ℕ → Type 0
 AreShapes bytes = (shapes : List MapShape) × (bytes ≡ shapes_bytes shapes)
 

@@ -1,4 +1,4 @@
--- Laws of the format: bytes say one thing, and in pieces they say the same.
+-- Laws of the format: bytes have one meaning, and they have the same meaning if they come in pieces.
 use Rattle.std.specs.Prelude.{◌≡◌, ℕ, ◌<◌, List, [], ◌∷◌, slice_index, Result, Ok, Err, ◌⊎◌}
 use Rattle.std.specs.List.{flat_map}
 use Rattle.bq_verify.specs.declared.cause.Cause.TheVariants.{Graph, State}
@@ -11,9 +11,9 @@ use Rattle.bq_load.specs.Faults.{IsFault}
 use Rattle.bq_load.specs.declared.fault.LoadFault.TheVariants as fault
 use Rattle.bq_load.specs.Answers.{HasImage, IsUnloaded, Loads}
 use Rattle.bq_verify.specs.Accepted.{Accepted}
-use Rattle.bq_load.specs.Feeding.{Fed, unfed, StandsFor, GoesOn}
+use Rattle.bq_load.specs.Feeding.{Fed, unfed, StandsFor, FeedsPiece}
 
--- numbers that bytes can be
+-- all numbers of the list are bytes
 abbrev pub AreBytes : List ℕ → Type 0
 AreBytes bytes = (i : ℕ) → slice_index bytes i < 256
 
@@ -36,19 +36,20 @@ OneFault = (bytes : List ℕ) (f g : LoadFault) → AreBytes bytes → IsFault b
 abbrev pub EachIsAnswered : Type 0
 EachIsAnswered = (bytes : List ℕ) → AreBytes bytes → HasImage bytes ⊎ ((f : LoadFault) × IsFault bytes f)
 
--- what the bytes are answered by: the program that is loaded from them, or why none is
+-- the answer is right for these bytes: the program that loads from them, or why none does
 abbrev pub IsAnswer : List ℕ → Result Accepted LoadFault → Type 0
 IsAnswer bytes (Ok v) = Loads bytes v
 IsAnswer bytes (Err f) = IsUnloaded bytes f
 
--- a fault of the bytes, of their program, or of its control graph: what is not known of registers and stack is no such fault
+-- the fault is of the bytes, of their program, or of its control graph; a refusal for what is not known of registers
+-- and stack is not
 abbrev pub IsOfBytes : LoadFault → Type 0
 IsOfBytes (fault.Refused slot (Graph cause)) = Unit {0}
 IsOfBytes (fault.Refused slot (State obligation)) = ⊥
 IsOfBytes fault.OutOfMemory = ⊥
 IsOfBytes named = Unit {0}
 
--- bytes with such a fault have no other answer, unless memory runs out
+-- bytes with a fault of their own, of their program or of its control graph have no other answer, unless memory runs out
 abbrev pub OneAnswer : Type 0
 OneAnswer =
     (bytes : List ℕ) (f : LoadFault) (answer : Result Accepted LoadFault) → AreBytes bytes → IsOfBytes f → IsUnloaded bytes f → IsAnswer bytes answer
@@ -61,8 +62,8 @@ OneLoaded = (bytes : List ℕ) (v w : Accepted) → Loads bytes v → Loads byte
 -- a reader took these pieces, one after another
 abbrev pub TakesAll : Fed → List (List ℕ) → Fed → Type 0
 TakesAll old [] new = old ≡ new
-TakesAll old (piece ∷ pieces) new = (fed : Fed) × GoesOn old piece fed × TakesAll fed pieces new
+TakesAll old (piece ∷ pieces) new = (fed : Fed) × FeedsPiece old piece fed × TakesAll fed pieces new
 
--- it stands for all of them together
+-- a reader that took pieces stands for all of them joined
 abbrev pub PiecesJoin : Type 0
 PiecesJoin = (pieces : List (List ℕ)) (fed : Fed) → TakesAll unfed pieces fed → StandsFor fed (flat_map (λ piece. piece) pieces)

@@ -1,4 +1,4 @@
--- How a fault of the program, and a refusal of the verifier, are named as faults of the image, and how those are named.
+-- How a fault of the program or a refusal of the verifier becomes a fault of the image, and the texts of faults.
 use Rattle.std.specs.Prelude.{ℕ, List, ◌++◌, codes}
 use Rattle.bq_insn.specs.Causes.{cause_and_place, fault_text as program_text}
 use Rattle.bq_verify.specs.Causes.{cause_number as refusal_number}
@@ -9,16 +9,18 @@ use Rattle.bq_verify.specs.declared.refused.Refused.TheVariants as refused
 use Rattle.bq_load.specs.declared.fault.LoadFault.{LoadFault}
 use Rattle.bq_load.specs.declared.fault.LoadFault.TheVariants as fault
 
+-- a fault of the program as a fault of the image
 abbrev pub of_program : DecodeFault → LoadFault
 of_program (program.At slot cause) = fault.Decode slot cause
 of_program program.OutOfMemory = fault.OutOfMemory
 
+-- a refusal of the verifier as a fault of the image
 abbrev pub of_refusal : Refused → LoadFault
 of_refusal (refused.At slot cause) = fault.Refused slot cause
 of_refusal refused.OutOfMemory = fault.OutOfMemory
 
--- why an image doesn't load: its number after the letter L, and where the fault is the program's, that and its slot.
--- Lack of memory is no fault of the image
+-- the text of a fault: its number after the letter L, and for a program that is faulty or refused the cause and the
+-- slot. Lack of memory is no fault of the image and has a text of its own
 abbrev pub fault_text : LoadFault → List ℕ
 fault_text fault.Magic = codes "L1"
 fault_text fault.Version = codes "L2"

@@ -4,7 +4,7 @@ use Rattle.std.specs.Int.{w32, to_le_bytes}
 use Rattle.bq_load.specs.declared.image.Image.{Image}
 use Rattle.bq_load.specs.Layout.{opening, shapes_bytes}
 
--- part after part
+-- the bytes of an image: the opening, the shapes, the number of slots, and the program
 abbrev pub written : Image → List ℕ
 written image =
     opening image.form.version image.form.hook (length image.form.shapes.items)

@@ -7,8 +7,8 @@ use std::alloc::{AllocError, AllocFailed};
 use std::error::Error;
 use std::fmt;
 
-/// Why bytes do not load: the first fault from left to right, then the first of the program, then what the verifier
-/// refuses. A field is judged when it is whole; one that is cut is `Cut`.
+/// Why bytes do not load: the first fault from left to right, then the first fault of the program, then what the
+/// verifier refuses. A field is judged once it is whole; if it is cut, the fault is `Cut`.
 #[derive(Clone, Copy, Debug, PartialEq, Eq)]
 pub enum LoadFault {
     /// The bytes do not begin with the letters BQPI.
@@ -21,10 +21,10 @@ pub enum LoadFault {
     Shape,
     /// The bytes end within a field, the program included.
     Cut,
-    /// Bytes stand after the program.
+    /// Bytes follow the program.
     Rest,
-    /// The bytes are no program: the slot of the instruction at fault, counted from 0, and its least cause. The length is
-    /// named at slot 0.
+    /// The bytes are no program: the slot of the instruction at fault, counted from 0, and its least cause. A wrong
+    /// length is named at slot 0.
     Decode {
         slot: usize,
         cause: bq_insn::fault::Cause,
@@ -38,8 +38,8 @@ pub enum LoadFault {
     OutOfMemory,
 }
 
-/// The text that an input is answered: `L1` to `L6`; `L7 I2 slot`, where the program has a fault; `L8 V5 slot`, where it is
-/// refused.
+/// The text of a fault: `L1` to `L6`; `L7 I2 5` if the program has fault 2 at slot 5; `L8 V4 5` if the verifier refuses it at slot 5
+/// for cause 4.
 impl fmt::Display for LoadFault {
     ghost use Rattle.std.specs.Prelude.{Some};
     ghost use Rattle.bq_load.specs.Naming.{fault_text};

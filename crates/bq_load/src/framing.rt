@@ -1,4 +1,4 @@
-//! Header and program of an image, judged before any memory is asked for.
+//! Splits an image into header and program. It judges both before it asks for any memory.
 ghost use Rattle.std.specs.Prelude.{◌≡◌, IfOk, IfErr};
 ghost use Rattle.bq_load.specs.Layout.{shapes_bytes};
 ghost use Rattle.bq_load.specs.Headers.{spelled_of, AreShapes, HasParts};
@@ -13,10 +13,10 @@ use bq_insn::SLOTS;
 use bq_insn::fault::Cause;
 use std::alloc::Global;
 
-/// How many slots there are at most, as headers count them.
+/// The greatest number of slots, in the type in which a header counts them.
 const MOST: u32 = SLOTS as u32;
 
-/// The header and the program of an image.
+/// The header and the program of an image, or the first fault of the bytes.
 pub fn parts(bytes: &[u8]) -> Result<(Header<'_>, &[u8]), LoadFault>
     ensures ok { IfOk result (λ x. HasParts bytes.now (spelled_of x.0) x.1.now) }
     ensures err { IfErr result (IsFault bytes.now) }
@@ -31,7 +31,7 @@ pub fn parts(bytes: &[u8]) -> Result<(Header<'_>, &[u8]), LoadFault>
     Ok((header, program))
 }
 
-/// The header and the program, which is all that stands after it.
+/// The header, and the program, which is all that follows it.
 #[tactic(auto, unfolding(crate::specs::Reading::frame_at))]
 fn frame(bytes: &[u8]) -> Result<(Header<'_>, &[u8]), LoadFault>
     ensures { Gives (λ x. (spelled_of x.0, x.1.now)) result (frame_at bytes.now) }
@@ -47,7 +47,7 @@ fn frame(bytes: &[u8]) -> Result<(Header<'_>, &[u8]), LoadFault>
     Ok((header, program))
 }
 
-/// The shapes that stand there.
+/// The shapes that these bytes spell.
 pub fn shapes_in(alloc: Global, bytes: &[u8]) -> Result<Vec<MapShape>, LoadFault>
     requires { AreShapes bytes.now }
     ensures ok { IfOk result (λ shapes. bytes.now ≡ shapes_bytes shapes.items) }

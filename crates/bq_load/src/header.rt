@@ -1,4 +1,4 @@
-//! What stands before the program, field after field.
+//! Reads what an image has before its program, field after field.
 ghost use Rattle.std.specs.Prelude.{◌≡◌, ◌+◌, ◌*◌, ◌++◌, length, IfOk};
 ghost use Rattle.bq_load.specs.Layout.{shape_bytes};
 ghost use Rattle.bq_load.specs.Reading.{Gives, magic_at, version_at, hook_at, number_at, count_at, shape_at, shapes_at, header_at};
@@ -15,13 +15,13 @@ use byteorder::{ByteOrder, LittleEndian};
 pub struct Header<'a> {
     pub version: Version,
     pub hook: Hook,
-    /// The shapes of the maps as they stand there, four bytes each. They are within their limits.
+    /// The bytes of the shapes, four for each map. The shapes are within their limits.
     pub shapes: &'a [u8],
     /// How many slots of eight bytes the program has.
     pub slots: u32,
 }
 
-/// What stands after the letters.
+/// The bytes after the letters BQPI.
 #[tactic(auto, unfolding(crate::specs::Reading::magic_at))]
 fn after_magic(bytes: &[u8]) -> Result<&[u8], LoadFault>
     ensures { Gives (λ rest. rest.now) result (magic_at bytes.now) }
@@ -37,7 +37,7 @@ fn after_magic(bytes: &[u8]) -> Result<&[u8], LoadFault>
     }
 }
 
-/// The version, and what stands after it.
+/// The version, and the bytes after it.
 #[tactic(auto, unfolding(crate::specs::Reading::version_at))]
 fn version(bytes: &[u8]) -> Result<(Version, &[u8]), LoadFault>
     ensures { Gives (λ x. (x.0, x.1.now)) result (version_at bytes.now) }
@@ -50,7 +50,7 @@ fn version(bytes: &[u8]) -> Result<(Version, &[u8]), LoadFault>
     }
 }
 
-/// The hook, and what stands after it.
+/// The hook, and the bytes after it.
 #[tactic(auto, unfolding(crate::specs::Reading::hook_at))]
 fn hook(bytes: &[u8]) -> Result<(Hook, &[u8]), LoadFault>
     ensures { Gives (λ x. (x.0, x.1.now)) result (hook_at bytes.now) }
@@ -64,7 +64,7 @@ fn hook(bytes: &[u8]) -> Result<(Hook, &[u8]), LoadFault>
     }
 }
 
-/// A number of two bytes, and what stands after it.
+/// A number of two bytes, and the bytes after it.
 #[tactic(auto, unfolding(crate::specs::Reading::number_at))]
 fn half(bytes: &[u8]) -> Result<(u16, &[u8]), LoadFault>
     ensures { Gives (λ x. (x.0, x.1.now)) result (number_at 2 bytes.now) }
@@ -75,7 +75,7 @@ fn half(bytes: &[u8]) -> Result<(u16, &[u8]), LoadFault>
     Ok((LittleEndian::read_u16(bytes), &bytes[2..]))
 }
 
-/// A number of four bytes, and what stands after it.
+/// A number of four bytes, and the bytes after it.
 #[tactic(auto, unfolding(crate::specs::Reading::number_at))]
 fn word(bytes: &[u8]) -> Result<(u32, &[u8]), LoadFault>
     ensures { Gives (λ x. (x.0, x.1.now)) result (number_at 4 bytes.now) }
@@ -86,7 +86,7 @@ fn word(bytes: &[u8]) -> Result<(u32, &[u8]), LoadFault>
     Ok((LittleEndian::read_u32(bytes), &bytes[4..]))
 }
 
-/// The number of maps, and what stands after it.
+/// The number of maps, and the bytes after it.
 #[tactic(auto, unfolding(crate::specs::Reading::count_at))]
 fn count(bytes: &[u8]) -> Result<(u16, &[u8]), LoadFault>
     ensures { Gives (λ x. (x.0, x.1.now)) result (count_at bytes.now) }
@@ -99,7 +99,7 @@ fn count(bytes: &[u8]) -> Result<(u16, &[u8]), LoadFault>
     }
 }
 
-/// A shape, and what stands after it.
+/// A shape, and the bytes after it.
 #[tactic(auto, unfolding(crate::specs::Reading::shape_at))]
 pub fn shape(bytes: &[u8]) -> Result<(MapShape, &[u8]), LoadFault>
     ensures read { Gives (λ x. x.1.now) result (shape_at bytes.now) }
@@ -113,7 +113,7 @@ pub fn shape(bytes: &[u8]) -> Result<(MapShape, &[u8]), LoadFault>
     }
 }
 
-/// What stands after this many shapes.
+/// The bytes after this many shapes.
 fn after_shapes(count: u16, bytes: &[u8]) -> Result<&[u8], LoadFault>
     ensures read { Gives (λ rest. rest.now) result (shapes_at count bytes.now) }
     ensures length { IfOk result (λ rest. length rest.now + 4 * count ≡ length bytes.now) }
@@ -126,7 +126,7 @@ fn after_shapes(count: u16, bytes: &[u8]) -> Result<&[u8], LoadFault>
     Ok(rest)
 }
 
-/// The header, and what stands after it; else the first field that is bad or cut.
+/// The header and the bytes after it, or the fault of the first field that is bad or cut.
 #[tactic(auto, unfolding(crate::specs::Reading::header_at))]
 pub fn read_header(bytes: &[u8]) -> Result<(Header<'_>, &[u8]), LoadFault>
     ensures { Gives (λ x. (spelled_of x.0, x.1.now)) result (header_at bytes.now) }

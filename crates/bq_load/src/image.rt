@@ -1,4 +1,4 @@
-//! Images as values, and their way from bytes and to bytes.
+//! Images as values, and how they are read from bytes.
 ghost use Rattle.std.specs.Prelude.{IfOk, IfErr};
 ghost use Rattle.bq_load.specs.Answers.{Spells, IsUnread};
 
@@ -12,13 +12,13 @@ use std::alloc::Global;
 pub struct Image {
     /// The program's hook, version and maps.
     pub form: PolicyForm,
-    /// The program, eight bytes a slot; 1 to 4096 slots.
+    /// The bytes of the program: 1 to 4096 slots of eight bytes.
     pub program: Vec<u8>,
 }
 
-/// Reads the image that the bytes are, or answers their first fault from left to right. Of the program only the length is
-/// judged, after all else, as a fault of slot 0. Faults are decided before any memory is asked for, so only an image is
-/// answered by `OutOfMemory`.
+/// Reads the image that the bytes are, or answers their first fault from left to right. Of the program it judges only
+/// the length, after all else; a wrong length is a fault at slot 0. It finds every fault before it asks for memory, so
+/// `OutOfMemory` means that the bytes are an image.
 ///
 /// # Example
 ///

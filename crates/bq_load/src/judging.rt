@@ -1,4 +1,4 @@
-//! What a piece of an image brings, judged before any memory is asked for.
+//! Judges a piece of an image before any memory is asked for.
 ghost use Rattle.std.specs.Prelude.{◌≡◌, ◌+◌, ◌-◌, ◌<◌, ◌≤◌, ◌^◌, ◌++◌, ℕ, List, length, take, IfOk, IfErr};
 ghost use Rattle.bq_load.specs.Feeding.{Holds, IsFinal, HasFailed};
 ghost use Rattle.bq_load.specs.Laws.{AreBytes};
@@ -9,8 +9,8 @@ use crate::header::read_header;
 use arrayvec::ArrayVec;
 use bq_insn::SLOTS;
 
-/// How many bytes of the piece are to be kept beside those that are held; the others are only counted. Else the fault
-/// that the piece completes.
+/// Answers how many bytes of the piece the reader must keep after the bytes that it holds; it only counts the others.
+/// The error is the fault that the piece completes.
 pub fn judge(held: &[u8], past: usize, piece: &[u8]) -> Result<usize, LoadFault>
     ensures within { IfOk result (λ kept. kept ≤ length piece.now) }
     ensures counts { IfOk result (λ kept. past + (length piece.now - kept) < 2 ^ 64) }
@@ -42,7 +42,7 @@ pub fn judge(held: &[u8], past: usize, piece: &[u8]) -> Result<usize, LoadFault>
     Ok(piece.len())
 }
 
-/// The first bytes of both together, as many as the longest header has.
+/// The first 44 bytes of the held bytes and the piece together: the longest header has 44.
 fn front_of(held: &[u8], piece: &[u8]) -> ArrayVec<u8, 44>
     ensures { result.items ≡ take 44 (held.now ++ piece.now) }
 {

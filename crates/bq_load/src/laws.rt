@@ -1,7 +1,7 @@
-//! Laws of the format. Each is a theorem over its definitions, and its function does nothing.
+//! Laws of the format. Each law is a theorem over its definitions; the function of a law does nothing.
 ghost use Rattle.bq_load.specs.Laws.{OneImage, NoImageIsFaulty, OneFault, EachIsAnswered, OneAnswer, OneLoaded, PiecesJoin};
 
-/// Bytes are at most one image, so what is read after it was written is what it was.
+/// Bytes are at most one image, so writing an image and reading the bytes gives the image back.
 pub fn one_image()
     ensures { OneImage }
 {}
@@ -21,18 +21,18 @@ pub fn each_is_answered()
     ensures { EachIsAnswered }
 {}
 
-/// Bytes with a fault of their own, of their program or of its control graph have no other answer: no other fault is
-/// named, and no program is loaded from them, unless memory runs out.
+/// Bytes with a fault of their own, of their program or of its control graph have no other answer, unless memory runs
+/// out: no other fault is named, and no program loads from them.
 pub fn one_answer()
     ensures { OneAnswer }
 {}
 
-/// At most one program is loaded from bytes, with one budget.
+/// At most one program loads from bytes, with one budget.
 pub fn one_loaded()
     ensures { OneLoaded }
 {}
 
-/// A reader to which pieces were fed stands for all of them together, however they were cut.
+/// A reader that took pieces stands for all of them joined, however they were cut.
 pub fn pieces_join()
     ensures { PiecesJoin }
 {}

@@ -1,7 +1,7 @@
 //! Images: a program with the choice that it makes and the shapes of its maps, as bytes.
 //!
-//! `read_image` and `write_image` are the format both ways; `load` decodes and verifies the program, too. `ImageReader`
-//! does the same for an image that comes in pieces. Each fault is the first one from left to right.
+//! `read_image` reads an image and `write_image` writes one; `load` also decodes and verifies the program.
+//! `ImageReader` reads or loads an image that comes in pieces. Each fault is the first one from left to right.
 #![tactic(auto)]
 
 pub mod fault;

@@ -1,4 +1,4 @@
-//! From an image to a program that may run.
+//! Loads a program that may run from an image.
 ghost use Rattle.std.specs.Prelude.{◌≡◌, IfOk, IfErr};
 ghost use Rattle.bq_load.specs.Answers.{Loads, IsUnloaded};
 ghost use Rattle.bq_load.specs.Straight.{HasStraightProgram};
@@ -12,9 +12,9 @@ use std::alloc::Global;
 
 /// Loads the program of an image, if it is shown to be safe.
 ///
-/// Otherwise answers, in this order: the first fault of the bytes from left to right; the first fault of the program (its
-/// length, or the least slot and there the least cause); or what the verifier refuses. Faults of the bytes are decided before
-/// any memory is asked for; after that `OutOfMemory` may come in place of any other fault.
+/// The error is the first of these: the first fault of the bytes from left to right; the first fault of the program
+/// (its length, or the least slot and its least cause); what the verifier refuses. `load` finds faults of the bytes
+/// before it asks for memory. After that `OutOfMemory` may come in place of any other fault.
 ///
 /// # Example
 ///

@@ -2,7 +2,7 @@
 ghost use Rattle.std.specs.Prelude.{◌≡◌, ◌≢◌, ◌<◌, ◌≤◌, ◌++◌, ℕ, List, length, OnOk, IfOk, IfErr, IfSome, IfNone, Some, None, Err};
 ghost use Rattle.bq_load.specs.Answers.{Spells, IsUnread, Loads, IsUnloaded};
 ghost use Rattle.bq_load.specs.Faults.{IsFault};
-ghost use Rattle.bq_load.specs.Feeding.{Holds, HasFailed, StandsFor, GoesOn, unfed};
+ghost use Rattle.bq_load.specs.Feeding.{Holds, HasFailed, StandsFor, FeedsPiece, unfed};
 ghost use Rattle.bq_load.specs.Laws.{AreBytes};
 ghost use Rattle.bq_load.specs.Straight.{HasStraightProgram};
 ghost use Rattle.bq_load.specs.declared.fault.LoadFault.{LoadFault as Fault};
@@ -18,9 +18,9 @@ use bq_verify::Verified;
 use std::alloc::Global;
 use std::marker::Model;
 
-/// Reads an image that comes in pieces. Contracts see the bytes that it holds, how many came after those, and the fault
-/// that it has answered. It never holds more than 32,812 bytes: the bytes of a program of more than 4096 slots are counted
-/// and not kept.
+/// Reads an image that comes in pieces. Contracts see the bytes that the reader holds, how many bytes came after them,
+/// and the fault that it has answered. The reader never holds more than 32,812 bytes: if a program has more than 4096
+/// slots, it counts the bytes of the program and does not keep them.
 ///
 /// # Example
 ///
@@ -52,7 +52,7 @@ impl Model for ImageReader {
 }
 
 impl ImageReader {
-    /// A reader to which nothing has come. It takes its memory from `alloc`.
+    /// A reader to which no byte has come. It takes its memory from `alloc`.
     pub fn new(alloc: Global) -> ImageReader
         ensures { result ≡ unfed }
     {
@@ -64,12 +64,13 @@ impl ImageReader {
         }
     }
 
-    /// Takes the next piece. The call that completes a bad field answers its fault, and so does the one that brings a byte
-    /// past the end; every later call answers the same. These faults are decided before any memory is asked for. After
-    /// `OutOfMemory` the reader is as before the piece, which you may feed again.
+    /// Takes the next piece. The call that completes a bad field answers the fault of the field. The call that brings a
+    /// byte past the end answers `Rest`. Every later call answers the same fault again. These faults are found before
+    /// any memory is asked for. After `OutOfMemory` the reader is as it was before the piece, and you may feed the
+    /// piece again.
     pub fn feed(&mut self, piece: &[u8]) -> Result<(), LoadFault>
-        ensures ok { OnOk result ((self.new.failed ≡ None) × GoesOn self.old piece.now self.new) }
-        ensures failed { IfErr result (λ fault. fault ≢ OutOfMemory → (self.new.failed ≡ Some fault) × GoesOn self.old piece.now self.new) }
+        ensures ok { OnOk result ((self.new.failed ≡ None) × FeedsPiece self.old piece.now self.new) }
+        ensures failed { IfErr result (λ fault. fault ≢ OutOfMemory → (self.new.failed ≡ Some fault) × FeedsPiece self.old piece.now self.new) }
         ensures exact { (bytes : List ℕ) (fault : Fault) → StandsFor self.old bytes → AreBytes (bytes ++ piece.now)
             → HasFailed (bytes ++ piece.now) fault → result ≡ Err fault }
         ensures sticky { (fault : Fault) → self.old.failed ≡ Some fault → (result ≡ Err fault) × (self.new ≡ self.old) }
@@ -92,7 +93,7 @@ impl ImageReader {
         }
     }
 
-    /// What `read_image` answers for the bytes fed, however they were cut.
+    /// Answers what `read_image` answers for all bytes fed, however they were cut.
     pub fn finish(self) -> Result<Image, LoadFault>
         ensures image { IfOk result (λ image. (bytes : List ℕ) → StandsFor self bytes → Spells bytes image) }
         ensures unread { IfErr result (λ fault. (bytes : List ℕ) → StandsFor self bytes → IsUnread bytes fault) }
@@ -103,7 +104,7 @@ impl ImageReader {
         read_image(self.alloc, self.bytes.as_slice())
     }
 
-    /// What `load` answers for the bytes fed, however they were cut.
+    /// Answers what `load` answers for all bytes fed, however they were cut.
     pub fn finish_load(self) -> Result<Verified, LoadFault>
         ensures loaded { IfOk result (λ v. (bytes : List ℕ) → StandsFor self bytes → Loads bytes v) }
         ensures unloaded { IfErr result (λ fault. (bytes : List ℕ) → StandsFor self bytes → IsUnloaded bytes fault) }
@@ -115,7 +116,8 @@ impl ImageReader {
         load(self.alloc, self.bytes.as_slice())
     }
 
-    /// The fault that is known of the bytes fed, where not all of them are held or one was answered.
+    /// The fault of the bytes fed, if a fault was answered or not all bytes are held; `None` if the reader holds all of
+    /// them.
     fn known(&self) -> Option<LoadFault>
         ensures fault { IfSome result (λ fault. (bytes : List ℕ) → StandsFor self.now bytes → IsFault bytes fault) }
         ensures none { IfNone result ((bytes : List ℕ) → StandsFor self.now bytes → bytes ≡ self.now.held) }
@@ -130,7 +132,7 @@ impl ImageReader {
     }
 }
 
-/// The fault of a program that is too long, of which this many bytes were counted.
+/// The fault of an image whose program is too long, after this many bytes of the program were only counted.
 fn fault_past(held: &[u8], past: usize) -> LoadFault
     requires { 0 < past }
     ensures { (bytes : List ℕ) → Holds held.now past bytes → IsFault bytes result }

@@ -2,7 +2,7 @@
 use crate::fault::LoadFault;
 use std::fmt;
 
-/// A fault in a few words, for a person: `cut short`; `slot 3: Unset`, where the program at fault is named.
+/// A fault in a few words, for a person: `cut short`, or `slot 3: Unset` if the program is at fault.
 #[derive(Clone, Copy)]
 pub struct FaultInWords(pub LoadFault);
 

@@ -1,4 +1,4 @@
-//! From images to bytes.
+//! Writes images.
 ghost use Rattle.std.specs.Prelude.{◌≡◌, ◌≤◌, ◌<◌, ◌*◌, ◌++◌, length, true, OnOk, OnErr};
 ghost use Rattle.std.specs.Int.{to_le_bytes};
 ghost use Rattle.bq_insn.specs.Appending.{StartsWith};
@@ -13,8 +13,7 @@ use bq_hooks::{Hook, Version};
 use byteorder::{ByteOrder, LittleEndian};
 use std::alloc::AllocError;
 
-/// Appends the bytes of an image of 1 to 4096 whole slots. Where memory is refused, nothing is
-/// appended.
+/// Appends the bytes of an image of 1 to 4096 whole slots. If memory runs out, nothing is appended.
 ///
 /// # Example
 ///
@@ -48,7 +47,7 @@ pub fn write_image(image: &Image, out: &mut Vec<u8>) -> Result<(), AllocError>
     Ok(())
 }
 
-/// Appends the bytes of an image. Where memory is refused, a part of the bytes may stand there.
+/// Appends the bytes of an image. If memory runs out, a part of the bytes may remain appended.
 fn append(image: &Image, out: &mut Vec<u8>) -> Result<(), AllocError>
     requires { is_length image.now.program.items ≡ true }
     ensures ok { OnOk result (out.new.items ≡ out.old.items ++ written image.now) }
@@ -64,7 +63,7 @@ fn append(image: &Image, out: &mut Vec<u8>) -> Result<(), AllocError>
     Ok(())
 }
 
-/// Appends the bytes of the shapes. Where memory is refused, a part of them may stand there.
+/// Appends the bytes of the shapes. If memory runs out, a part of the bytes may remain appended.
 fn append_shapes(shapes: &[MapShape], out: &mut Vec<u8>) -> Result<(), AllocError>
     ensures ok { OnOk result (out.new.items ≡ out.old.items ++ shapes_bytes shapes.now) }
     ensures err { OnErr result (StartsWith out.old.items out.new.items) }
@@ -75,7 +74,7 @@ fn append_shapes(shapes: &[MapShape], out: &mut Vec<u8>) -> Result<(), AllocErro
     Ok(())
 }
 
-/// What stands before the shapes.
+/// The eight bytes before the shapes.
 fn opening(version: Version, hook: Hook, count: u16) -> [u8; 8]
     ensures { result ≡ opening version hook count }
 {

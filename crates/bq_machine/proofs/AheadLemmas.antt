@@ -1,6 +1,6 @@
 -- What an account is ahead of its receipts by.
 use Rattle.std.proofs.Common.{◌≡◌, List, sym, ap, ◌∙◌}
-use Rattle.bq_bpf.specs.declared.board.Call.{Call}
+use Rattle.bq_bpf.specs.declared.board.CounterCall.{CounterCall}
 use Rattle.bq_bpf.specs.Counters.{Through}
 use Rattle.bq_history.specs.declared.shared_state.Receipt.{Receipt}
 use Rattle.bq_shared.specs.declared.account.Account.{Account}
@@ -8,10 +8,14 @@ use Rattle.bq_shared.specs.Sums.{calling}
 use Rattle.bq_shared.specs.Calls.{account_of, ahead}
 use Rattle.bq_shared.proofs.AccountLemmas.{goes_ahead}
 use Rattle.bq_shared.specs.declared.record.Record.{Record}
-use Rattle.bq_shared.specs.Parts.{told_calls}
+use Rattle.bq_shared.specs.Parts.{reported_calls}
 
--- an account that went over a counter_board is ahead by the calls that were made there
-pub ahead_of : {B : Type 0} (account : B → Account) (b d : B) (xs ys : List (Receipt Record)) (made : List Call) (a : Account) → account b ≡ account_of told_calls xs →
-    Through (λ (old : B) (c : Call) (new : B). account new ≡ calling (account old) c) b made d → a ≡ account d → ys ≡ xs → a ≡ ahead told_calls ys made
+-- an account that went over a counter board is ahead by the calls that were made there
+pub ahead_of : {B : Type 0} (account : B → Account) (b d : B) (xs ys : List (Receipt Record))
+    (made : List CounterCall) (a : Account)
+    → account b ≡ account_of reported_calls xs
+    → Through (λ (old : B) (c : CounterCall) (new : B). account new ≡ calling (account old) c) b made d
+    → a ≡ account d → ys ≡ xs
+    → a ≡ ahead reported_calls ys made
 ahead_of account b d xs ys made a e t s same =
-    s ∙ (goes_ahead told_calls account b d xs made e t ∙ ap (λ zs. ahead told_calls zs made) (sym same))
+    s ∙ (goes_ahead reported_calls account b d xs made e t ∙ ap (λ zs. ahead reported_calls zs made) (sym same))

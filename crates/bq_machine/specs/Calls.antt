@@ -1,4 +1,4 @@
--- What the calls of a machine answer.
+-- What the calls of a machine answer if they are refused, and what they record.
 use Rattle.std.specs.Prelude.{◌≡◌, ◌⊎◌, ℕ, zero, suc, ◌+◌, List, [], ◌∷◌, Option, None, Some}
 use Rattle.bq_history.specs.declared.shared_state.Receipt.{Receipt}
 use Rattle.bq_hooks.specs.declared.hook.Hook.{Hook}
@@ -10,12 +10,13 @@ use Rattle.bq_parts.specs.declared.refusal.Refusal.TheVariants as no
 use Rattle.bq_parts.specs.Refusals.{argument_refusal}
 use Rattle.bq_shared.specs.declared.record.Record.{Record}
 
--- A call on a machine of this many processors is refused as the arguments of its event are; or, where they are not, for want
--- of memory
+-- A call on a machine of this many processors is refused if the arguments of its event are refused; if they are not, it is
+-- refused only if memory runs out. No time is refused, so contracts name an event at time 0 for a call that reads its clock
+-- later.
 abbrev pub IsCallRefused : ℕ → Event → Refusal → Type 0
 IsCallRefused count event e = (argument_refusal count event ≡ Some e) ⊎ ((argument_refusal count event ≡ None) × (e ≡ no.OutOfMemory))
 
--- the receipts of installs of one thing at processors from c on, n of them
+-- the receipts of installs of one policy, or none, at n processors, numbered from c on
 abbrev pub AreInstalls : ℕ → ℕ → Hook → ℕ → Option Accepted → List (Receipt Record) → Type 0
 AreInstalls c zero hook g policy [] = Unit {0}
 AreInstalls c (suc n) hook g policy (x ∷ xs) = (x.entry.event ≡ Install c hook g policy) × AreInstalls (c + 1) n hook g policy xs

@@ -1,4 +1,4 @@
--- What a load of an image is answered.
+-- The answers to the load of an image.
 use Rattle.std.specs.Prelude.{◌≡◌, ◌⊎◌, ℕ, true, false, List, Option, None, Some, Ok}
 use Rattle.bq_hooks.specs.declared.hook.Hook.{Hook}
 use Rattle.bq_verify.specs.Accepted.{Accepted}
@@ -13,14 +13,14 @@ use Rattle.bq_machine.specs.declared.loading_calls.LoadReceipts.{LoadReceipts}
 use Rattle.bq_machine.specs.declared.loading_calls.LoadRefused.{LoadRefused}
 use Rattle.bq_machine.specs.declared.loading_calls.LoadRefused.TheVariants as why
 
--- the policy of an image, and none of no image
+-- the policy of an image, or none if there is no image
 abbrev pub IsPolicyOf : Option (List ℕ) → Option Accepted → Type 0
 IsPolicyOf None None = Unit {0}
 IsPolicyOf (Some bytes) (Some v) = Loads bytes v
 IsPolicyOf image policy = ⊥
 
--- what a load recorded of an image, or of none, for this hook of all the processors: it drew a generation, and installed the
--- image's policy, or none, under it at each of them
+-- what a load of an image, or of none, recorded for this hook at all processors: it drew a generation, and under that it
+-- installed the image's policy, or none, at each of them
 pub record IsLoad (count : ℕ) (hook : Hook) (image : Option (List ℕ)) (loaded : LoadReceipts) : Type 0 where
   pub draw : loaded.draw.entry.event ≡ Draw
   pub generation : ℕ
@@ -30,13 +30,13 @@ pub record IsLoad (count : ℕ) (hook : Hook) (image : Option (List ℕ)) (loade
   pub fits : is_for hook policy ≡ true
   pub installs : AreInstalls 0 count hook generation policy loaded.installs.items
 
--- the fault that loading the image gives
+-- the fault that loading the image answers
 abbrev pub IsFaultOf : Option (List ℕ) → LoadFault → Type 0
 IsFaultOf None f = ⊥
 IsFaultOf (Some bytes) f = IsUnloaded bytes f
 
--- An image that does not load is answered by its fault. One that loads is refused where it is for another hook, and else for
--- lack of memory
+-- An image that does not load is answered by its fault. One that loads is refused if it is for another hook, else only if
+-- memory runs out
 abbrev pub IsLoadRefused : Hook → Option (List ℕ) → LoadRefused → Type 0
 IsLoadRefused hook image (why.Fault f) = IsFaultOf image f
 IsLoadRefused hook image (why.Refusal e) =

@@ -5,8 +5,8 @@ use Rattle.bq_parts.specs.declared.refusal.Refusal.TheVariants as no
 use Rattle.bq_machine.specs.Placing.{IsPlaced}
 use Rattle.bq_machine.specs.declared.waking_calls.WakeReceipts.{WakeReceipts}
 
--- A wake of the task at the processor began, or was refused for what the lobby holds; and it ended if and only if it began, at a
--- reading that the clock may give
+-- A wake of the task at the processor began, or was refused for what the lobby has. The wake ended exactly when it began, at
+-- a reading that the clock may give
 pub record IsWake (gives : ℕ → Type 0) (processor task : ℕ) (w : WakeReceipts) : Type 0 where
   pub begin : w.begin.entry.event ≡ BeginWake processor task
   pub begun : IfErr w.begin.entry.reply (λ e. (e ≡ no.NoTask) ⊎ (e ≡ no.NotBlocked))

@@ -1,10 +1,10 @@
-//! The end of a machine: with its locks and all its seats in one hand again, all that happened is known.
+//! The end of a machine: once all its seats are back, all that happened is known.
 ghost use Rattle.std.specs.Prelude.{◌↔◌, IsTrue};
 ghost use Rattle.bq_history.specs.History.{IsHistory, EachOnce, AreReceiptsOf};
 ghost use Rattle.bq_shared.specs.Sums.{AreSumsOf};
 ghost use Rattle.bq_shared.specs.Calls.{calls_in};
 ghost use Rattle.bq_parts.specs.World.{opening_world};
-ghost use Rattle.bq_shared.specs.Parts.{RecordStep, told_calls};
+ghost use Rattle.bq_shared.specs.Parts.{RecordStep, reported_calls};
 
 use crate::clock::Clock;
 use crate::locks::Machine;
@@ -19,7 +19,7 @@ impl<Q: RunQueue + Drop, K: Clock + Drop, N: Naming + Counting, const P: usize> 
     N,
     P,
 > {
-    /// Whether each seat of the machine stands there, once. It takes no lock and no memory.
+    /// Whether these are all seats of the machine, each once. It takes no lock and no memory.
     pub fn owns(&self, seats: &[Seat<N>]) -> bool
         ensures { IsTrue result ↔ EachOnce self.now.recorder.history.callers seats.now }
     {
@@ -27,14 +27,14 @@ impl<Q: RunQueue + Drop, K: Clock + Drop, N: Naming + Counting, const P: usize> 
     }
 
     /// Ends the machine and takes all its seats, each once. The history is a chain of steps of the world, from the opening
-    /// world to that of the core; no event in it has refused arguments or ran out of memory. Each receipt is at its place, the
-    /// places of each seat rise, and each place is that of exactly one receipt. Each counter is the sum, modulo 2^64, of the
-    /// adds in the history. Allocates nothing.
+    /// world to that of the core; no event in it has refused arguments or ran out of memory. Each receipt is at its place,
+    /// the places of each seat rise, and each place of the history has exactly one receipt. Each counter is the sum, modulo
+    /// 2^64, of the adds in the history. Allocates nothing.
     pub fn close(self, seats: Vec<Seat<N>>) -> Closed<Q, P>
         requires { EachOnce self.recorder.history.callers seats.items }
         ensures history { IsHistory (RecordStep Q.R.discipline) (opening_world P) result.history result.core }
         ensures receipts { AreReceiptsOf result.history seats.items }
-        ensures counters { AreSumsOf (calls_in told_calls result.history) result.counters }
+        ensures counters { AreSumsOf (calls_in reported_calls result.history) result.counters }
     {
         let Machine {
             clock: _,

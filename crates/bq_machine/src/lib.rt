@@ -1,7 +1,7 @@
-//! A scheduler that many threads call at once. Processors, inboxes and the lobby lie under locks of their own; what all
-//! calls did is one history, and each call gets a receipt for its place in it.
+//! A scheduler that many threads call at once. Processors, inboxes and the lobby have locks of their own. All calls together
+//! make one history, and each call gets a receipt for its place in the history.
 //! Promises that each call records the event asked for, at a reading that the clock may give, and that the history is one of
-//! the world of bq_parts. Stands on bq_recording for the start and the end, and on bq_shared for what lies under the locks.
+//! the world of bq_parts. Builds on bq_recording for the start and the end, and on bq_shared for the contents of the locks.
 #![tactic(auto)]
 
 pub mod clock;

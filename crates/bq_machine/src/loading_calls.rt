@@ -4,14 +4,14 @@ ghost use Rattle.std.specs.Option.{option_map};
 ghost use Rattle.bq_shared.specs.Calls.{account_of};
 ghost use Rattle.bq_parts.specs.Refusals.{is_for};
 ghost use Rattle.bq_parts.specs.declared.reply.Reply.TheVariants.{Drawn};
-ghost use Rattle.bq_shared.specs.Parts.{told_calls};
+ghost use Rattle.bq_shared.specs.Parts.{reported_calls};
 ghost use Rattle.bq_machine.specs.Calls.{AreInstalls};
 ghost use Rattle.bq_machine.specs.Loading.{IsPolicyOf, IsLoad, IsLoadRefused};
 
 use crate::clock::Clock;
 use crate::locks::Machine;
 use crate::records::{Records, answer_twice, no_calls};
-use crate::spare::{Spare, spares};
+use crate::spare::{PreparedInstall, spares};
 use bq_disc::RunQueue;
 use bq_history::{Naming, Receipt, Room};
 use bq_hooks::Hook;
@@ -35,7 +35,7 @@ pub enum LoadRefused {
     Refusal(Refusal),
 }
 
-/// What a load recorded: that a generation was drawn, and what was answered at each processor, by rising number.
+/// The receipts of a load: that a generation was drawn, and the answer at each processor, by rising number.
 #[derive(Drop)]
 pub struct LoadReceipts {
     pub draw: Receipt<Record>,
@@ -53,7 +53,7 @@ struct Loading<'a> {
     policy: &'a Option<Policy>,
 }
 
-/// The policy of an image, which must be for this hook. Without an image there is none.
+/// The policy of an image, which must be for this hook; None if there is no image.
 fn policy_of(alloc: Global, hook: Hook, image: Option<&[u8]>) -> Result<Option<Policy>, LoadRefused>
     ensures policy { IfOk result (λ p. IsPolicyOf (option_map (λ b. b.now) image.entry) p) }
     ensures hook { IfOk result (λ p. is_for hook p ≡ true) }
@@ -105,9 +105,9 @@ impl<Q: RunQueue + Drop, K: Clock + Drop, N: Naming + Counting, const P: usize> 
     N,
     P,
 > {
-    /// Loads an image, and installs its policy at this hook of each processor, under one generation, drawn for it. Without an
-    /// image, the policies there are removed. Where a newer generation is installed, that is the recorded answer, and the load
-    /// goes on. It takes memory for the policy, its maps and all records.
+    /// Loads an image, and installs its policy at this hook of each processor, under one generation, drawn for it. If there
+    /// is no image, the policies there are removed. If a newer generation is installed at a processor, that is the recorded
+    /// answer there, and the load goes on. It takes memory for the policy, its maps and all records.
     ///
     /// If the image does not load, is for another hook, or memory runs out, nothing is recorded; the fault of the image comes
     /// first.
@@ -151,9 +151,9 @@ impl<Q: RunQueue + Drop, K: Clock + Drop, N: Naming + Counting, const P: usize> 
         room: &mut Room<Record>,
     ) -> (Receipt<Record>, u64)
         requires ready { room.old ≡ true }
-        requires tally { working.old.tally ≡ account_of told_calls working.old.caller.1 }
+        requires tally { working.old.tally ≡ account_of reported_calls working.old.caller.1 }
         ensures caller { working.new.caller ≡ (working.old.caller.0, working.old.caller.1 ++ result.0 ∷ []) }
-        ensures tally { working.new.tally ≡ account_of told_calls working.new.caller.1 }
+        ensures tally { working.new.tally ≡ account_of reported_calls working.new.caller.1 }
         ensures event { result.0.entry.event ≡ Event.Draw }
         ensures reply { result.0.entry.reply ≡ Ok (Drawn result.1) }
     {
@@ -168,23 +168,23 @@ impl<Q: RunQueue + Drop, K: Clock + Drop, N: Naming + Counting, const P: usize> 
         (receipt, generation)
     }
 
-    /// Installs at each processor by rising number. The list of receipts has room for them.
+    /// Installs at each processor, by rising number. The list of receipts must have room for them.
     fn install_all<R: Wait>(
         &self,
         rt: &R,
         working: &mut WorkingSeat<N>,
         loading: Loading<'_>,
-        mut spares: Vec<Spare>,
+        mut spares: Vec<PreparedInstall>,
         installs: &mut Vec<Receipt<Record>>,
     )
-        requires tally { working.old.tally ≡ account_of told_calls working.old.caller.1 }
+        requires tally { working.old.tally ≡ account_of reported_calls working.old.caller.1 }
         requires hook { is_for loading.hook loading.policy.now ≡ true }
         requires many { vec_len spares ≡ P }
         requires same { All (λ s. s.installed.policy ≡ loading.policy.now) spares.items }
         requires none { installs.old.items ≡ [] }
         requires room { P ≤ vec_capacity installs.old }
         ensures caller { working.new.caller ≡ (working.old.caller.0, working.old.caller.1 ++ installs.new.items) }
-        ensures tally { working.new.tally ≡ account_of told_calls working.new.caller.1 }
+        ensures tally { working.new.tally ≡ account_of reported_calls working.new.caller.1 }
         ensures installs { AreInstalls 0 P loading.entry.hook loading.entry.generation loading.entry.policy.now installs.new.items }
     {
         'installs: for number in 0..self.cpus.len() {
@@ -211,16 +211,16 @@ impl<Q: RunQueue + Drop, K: Clock + Drop, N: Naming + Counting, const P: usize> 
         processor: u8,
         hook: Hook,
         generation: u64,
-        spare: Spare,
+        spare: PreparedInstall,
     ) -> Receipt<Record>
-        requires tally { working.old.tally ≡ account_of told_calls working.old.caller.1 }
+        requires tally { working.old.tally ≡ account_of reported_calls working.old.caller.1 }
         requires inside { processor < P }
         requires hook { is_for hook spare.installed.policy ≡ true }
         ensures caller { working.new.caller ≡ (working.old.caller.0, working.old.caller.1 ++ result ∷ []) }
-        ensures tally { working.new.tally ≡ account_of told_calls working.new.caller.1 }
+        ensures tally { working.new.tally ≡ account_of reported_calls working.new.caller.1 }
         ensures event { result.entry.event ≡ Event.Install processor hook generation spare.installed.policy }
     {
-        let Spare {
+        let PreparedInstall {
             mut installed,
             for_record,
             for_receipt,

@@ -3,7 +3,7 @@ ghost use Rattle.std.specs.Prelude.{◌≡◌, ◌≤◌, ◌∷◌, ◌++◌, [
 ghost use Rattle.bq_parts.specs.Refusals.{argument_refusal};
 ghost use Rattle.bq_parts.specs.Moves.{admitted};
 ghost use Rattle.bq_shared.specs.Calls.{account_of};
-ghost use Rattle.bq_shared.specs.Parts.{told_calls};
+ghost use Rattle.bq_shared.specs.Parts.{reported_calls};
 ghost use Rattle.bq_machine.specs.Calls.{IsCallRefused};
 
 use crate::clock::Clock;
@@ -19,7 +19,7 @@ use bq_shared::{Counting, Record, record_room};
 use std::alloc::Global;
 use std::sync::Wait;
 
-/// What a new task comes with.
+/// The facts of a new task.
 #[derive(Clone, Copy)]
 pub struct Admission {
     /// Its id.
@@ -82,8 +82,8 @@ impl<Q: RunQueue + Drop, K: Clock + Drop, N: Naming + Counting, const P: usize> 
     /// Puts a new task into the lobby: its nice value is -20 to 19, its mask names the processors that it may use, and its
     /// slice is 100,000 to 100,000,000 nanoseconds. Allocates the task and the record.
     ///
-    /// Records nothing if an argument is out of range or memory runs out. If the task exists already, that is answered, and
-    /// recorded.
+    /// Records nothing if an argument is out of range or memory runs out. If the task exists already, the receipt has that
+    /// answer.
     pub fn admit<R: Wait>(
         &self,
         rt: &R,
@@ -114,9 +114,9 @@ impl<Q: RunQueue + Drop, K: Clock + Drop, N: Naming + Counting, const P: usize> 
         requires passed { argument_refusal P (Event.Admit admission.task admission.nice admission.mask admission.slice) ≡ None }
         requires new { new ≡ admitted P admission.task admission.nice admission.mask admission.slice }
         requires ready { room.old ≡ true }
-        requires tally { working.old.tally ≡ account_of told_calls working.old.caller.1 }
+        requires tally { working.old.tally ≡ account_of reported_calls working.old.caller.1 }
         ensures caller { working.new.caller ≡ (working.old.caller.0, working.old.caller.1 ++ result ∷ []) }
-        ensures tally { working.new.tally ≡ account_of told_calls working.new.caller.1 }
+        ensures tally { working.new.tally ≡ account_of reported_calls working.new.caller.1 }
         ensures event { result.entry.event ≡ Event.Admit admission.task admission.nice admission.mask admission.slice }
     {
         let mut guard = self.lobby.lock(rt);
@@ -134,8 +134,8 @@ impl<Q: RunQueue + Drop, K: Clock + Drop, N: Naming + Counting, const P: usize> 
 
     /// Removes a task of the lobby from the machine for good. Allocates the record.
     ///
-    /// Records nothing if the id is over 1023 or memory runs out. If the task does not exist, or does not sleep, that is
-    /// answered, and recorded.
+    /// Records nothing if the id is over 1023 or memory runs out. If the task does not exist, or does not sleep, the receipt
+    /// has that answer.
     pub fn retire<R: Wait>(
         &self,
         rt: &R,
@@ -167,9 +167,9 @@ impl<Q: RunQueue + Drop, K: Clock + Drop, N: Naming + Counting, const P: usize> 
     ) -> Receipt<Record>
         requires passed { argument_refusal P (Event.Retire task) ≡ None }
         requires ready { room.old ≡ true }
-        requires tally { working.old.tally ≡ account_of told_calls working.old.caller.1 }
+        requires tally { working.old.tally ≡ account_of reported_calls working.old.caller.1 }
         ensures caller { working.new.caller ≡ (working.old.caller.0, working.old.caller.1 ++ result ∷ []) }
-        ensures tally { working.new.tally ≡ account_of told_calls working.new.caller.1 }
+        ensures tally { working.new.tally ≡ account_of reported_calls working.new.caller.1 }
         ensures event { result.entry.event ≡ Event.Retire task }
     {
         let mut guard = self.lobby.lock(rt);

@@ -1,4 +1,4 @@
-//! What each call at a processor begins with: whether there is that processor, and memory for what is recorded.
+//! How each call at a processor begins: it checks that the processor exists, and makes room for what is recorded.
 ghost use Rattle.std.specs.Prelude.{◌≡◌, ◌<◌, ◌∷◌, [], Some, IfErr, OnOk, is_some, true};
 ghost use Rattle.bq_parts.specs.Refusals.{first_refusal, no_processor};
 ghost use Rattle.bq_parts.specs.declared.refusal.Refusal.TheVariants as no;
@@ -12,7 +12,7 @@ use bq_parts::{Event, Refusal};
 use bq_shared::{CallRooms, Counting, Record, call_rooms, record_room};
 use std::alloc::Global;
 
-/// Room for the record of an event, and for the calls of counters that it may tell.
+/// Makes room for the record of an event, and for its calls of counters.
 #[inline(always)]
 pub(crate) fn rooms_of_event(
     alloc: Global,
@@ -45,7 +45,8 @@ impl<Q: RunQueue + Drop, K: Clock + Drop, N: Naming + Counting, const P: usize> 
         Ok(())
     }
 
-    /// What an event at a processor takes before the processor is locked. The clause names a tick; a drain is refused alike.
+    /// Prepares an event at a processor before the processor is locked. It is refused only for the processor's number or for
+    /// memory, whatever the event and its time. The contract names a tick at time 0 for all of them.
     #[inline(always)]
     pub(crate) fn begin_call(
         &self,

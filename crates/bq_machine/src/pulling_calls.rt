@@ -3,7 +3,7 @@ ghost use Rattle.std.specs.Prelude.{◌≡◌, ◌≢◌, ◌<◌, ◌∷◌, �
 ghost use Rattle.std.specs.Sync.Mutex.{mutex_guard_value};
 ghost use Rattle.bq_parts.specs.Refusals.{argument_refusal};
 ghost use Rattle.bq_shared.specs.Calls.{account_of};
-ghost use Rattle.bq_shared.specs.Parts.{told_calls};
+ghost use Rattle.bq_shared.specs.Parts.{reported_calls};
 ghost use Rattle.bq_machine.specs.Calls.{IsCallRefused};
 
 use crate::clock::Clock;
@@ -67,12 +67,13 @@ impl<Q: RunQueue + Drop, K: Clock + Drop, N: Naming + Counting, const P: usize> 
         requires apart { processor ≢ from }
         requires ready { room.old ≡ true }
         requires calls { is_some calls.old ≡ true }
-        requires tally { working.old.tally ≡ account_of told_calls working.old.caller.1 }
+        requires tally { working.old.tally ≡ account_of reported_calls working.old.caller.1 }
         ensures caller { working.new.caller ≡ (working.old.caller.0, working.old.caller.1 ++ result ∷ []) }
-        ensures tally { working.new.tally ≡ account_of told_calls working.new.caller.1 }
+        ensures tally { working.new.tally ≡ account_of reported_calls working.new.caller.1 }
         ensures event { (now : ℕ) × K.gives processor now × (result.entry.event ≡ Event.Pull processor from now) }
     {
-        // Before any lock, since two may be waited for. A reading below the processor's last counts as the last.
+        // The clock is read before any lock, since both locks may be waited for. A reading below the processor's last counts
+        // as the last.
         let now = self.clock.now(processor);
         let (mut guard, mut source_guard) = self.lock_both(rt, processor, from);
         let cpu = &mut *guard;
@@ -108,7 +109,7 @@ impl<Q: RunQueue + Drop, K: Clock + Drop, N: Naming + Counting, const P: usize> 
         )
     }
 
-    /// Refuses numbers that name no processor, and two equal ones.
+    /// Refuses a number that names no processor, and two equal numbers.
     fn need_both(&self, processor: u8, from: u8) -> Result<(), Refusal>
         ensures inside { OnOk result ((processor < P) × (from < P)) }
         ensures apart { OnOk result (processor ≢ from) }
@@ -125,7 +126,7 @@ impl<Q: RunQueue + Drop, K: Clock + Drop, N: Naming + Counting, const P: usize> 
         Ok(())
     }
 
-    /// Locks two processors, that of the lesser number first.
+    /// Locks two processors, the one of lesser number first.
     fn lock_both<R: Wait>(
         &self,
         rt: &R,

@@ -1,15 +1,15 @@
-//! What is recorded of an event: a record for the history, and the same for the receipt.
+//! What is recorded of an event: a record for the history, and an equal one for the receipt.
 ghost use Rattle.std.specs.Prelude.{◌≡◌, ℕ, [], Ok, Option, false};
 ghost use Rattle.bq_hooks.specs.declared.settled.By.{By};
 ghost use Rattle.bq_parts.specs.declared.reply.Reply.TheVariants.{Ticked};
-ghost use Rattle.bq_shared.specs.Brief.{has_loads};
+ghost use Rattle.bq_shared.specs.PackedReplies.{has_loads};
 ghost use Rattle.bq_shared.specs.Events.{CarriesPolicy};
 
 use bq_history::{CommitDraft, Room};
 use bq_parts::{Event, Refusal, Reply};
 use bq_shared::{Calls, JournalState, PackedAnswer, Record, event_again};
 
-/// The record of an event for the history, and the same for the receipt.
+/// The record of an event for the history, and an equal one for the receipt.
 #[derive(Drop)]
 pub(crate) struct Records {
     pub logged: Record,
@@ -18,7 +18,7 @@ pub(crate) struct Records {
 }
 
 impl Records {
-    /// Of an event, from what each record tells of it.
+    /// The records of an event, from the pieces of each record.
     #[inline(always)]
     pub fn new(
         events: (Event, Event),
@@ -44,7 +44,7 @@ impl Records {
         }
     }
 
-    /// Of an event that carries no policy and is answered without loads.
+    /// The records of an event that carries no policy and is answered without loads.
     #[inline(always)]
     pub fn of(event: Event, answer: &Result<Reply, Refusal>, calls: (Calls, Calls)) -> Records
         requires event { ¬ (CarriesPolicy event) }
@@ -55,7 +55,7 @@ impl Records {
         Records::new(event_twice(event), answer_twice(answer), calls)
     }
 
-    /// Of an event that carries no policy, is answered without loads, and calls no counters.
+    /// The records of an event that carries no policy, is answered without loads, and calls no counters.
     #[inline(always)]
     pub fn quiet(event: Event, answer: &Result<Reply, Refusal>) -> Records
         requires event { ¬ (CarriesPolicy event) }
@@ -65,7 +65,7 @@ impl Records {
         Records::of(event, answer, no_calls())
     }
 
-    /// Of a tick. As by `of`, but its reply, of the most frequent event, is not packed case by case.
+    /// The records of a tick, as `of` makes them. Ticks are the most frequent events, so the reply is not packed case by case.
     #[inline(always)]
     pub fn of_tick(processor: u8, now: u64, reply: Reply, calls: (Calls, Calls)) -> Records
         requires ticked { (run : Option ℕ) × (by : By) × (steps : ℕ) × (reply ≡ Ticked run by steps) }
@@ -82,15 +82,15 @@ impl Records {
         Records::new(event_twice(Event::Tick { processor, now }), answers, calls)
     }
 
-    /// What a commit is to write: these, in the room that was made for them, and what the journal keeps of the world from then
-    /// on, or nothing where that is as it was.
+    /// What a commit is to write: these records, in the room that was made for them, and what the journal keeps of the world
+    /// from then on, or None if that does not change.
     #[inline(always)]
     pub fn draft(
         self,
         room: &mut Room<Record>,
         kept: Option<JournalState>,
     ) -> CommitDraft<'_, Record, JournalState>
-        ensures { result ≡ record { room = room.entry; logged = self.for_receipt; told = self.for_receipt; kept = kept } }
+        ensures { result ≡ record { room = room.entry; logged = self.for_receipt; reported = self.for_receipt; kept = kept } }
     {
         let Records {
             logged,
@@ -99,13 +99,13 @@ impl Records {
         CommitDraft {
             room,
             logged,
-            told: for_receipt,
+            reported: for_receipt,
             kept,
         }
     }
 }
 
-/// An event that carries no policy, for both records.
+/// Two copies of an event that carries no policy, for both records.
 #[inline(always)]
 pub(crate) fn event_twice(event: Event) -> (Event, Event)
     requires { ¬ (CarriesPolicy event) }
@@ -118,7 +118,7 @@ pub(crate) fn event_twice(event: Event) -> (Event, Event)
     (event, again)
 }
 
-/// An answer without loads, for both records.
+/// Two packed copies of an answer without loads, for both records.
 #[inline(always)]
 pub(crate) fn answer_twice(answer: &Result<Reply, Refusal>) -> (PackedAnswer, PackedAnswer)
     requires { has_loads answer.now ≡ false }

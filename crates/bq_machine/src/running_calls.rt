@@ -1,7 +1,7 @@
 //! The calls of one processor: its clock ticks, its inbox's tasks enter, and its running task goes to sleep.
 ghost use Rattle.std.specs.Prelude.{◌≡◌, ◌∷◌, ◌++◌, ◌<◌, ℕ, [], IfOk, IfErr, OnErr, is_some, true};
 ghost use Rattle.bq_shared.specs.Calls.{account_of};
-ghost use Rattle.bq_shared.specs.Parts.{told_calls};
+ghost use Rattle.bq_shared.specs.Parts.{reported_calls};
 ghost use Rattle.bq_machine.specs.Calls.{IsCallRefused};
 
 use crate::clock::Clock;
@@ -61,9 +61,9 @@ impl<Q: RunQueue + Drop, K: Clock + Drop, N: Naming + Counting, const P: usize> 
         requires inside { processor < P }
         requires ready { room.old ≡ true }
         requires calls { is_some calls.old ≡ true }
-        requires tally { working.old.tally ≡ account_of told_calls working.old.caller.1 }
+        requires tally { working.old.tally ≡ account_of reported_calls working.old.caller.1 }
         ensures caller { working.new.caller ≡ (working.old.caller.0, working.old.caller.1 ++ result ∷ []) }
-        ensures tally { working.new.tally ≡ account_of told_calls working.new.caller.1 }
+        ensures tally { working.new.tally ≡ account_of reported_calls working.new.caller.1 }
         ensures event { (now : ℕ) × K.gives processor now × (result.entry.event ≡ Event.Tick processor now) }
     {
         let mut guard = self.lock_processor(rt, processor);
@@ -121,9 +121,9 @@ impl<Q: RunQueue + Drop, K: Clock + Drop, N: Naming + Counting, const P: usize> 
         requires inside { processor < P }
         requires ready { room.old ≡ true }
         requires calls { is_some calls.old ≡ true }
-        requires tally { working.old.tally ≡ account_of told_calls working.old.caller.1 }
+        requires tally { working.old.tally ≡ account_of reported_calls working.old.caller.1 }
         ensures caller { working.new.caller ≡ (working.old.caller.0, working.old.caller.1 ++ result ∷ []) }
-        ensures tally { working.new.tally ≡ account_of told_calls working.new.caller.1 }
+        ensures tally { working.new.tally ≡ account_of reported_calls working.new.caller.1 }
         ensures event { (now : ℕ) × K.gives processor now × (result.entry.event ≡ Event.Drain processor now) }
     {
         let mut guard = self.lock_processor(rt, processor);
@@ -158,8 +158,7 @@ impl<Q: RunQueue + Drop, K: Clock + Drop, N: Naming + Counting, const P: usize> 
 
     /// Puts the running task of a processor to sleep, and runs the queue's choice. Allocates the record.
     ///
-    /// Records nothing if there is no such processor or memory runs out. If nothing runs there, that is answered, and
-    /// recorded.
+    /// Records nothing if there is no such processor or memory runs out. If nothing runs there, the receipt has that answer.
     pub fn block<R: Wait>(
         &self,
         rt: &R,
@@ -188,9 +187,9 @@ impl<Q: RunQueue + Drop, K: Clock + Drop, N: Naming + Counting, const P: usize> 
     ) -> Receipt<Record>
         requires inside { processor < P }
         requires ready { room.old ≡ true }
-        requires tally { working.old.tally ≡ account_of told_calls working.old.caller.1 }
+        requires tally { working.old.tally ≡ account_of reported_calls working.old.caller.1 }
         ensures caller { working.new.caller ≡ (working.old.caller.0, working.old.caller.1 ++ result ∷ []) }
-        ensures tally { working.new.tally ≡ account_of told_calls working.new.caller.1 }
+        ensures tally { working.new.tally ≡ account_of reported_calls working.new.caller.1 }
         ensures event { (now : ℕ) × K.gives processor now × (result.entry.event ≡ Event.Block processor now) }
     {
         let mut guard = self.lock_processor(rt, processor);

@@ -9,7 +9,7 @@ use std::alloc::{AllocError, Global};
 
 /// What an install hands over: the policy with its maps, and a copy of the policy for the record and for the receipt.
 #[derive(Drop)]
-pub(crate) struct Spare {
+pub(crate) struct PreparedInstall {
     pub installed: Installed,
     pub for_record: Option<Policy>,
     pub for_receipt: Option<Policy>,
@@ -21,7 +21,7 @@ pub(crate) struct Spare {
 }
 
 /// What one install hands over.
-fn one_spare(alloc: Global, policy: &Option<Policy>) -> Result<Spare, AllocError>
+fn one_spare(alloc: Global, policy: &Option<Policy>) -> Result<PreparedInstall, AllocError>
     ensures { IfOk result (λ s. s.installed.policy ≡ policy.now) }
 {
     let installed = Installed::new(alloc, policy_again(policy)?, 0)?;
@@ -29,7 +29,7 @@ fn one_spare(alloc: Global, policy: &Option<Policy>) -> Result<Spare, AllocError
     let for_receipt = policy_again(policy)?;
     let mut room = Room::new();
     room.prepare(alloc)?;
-    Ok(Spare {
+    Ok(PreparedInstall {
         installed,
         for_record,
         for_receipt,
@@ -42,7 +42,7 @@ pub(crate) fn spares(
     alloc: Global,
     policy: &Option<Policy>,
     count: usize,
-) -> Result<Vec<Spare>, AllocError>
+) -> Result<Vec<PreparedInstall>, AllocError>
     ensures many { IfOk result (λ v. vec_len v ≡ count) }
     ensures policy { IfOk result (λ v. All (λ s. s.installed.policy ≡ policy.now) v.items) }
 {

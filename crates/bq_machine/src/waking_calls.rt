@@ -4,11 +4,11 @@ ghost use Rattle.std.specs.Option.{option_to_list, option_map};
 ghost use Rattle.bq_history.specs.Items.{part_item};
 ghost use Rattle.bq_hooks.specs.OwnPlace.{HasPlace};
 ghost use Rattle.bq_shared.specs.Calls.{account_of, ahead};
-ghost use Rattle.bq_parts.specs.Choices.{policies};
+ghost use Rattle.bq_parts.specs.Choices.{by_programs};
 ghost use Rattle.bq_parts.specs.Refusals.{argument_refusal};
 ghost use Rattle.bq_parts.specs.Shares.{Places};
 ghost use Rattle.bq_parts.specs.declared.refusal.Refusal.TheVariants as no;
-ghost use Rattle.bq_shared.specs.Parts.{cpu_part, told_calls};
+ghost use Rattle.bq_shared.specs.Parts.{cpu_part, reported_calls};
 ghost use Rattle.bq_machine.specs.Calls.{IsCallRefused};
 ghost use Rattle.bq_machine.specs.Placing.{IsPlaced};
 ghost use Rattle.bq_machine.specs.Waking.{IsWake};
@@ -31,14 +31,14 @@ use bq_shared::{
 use std::alloc::Global;
 use std::sync::Wait;
 
-/// What a wake recorded: that it began, and where the task went, unless the beginning was refused.
+/// The receipts of a wake: that it began, and where the task went; no second one if the beginning was refused.
 #[derive(Drop)]
 pub struct WakeReceipts {
     pub begin: Receipt<Record>,
     pub end: Option<Receipt<Record>>,
 }
 
-/// Room for both records of a wake, for the loads that the first tells, and for the calls of counters of the second.
+/// Makes room for both records of a wake, for the loads in the first, and for the calls of counters in the second.
 fn wake_rooms(
     alloc: Global,
     first: &mut Room<Record>,
@@ -66,8 +66,8 @@ impl<Q: RunQueue + Drop, K: Clock + Drop, N: Naming + Counting, const P: usize> 
     /// Wakes a task of the lobby at a processor, whose lock is held throughout. There are two events, or only the first if it is
     /// refused. Allocates both records.
     ///
-    /// Records nothing if there is no such processor, the id is over 1023, or memory runs out. If the task does not exist, or
-    /// does not sleep, that is answered, and recorded.
+    /// Records nothing if there is no such processor, the id is over 1023, or memory runs out. If the task does not exist,
+    /// or does not sleep, the receipt has that answer.
     pub fn wake<R: Wait>(
         &self,
         rt: &R,
@@ -111,9 +111,9 @@ impl<Q: RunQueue + Drop, K: Clock + Drop, N: Naming + Counting, const P: usize> 
         requires inside { (processor < P) × (task < TASKS) }
         requires ready { (begin_rooms.record.now ≡ true) × (end_rooms.record.now ≡ true) }
         requires calls { is_some end_rooms.calls.now ≡ true }
-        requires tally { working.old.tally ≡ account_of told_calls working.old.caller.1 }
+        requires tally { working.old.tally ≡ account_of reported_calls working.old.caller.1 }
         ensures caller { working.new.caller ≡ (working.old.caller.0, (working.old.caller.1 ++ result.begin ∷ []) ++ option_to_list result.end) }
-        ensures tally { working.new.tally ≡ account_of told_calls working.new.caller.1 }
+        ensures tally { working.new.tally ≡ account_of reported_calls working.new.caller.1 }
         ensures wake { IsWake (K.gives processor) processor task result }
     {
         let mut guard = self.lock_processor(rt, processor);
@@ -141,13 +141,13 @@ impl<Q: RunQueue + Drop, K: Clock + Drop, N: Naming + Counting, const P: usize> 
     ) -> Receipt<Record>
         requires below { task < TASKS }
         requires ready { rooms.record.now ≡ true }
-        requires tally { working.old.tally ≡ account_of told_calls working.old.caller.1 }
-        requires says { cpu.old.holder ≡ part_item (cpu_part cpu.old.content.number cpu.old.content.state) ∷ [] }
+        requires tally { working.old.tally ≡ account_of reported_calls working.old.caller.1 }
+        requires held { cpu.old.holder ≡ part_item (cpu_part cpu.old.content.number cpu.old.content.state) ∷ [] }
         requires rests { cpu.old.content.state.hand ≡ None }
         ensures caller { working.new.caller ≡ (working.old.caller.0, working.old.caller.1 ++ result ∷ []) }
-        ensures tally { working.new.tally ≡ account_of told_calls working.new.caller.1 }
+        ensures tally { working.new.tally ≡ account_of reported_calls working.new.caller.1 }
         ensures event { result.entry.event ≡ Event.BeginWake cpu.old.content.number task }
-        ensures says { cpu.new.holder ≡ part_item (cpu_part cpu.new.content.number cpu.new.content.state) ∷ [] }
+        ensures held { cpu.new.holder ≡ part_item (cpu_part cpu.new.content.number cpu.new.content.state) ∷ [] }
         ensures number { cpu.new.content.number ≡ cpu.old.content.number }
         ensures hand { OnOk result.entry.reply (option_map (λ c. c.task.id) cpu.new.content.state.hand ≡ Some task) }
         ensures rests { OnErr result.entry.reply (cpu.new.content.state.hand ≡ None) }
@@ -184,14 +184,14 @@ impl<Q: RunQueue + Drop, K: Clock + Drop, N: Naming + Counting, const P: usize> 
     ) -> Receipt<Record>
         requires calls { is_some rooms.calls.now ≡ true }
         requires ready { rooms.record.now ≡ true }
-        requires tally { working.old.tally ≡ account_of told_calls working.old.caller.1 }
-        requires says { cpu.old.holder ≡ part_item (cpu_part cpu.old.content.number cpu.old.content.state) ∷ [] }
+        requires tally { working.old.tally ≡ account_of reported_calls working.old.caller.1 }
+        requires held { cpu.old.holder ≡ part_item (cpu_part cpu.old.content.number cpu.old.content.state) ∷ [] }
         requires hand { option_map (λ c. c.task.id) cpu.old.content.state.hand ≡ Some task }
         ensures caller { working.new.caller ≡ (working.old.caller.0, working.old.caller.1 ++ result ∷ []) }
-        ensures tally { working.new.tally ≡ account_of told_calls working.new.caller.1 }
+        ensures tally { working.new.tally ≡ account_of reported_calls working.new.caller.1 }
         ensures event { result.entry.event ≡ Event.EndWake cpu.old.content.number now }
         ensures placed { IsPlaced task result.entry.reply }
-        ensures says { cpu.new.holder ≡ part_item (cpu_part cpu.new.content.number cpu.new.content.state) ∷ [] }
+        ensures held { cpu.new.holder ≡ part_item (cpu_part cpu.new.content.number cpu.new.content.state) ∷ [] }
         ensures rests { cpu.new.content.state.hand ≡ None }
     {
         cpu.look(&self.recorder.history);
@@ -222,7 +222,7 @@ impl<Q: RunQueue + Drop, K: Clock + Drop, N: Naming + Counting, const P: usize> 
         working.commit_two(&self.recorder.history, journal, cpu, &mut inbox.cell, draft)
     }
 
-    /// Takes the task out of the hand, and chooses where it goes.
+    /// Takes the task out of the hand, and chooses a processor for it.
     fn place_task(
         counters: &Counters<N>,
         working: &mut WorkingSeat<N>,
@@ -232,12 +232,12 @@ impl<Q: RunQueue + Drop, K: Clock + Drop, N: Naming + Counting, const P: usize> 
         requires few { P ≤ PROCESSORS }
         requires hand { is_some content.old.state.hand ≡ true }
         requires usable { IfSome content.old.state.hand (λ c. HasPlace P c.task) }
-        requires tally { working.old.tally ≡ account_of told_calls working.old.caller.1 }
+        requires tally { working.old.tally ≡ account_of reported_calls working.old.caller.1 }
         ensures number { content.new.number ≡ content.old.number }
-        ensures share { Places (policies Q.R.discipline) P content.old.number now content.old.state content.new.scratch (Some result) content.new.state }
+        ensures share { Places (by_programs Q.R.discipline) P content.old.number now content.old.state content.new.scratch (Some result) content.new.state }
         ensures below { result.to < P }
         ensures caller { working.new.caller ≡ working.old.caller }
-        ensures tally { working.new.tally ≡ ahead told_calls working.new.caller.1 content.new.scratch }
+        ensures tally { working.new.tally ≡ ahead reported_calls working.new.caller.1 content.new.scratch }
     {
         content.scratch.clear();
         let mut counter_board = working.open_board(counters);

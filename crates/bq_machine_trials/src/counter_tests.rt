@@ -3,7 +3,7 @@
 use crate::images::{ADDS, READS};
 use crate::play::{Play, Script};
 use crate::script::{AllPlayed, run_script};
-use bq_bpf::Call;
+use bq_bpf::CounterCall;
 use std::alloc::Global;
 use std::process::Abort;
 
@@ -18,10 +18,10 @@ fn adds_up(rt: &impl Abort, alloc: Global, outcome: &AllPlayed, adds: usize, sum
         };
         for call in calls {
             match call {
-                Call::Read { counter: 3, answer } if *answer == sum => {
+                CounterCall::Read { counter: 3, answer } if *answer == sum => {
                     reads = reads.wrapping_add(1);
                 }
-                Call::Add {
+                CounterCall::Add {
                     counter: 3,
                     amount: 5,
                     answer,

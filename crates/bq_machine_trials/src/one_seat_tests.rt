@@ -48,12 +48,12 @@ enum Row {
 
 /// Nothing runs on an opening machine, and so nothing is blocked there.
 fn is_idle(receipt: &Receipt<Record>) -> bool {
-    receipt.place == 0 && matches!(receipt.entry.reply.told(), Err(Refusal::Idle))
+    receipt.place == 0 && matches!(receipt.entry.reply.reported(), Err(Refusal::Idle))
 }
 
 /// An opening machine has nothing to pull.
 fn is_pull_of_none(receipt: &Receipt<Record>) -> bool {
-    let reply = receipt.entry.reply.told();
+    let reply = receipt.entry.reply.reported();
     receipt.place == 0
         && matches!(
             reply,
@@ -68,7 +68,7 @@ fn is_pull_of_none(receipt: &Receipt<Record>) -> bool {
 
 /// The task is placed at processor 2, by the seventh event.
 fn is_placed(receipt: &Receipt<Record>) -> bool {
-    let reply = receipt.entry.reply.told();
+    let reply = receipt.entry.reply.reported();
     receipt.place == 6
         && matches!(
             reply,
@@ -86,7 +86,9 @@ fn are_installed(installs: &[Receipt<Record>], draw: u64) -> bool {
     let mut place = draw;
     for install in installs {
         place = place.wrapping_add(1);
-        if install.place != place || !matches!(install.entry.reply.told(), Ok(Reply::Installed)) {
+        if install.place != place
+            || !matches!(install.entry.reply.reported(), Ok(Reply::Installed))
+        {
             return false;
         }
     }
@@ -114,7 +116,7 @@ fn loads<N: Naming + Counting, R: Wait, const P: usize>(
         Ok(loaded) => {
             let drawn = &loaded.draw;
             let numbered =
-                matches!(drawn.entry.reply.told(), Ok(Reply::Drawn { generation }) if generation == number);
+                matches!(drawn.entry.reply.reported(), Ok(Reply::Drawn { generation }) if generation == number);
             drawn.place == place
                 && numbered
                 && loaded.installs.len() == P

@@ -1,7 +1,7 @@
 //! A history that a core goes through once more, event by event.
 ghost use Rattle.std.specs.Prelude.{◌≤◌};
 
-use bq_bpf::{Board, Call, Plain};
+use bq_bpf::{Board, CounterCall, Plain};
 use bq_core::Core;
 use bq_disc::RunQueue;
 use bq_disc::clock::LATEST;
@@ -17,33 +17,33 @@ use std::process::Abort;
 /// A board that answers what a record tells.
 #[derive(Drop)]
 struct Recorded<'a> {
-    calls: &'a [Call],
+    calls: &'a [CounterCall],
     made: usize,
     is_same: bool,
 }
 
 impl Recorded<'_> {
     /// The answer that is recorded for this call, if the call is the one recorded next.
-    fn answer(&mut self, made: Call) -> u64 {
-        let Some(told) = self.calls.get(self.made) else {
+    fn answer(&mut self, made: CounterCall) -> u64 {
+        let Some(done) = self.calls.get(self.made) else {
             self.is_same = false;
             return 0;
         };
         self.made = self.made.saturating_add(1);
-        let answer = told.answer();
+        let answer = done.answer();
         let made = match made {
-            Call::Add {
+            CounterCall::Add {
                 counter,
                 amount,
                 ..
-            } => Call::Add {
+            } => CounterCall::Add {
                 counter,
                 amount,
                 answer,
             },
-            Call::Read { counter, .. } => Call::Read { counter, answer },
+            CounterCall::Read { counter, .. } => CounterCall::Read { counter, answer },
         };
-        if made != *told {
+        if made != *done {
             self.is_same = false;
         }
         answer
@@ -59,7 +59,7 @@ impl Board for Recorded<'_> {
     ghost leads = { λ _ _ _. Unit {0} };
 
     fn add(&mut self, counter: u8, amount: u64) -> u64 {
-        self.answer(Call::Add {
+        self.answer(CounterCall::Add {
             counter,
             amount,
             answer: 0,
@@ -67,7 +67,7 @@ impl Board for Recorded<'_> {
     }
 
     fn read(&mut self, counter: u8) -> u64 {
-        self.answer(Call::Read { counter, answer: 0 })
+        self.answer(CounterCall::Read { counter, answer: 0 })
     }
 }
 
@@ -112,7 +112,7 @@ fn is_answered_so<Q: RunQueue + Drop, const P: usize>(
     core: &mut Core<Q, P>,
     event: Event,
     reply: &Result<Reply, Refusal>,
-    calls: &[Call],
+    calls: &[CounterCall],
 ) -> bool {
     let mut board = Recorded {
         calls,
@@ -124,9 +124,9 @@ fn is_answered_so<Q: RunQueue + Drop, const P: usize>(
 }
 
 /// Adds what the calls add, modulo 2^64.
-fn add_all(sums: &mut [u64; 64], calls: &[Call]) {
+fn add_all(sums: &mut [u64; 64], calls: &[CounterCall]) {
     for call in calls {
-        if let Call::Add {
+        if let CounterCall::Add {
             counter,
             amount,
             ..

@@ -24,14 +24,17 @@ before_push xs y x m lt found =
     slice_get-get_or xs m x lt ∙ ap Some (sym (get_or_append_left xs (y ∷ []) x m lt) ∙ get_or_from_slice_get (xs ++ y ∷ []) m x x found)
 
 -- one more map of one more shape
-pub have_more : (shapes : List MapShape) (maps : List (List ℕ)) (shape : MapShape) (bytes : List ℕ) → HaveShapes shapes maps → length bytes ≡ shape.value_size * shape.entries → AreBytes bytes → HaveShapes (shapes ++ shape ∷ []) (maps ++ bytes ∷ [])
+pub have_more : (shapes : List MapShape) (maps : List (List ℕ)) (shape : MapShape) (bytes : List ℕ)
+    → HaveShapes shapes maps → length bytes ≡ shape.value_size * shape.entries → AreBytes bytes
+    → HaveShapes (shapes ++ shape ∷ []) (maps ++ bytes ∷ [])
 have_more shapes maps shape bytes have long small = record {
   as_many = omega (arith, have.as_many, length_push shapes shape, length_push maps bytes);
   sizes = λ m s found. at_size m s found (cases_lt m (length shapes));
   bytes = λ m i b found. at_byte m i b found (cases_lt m (length maps));
 }
   where
-    at_size : (m : ℕ) (s : MapShape) → slice_get (shapes ++ shape ∷ []) m ≡ Some s → (m < length shapes) ⊎ (length shapes ≤ m) → length (get_or (maps ++ bytes ∷ []) m []) ≡ s.value_size * s.entries
+    at_size : (m : ℕ) (s : MapShape) → slice_get (shapes ++ shape ∷ []) m ≡ Some s → (m < length shapes) ⊎ (length shapes ≤ m)
+        → length (get_or (maps ++ bytes ∷ []) m []) ≡ s.value_size * s.entries
     at_size m s found (inl lt) =
         let inside : m < length maps = omega (arith, have.as_many) in
         rw (get_or_append_left maps (bytes ∷ []) [] m inside) (have.sizes m s (before_push shapes shape s m lt found))
@@ -42,7 +45,9 @@ have_more shapes maps shape bytes have long small = record {
         let as_long : length maps ≡ m = omega (arith, have.as_many) in
         rw (get_or_push maps bytes [] m as_long) (long ∙ ap (λ (x : MapShape). x.value_size * x.entries) is)
 
-    at_last : (m i b : ℕ) → slice_get (get_or (maps ++ bytes ∷ []) m []) i ≡ Some b → length maps ≤ m → (length maps < m) ⊎ (m ≤ length maps) → b < 256
+    at_last : (m i b : ℕ) → slice_get (get_or (maps ++ bytes ∷ []) m []) i ≡ Some b → length maps ≤ m
+        → (length maps < m) ⊎ (m ≤ length maps)
+        → b < 256
     at_last m i b found ge (inl past) =
         let beyond : length (maps ++ bytes ∷ []) ≤ m = omega (arith, length_push maps bytes) in
         absurd (none_there i b (rw (get_or_past (maps ++ bytes ∷ []) m [] beyond) at found))
@@ -55,14 +60,17 @@ have_more shapes maps shape bytes have long small = record {
     at_byte m i b found (inr ge) = at_last m i b found ge (cases_lt (length maps) m)
 
 -- a map that keeps its length and has bytes keeps its shape
-pub have_written : (shapes : List MapShape) (maps : List (List ℕ)) (m : ℕ) (new : List ℕ) → HaveShapes shapes maps → m < length maps → length new ≡ length (get_or maps m []) → AreBytes new → HaveShapes shapes (set maps m new)
+pub have_written : (shapes : List MapShape) (maps : List (List ℕ)) (m : ℕ) (new : List ℕ)
+    → HaveShapes shapes maps → m < length maps → length new ≡ length (get_or maps m []) → AreBytes new
+    → HaveShapes shapes (set maps m new)
 have_written shapes maps m new have inside same small = record {
   as_many = length-set maps m new ∙ have.as_many;
   sizes = λ n s found. at_size n s found (cases_eq n m);
   bytes = λ n i b found. at_byte n i b found (cases_eq n m);
 }
   where
-    at_size : (n : ℕ) (s : MapShape) → slice_get shapes n ≡ Some s → (n ≡ m) ⊎ (n ≢ m) → length (get_or (set maps m new) n []) ≡ s.value_size * s.entries
+    at_size : (n : ℕ) (s : MapShape) → slice_get shapes n ≡ Some s → (n ≡ m) ⊎ (n ≢ m)
+        → length (get_or (set maps m new) n []) ≡ s.value_size * s.entries
     at_size n s found (inl e) = rw (e, get_or-set_same maps m new [] inside) (same ∙ have.sizes m s (rw e at found))
     at_size n s found (inr ne) = rw (get_or-set_other maps m n new [] ne) (have.sizes n s found)
 
@@ -71,11 +79,18 @@ have_written shapes maps m new have inside same small = record {
     at_byte n i b found (inr ne) = have.bytes n i b (rw (get_or-set_other maps m n new [] ne) at found)
 
 -- a write inside keeps the length
-pub length-overwrite : (old : List ℕ) (at : ℕ) (bytes : List ℕ) → at + length bytes ≤ length old → length (overwrite old at bytes) ≡ length old
+pub length-overwrite : (old : List ℕ) (at : ℕ) (bytes : List ℕ)
+    → at + length bytes ≤ length old → length (overwrite old at bytes) ≡ length old
 length-overwrite old at bytes inside =
-    omega (arith, length-append (take at old ++ bytes) (drop (at + length bytes) old), length-append (take at old) bytes, length-take at old, length-drop (at + length bytes) old)
+    omega (
+      arith,
+      length-append (take at old ++ bytes) (drop (at + length bytes) old),
+      length-append (take at old) bytes,
+      length-take at old,
+      length-drop (at + length bytes) old,
+    )
 
--- the same, by reads that give 0 past the end
+-- all of a list are bytes, by reads that give 0 past the end
 abbrev pub ReadBytes : List ℕ → Type 0
 ReadBytes bytes = (i : ℕ) → get_or bytes i 0 < 256
 
@@ -87,7 +102,7 @@ read_bytes xs bytes i = at i (cases_lt i (length xs))
     at i (inl lt) = bytes i (get_or xs i 0) (slice_get-get_or xs i 0 lt)
     at i (inr past) = rw (get_or_past xs i 0 past) (omega arith)
 
--- and the other way
+-- bytes as read are bytes that stand in the list
 pub are_bytes : (xs : List ℕ) → ReadBytes xs → AreBytes xs
 are_bytes xs bytes i b found = let small = bytes i in omega (arith, get_or_from_slice_get xs i b 0 found)
 
@@ -110,7 +125,8 @@ front n xs bytes i = at i (cases_lt i n)
 -- bytes over bytes are bytes
 pub overwrite_bytes : (old : List ℕ) (at : ℕ) (bytes : List ℕ) → ReadBytes old → ReadBytes bytes → ReadBytes (overwrite old at bytes)
 overwrite_bytes old at bytes before new =
-    joined (take at old ++ bytes) (drop (at + length bytes) old) (joined (take at old) bytes (front at old before) new) (λ i. rw (get_or-drop (at + length bytes) old i 0) (before (at + length bytes + i)))
+    joined (take at old ++ bytes) (drop (at + length bytes) old) (joined (take at old) bytes (front at old before) new)
+    (λ i. rw (get_or-drop (at + length bytes) old i 0) (before (at + length bytes + i)))
 
 -- a map that is there has its number below the number of maps
 pub there_inside : (a : Arrays) (m k : ℕ) → HasEntry a m k → m < length a.shapes
@@ -122,24 +138,35 @@ there_inside a m k there = at_shape (cases_lt m (length a.shapes))
         let none : k < 0 = rw (slice_get_past a.shapes m past) at there in absurd (omega arith)
 
 -- an entry lies inside its map
-pub entry_inside : (a : Arrays) (m k : ℕ) (shape : MapShape) → HaveShapes a.shapes a.bytes → slice_get a.shapes m ≡ Some shape → k < shape.entries → k * shape.value_size + shape.value_size ≤ length (get_or a.bytes m [])
+pub entry_inside : (a : Arrays) (m k : ℕ) (shape : MapShape) → HaveShapes a.shapes a.bytes
+    → slice_get a.shapes m ≡ Some shape → k < shape.entries
+    → k * shape.value_size + shape.value_size ≤ length (get_or a.bytes m [])
 entry_inside a m k shape have known lt =
     let long = have.sizes m shape known in
-    let products : (k + 1) * shape.value_size ≤ shape.entries * shape.value_size = mul-le (k + 1) shape.value_size shape.entries shape.value_size (omega arith) (omega arith) in
+    let products : (k + 1) * shape.value_size ≤ shape.entries * shape.value_size =
+    mul-le (k + 1) shape.value_size shape.entries shape.value_size (omega arith) (omega arith) in
     omega arith
 
 -- maps after a write into one of them have their shapes
-pub have_overwritten : (shapes : List MapShape) (maps : List (List ℕ)) (m at : ℕ) (bytes : List ℕ) → HaveShapes shapes maps → m < length shapes → at + length bytes ≤ length (get_or maps m []) → ReadBytes bytes → HaveShapes shapes (set maps m (overwrite (get_or maps m []) at bytes))
+pub have_overwritten : (shapes : List MapShape) (maps : List (List ℕ)) (m at : ℕ) (bytes : List ℕ)
+    → HaveShapes shapes maps → m < length shapes → at + length bytes ≤ length (get_or maps m []) → ReadBytes bytes
+    → HaveShapes shapes (set maps m (overwrite (get_or maps m []) at bytes))
 have_overwritten shapes maps m at bytes have there inside small =
-    have_written shapes maps m (overwrite (get_or maps m []) at bytes) have (omega (arith, have.as_many)) (length-overwrite (get_or maps m []) at bytes inside)
-    (are_bytes (overwrite (get_or maps m []) at bytes) (overwrite_bytes (get_or maps m []) at bytes (read_bytes (get_or maps m []) (have.bytes m)) small))
+    have_written shapes maps m (overwrite (get_or maps m []) at bytes) have (omega (arith, have.as_many))
+    (length-overwrite (get_or maps m []) at bytes inside)
+    (are_bytes (overwrite (get_or maps m []) at bytes)
+    (overwrite_bytes (get_or maps m []) at bytes (read_bytes (get_or maps m []) (have.bytes m)) small))
 
 -- the bytes of all maps after those of one were written
-pub bytes_after : (bytes : List (Vec ℕ Global)) (m : ℕ) (v : Vec ℕ Global) (new part : List ℕ) (at : ℕ) → m < length bytes → v ≡ get_or bytes m v → length new ≡ v.len → new ≡ overwrite v.items at part → map (λ (v : Vec ℕ Global). v.items) (set bytes m (with_items v new)) ≡ set (map (λ (v : Vec ℕ Global). v.items) bytes) m (overwrite (get_or (map (λ (v : Vec ℕ Global). v.items) bytes) m []) at part)
+pub bytes_after : (bytes : List (Vec ℕ Global)) (m : ℕ) (v : Vec ℕ Global) (new part : List ℕ) (at : ℕ)
+    → m < length bytes → v ≡ get_or bytes m v → length new ≡ v.len → new ≡ overwrite v.items at part
+    → map (λ (v : Vec ℕ Global). v.items) (set bytes m (with_items v new))
+    ≡ set (map (λ (v : Vec ℕ Global). v.items) bytes) m (overwrite (get_or (map (λ (v : Vec ℕ Global). v.items) bytes) m []) at part)
 bytes_after bytes m v new part at lt is long after =
     let f : Vec ℕ Global → List ℕ = λ v. v.items in
     let old : v.items ≡ get_or (map f bytes) m [] = ap f is ∙ sym (get_or-map f bytes m v [] lt) in
-    let items : (with_items v new).items ≡ overwrite (get_or (map f bytes) m []) at part = with_items_is v new long ∙ after ∙ ap (λ (o : List ℕ). overwrite o at part) old in
+    let items : (with_items v new).items ≡ overwrite (get_or (map f bytes) m []) at part =
+    with_items_is v new long ∙ after ∙ ap (λ (o : List ℕ). overwrite o at part) old in
     map-set f bytes m (with_items v new) ∙ ap (λ (l : List ℕ). set (map f bytes) m l) items
 
 replicate_zero : (n i : ℕ) → get_or {A = ℕ} (replicate n 0) i 0 ≡ 0
@@ -154,10 +181,12 @@ pub zeros_are_bytes : (n : ℕ) → AreBytes (replicate n 0)
 zeros_are_bytes n i b found = let none = replicate_zero n i in omega (arith, get_or_from_slice_get (replicate n 0) i b 0 found)
 
 -- one more map of zeros
-pub zero_more : (maps : List (List ℕ)) (n : ℕ) → ((m i : ℕ) → get_or (get_or maps m []) i 0 ≡ 0) → (m i : ℕ) → get_or (get_or (maps ++ replicate n 0 ∷ []) m []) i 0 ≡ 0
+pub zero_more : (maps : List (List ℕ)) (n : ℕ) → ((m i : ℕ) → get_or (get_or maps m []) i 0 ≡ 0)
+    → (m i : ℕ) → get_or (get_or (maps ++ replicate n 0 ∷ []) m []) i 0 ≡ 0
 zero_more maps n before m i = at (cases_lt m (length maps)) (cases_lt (length maps) m)
   where
-    at : (m < length maps) ⊎ (length maps ≤ m) → (length maps < m) ⊎ (m ≤ length maps) → get_or (get_or (maps ++ replicate n 0 ∷ []) m []) i 0 ≡ 0
+    at : (m < length maps) ⊎ (length maps ≤ m) → (length maps < m) ⊎ (m ≤ length maps)
+        → get_or (get_or (maps ++ replicate n 0 ∷ []) m []) i 0 ≡ 0
     at (inl lt) _ = rw (get_or_append_left maps (replicate n 0 ∷ []) [] m lt) (before m i)
     at (inr ge) (inl past) =
         let beyond : length (maps ++ replicate n 0 ∷ []) ≤ m = omega (arith, length_push maps (replicate n 0)) in

@@ -6,7 +6,7 @@ use bq_bpf::MapShape;
 use std::alloc::{AllocError, Global};
 use std::marker::Model;
 
-/// All maps of a program: for each its shape, and the bytes of its values one after another.
+/// All maps of a program. Each has a shape, and the bytes of its values one after another.
 #[derive(Drop)]
 pub struct Maps {
     shapes: Vec<MapShape>,
@@ -31,7 +31,7 @@ impl Maps {
     ghost use Rattle.bq_maps.specs.Arrays.{HasEntry, value_size_of, first_of, bytes_of, entry_of, with_bytes};
     ghost use Rattle.bq_bpf.specs.Memory.{HaveShapes};
 
-    /// Maps of these shapes, all bytes 0. Lack of memory is the only error.
+    /// Maps of these shapes, with all bytes 0. The only error is that memory runs out.
     pub fn new(alloc: Global, shapes: &[MapShape]) -> Result<Maps, AllocError>
         ensures shapes { IfOk result (λ m. m.shapes ≡ shapes.now) }
         ensures zero { IfOk result (λ m. (n i : ℕ) → slice_index (bytes_of m n) i ≡ 0) }
@@ -52,7 +52,7 @@ impl Maps {
         self.shapes.as_slice()
     }
 
-    /// Whether there is a map `m`, and it has an entry `k`.
+    /// Answers whether there is a map `m` that has an entry `k`.
     pub fn lookup(&self, m: usize, k: u32) -> bool
         ensures { IsTrue result ↔ HasEntry self.now m k }
     {
@@ -80,7 +80,7 @@ impl Maps {
         self.bytes[m].as_slice()
     }
 
-    /// The bytes of an entry that is there.
+    /// The bytes of an entry that exists.
     pub fn entry(&self, m: usize, k: u32) -> &[u8]
         requires { HasEntry self.now m k }
         ensures { result.now ≡ entry_of self.now m k }
@@ -89,7 +89,7 @@ impl Maps {
         part(self.contents(m), k as usize * size, size)
     }
 
-    /// Writes bytes into a map, from one of its bytes on; no other byte changes.
+    /// Writes bytes into a map, from its byte `at` on; no other byte changes.
     pub fn write(&mut self, m: usize, at: usize, bytes: &[u8])
         requires there { m < length self.old.shapes }
         requires inside { at + length bytes.now ≤ length (bytes_of self.old m) }
@@ -98,7 +98,7 @@ impl Maps {
         paste(self.bytes[m].as_mut_slice(), at, bytes);
     }
 
-    /// Writes bytes into an entry that is there, from its byte `at` on; no other byte changes.
+    /// Writes bytes into an entry that exists, from the byte `at` of the entry on; no other byte changes.
     pub fn put(&mut self, m: usize, k: u32, at: usize, bytes: &[u8])
         requires there { HasEntry self.old m k }
         requires inside { at + length bytes.now ≤ value_size_of self.old m }
@@ -108,7 +108,7 @@ impl Maps {
         self.write(m, k as usize * size + at, bytes);
     }
 
-    /// Writes a value into an entry, if it is there, and answers whether it is; else nothing changes.
+    /// Writes a value into an entry and answers true. If there is no such entry, answers false and changes nothing.
     pub fn update(&mut self, m: usize, k: u32, bytes: &[u8]) -> bool
         requires { HasEntry self.old m k → length bytes.now ≡ value_size_of self.old m }
         ensures answer { IsTrue result ↔ HasEntry self.old m k }
@@ -137,7 +137,7 @@ fn paste(into: &mut [u8], at: usize, bytes: &[u8])
     into[at..at + bytes.len()].copy_from_slice(bytes);
 }
 
-/// The bytes of maps of these shapes, in order: zeros, as many as the values of each take.
+/// The bytes of new maps of these shapes, in order: for each map as many zeros as its values take.
 fn all_zeros(alloc: Global, shapes: &[MapShape]) -> Result<Vec<Vec<u8>>, AllocError>
     ensures sizes { IfOk result (λ all. HaveShapes shapes.now (map (λ v. v.items) all.items)) }
     ensures zero { IfOk result (λ all. (n i : ℕ) → slice_index (slice_index_or (map (λ v. v.items) all.items) n []) i ≡ 0) }

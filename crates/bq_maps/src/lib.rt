@@ -1,6 +1,6 @@
-//! Array maps: for each map of a program the bytes of its values, read and written by entries.
+//! Array maps: the bytes of the values of each map of a program, read and written entry by entry.
 //!
-//! Stands on `bq_bpf`, which says what the shape of a map is and which helpers reach it.
+//! It uses `bq_bpf`, which says what the shape of a map is and which helpers reach a map.
 #![tactic(auto)]
 
 pub mod arrays;

@@ -14,19 +14,21 @@ use Rattle.bq_states.specs.declared.abstract_state.AbstractValue.{AbstractValue}
 use Rattle.bq_states.specs.declared.abstract_state.AbstractState.{AbstractState}
 use Rattle.bq_policy_file.specs.declared.policy_source.PolicySource.{PolicySource}
 use Rattle.bq_verify.specs.Subjects.{context_of}
-use Rattle.bq_needs.specs.Accesses.{AreSet, Follows, GoesBeyond, IsMoved, IsShown, ReachesLast, Stays, TellsBegin, Wraps, across, across_text, begin_of, counted, by_register, register_text}
+use Rattle.bq_needs.specs.Accesses.{AreSet, Follows, GoesBeyond, IsMoved, IsShown, ReachesLast, Stays, DescribesBegin, Wraps, across, across_text, begin_of, counted, by_register, register_text}
 use Rattle.bq_needs.specs.Texts.{kind_text}
 use Rattle.bq_needs.specs.declared.operands.Access.{Access}
 
 -- where the moved ends are turned round, one of the words between them becomes the greatest
-last_between : (lo hi d : ℕ) → lo ≤ hi → hi < 2 ^ 64 → d < 2 ^ 64 → (hi + d) % 2 ^ 64 < (lo + d) % 2 ^ 64 → (lo ≤ 2 ^ 64 - 1 - d) × (2 ^ 64 - 1 - d ≤ hi) × ((2 ^ 64 - 1 - d + d) % 2 ^ 64 ≡ 2 ^ 64 - 1)
+last_between : (lo hi d : ℕ) → lo ≤ hi → hi < 2 ^ 64 → d < 2 ^ 64 → (hi + d) % 2 ^ 64 < (lo + d) % 2 ^ 64
+    → (lo ≤ 2 ^ 64 - 1 - d) × (2 ^ 64 - 1 - d ≤ hi) × ((2 ^ 64 - 1 - d + d) % 2 ^ 64 ≡ 2 ^ 64 - 1)
 last_between lo hi d ordered fits small wraps = omega arith
 
 small_distance : (off : ℤ) → SFits w16 off → word_of off < 2 ^ 64
 small_distance off fits = omega (arith, ints)
 
 -- where the ends of a range are turned round, one of its words comes to the greatest that there is
-pub reaches_last : (off : ℤ) (offsets : Range) → SFits w16 off → address_of offsets.hi off < address_of offsets.lo off → ReachesLast off offsets
+pub reaches_last : (off : ℤ) (offsets : Range) → SFits w16 off → address_of offsets.hi off < address_of offsets.lo off
+    → ReachesLast off offsets
 reaches_last off offsets fits wraps =
     let last = last_between offsets.lo offsets.hi (word_of off) offsets.ordered offsets.fits (small_distance off fits) wraps in
     (2 ^ 64 - 1 - word_of off, (last.0, last.1), last.2)
@@ -46,7 +48,8 @@ all_below a offsets at bound moved below o within =
     omega (arith, in_range.1)
 
 -- with the greatest offset they do not
-pub last_beyond : (a : Access) (offsets at : Range) (bound : ℕ) → IsMoved a.off offsets at → bound < at.hi + a.bytes → GoesBeyond a offsets bound
+pub last_beyond : (a : Access) (offsets at : Range) (bound : ℕ)
+    → IsMoved a.off offsets at → bound < at.hi + a.bytes → GoesBeyond a offsets bound
 last_beyond a offsets at bound moved beyond =
     let last : at.hi ≡ address_of offsets.hi a.off = moved.hi in
     (offsets.hi, (offsets.ordered, omega arith), subst (λ (n : ℕ). bound < n + a.bytes) last beyond)
@@ -57,25 +60,35 @@ greatest_beyond a offsets bound (o, within, greatest) small =
     (o, within, subst (λ (n : ℕ). bound < n + a.bytes) (sym greatest) (omega arith))
 
 -- of a pointer that may be followed a range says where the access begins, unless none is so far on
-pub range_of_followed : (off : ℤ) (offsets : Range) (F : Type 0) → F → (v : Option Range) → MatchOption v (ReachesLast off offsets) (IsMoved off offsets) → IfNone v (Wraps off offsets) → MatchOption v ((F → ⊥) ⊎ Wraps off offsets) (λ at. F × IsMoved off offsets at)
+pub range_of_followed : (off : ℤ) (offsets : Range) (F : Type 0)
+    → F → (v : Option Range) → MatchOption v (ReachesLast off offsets) (IsMoved off offsets) → IfNone v (Wraps off offsets)
+    → MatchOption v ((F → ⊥) ⊎ Wraps off offsets) (λ at. F × IsMoved off offsets at)
 range_of_followed off offsets F follows None range wraps = inr wraps
 range_of_followed off offsets F follows (Some at) range wraps = (follows, range)
 
 -- the range says where the access begins
-pub tells_counted : (shapes : List MapShape) (a : Access) (k : AbstractValue) (at : Range) (text : List ℕ) → Follows k.kind × IsMoved a.off k.offset at → text ≡ kind_text shapes k.kind at → TellsBegin shapes a k text
-tells_counted shapes a k at text (follows, moved) is = subst (λ (t : List ℕ). TellsBegin shapes a k t) (sym is) (counted at follows moved)
+pub describes_counted : (shapes : List MapShape) (a : Access) (k : AbstractValue) (at : Range) (text : List ℕ)
+    → Follows k.kind × IsMoved a.off k.offset at → text ≡ kind_text shapes k.kind at
+    → DescribesBegin shapes a k text
+describes_counted shapes a k at text (follows, moved) is =
+    subst (λ (t : List ℕ). DescribesBegin shapes a k t) (sym is) (counted at follows moved)
 
--- or from below to above, where no range has it
-pub tells_across : (shapes : List MapShape) (a : Access) (k : AbstractValue) (text : List ℕ) → Follows k.kind → (Follows k.kind → ⊥) ⊎ Wraps a.off k.offset → text ≡ across_text shapes a k → TellsBegin shapes a k text
-tells_across shapes a k text follows (inl not) is = absurd (not follows)
-tells_across shapes a k text follows (inr wraps) is = subst (λ (t : List ℕ). TellsBegin shapes a k t) (sym is) (across follows wraps)
+-- the access begins from below to above, where no range has it
+pub describes_across : (shapes : List MapShape) (a : Access) (k : AbstractValue) (text : List ℕ)
+    → Follows k.kind → (Follows k.kind → ⊥) ⊎ Wraps a.off k.offset → text ≡ across_text shapes a k
+    → DescribesBegin shapes a k text
+describes_across shapes a k text follows (inl not) is = absurd (not follows)
+describes_across shapes a k text follows (inr wraps) is =
+    subst (λ (t : List ℕ). DescribesBegin shapes a k t) (sym is) (across follows wraps)
 
--- or by the register
-pub tells_register : (shapes : List MapShape) (a : Access) (k : AbstractValue) (text : List ℕ) → (Follows k.kind → ⊥) → text ≡ register_text shapes a.register k → TellsBegin shapes a k text
-tells_register shapes a k text not is = subst (λ (t : List ℕ). TellsBegin shapes a k t) (sym is) (by_register not)
+-- the text names the register of the access, where nothing says where it begins
+pub describes_register : (shapes : List MapShape) (a : Access) (k : AbstractValue) (text : List ℕ)
+    → (Follows k.kind → ⊥) → text ≡ register_text shapes a.register k → DescribesBegin shapes a k text
+describes_register shapes a k text not is = subst (λ (t : List ℕ). DescribesBegin shapes a k t) (sym is) (by_register not)
 
 -- a read of the context within its length
-pub shown_in_context : (p : PolicySource) (state : AbstractState) (a : Access) (k : AbstractValue) → k.kind ≡ kind.Context → a.writes ≡ false → Stays a k.offset (context_of p.form) → IsShown p state a k
+pub shown_in_context : (p : PolicySource) (state : AbstractState) (a : Access) (k : AbstractValue)
+    → k.kind ≡ kind.Context → a.writes ≡ false → Stays a k.offset (context_of p.form) → IsShown p state a k
 shown_in_context p state a k of read stays =
     record {
       bound = context_of p.form;
@@ -86,7 +99,8 @@ shown_in_context p state a k of read stays =
     }
 
 -- a write of the stack within its bytes
-pub written_on_stack : (p : PolicySource) (state : AbstractState) (a : Access) (k : AbstractValue) → k.kind ≡ kind.Stack → a.writes ≡ true → Stays a k.offset 512 → IsShown p state a k
+pub written_on_stack : (p : PolicySource) (state : AbstractState) (a : Access) (k : AbstractValue)
+    → k.kind ≡ kind.Stack → a.writes ≡ true → Stays a k.offset 512 → IsShown p state a k
 written_on_stack p state a k of written stays =
     record {
       bound = 512;
@@ -97,7 +111,10 @@ written_on_stack p state a k of written stays =
     }
 
 -- a read of bytes of it that are set
-pub read_from_stack : (p : PolicySource) (state : AbstractState) (a : Access) (k : AbstractValue) → k.kind ≡ kind.Stack → a.writes ≡ false → Stays a k.offset 512 → AreSet state.set (begin_of a k.offset.lo) (begin_of a k.offset.hi + a.bytes) → IsShown p state a k
+pub read_from_stack : (p : PolicySource) (state : AbstractState) (a : Access) (k : AbstractValue)
+    → k.kind ≡ kind.Stack → a.writes ≡ false → Stays a k.offset 512
+    → AreSet state.set (begin_of a k.offset.lo) (begin_of a k.offset.hi + a.bytes)
+    → IsShown p state a k
 read_from_stack p state a k of read stays set =
     record {
       bound = 512;
@@ -108,7 +125,9 @@ read_from_stack p state a k of read stays set =
     }
 
 -- an access within a value of the map
-pub shown_in_value : (p : PolicySource) (state : AbstractState) (a : Access) (k : AbstractValue) (map size : ℕ) → k.kind ≡ kind.Entry map → size_of_shape (slice_get p.form.shapes.items map) ≡ Some size → Stays a k.offset size → IsShown p state a k
+pub shown_in_value : (p : PolicySource) (state : AbstractState) (a : Access) (k : AbstractValue) (map size : ℕ)
+    → k.kind ≡ kind.Entry map → size_of_shape (slice_get p.form.shapes.items map) ≡ Some size → Stays a k.offset size
+    → IsShown p state a k
 shown_in_value p state a k map size of is stays =
     record {
       bound = size;

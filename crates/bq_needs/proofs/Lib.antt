@@ -1,4 +1,4 @@
 pub mod AccessLemmas
 pub mod ArgumentLemmas
 pub mod NeedLemmas
-pub mod SayingLemmas
+pub mod DescribedWordLemmas

@@ -20,7 +20,7 @@ use Rattle.bq_needs.specs.declared.accesses.Lack.{Lack}
 use Rattle.bq_needs.specs.declared.operands.Access.{Access}
 use Rattle.bq_needs.specs.Texts.{kind_text, known_text, map_name}
 
--- where the access begins, counted from where its pointer counts from, if the pointer is so far above that
+-- the place where the access begins, as an offset, if its pointer has this offset
 abbrev pub begin_of : Access → ℕ → ℕ
 begin_of a offset = address_of offset a.off
 
@@ -32,7 +32,7 @@ AreSet set first past = (i : ℕ) → first ≤ i → i < past → slice_index_o
 abbrev pub Stays : Access → Range → ℕ → Type 0
 Stays a offsets bound = (o : ℕ) → Within offsets o → begin_of a o + a.bytes ≤ bound
 
--- with one that it may have they do not
+-- with one of the offsets that the pointer may have, some byte does not lie below the bound
 abbrev pub GoesBeyond : Access → Range → ℕ → Type 0
 GoesBeyond a offsets bound = (o : ℕ) × Within offsets o × (bound < begin_of a o + a.bytes)
 
@@ -46,7 +46,7 @@ pub record IsMoved (off : ℤ) (old new : Range) : Type 0 where
   pub hi : new.hi ≡ address_of old.hi off
   pub each : (o : ℕ) → Within old o → Within new (address_of o off)
 
--- so far on one of the words of the range is the greatest that there is
+-- with one of the offsets in the range, the access begins at the greatest word that there is
 abbrev pub ReachesLast : ℤ → Range → Type 0
 ReachesLast off offsets = (o : ℕ) × Within offsets o × (address_of o off ≡ 2 ^ 64 - 1)
 
@@ -104,7 +104,7 @@ abbrev pub may_be_null : ValueKind → Bool
 may_be_null (kind.EntryOrNull map) = true
 may_be_null _ = false
 
--- the register and what is known of it; of the answer of a look-up that it may be null
+-- the register and what is known of it; if it is the answer of a look-up, that it may be null
 abbrev pub register_text : List MapShape → ℕ → AbstractValue → List ℕ
 register_text shapes r k =
     if may_be_null k.kind then codes "r" ++ (decimal r ++ codes ", which may be null") else codes "r" ++ (decimal r ++ (codes ", which is " ++ known_text shapes k))
@@ -115,18 +115,20 @@ place_text shapes (kind.Entry map) = codes "entry of " ++ map_name shapes map
 place_text shapes kind.Stack = codes "stack begin"
 place_text shapes _ = codes "context"
 
--- from so far below that to so far above it
+-- the place of an access that may begin below or above what its pointer counts from: the distance below and the distance above
 abbrev pub across_text : List MapShape → Access → AbstractValue → List ℕ
 across_text shapes a k =
     place_text shapes k.kind ++ (codes " -" ++ (decimal ((2 ^ 64 - address_of k.offset.lo a.off) % 2 ^ 64) ++ (codes ".." ++ decimal (address_of k.offset.hi a.off))))
 
--- the text tells where it begins: of a pointer that may be followed, how far from what that counts from, as a range of words, or, where its words begin again
--- from 0 on the way, from so far below to so far above; of one that may not, by which register and what is known of that
-pub data TellsBegin (shapes : List MapShape) (a : Access) (k : AbstractValue) : List ℕ → Type 0 where
-  counted : (at : Range) → Follows k.kind → IsMoved a.off k.offset at → TellsBegin shapes a k (kind_text shapes k.kind at)
-  across : Follows k.kind → Wraps a.off k.offset → TellsBegin shapes a k (across_text shapes a k)
-  by_register : (Follows k.kind → ⊥) → TellsBegin shapes a k (register_text shapes a.register k)
+-- The text says where the access begins. If its pointer may be followed, it says the offset as a range of words, or, if the
+-- words begin again from 0 on the way, the distance below and the distance above. If not, it says the register and what is known
+-- of it.
+pub data DescribesBegin (shapes : List MapShape) (a : Access) (k : AbstractValue) : List ℕ → Type 0 where
+  counted : (at : Range) → Follows k.kind → IsMoved a.off k.offset at → DescribesBegin shapes a k (kind_text shapes k.kind at)
+  across : Follows k.kind → Wraps a.off k.offset → DescribesBegin shapes a k (across_text shapes a k)
+  by_register : (Follows k.kind → ⊥) → DescribesBegin shapes a k (register_text shapes a.register k)
 
+-- the verb of an access
 abbrev pub verb : Bool → List ℕ
 verb true = codes "writes"
 verb false = codes "reads"
@@ -135,6 +137,6 @@ verb false = codes "reads"
 abbrev pub noun : ℕ → List ℕ
 noun bytes = if bytes == 1 then codes "byte" else codes "bytes"
 
--- how many bytes are read or written, and from where
+-- the number of bytes that are read or written, and where they begin
 abbrev pub access_text : Access → List ℕ → List ℕ
 access_text a begin = verb a.writes ++ (codes " " ++ (decimal a.bytes ++ (codes " " ++ (noun a.bytes ++ (codes " at " ++ begin)))))

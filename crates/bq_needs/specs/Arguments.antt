@@ -4,7 +4,7 @@ use Rattle.bq_bpf.specs.declared.board.TheConstants.{COUNTERS}
 use Rattle.bq_bpf.specs.declared.shape.MapShape.{MapShape}
 use Rattle.bq_bpf.specs.Helpers.{number_of_helper}
 use Rattle.bq_bpf.specs.declared.helper.Helper.TheVariants.{Lookup, Update, AddCounter, ReadCounter}
-use Rattle.bq_states.specs.Certainty.{Exact, Pointer, Scalar, StandsAt}
+use Rattle.bq_states.specs.Certainty.{Exact, Pointer, Scalar, CertaintyHoldsAt}
 use Rattle.bq_states.specs.declared.abstract_state.ValueKind.TheVariants.{Number, Map}
 use Rattle.bq_states.specs.declared.abstract_state.AbstractValue.{AbstractValue}
 use Rattle.bq_states.specs.declared.abstract_state.AbstractState.{AbstractState}
@@ -30,7 +30,7 @@ PointsTo p state r bytes = (k : AbstractValue) × (known_in state r ≡ Some k) 
 -- register 1 is the reference of a map, and register 3 points to as many as a value of it has
 abbrev pub PointsToValue : PolicySource → AbstractState → Type 0
 PointsToValue p state =
-    (m : ℕ) × (shape : MapShape) × StandsAt (Pointer (Map m) 0) state 1 × (slice_get p.form.shapes.items m ≡ Some shape) × PointsTo p state 3 shape.value_size
+    (m : ℕ) × (shape : MapShape) × CertaintyHoldsAt (Pointer (Map m) 0) state 1 × (slice_get p.form.shapes.items m ≡ Some shape) × PointsTo p state 3 shape.value_size
 
 -- a number of a counter
 abbrev pub IsCounter : Option AbstractValue → Type 0
@@ -39,22 +39,23 @@ IsCounter (Some k) = (k.kind ≡ Number) × (k.offset.hi < COUNTERS)
 
 -- the abstract state shows the argument to be what the helper needs
 abbrev pub IsGood : PolicySource → AbstractState → Argument → Type 0
-IsGood p state argument.Map = (m : ℕ) × StandsAt (Pointer (Map m) 0) state 1
+IsGood p state argument.Map = (m : ℕ) × CertaintyHoldsAt (Pointer (Map m) 0) state 1
 IsGood p state argument.Entry = PointsTo p state 2 4
 IsGood p state argument.Value = PointsToValue p state
-IsGood p state argument.Zero = StandsAt (Exact 0) state 4
+IsGood p state argument.Zero = CertaintyHoldsAt (Exact 0) state 4
 IsGood p state argument.Counter = IsCounter (known_in state 1)
-IsGood p state argument.Amount = StandsAt Scalar state 2
+IsGood p state argument.Amount = CertaintyHoldsAt Scalar state 2
 
--- it gives each argument of the helper that
+-- the state gives each argument that the helper wants
 abbrev pub GivesHelper : PolicySource → AbstractState → ℤ → Type 0
 GivesHelper p state helper = (a : Argument) → Wants helper a → IsGood p state a
 
--- it does not give that argument of the helper
+-- the state does not give this argument of the helper
 pub record IsBad (p : PolicySource) (state : AbstractState) (helper : ℤ) (a : Argument) : Type 0 where
   pub wanted : Wants helper a
   pub not_given : ¬ (IsGood p state a)
 
+-- the register of an argument
 abbrev pub register_of : Argument → ℕ
 register_of argument.Map = 1
 register_of argument.Entry = 2
@@ -63,6 +64,7 @@ register_of argument.Zero = 4
 register_of argument.Counter = 1
 register_of argument.Amount = 2
 
+-- what the helper wants as this argument
 abbrev pub wanted_text : Argument → List ℕ
 wanted_text argument.Map = codes "a map in r1, by ldmap"
 wanted_text argument.Entry = codes "4 written bytes at r2, the entry's number"

@@ -2,6 +2,6 @@ pub mod Accesses
 pub mod Arguments
 pub mod Needs
 pub mod Operands
-pub mod Saying
+pub mod DescribedWords
 pub mod Texts
 pub mod Words

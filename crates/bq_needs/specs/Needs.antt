@@ -5,7 +5,7 @@ use Rattle.bq_insn.specs.declared.Insn.TheVariants.{MapRef, Call}
 use Rattle.bq_transfer.specs.declared.obligation.Obligation.TheVariants.{Unset, Access, PointerUse, Argument, Answer}
 use Rattle.bq_verify.specs.declared.cause.Cause.{Cause}
 use Rattle.bq_verify.specs.declared.cause.Cause.TheVariants.{State}
-use Rattle.bq_states.specs.Certainty.{Scalar, StandsAt}
+use Rattle.bq_states.specs.Certainty.{Scalar, CertaintyHoldsAt}
 use Rattle.bq_states.specs.declared.abstract_state.ValueKind.TheVariants.{Number}
 use Rattle.bq_states.specs.declared.abstract_state.AbstractValue.{AbstractValue}
 use Rattle.bq_states.specs.declared.abstract_state.AbstractState.{AbstractState}
@@ -27,7 +27,7 @@ AreKnown state insn = (r : ℕ) → r < 11 → reads insn r ≡ true → known_i
 abbrev pub AreNumbersBelow : ℕ → AbstractState → Insn → Type 0
 AreNumbersBelow n state insn = (r : ℕ) (k : AbstractValue) → r < n → works_on insn r ≡ true → known_in state r ≡ Some k → k.kind ≡ Number
 
--- so is each of all eleven
+-- each of the eleven registers that the instruction works on is a number
 abbrev pub AreNumbers : AbstractState → Insn → Type 0
 AreNumbers state insn = AreNumbersBelow 11 state insn
 
@@ -51,14 +51,14 @@ IsMet p state insn (State Unset) = AreKnown state insn
 IsMet p state insn (State Access) = IsGoodAccess p state insn
 IsMet p state insn (State PointerUse) = AreNumbers state insn
 IsMet p state insn (State Argument) = AreGoodArguments p state insn
-IsMet p state insn (State Answer) = StandsAt Scalar state 0
+IsMet p state insn (State Answer) = CertaintyHoldsAt Scalar state 0
 IsMet p state insn other = Unit {0}
 
 -- the instruction reads the register, and nothing is known of it
 abbrev pub is_unknown : AbstractState → Insn → ℕ → Bool
 is_unknown state insn r = reads insn r && is_none (known_in state r)
 
--- these are the registers of which that is so
+-- these are the registers that are read and of which nothing is known
 abbrev pub AreUnknown : AbstractState → Insn → List Bool → Type 0
 AreUnknown state insn registers = (r : ℕ) → r < 11 → slice_index_or registers r false ≡ is_unknown state insn r
 
@@ -77,7 +77,7 @@ pub record IsPointerWorkedOn (state : AbstractState) (insn : Insn) (r : ℕ) (k 
   pub is_known : known_in state r ≡ Some k
   pub no_number : k.kind ≢ Number
 
--- it is the first such register
+-- the register is the first of those on which the instruction works and that are no number
 pub record IsFirstPointer (state : AbstractState) (insn : Insn) (r : ℕ) (k : AbstractValue) : Type 0 where
   pub pointer : IsPointerWorkedOn state insn r k
   pub least : AreNumbersBelow r state insn
@@ -103,18 +103,18 @@ IsArgumentNeed p state (Call helper) named = IsHelperNeed p state helper named
 IsArgumentNeed p state insn named = ⊥
 
 -- the need is of the cause, and says how the abstract state is
-abbrev pub Names : PolicySource → AbstractState → Insn → Cause → Need → Type 0
-Names p state insn (State Unset) named = IsUnknownNeed state insn named
-Names p state insn (State Access) named = IsAccessNeed p state insn named
-Names p state insn (State PointerUse) named = IsPointerNeed state insn named
-Names p state insn (State Argument) named = IsArgumentNeed p state insn named
-Names p state insn (State Answer) named = named ≡ need.Answer (known_in state 0)
-Names p state insn other named = ⊥
+abbrev pub IsNeedOfCause : PolicySource → AbstractState → Insn → Cause → Need → Type 0
+IsNeedOfCause p state insn (State Unset) named = IsUnknownNeed state insn named
+IsNeedOfCause p state insn (State Access) named = IsAccessNeed p state insn named
+IsNeedOfCause p state insn (State PointerUse) named = IsPointerNeed state insn named
+IsNeedOfCause p state insn (State Argument) named = IsArgumentNeed p state insn named
+IsNeedOfCause p state insn (State Answer) named = named ≡ need.Answer (known_in state 0)
+IsNeedOfCause p state insn other named = ⊥
 
--- and the abstract state does not give it
+-- the instruction has this need, and the abstract state does not give it
 abbrev pub Lacking : PolicySource → AbstractState → Insn → Cause → Need → Type 0
-Lacking p state insn cause named = Names p state insn cause named × ¬ (IsMet p state insn cause)
+Lacking p state insn cause named = IsNeedOfCause p state insn cause named × ¬ (IsMet p state insn cause)
 
--- a need that the abstract state does not give; where it gives what the cause says, no need is named
+-- a need that the abstract state does not give; if the state gives what the cause says, no need is named
 abbrev pub IsNeed : PolicySource → AbstractState → Insn → Cause → Need → Type 0
 IsNeed p state insn cause named = Lacking p state insn cause named ⊎ ((named ≡ need.Unshown) × IsMet p state insn cause)

@@ -1,4 +1,4 @@
--- What an instruction works on: the registers that it reads, and the memory that it accesses.
+-- The operands of an instruction: the registers that it reads, and the memory that it accesses.
 use Rattle.std.specs.Prelude.{◌≡◌, ℕ, ◌==◌, ◌&&◌, ◌||◌, Bool, true, false, Option, Some, None, slice_index_or}
 use Rattle.bq_insn.specs.Slots.{byte_count}
 use Rattle.bq_insn.specs.declared.Insn.{Insn}
@@ -40,7 +40,7 @@ abbrev pub works_on : Insn → ℕ → Bool
 works_on (StoreReg size dst off src) r = src == r
 works_on insn r = reads insn r
 
--- the machine does nothing by the instruction where the register is unset
+-- the machine does nothing by the instruction if the register is unset
 abbrev pub NeedsSet : Insn → ℕ → Type 0
 NeedsSet insn r = (f : Setting) (s t : State) → Does f insn s t → (n : ℕ) × (s.register r ≡ Some n)
 

@@ -16,15 +16,16 @@ use Rattle.bq_needs.specs.declared.needs.Need.{Need}
 use Rattle.bq_needs.specs.declared.needs.Need.TheVariants.{Unknown, Address, Access, Number, Map, Argument, Answer, Unshown}
 use Rattle.bq_needs.specs.declared.needs.Pointer.{Pointer}
 use Rattle.bq_needs.specs.declared.operands.Access.{Access as Accessed}
-use Rattle.bq_needs.specs.Accesses.{TellsBegin, access_text, lack_text, may_be_null, noun, register_text, verb}
+use Rattle.bq_needs.specs.Accesses.{DescribesBegin, access_text, lack_text, may_be_null, noun, register_text, verb}
 use Rattle.bq_needs.specs.Arguments.{register_of, wanted_text}
 use Rattle.bq_needs.specs.Operands.{known_in}
 use Rattle.bq_needs.specs.Texts.{known_text}
 
--- the names of those of the first registers, this many, that are marked, with `and` between
+-- the name of a register, if it is named; `and` comes before it, unless it is the first
 abbrev pub name_text : ℕ → Bool → Bool → List ℕ
 name_text r is_first named = if named then (if is_first then codes " r" ++ decimal r else codes " and r" ++ decimal r) else []
 
+-- the names of the marked registers among the first ones, this many
 abbrev pub names_below : ℕ → List Bool → List ℕ
 names_below zero registers = []
 names_below (suc n) registers = names_below n registers ++ name_text n (length (names_below n registers) == 0) (slice_index_or registers n false)
@@ -41,11 +42,12 @@ unknown_text registers = codes "reads" ++ (names_below 11 registers ++ unknown_h
 abbrev pub address_text : Accessed → List ℕ
 address_text a = verb a.writes ++ (codes " " ++ (decimal a.bytes ++ (codes " " ++ (noun a.bytes ++ (codes " at r" ++ (decimal a.register ++ unknown_here))))))
 
--- an access and where it begins
-abbrev pub TellsAccess : List MapShape → Accessed → AbstractValue → List ℕ → Type 0
-TellsAccess shapes a k text = (begin : List ℕ) × TellsBegin shapes a k begin × (text ≡ access_text a begin)
+-- the text says what is accessed and where the access begins
+abbrev pub DescribesAccess : List MapShape → Accessed → AbstractValue → List ℕ → Type 0
+DescribesAccess shapes a k text = (begin : List ℕ) × DescribesBegin shapes a k begin × (text ≡ access_text a begin)
 
--- the instruction adds to the register or takes from it, or adds it to a number, in 64 bits: the reference of a map aside, a pointer takes that
+-- the instruction adds to the register, takes from it, or adds it to a number, in 64 bits; a pointer allows this, unless it is
+-- the reference of a map
 abbrev pub moves : Insn → ℕ → Bool
 moves (Alu W64 Add dst src) r = true
 moves (Alu W64 Sub dst src) r = dst == r
@@ -57,11 +59,13 @@ kind_rule (kind.Map map) = codes "the reference of a map may be copied by mov64,
 kind_rule (kind.EntryOrNull map) = codes "the answer of a look-up may be copied by mov64; before its test no number may be added to it"
 kind_rule other = codes "a pointer may be copied by mov64; a number may be added to it by add64, or taken from it by sub64"
 
--- what may be done with a pointer, where the instruction does another thing: a test of an answer helps where it is moved for the first time
+-- what may be done with a pointer, if the instruction does something else with it; a test of an answer helps if the answer is
+-- moved for the first time
 abbrev pub other_rule : Insn → Pointer → List ℕ
 other_rule insn p =
     if may_be_null p.known.kind && (p.known.offset.hi == 0 && moves insn p.register) then codes "test it first" else kind_rule p.known.kind
 
+-- what may be done with a pointer, by the instruction that does something else with it
 abbrev pub pointer_rule : Insn → Pointer → List ℕ
 pointer_rule (StoreReg size dst off src) p = codes "a pointer is stored whole by stxdw, on the stack, at a multiple of 8 below r10"
 pointer_rule (Branch w c dst src off) p = codes "of pointers only the answer of a look-up is compared, by jeq64 or jne64 with the number 0"
@@ -86,7 +90,7 @@ abbrev pub here_text : List MapShape → ℕ → Option AbstractValue → List �
 here_text shapes r None = codes "nothing is known of r" ++ decimal r
 here_text shapes r (Some k) = codes "r" ++ (decimal r ++ (codes " is " ++ known_text shapes k))
 
--- so it is with the register in an abstract state
+-- what is known of a register in an abstract state
 abbrev pub register_here : List MapShape → AbstractState → ℕ → List ℕ
 register_here shapes state r = here_text shapes r (known_in state r)
 
@@ -101,12 +105,12 @@ answer_text shapes None = codes "ends, and nothing is known of r0, the answer"
 answer_text shapes (Some k) = codes "ends, and r0, the answer, is " ++ (known_text shapes k ++ codes "; an answer is a number")
 
 -- the text tells the need of the instruction
-abbrev pub TellsNeed : PolicySource → AbstractState → Insn → Need → List ℕ → Type 0
-TellsNeed p state insn (Unknown registers) text = text ≡ unknown_text registers
-TellsNeed p state insn (Address a) text = text ≡ address_text a
-TellsNeed p state insn (Access a k lack) text = (told : List ℕ) × TellsAccess p.form.shapes.items a k told × (text ≡ told ++ (codes "; " ++ lack_text p lack))
-TellsNeed p state insn (Number pointer) text = text ≡ pointer_text p.form.shapes.items pointer insn
-TellsNeed p state insn (Map index) text = text ≡ map_text index (length p.form.shapes.items)
-TellsNeed p state insn (Argument helper a) text = text ≡ argument_text p.form.shapes.items state helper a
-TellsNeed p state insn (Answer known) text = text ≡ answer_text p.form.shapes.items known
-TellsNeed p state insn Unshown text = text ≡ codes "is not shown to be safe"
+abbrev pub DescribesNeed : PolicySource → AbstractState → Insn → Need → List ℕ → Type 0
+DescribesNeed p state insn (Unknown registers) text = text ≡ unknown_text registers
+DescribesNeed p state insn (Address a) text = text ≡ address_text a
+DescribesNeed p state insn (Access a k lack) text = (described : List ℕ) × DescribesAccess p.form.shapes.items a k described × (text ≡ described ++ (codes "; " ++ lack_text p lack))
+DescribesNeed p state insn (Number pointer) text = text ≡ pointer_text p.form.shapes.items pointer insn
+DescribesNeed p state insn (Map index) text = text ≡ map_text index (length p.form.shapes.items)
+DescribesNeed p state insn (Argument helper a) text = text ≡ argument_text p.form.shapes.items state helper a
+DescribesNeed p state insn (Answer known) text = text ≡ answer_text p.form.shapes.items known
+DescribesNeed p state insn Unshown text = text ≡ codes "is not shown to be safe"

@@ -1,6 +1,6 @@
-//! Whether what is known of its pointer shows an access to be good, and if not why, in words.
+//! Decides whether what is known of its pointer shows an access to be good, and says in words why not.
 ghost use Rattle.std.specs.Prelude.{◌≡◌, ◌⊎◌, ◌↔◌, ◌<◌, ◌≤◌, ◌+◌, IfOk, IfNone, IsTrue, MatchBool, MatchOption, Some, false, true, string_bytes};
-ghost use Rattle.bq_needs.specs.Accesses.{AreSet, Follows, GoesBeyond, IsMoved, IsShown, Lacks, ReachesLast, Stays, TellsBegin, TouchesUnset, Wraps, across_text, begin_of, lack_text, may_be_null, place_text, register_text};
+ghost use Rattle.bq_needs.specs.Accesses.{AreSet, Follows, GoesBeyond, IsMoved, IsShown, Lacks, ReachesLast, Stays, DescribesBegin, TouchesUnset, Wraps, across_text, begin_of, lack_text, may_be_null, place_text, register_text};
 
 use crate::known::{kind_text, known_text, map_name};
 use crate::operands::Access;
@@ -20,7 +20,7 @@ pub enum Lack {
     Number,
     /// It is the answer of a look-up, which may be 0.
     Answer,
-    /// It is the answer of a look-up, which may be 0, and a number was added to it on some way.
+    /// It is the answer of a look-up, which may be 0, and on some way a number was added to it.
     MovedAnswer,
     /// It is the reference of a map.
     Reference,
@@ -38,7 +38,7 @@ pub enum Lack {
     InNoMap,
 }
 
-/// Why what is known of its pointer does not show the access to be good, unless it does.
+/// Why what is known of its pointer does not show the access to be good; `None` if it does.
 pub(crate) fn lack_of(
     policy: &PolicySource,
     state: &AbstractState,
@@ -59,7 +59,7 @@ pub(crate) fn lack_of(
     }
 }
 
-/// Why a pointer into the context, which is only read, does not show the access to be good, unless it does.
+/// Why a pointer into the context, which is only read, does not show the access to be good; `None` if it does.
 #[tactic(auto, using(crate::proofs::AccessLemmas::shown_in_context))]
 fn context_lack(
     policy: &PolicySource,
@@ -82,7 +82,7 @@ fn context_lack(
     }
 }
 
-/// Why a pointer into the stack, of which only set bytes are read, does not show the access to be good, unless it does.
+/// Why a pointer into the stack, of which only set bytes are read, does not show the access to be good; `None` if it does.
 #[tactic(auto, using(crate::proofs::AccessLemmas::written_on_stack, crate::proofs::AccessLemmas::read_from_stack))]
 fn stack_lack(
     policy: &PolicySource,
@@ -107,7 +107,7 @@ fn stack_lack(
     }
 }
 
-/// Why a pointer into a value of that map does not show the access to be good, unless it does.
+/// Why a pointer into a value of that map does not show the access to be good; `None` if it does.
 #[tactic(auto, using(crate::proofs::AccessLemmas::shown_in_value))]
 fn value_lack(
     policy: &PolicySource,
@@ -130,7 +130,7 @@ fn value_lack(
     }
 }
 
-/// Whether all bytes of the access lie below the bound, with each offset that its pointer may have.
+/// Answers whether all bytes of the access lie below the bound, with each offset that its pointer may have.
 #[tactic(auto, using(crate::proofs::AccessLemmas::all_below, crate::proofs::AccessLemmas::last_beyond, crate::proofs::AccessLemmas::greatest_beyond))]
 fn stays(access: Access, offsets: Range, bound: usize) -> bool
     requires few { access.bytes ≤ 256 }
@@ -146,7 +146,7 @@ fn stays(access: Access, offsets: Range, bound: usize) -> bool
     at.hi <= (bound - access.bytes) as u64
 }
 
-/// Whether all bytes of the stack that the access may touch are known to be set.
+/// Answers whether all bytes of the stack that the access may touch are known to be set.
 fn touches_set(state: &AbstractState, access: Access, offsets: Range) -> bool
     requires few { access.bytes ≤ 256 }
     requires inside { Stays access offsets STACK_SIZE }
@@ -162,7 +162,7 @@ fn touches_set(state: &AbstractState, access: Access, offsets: Range) -> bool
     true
 }
 
-/// The words that far on from those of the range, unless one of them is beyond the greatest.
+/// Answers the words at this distance from those of the range. None if one of them would be beyond the greatest word.
 fn moved(offsets: Range, off: i16) -> Option<Range>
     ensures range { MatchOption result (ReachesLast off offsets) (IsMoved off offsets) }
     ensures wraps { IfNone result (Wraps off offsets) }
@@ -176,15 +176,15 @@ fn moved(offsets: Range, off: i16) -> Option<Range>
     }
 }
 
-/// Where the access begins, by what is known of its pointer.
-#[tactic(auto, using(crate::proofs::AccessLemmas::tells_counted, crate::proofs::AccessLemmas::tells_register, crate::proofs::AccessLemmas::tells_across))]
+/// Says where the access begins, by what is known of its pointer.
+#[tactic(auto, using(crate::proofs::AccessLemmas::describes_counted, crate::proofs::AccessLemmas::describes_register, crate::proofs::AccessLemmas::describes_across))]
 pub(crate) fn begin_text(
     alloc: Global,
     shapes: &[MapShape],
     access: Access,
     pointer: AbstractValue,
 ) -> Result<String, AllocError>
-    ensures { IfOk result (λ text. TellsBegin shapes.now access pointer (string_bytes text)) }
+    ensures { IfOk result (λ text. DescribesBegin shapes.now access pointer (string_bytes text)) }
 {
     if !is_followed(pointer.kind) {
         return register_text(alloc, shapes, access.register, pointer);
@@ -195,7 +195,7 @@ pub(crate) fn begin_text(
     }
 }
 
-/// Where an access begins that may begin below what its pointer counts from, and above: `context -7..0`.
+/// Says where an access begins that may begin below or above what its pointer counts from: `context -7..0`.
 fn across_text(
     alloc: Global,
     shapes: &[MapShape],
@@ -224,7 +224,7 @@ fn place_text(alloc: Global, shapes: &[MapShape], kind: ValueKind) -> Result<Str
     }
 }
 
-/// How far from what its pointer counts from the access begins, if the pointer may be followed and a range says it.
+/// Answers at what offsets the access begins, if its pointer may be followed and a range says it.
 fn begin_range(access: Access, pointer: AbstractValue) -> Option<Range>
     ensures { MatchOption result ((Follows pointer.kind → ⊥) ⊎ Wraps access.off pointer.offset) (λ at. Follows pointer.kind × IsMoved access.off pointer.offset at) }
 {
@@ -235,7 +235,7 @@ fn begin_range(access: Access, pointer: AbstractValue) -> Option<Range>
     }
 }
 
-/// The register, and what is known of it; of the answer of a look-up that it may be null.
+/// Says the register and what is known of it; if it is the answer of a look-up, that it may be null.
 pub(crate) fn register_text(
     alloc: Global,
     shapes: &[MapShape],
@@ -247,11 +247,11 @@ pub(crate) fn register_text(
     if may_be_null(known.kind) {
         return format!(in alloc; "r{register}, which may be null");
     }
-    let told = known_text(alloc, shapes, &known)?;
-    format!(in alloc; "r{register}, which is {told}")
+    let described = known_text(alloc, shapes, &known)?;
+    format!(in alloc; "r{register}, which is {described}")
 }
 
-/// Whether it is the answer of a look-up, before its test.
+/// Answers whether the word is the answer of a look-up, before its test.
 pub(crate) fn may_be_null(kind: ValueKind) -> bool
     ensures { result ≡ may_be_null kind }
 {
@@ -261,7 +261,7 @@ pub(crate) fn may_be_null(kind: ValueKind) -> bool
     }
 }
 
-/// Whether a pointer of the kind may be followed.
+/// Answers whether a pointer of the kind may be followed.
 fn is_followed(kind: ValueKind) -> bool
     ensures { IsTrue result ↔ Follows kind }
 {
@@ -307,7 +307,7 @@ pub(crate) fn lack_text(
     }
 }
 
-/// How long the policy's context is.
+/// Says how long the policy's context is.
 fn context_text(alloc: Global, policy: &PolicySource) -> Result<String, AllocError>
     ensures { IfOk result (λ text. string_bytes text ≡ lack_text policy.now Lack.BeyondContext) }
 {

@@ -1,6 +1,6 @@
 //! What helpers need their arguments to be, and which argument of a call is not shown to be that.
 ghost use Rattle.std.specs.Prelude.{◌≡◌, ◌↔◌, ◌≤◌, ℕ, IfOk, IsTrue, MatchBool, MatchOption, string_bytes};
-ghost use Rattle.bq_states.specs.Certainty.{Exact, Pointer, Scalar, StandsAt};
+ghost use Rattle.bq_states.specs.Certainty.{Exact, Pointer, Scalar, CertaintyHoldsAt};
 ghost use Rattle.bq_needs.specs.Arguments.{GivesHelper, IsBad, IsCounter, IsGood, PointsTo, PointsToValue, Wants, register_of, wanted_text};
 ghost use Rattle.bq_needs.specs.Operands.{known_in};
 
@@ -79,14 +79,14 @@ pub(crate) fn bad_argument(
     None
 }
 
-/// Whether the helper wants that, and it is not shown.
+/// Answers whether the helper wants the argument, and it is not shown.
 fn is_bad(policy: &PolicySource, state: &AbstractState, helper: i32, argument: Argument) -> bool
     ensures { MatchBool result (IsBad policy.now state.now helper argument) (Wants helper argument → IsGood policy.now state.now argument) }
 {
     wants(helper, argument) && !is_good(policy, state, argument)
 }
 
-/// Whether the helper of that number has that argument.
+/// Answers whether the helper of that number has that argument.
 fn wants(helper: i32, argument: Argument) -> bool
     ensures { IsTrue result ↔ Wants helper argument }
 {
@@ -98,7 +98,7 @@ fn wants(helper: i32, argument: Argument) -> bool
     }
 }
 
-/// Whether the argument is shown to be that.
+/// Answers whether the argument is shown to be what the helper wants.
 fn is_good(policy: &PolicySource, state: &AbstractState, argument: Argument) -> bool
     ensures { IsTrue result ↔ IsGood policy.now state.now argument }
 {
@@ -126,9 +126,9 @@ pub(crate) fn wanted_text(argument: Argument) -> &'static str
     }
 }
 
-/// Whether register 1 names a map.
+/// Answers whether register 1 names a map.
 fn names_map(state: &AbstractState) -> bool
-    ensures { IsTrue result ↔ ((m : ℕ) × StandsAt (Pointer (ValueKind.Map m) 0) state.now 1) }
+    ensures { IsTrue result ↔ ((m : ℕ) × CertaintyHoldsAt (Pointer (ValueKind.Map m) 0) state.now 1) }
 {
     match named_map(state) {
         Some(_) => true,
@@ -138,7 +138,7 @@ fn names_map(state: &AbstractState) -> bool
 
 /// The map that register 1 names.
 fn named_map(state: &AbstractState) -> Option<u8>
-    ensures { MatchOption result (¬ ((m : ℕ) × StandsAt (Pointer (ValueKind.Map m) 0) state.now 1)) (λ m. StandsAt (Pointer (ValueKind.Map m) 0) state.now 1) }
+    ensures { MatchOption result (¬ ((m : ℕ) × CertaintyHoldsAt (Pointer (ValueKind.Map m) 0) state.now 1)) (λ m. CertaintyHoldsAt (Pointer (ValueKind.Map m) 0) state.now 1) }
 {
     let Some(word) = known(state, 1) else {
         return None;
@@ -149,7 +149,7 @@ fn named_map(state: &AbstractState) -> Option<u8>
     }
 }
 
-/// Whether register 3 points to as many bytes that may be read as a value of that map has.
+/// Answers whether register 3 points to as many bytes that may be read as a value of that map has.
 fn points_to_value(policy: &PolicySource, state: &AbstractState) -> bool
     ensures { IsTrue result ↔ PointsToValue policy.now state.now }
 {
@@ -162,7 +162,7 @@ fn points_to_value(policy: &PolicySource, state: &AbstractState) -> bool
     points_to(policy, state, 3, usize::from(shape.value_size))
 }
 
-/// Whether the register points to this many bytes that may be read.
+/// Answers whether the register points to this many bytes that may be read.
 #[tactic(auto, using(crate::proofs::NeedLemmas::lacking_not_pointing))]
 fn points_to(policy: &PolicySource, state: &AbstractState, register: u8, bytes: usize) -> bool
     requires { bytes ≤ 256 }
@@ -183,9 +183,9 @@ fn points_to(policy: &PolicySource, state: &AbstractState, register: u8, bytes: 
     }
 }
 
-/// Whether the register is the number 0.
+/// Answers whether the register is the number 0.
 fn is_zero(state: &AbstractState, register: u8) -> bool
-    ensures { IsTrue result ↔ StandsAt (Exact 0) state.now register }
+    ensures { IsTrue result ↔ CertaintyHoldsAt (Exact 0) state.now register }
 {
     match known(state, register) {
         Some(word) => matches!(word.kind, ValueKind::Number) && word.offset.hi == 0,
@@ -193,7 +193,7 @@ fn is_zero(state: &AbstractState, register: u8) -> bool
     }
 }
 
-/// Whether register 1 is the number of a counter.
+/// Answers whether register 1 is the number of a counter.
 fn names_counter(state: &AbstractState) -> bool
     ensures { IsTrue result ↔ IsCounter (known_in state.now 1) }
 {
@@ -203,9 +203,9 @@ fn names_counter(state: &AbstractState) -> bool
     }
 }
 
-/// Whether the register is a number.
+/// Answers whether the register is a number.
 fn is_number(state: &AbstractState, register: u8) -> bool
-    ensures { IsTrue result ↔ StandsAt Scalar state.now register }
+    ensures { IsTrue result ↔ CertaintyHoldsAt Scalar state.now register }
 {
     match known(state, register) {
         Some(word) => matches!(word.kind, ValueKind::Number),

@@ -2,7 +2,7 @@
 ghost use Rattle.std.specs.Prelude.{◌≡◌, ◌-◌, ◌^◌, ◌<◌, ◌++◌, ℕ, IfOk, count_by, slice_get};
 ghost use Rattle.std.specs.String.{string_bytes};
 ghost use Rattle.bq_states.specs.AbstractStates.{Describes};
-ghost use Rattle.bq_needs.specs.Saying.{Says};
+ghost use Rattle.bq_needs.specs.DescribedWords.{DescribesWord};
 ghost use Rattle.bq_needs.specs.Texts.{below_text, between, is_shared, kind_text, known_text, map_name, minus_text, number_text, offset_text, range_text, same_shape, stack_text};
 
 use bq_bpf::MapShape;
@@ -15,7 +15,7 @@ use std::alloc::{AllocError, Global};
 /// Words from here on are printed as numbers below zero.
 const NEGATIVE: u64 = 1 << 63;
 
-/// One number by itself, else both.
+/// One number by itself, or both ends if they differ.
 fn between(alloc: Global, first: u64, last: u64) -> Result<String, AllocError>
     ensures { IfOk result (λ text. string_bytes text ≡ between first last) }
 {
@@ -32,16 +32,16 @@ pub fn range_text(alloc: Global, range: Range) -> Result<String, AllocError>
     between(alloc, range.lo, range.hi)
 }
 
-/// What is known of a word in a program of such maps: a number, or a pointer by what it counts from and how far above or below that it is.
-/// Each word of which that is known is as the text says.
-#[tactic(auto, using(crate::proofs::SayingLemmas::says_known))]
+/// Says what is known of a word in a program of such maps: a number, or a pointer, by what it counts from and how far above or
+/// below that it is. By contract, each word of which that is known is as the text says.
+#[tactic(auto, using(crate::proofs::DescribedWordLemmas::describes_known))]
 pub fn known_text(
     alloc: Global,
     shapes: &[MapShape],
     known: &AbstractValue,
 ) -> Result<String, AllocError>
     ensures text { IfOk result (λ text. string_bytes text ≡ known_text shapes.now known.now) }
-    ensures says { IfOk result (λ text. (word : ℕ) → Describes shapes.now known.now word → Says shapes.now (string_bytes text) word) }
+    ensures describes { IfOk result (λ text. (word : ℕ) → Describes shapes.now known.now word → DescribesWord shapes.now (string_bytes text) word) }
 {
     let text = kind_text(alloc, shapes, known.kind, known.offset)?;
     Ok(text)
@@ -78,7 +78,7 @@ pub(crate) fn kind_text(
     }
 }
 
-/// A map by its number; where another one has its shape, that it may be that one.
+/// A map by its number; if another map has its shape, that it may be that one.
 pub(crate) fn map_name(alloc: Global, shapes: &[MapShape], map: u8) -> Result<String, AllocError>
     ensures { IfOk result (λ text. string_bytes text ≡ map_name shapes.now map) }
 {
@@ -89,7 +89,7 @@ pub(crate) fn map_name(alloc: Global, shapes: &[MapShape], map: u8) -> Result<St
     }
 }
 
-/// Whether more than one of the maps has that shape.
+/// Answers whether more than one of the maps has that shape.
 fn is_shared(shapes: &[MapShape], shape: Option<MapShape>) -> bool
     ensures { result ≡ is_shared shapes.now shape }
 {
@@ -99,7 +99,7 @@ fn is_shared(shapes: &[MapShape], shape: Option<MapShape>) -> bool
     }
 }
 
-/// How many of the maps have that shape.
+/// Answers how many of the maps have that shape.
 fn count_of(shapes: &[MapShape], shape: MapShape) -> usize
     ensures { result ≡ count_by (same_shape shape) shapes.now }
 {
@@ -118,7 +118,7 @@ fn is_same(shape: MapShape, other: MapShape) -> bool
     shape.value_size == other.value_size && shape.entries == other.entries
 }
 
-/// A number; of one of which nothing else is known it says so. A word of the upper half is below zero.
+/// A number; if nothing else is known of it, the text says so. A word of the upper half is below zero.
 fn number_text(alloc: Global, range: Range) -> Result<String, AllocError>
     ensures { IfOk result (λ text. string_bytes text ≡ number_text range) }
 {
@@ -131,7 +131,7 @@ fn number_text(alloc: Global, range: Range) -> Result<String, AllocError>
     minus_text(alloc, below(range.lo), below(range.hi))
 }
 
-/// Numbers below zero, from so far below to so far below; none further is 0.
+/// Numbers below zero, by their distances from it, the furthest first; a distance of 0 is printed as 0.
 fn minus_text(alloc: Global, far: u64, near: u64) -> Result<String, AllocError>
     ensures { IfOk result (λ text. string_bytes text ≡ minus_text far near) }
 {
@@ -144,7 +144,7 @@ fn minus_text(alloc: Global, far: u64, near: u64) -> Result<String, AllocError>
     format!(in alloc; "-{far}..-{near}")
 }
 
-/// How far below what it counts from a pointer is.
+/// Says how far a pointer is below what it counts from.
 fn below_text(alloc: Global, far: u64, near: u64) -> Result<String, AllocError>
     ensures { IfOk result (λ text. string_bytes text ≡ below_text far near) }
 {
@@ -155,7 +155,7 @@ fn below_text(alloc: Global, far: u64, near: u64) -> Result<String, AllocError>
     format!(in alloc; " {numbers}")
 }
 
-/// A pointer, so far above its base; offsets beyond 2^63 are those below it.
+/// A pointer by its base and how far above the base it is; offsets beyond 2^63 are distances below the base.
 fn pointer_text(alloc: Global, base: &str, range: Range) -> Result<String, AllocError>
     ensures { IfOk result (λ text. string_bytes text ≡ base.now ++ offset_text range) }
 {
@@ -163,7 +163,7 @@ fn pointer_text(alloc: Global, base: &str, range: Range) -> Result<String, Alloc
     format!(in alloc; "{base}{offset}")
 }
 
-/// How far a pointer is above what it counts from, or below it.
+/// Says how far a pointer is above what it counts from, or below it.
 fn offset_text(alloc: Global, range: Range) -> Result<String, AllocError>
     ensures { IfOk result (λ text. string_bytes text ≡ offset_text range) }
 {
@@ -177,7 +177,7 @@ fn offset_text(alloc: Global, range: Range) -> Result<String, AllocError>
     below_text(alloc, below(range.lo), below(range.hi))
 }
 
-/// How far below the word is that is so far above by a sum that wraps.
+/// Answers how far below its base a word is, if it is `offset` above the base by a sum that wraps.
 fn below(offset: u64) -> u64
     requires { 0 < offset }
     ensures { result ≡ 2 ^ 64 - offset }

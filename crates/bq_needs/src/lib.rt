@@ -1,6 +1,8 @@
-//! What an instruction needs of what is known before it, and lacks, as a value and in words; and what is known of a word, in words.
+//! Says which need of an instruction is not met by what is known before it, as a value and in words; and what is known of a
+//! word, in words.
 //!
-//! By contract a need that is named is one that the abstract state does not give. It stands on the abstract states of the verifier.
+//! By contract a need that is named is one that the abstract state does not meet. Builds on the abstract states of the
+//! verifier.
 #![tactic(auto)]
 
 mod accesses;

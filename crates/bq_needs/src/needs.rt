@@ -1,6 +1,6 @@
 //! What an instruction needs and the abstract state before it does not give, for causes of what is known of the states.
 ghost use Rattle.std.specs.Prelude.{◌≡◌, ◌↔◌, ◌<◌, ℕ, false, true, IfSome, IsTrue, MatchOption, slice_index_or};
-ghost use Rattle.bq_states.specs.Certainty.{Scalar, StandsAt};
+ghost use Rattle.bq_states.specs.Certainty.{Scalar, CertaintyHoldsAt};
 ghost use Rattle.bq_needs.specs.Arguments.{GivesHelper};
 ghost use Rattle.bq_needs.specs.Needs.{AreGoodArguments, AreKnown, AreNumbers, AreUnknown, IsFirstPointer, IsGoodAccess, IsHelperNeed, IsMap, IsMet, IsNeed, IsPointerNeed, IsPointerWorkedOn, IsUnknownNeed, Lacking, WorksOnNumber, is_unknown};
 ghost use Rattle.bq_needs.specs.Operands.{known_in};
@@ -8,14 +8,14 @@ ghost use Rattle.bq_needs.specs.Operands.{known_in};
 use crate::accesses::{Lack, lack_of};
 use crate::arguments::{Argument, bad_argument};
 use crate::operands::{Access, Registers, access_of, reads, works_on};
-use bq_insn::Insn;
+use bq_insn::{Insn, REGISTERS};
 use bq_policy_file::PolicySource;
 use bq_states::abstract_state::{AbstractState, AbstractValue, ValueKind};
 use bq_states::registers::known;
 use bq_transfer::obligation::Obligation;
 use bq_verify::Cause;
 
-/// What an instruction needs and the abstract state before it does not give.
+/// A need of an instruction that the abstract state before it does not meet.
 #[derive(Clone, Copy)]
 pub enum Need {
     /// It reads these registers, of which nothing is known.
@@ -90,23 +90,23 @@ fn unknown_need(state: &AbstractState, insn: Insn) -> Option<Need>
 fn unknown_registers(state: &AbstractState, insn: Insn) -> Registers
     ensures { AreUnknown state.now insn result }
 {
-    let mut registers = [false; 11];
-    for register in 0..11u8 {
+    let mut registers = [false; REGISTERS];
+    for register in 0..REGISTERS as u8 {
         registers[usize::from(register)] = is_unknown(state, insn, register);
     }
     registers
 }
 
-/// Whether the register is one of those.
+/// Answers whether the instruction reads the register, and nothing is known of it.
 fn is_unknown(state: &AbstractState, insn: Insn, register: u8) -> bool
     ensures { result ≡ is_unknown state.now insn register }
 {
     reads(insn, register) && known(state, register).is_none()
 }
 
-/// Whether there is one.
+/// Answers whether a register is marked.
 fn has_one(registers: &Registers) -> bool
-    ensures { IsTrue result ↔ ((r : ℕ) × (r < 11) × (slice_index_or registers.now r false ≡ true)) }
+    ensures { IsTrue result ↔ ((r : ℕ) × (r < REGISTERS) × (slice_index_or registers.now r false ≡ true)) }
 {
     for register in registers {
         if *register {
@@ -116,7 +116,7 @@ fn has_one(registers: &Registers) -> bool
     false
 }
 
-/// The access of a load or a store, and why it is not shown to be good, if it is not.
+/// Answers the access of a load or a store, and why it is not shown to be good, if it is not.
 fn access_need(policy: &PolicySource, state: &AbstractState, insn: Insn) -> Option<Need>
     ensures { MatchOption result (IsGoodAccess policy.now state.now insn) (Lacking policy.now state.now insn (Cause.State Obligation.Access)) }
 {
@@ -150,7 +150,7 @@ fn pointer_need(state: &AbstractState, insn: Insn) -> Option<Need>
 fn pointer_worked_on(state: &AbstractState, insn: Insn) -> Option<Pointer>
     ensures { MatchOption result (AreNumbers state.now insn) (λ pointer. IsFirstPointer state.now insn pointer.register pointer.known) }
 {
-    for register in 0..11u8 {
+    for register in 0..REGISTERS as u8 {
         if let Some(pointer) = as_pointer(state, insn, register) {
             return Some(pointer);
         }
@@ -158,9 +158,9 @@ fn pointer_worked_on(state: &AbstractState, insn: Insn) -> Option<Pointer>
     None
 }
 
-/// The register, if the instruction works on it and it is known to be no number.
+/// Answers the register, if the instruction works on it and it is known to be no number.
 fn as_pointer(state: &AbstractState, insn: Insn, register: u8) -> Option<Pointer>
-    requires { register < 11 }
+    requires { register < REGISTERS }
     ensures register { IfSome result (λ pointer. pointer.register ≡ register) }
     ensures pointer { MatchOption result (WorksOnNumber state.now insn register) (λ pointer. IsPointerWorkedOn state.now insn pointer.register pointer.known) }
 {
@@ -177,7 +177,7 @@ fn as_pointer(state: &AbstractState, insn: Insn, register: u8) -> Option<Pointer
     }
 }
 
-/// Whether words of the kind are numbers.
+/// Answers whether words of the kind are numbers.
 fn is_number(kind: ValueKind) -> bool
     ensures { IsTrue result ↔ (kind ≡ ValueKind.Number) }
 {
@@ -206,7 +206,7 @@ fn map_need(policy: &PolicySource, index: i32) -> Option<Need>
     }
 }
 
-/// Whether there is a map of that number.
+/// Answers whether there is a map of that number.
 fn is_map(policy: &PolicySource, index: i32) -> bool
     ensures { IsTrue result ↔ IsMap policy.now index }
 {
@@ -225,7 +225,7 @@ fn call_need(policy: &PolicySource, state: &AbstractState, helper: i32) -> Optio
 
 /// What the answer is, if it is not shown to be a number.
 fn answer_need(state: &AbstractState) -> Option<Need>
-    ensures { MatchOption result (StandsAt Scalar state.now 0) (λ need. (need ≡ Need.Answer (known_in state.now 0)) × ¬ (StandsAt Scalar state.now 0)) }
+    ensures { MatchOption result (CertaintyHoldsAt Scalar state.now 0) (λ need. (need ≡ Need.Answer (known_in state.now 0)) × ¬ (CertaintyHoldsAt Scalar state.now 0)) }
 {
     let answer = known(state, 0);
     match answer {

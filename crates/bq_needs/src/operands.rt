@@ -1,27 +1,27 @@
-//! Which registers an instruction reads, and the memory that it accesses.
+//! The registers that an instruction reads, and the memory that it accesses.
 ghost use Rattle.std.specs.Prelude.{◌≡◌, ◌≤◌, ℕ, IfSome, IsTrue, false, slice_index_or, true};
 ghost use Rattle.bq_insn.specs.Slots.{byte_count};
 ghost use Rattle.bq_needs.specs.Operands.{NeedsSet, access_of, is_register, reads, reads_left, works_on};
 
-use bq_insn::{Insn, Operation, Size, Source};
+use bq_insn::{Insn, Operation, REGISTERS, Size, Source};
 
 /// Registers by their numbers: whether each is one of them.
-pub type Registers = [bool; 11];
+pub type Registers = [bool; REGISTERS];
 
 /// The access of a load or a store.
 #[derive(Clone, Copy)]
 pub struct Access {
-    /// Whether it writes; else it reads.
+    /// Whether it writes; otherwise it reads.
     pub writes: bool,
     /// How many bytes.
     pub bytes: usize,
     /// The register that its address counts from.
     pub register: u8,
-    /// How far from there it begins.
+    /// The distance from there at which it begins.
     pub off: i16,
 }
 
-/// Whether the instruction reads the register as an operand; then it does nothing where that is unset.
+/// Answers whether the instruction reads the register as an operand; then it does nothing if the register is unset.
 pub fn reads(insn: Insn, register: u8) -> bool
     ensures is { result ≡ reads insn register }
     ensures needs { IsTrue result → NeedsSet insn register }
@@ -44,14 +44,15 @@ pub fn reads(insn: Insn, register: u8) -> bool
 pub fn read_registers(insn: Insn) -> Registers
     ensures { (r : ℕ) → slice_index_or result r false ≡ true → reads insn r ≡ true }
 {
-    let mut registers = [false; 11];
-    for register in 0..11u8 {
+    let mut registers = [false; REGISTERS];
+    for register in 0..REGISTERS as u8 {
         registers[usize::from(register)] = reads(insn, register);
     }
     registers
 }
 
-/// Whether the instruction works on the register: a store of a register on that one, and each other instruction on those that it reads.
+/// Answers whether the instruction works on the register: a store of a register works on the register that it stores, and each
+/// other instruction on those that it reads.
 pub(crate) fn works_on(insn: Insn, register: u8) -> bool
     ensures { result ≡ works_on insn register }
 {
@@ -71,7 +72,7 @@ fn reads_left(op: Operation) -> bool
     }
 }
 
-/// Whether the second operand is that register.
+/// Answers whether the second operand is that register.
 fn is_register(src: Source, register: u8) -> bool
     ensures { result ≡ is_register src register }
 {

@@ -2,7 +2,7 @@
 ghost use Rattle.std.specs.Prelude.{◌≡◌, IfOk, string_bytes};
 ghost use Rattle.bq_needs.specs.Accesses.{noun, verb};
 ghost use Rattle.bq_needs.specs.Operands.{known_in};
-ghost use Rattle.bq_needs.specs.Words.{TellsAccess, TellsNeed, address_text, answer_text, argument_text, here_text, kind_rule, map_text, maps_text, moves, name_text, names_below, other_rule, pointer_rule, pointer_text, unknown_text};
+ghost use Rattle.bq_needs.specs.Words.{DescribesAccess, DescribesNeed, address_text, answer_text, argument_text, here_text, kind_rule, map_text, maps_text, moves, name_text, names_below, other_rule, pointer_rule, pointer_text, unknown_text};
 
 use crate::accesses::{begin_text, lack_text, may_be_null, register_text};
 use crate::arguments::{Argument, wanted_text};
@@ -10,7 +10,7 @@ use crate::known::known_text;
 use crate::needs::{Need, Pointer};
 use crate::operands::{Access, Registers};
 use bq_bpf::MapShape;
-use bq_insn::{Insn, Operation, Width};
+use bq_insn::{Insn, Operation, REGISTERS, Width};
 use bq_policy_file::PolicySource;
 use bq_states::abstract_state::{AbstractState, AbstractValue, ValueKind};
 use bq_states::registers::known;
@@ -24,7 +24,7 @@ pub fn need_text(
     insn: Insn,
     need: Need,
 ) -> Result<String, AllocError>
-    ensures { IfOk result (λ text. TellsNeed policy.now state.now insn need (string_bytes text)) }
+    ensures { IfOk result (λ text. DescribesNeed policy.now state.now insn need (string_bytes text)) }
 {
     let shapes = policy.form.shapes.as_slice();
     match need {
@@ -35,9 +35,9 @@ pub fn need_text(
             pointer,
             lack,
         } => {
-            let told = access_text(alloc, shapes, access, pointer)?;
+            let described = access_text(alloc, shapes, access, pointer)?;
             let why = lack_text(alloc, policy, lack)?;
-            format!(in alloc; "{told}; {why}")
+            format!(in alloc; "{described}; {why}")
         }
         Need::Number(pointer) => pointer_text(alloc, shapes, pointer, insn),
         Need::Map(index) => map_text(alloc, index, policy.form.shapes.len()),
@@ -59,10 +59,10 @@ fn unknown_text(alloc: Global, registers: &Registers) -> Result<String, AllocErr
 
 /// The names of the registers.
 fn names(alloc: Global, registers: &Registers) -> Result<String, AllocError>
-    ensures { IfOk result (λ text. string_bytes text ≡ names_below 11 registers.now) }
+    ensures { IfOk result (λ text. string_bytes text ≡ names_below REGISTERS registers.now) }
 {
     let mut text = String::new(alloc);
-    for register in 0..11usize {
+    for register in 0..REGISTERS {
         let is_first = text.is_empty();
         let name = name_text(alloc, register, is_first, registers[register])?;
         text.push_str(name.as_str())?;
@@ -70,7 +70,7 @@ fn names(alloc: Global, registers: &Registers) -> Result<String, AllocError>
     Ok(text)
 }
 
-/// The name of a register, if it is one of them; `and` stands before it, unless it is the first.
+/// The name of a register, if it is named; `and` comes before it, unless it is the first.
 fn name_text(
     alloc: Global,
     register: usize,
@@ -97,14 +97,14 @@ fn address_text(alloc: Global, access: Access) -> Result<String, AllocError>
     format!(in alloc; "{verb} {bytes} {noun} at r{register}, of which nothing is known here")
 }
 
-/// How many bytes an access reads or writes, and from where.
+/// Says how many bytes an access reads or writes, and where they begin.
 fn access_text(
     alloc: Global,
     shapes: &[MapShape],
     access: Access,
     pointer: AbstractValue,
 ) -> Result<String, AllocError>
-    ensures { IfOk result (λ text. TellsAccess shapes.now access pointer (string_bytes text)) }
+    ensures { IfOk result (λ text. DescribesAccess shapes.now access pointer (string_bytes text)) }
 {
     let verb = verb(access.writes);
     let bytes = access.bytes;
@@ -136,12 +136,12 @@ fn pointer_text(
 ) -> Result<String, AllocError>
     ensures { IfOk result (λ text. string_bytes text ≡ pointer_text shapes.now pointer insn) }
 {
-    let told = register_text(alloc, shapes, pointer.register, pointer.known)?;
+    let described = register_text(alloc, shapes, pointer.register, pointer.known)?;
     let rule = pointer_rule(insn, pointer);
-    format!(in alloc; "works on {told}; {rule}")
+    format!(in alloc; "works on {described}; {rule}")
 }
 
-/// What may be done with a pointer, where the instruction does another thing.
+/// Says what may be done with a pointer, if the instruction does something else with it.
 fn pointer_rule(insn: Insn, pointer: Pointer) -> &'static str
     ensures { result.now ≡ pointer_rule insn pointer }
 {
@@ -156,8 +156,8 @@ fn pointer_rule(insn: Insn, pointer: Pointer) -> &'static str
     }
 }
 
-/// What may be done with a pointer, where the instruction neither stores nor compares it: the answer of a look-up may be moved after
-/// its test.
+/// Says what may be done with a pointer, if the instruction neither stores nor compares it: the answer of a look-up may be moved
+/// after its test.
 fn other_rule(insn: Insn, pointer: Pointer) -> &'static str
     ensures { result.now ≡ other_rule insn pointer }
 {
@@ -169,7 +169,7 @@ fn other_rule(insn: Insn, pointer: Pointer) -> &'static str
     }
 }
 
-/// Whether the instruction adds to the register or takes from it, or adds it to a number, in 64 bits: then a pointer is moved.
+/// Answers whether the instruction adds to the register, takes from it, or adds it to a number, in 64 bits: then it moves a pointer.
 pub fn moves(insn: Insn, register: u8) -> bool
     ensures { result ≡ moves insn register }
 {
@@ -213,7 +213,7 @@ fn map_text(alloc: Global, index: i32, count: usize) -> Result<String, AllocErro
     format!(in alloc; "names map {index}; the program has {maps}")
 }
 
-/// How many maps a program has, and their numbers.
+/// Says how many maps a program has, and their numbers.
 fn maps_text(alloc: Global, count: usize) -> Result<String, AllocError>
     ensures { IfOk result (λ text. string_bytes text ≡ maps_text count) }
 {
@@ -253,8 +253,8 @@ fn here_text(
 {
     match known(state, register) {
         Some(word) => {
-            let told = known_text(alloc, shapes, &word)?;
-            format!(in alloc; "r{register} is {told}")
+            let described = known_text(alloc, shapes, &word)?;
+            format!(in alloc; "r{register} is {described}")
         }
         None => format!(in alloc; "nothing is known of r{register}"),
     }
@@ -270,8 +270,8 @@ fn answer_text(
 {
     match known {
         Some(word) => {
-            let told = known_text(alloc, shapes, &word)?;
-            format!(in alloc; "ends, and r0, the answer, is {told}; an answer is a number")
+            let described = known_text(alloc, shapes, &word)?;
+            format!(in alloc; "ends, and r0, the answer, is {described}; an answer is a number")
         }
         None => String::from_str(alloc, "ends, and nothing is known of r0, the answer"),
     }

@@ -16,18 +16,22 @@ index_below n size index some fits =
     omega (arith, counted)
 
 -- what holds of the section of a number holds of each section of that number
-pub clear_section : (file headers : List ℕ) (index : ℕ) (a : Section) (policy : Symbol) → IsSection headers index a → IsSectionClear file a policy
-    → (b : Section) → IsSection headers index b → IsSectionClear file b policy
-clear_section file headers index a policy p clear b q = subst (λ (s : Section). IsSectionClear file s policy) (one_section headers index a b p q) clear
+pub clear_section : (file headers : List ℕ) (index : ℕ) (a : Section) (policy : Symbol)
+    → IsSection headers index a → IsSectionClear file a policy → (b : Section) → IsSection headers index b
+    → IsSectionClear file b policy
+clear_section file headers index a policy p clear b q =
+    subst (λ (s : Section). IsSectionClear file s policy) (one_section headers index a b p q) clear
 
 -- where none of the entries that were read changes the function, the section does not
 pub clear_entries : (file : List ℕ) (section : Section) (policy : Symbol) (ours : List ℕ) (size count : ℕ)
     → size ≢ 0 → size ≡ entry_size section.kind → IsPart file section.at section.long ours → length ours / size ≤ count
     → ((k : ℕ) → k < count → (at kind : ℕ) → IsRelocation ours size k at kind → IsWithin policy at → ⊥)
     → IsSectionClear file section policy
-clear_entries file section policy ours size count some size_is ours_is all none = λ of entries index at kind entries_are here within.
+clear_entries file section policy ours size count some size_is ours_is all none =
+    λ of entries index at kind entries_are here within.
     let same : entries ≡ ours = entries_are.part_is ∙ sym ours_is.part_is in
-    let mine : IsRelocation ours (entry_size section.kind) index at kind = subst (λ (e : List ℕ). IsRelocation e (entry_size section.kind) index at kind) same here in
+    let mine : IsRelocation ours (entry_size section.kind) index at kind =
+    subst (λ (e : List ℕ). IsRelocation e (entry_size section.kind) index at kind) same here in
     let sized : IsRelocation ours size index at kind = subst (λ (s : ℕ). IsRelocation ours s index at kind) (sym size_is) mine in
     let below = index_below (length ours) size index some sized.entry_is.fits in
     none index (omega (arith, below, all)) at kind sized within

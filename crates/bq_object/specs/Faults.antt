@@ -40,7 +40,7 @@ IsTableFault file headers (Cut piece.Symbols) = (table : Section) × IsFirstOf 2
 IsTableFault file headers (Cut piece.Names) = (table : Section) × IsFirstOf 2 headers table × IsLost file headers table.link
 IsTableFault file headers fault = ⊥
 
--- the function does not stand in its section where its symbol says
+-- the function is not in its section where its symbol says
 abbrev pub HasNoCode : List ℕ → List ℕ → Symbol → Type 0
 HasNoCode file headers symbol =
     IsLost file headers symbol.section
@@ -56,7 +56,7 @@ abbrev pub IsFunctionFault : List ℕ → List ℕ → List ℕ → List ℕ →
 IsFunctionFault file headers entries names NoPolicy = HasNoPolicy entries names
 IsFunctionFault file headers entries names fault = (symbol : Symbol) × IsFirstPolicy entries names symbol × IsCodeFault file headers symbol fault
 
--- what is wrong with an object: with its head, else with its symbols, else with its function
+-- what is wrong with an object: with its head; otherwise with its symbols; otherwise with its function
 abbrev pub IsObjectFault : List ℕ → ObjectFault → Type 0
 IsObjectFault file fault =
     IsHeaderFault file fault

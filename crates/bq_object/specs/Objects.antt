@@ -39,7 +39,7 @@ pub record HasTables (file headers entries names : List ℕ) : Type 0 where
   pub linked : IsSection headers table.link strings
   pub names_are : AreBytesOf file strings names
 
--- the function stands in its section, where its symbol says
+-- the function is in its section, where its symbol says
 pub record IsCode (file headers : List ℕ) (symbol : Symbol) (code : List ℕ) : Type 0 where
   pub section : Section
   pub here : IsSection headers symbol.section section

@@ -10,15 +10,15 @@ use Rattle.bq_object.specs.declared.symbol.Symbol.{Symbol}
 use Rattle.bq_object.specs.Numbers.{IsPart, number_at}
 use Rattle.bq_object.specs.Sections.{AreBytesOf, IsSection}
 
--- how long a relocation of a section of that kind is, 0 where it has none
+-- the length of a relocation of a section of this kind; 0 if the kind has none
 abbrev pub entry_size : ℕ → ℕ
 entry_size kind = if kind == 4 then 24 else if kind == 9 then 16 else 0
 
--- the section has relocations of the section that the function stands in
+-- the section has relocations of the section that has the function
 abbrev pub IsOf : Section → Symbol → Type 0
 IsOf section symbol = (entry_size section.kind ≢ 0) × (section.info ≡ symbol.section)
 
--- a relocation: where it changes what, and its kind
+-- a relocation: the offset of what it changes, and its kind
 pub record IsRelocation (entries : List ℕ) (size index at kind : ℕ) : Type 0 where
   pub entry : List ℕ
   pub entry_is : IsPart entries (size * index) size entry
@@ -53,6 +53,7 @@ pub record IsChanged (entries : List ℕ) (size : ℕ) (symbol : Symbol) (slot :
   pub slot_is : slot ≡ (at - symbol.at) / 8
   pub what_is : what ≡ filled kind
 
+-- the fault is a relocation that changes the function
 abbrev pub IsEntryFault : List ℕ → ℕ → Symbol → ObjectFault → Type 0
 IsEntryFault entries size symbol (Relocation slot what) = IsChanged entries size symbol slot what
 IsEntryFault entries size symbol fault = ⊥
@@ -63,7 +64,7 @@ IsSectionFault file section symbol (Cut Relocations) = IsOf section symbol × (l
 IsSectionFault file section symbol fault =
     IsOf section symbol × ((entries : List ℕ) × AreBytesOf file section entries × IsEntryFault entries (entry_size section.kind) symbol fault)
 
--- and with those of the object
+-- the fault is in a section of relocations of the object
 pub record IsRelocationFault (file headers : List ℕ) (symbol : Symbol) (fault : ObjectFault) : Type 0 where
   pub index : ℕ
   pub section : Section

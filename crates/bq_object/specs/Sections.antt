@@ -27,6 +27,7 @@ pub record IsFirstOf (kind : ℕ) (headers : List ℕ) (section : Section) : Typ
   pub is : section.kind ≡ kind
   pub none : (k : ℕ) → k < index → (other : Section) → IsSection headers k other → other.kind ≢ kind
 
+-- no section is of this kind
 abbrev pub HasNone : ℕ → List ℕ → Type 0
 HasNone kind headers = (k : ℕ) (other : Section) → IsSection headers k other → other.kind ≢ kind
 

@@ -36,5 +36,6 @@ pub record IsFirstPolicy (entries names : List ℕ) (symbol : Symbol) : Type 0 w
   pub is : IsPolicySymbol names symbol
   pub none : (k : ℕ) → k < index → (other : Symbol) → IsSymbol entries k other → IsPolicySymbol names other → ⊥
 
+-- no symbol is the function `policy`
 abbrev pub HasNoPolicy : List ℕ → List ℕ → Type 0
 HasNoPolicy entries names = (k : ℕ) (other : Symbol) → IsSymbol entries k other → IsPolicySymbol names other → ⊥

@@ -1,4 +1,4 @@
-//! The head of an object file, which says where its section headers stand.
+//! The head of an object file, which says where its section headers are.
 ghost use Rattle.std.specs.Prelude.{◌≡◌, IfOk, IfErr};
 ghost use Rattle.bq_object.specs.Objects.{HasHeaders};
 ghost use Rattle.bq_object.specs.Faults.{IsHeaderFault};
@@ -6,7 +6,7 @@ ghost use Rattle.bq_object.specs.Faults.{IsHeaderFault};
 use crate::fault::{MOST_SECTIONS, ObjectFault, Piece};
 use crate::numbers::{half, part, wide};
 
-/// How long the head of a file is, and a section header.
+/// The length of the head of a file, and of a section header.
 const LONG: usize = 64;
 /// The machine BPF.
 const BPF: u16 = 247;

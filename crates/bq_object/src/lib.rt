@@ -1,5 +1,6 @@
 //! The object files that clang makes for BPF (ELF64, little-endian), as far as a policy needs them: the bytes of the function
-//! `policy`, wherever it stands, the lines of C that these come from, and the other functions, which are left out. Each read is checked.
+//! `policy`, wherever it is, the lines of C that these come from, and the other functions, which are left out. Each read is
+//! checked.
 #![tactic(auto)]
 
 pub mod fault;

@@ -1,5 +1,5 @@
-//! Which lines of the C source the instructions of `policy` come from, by the BTF that clang writes with `-g` (the kernel's
-//! "BPF Type Format", sections 2.2 and 4.2). The lines are shown beside instructions; nothing rests on them.
+//! The lines of the C source from which the instructions of `policy` come, by the BTF that clang writes with `-g` (the kernel's
+//! "BPF Type Format", sections 2.2 and 4.2). The lines are only shown beside instructions; no proof depends on them.
 ghost use Rattle.std.specs.Prelude.{◌≤◌, length, IfSome};
 
 use crate::header::headers_of;
@@ -23,19 +23,19 @@ pub struct SourceLine<'a> {
 #[derive(Clone, Copy)]
 struct Table<'a> {
     policy: Symbol,
-    /// What the line of an instruction is, for each that begins one, in the section of the policy.
+    /// The records of lines in the section of the policy: one for each instruction that begins a line.
     records: &'a [u8],
-    /// How long each of these is.
+    /// The length of each of these.
     size: u64,
     /// The names of files, and of sections.
     strings: &'a [u8],
 }
 
-/// How many slots a policy may have.
+/// The most slots that a policy may have.
 const SLOTS: u64 = 4096;
 
-/// For each slot of the policy the line that it comes from, where the object says it. It is empty where the object has no
-/// lines, or no policy.
+/// Answers for each slot of the policy the line that it comes from, if the object says it. The answer is empty if the object has
+/// no lines, or no policy.
 pub fn source_lines(alloc: Global, file: &[u8]) -> Result<Vec<Option<SourceLine<'_>>>, AllocError> {
     let mut lines = Vec::new(alloc);
     let Some(table) = table_of(file) else {

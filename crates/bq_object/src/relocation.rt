@@ -9,7 +9,7 @@ use crate::numbers::{part, wide, word};
 use crate::section::{Section, section_at};
 use crate::symbol::Symbol;
 
-/// How long a relocation of a section is; 0 if the section has none.
+/// Answers the length of a relocation of a section of this kind; 0 if the kind has none.
 fn entry_size(kind: u32) -> u64
     ensures { result ≡ entry_size kind }
 {
@@ -93,7 +93,7 @@ fn filled(kind: u32) -> Filled
     }
 }
 
-/// Whether what is at the offset belongs to the function.
+/// Answers whether the bytes at the offset belong to the function.
 fn is_within(policy: Symbol, at: u64) -> bool
     ensures { IsTrue result ↔ IsWithin policy at }
 {

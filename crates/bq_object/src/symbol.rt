@@ -12,7 +12,7 @@ pub struct Symbol {
     pub name: u32,
     /// What kind of symbol it is, in the low four bits: 2 is a function.
     pub kind: u8,
-    /// The number of the section that it stands in, 0 if it stands in none.
+    /// The number of the section that has it; 0 if no section does.
     pub section: u16,
     /// Where in the section it begins.
     pub at: u64,
@@ -35,12 +35,12 @@ impl Symbol {
         }
     }
 
-    /// Whether it is a function of this file.
+    /// Answers whether it is a function of this file.
     pub fn is_function(self) -> bool {
         self.kind % 16 == 2 && self.section != 0
     }
 
-    /// Whether it is the function `policy`.
+    /// Answers whether it is the function `policy`.
     pub fn is_policy(self, names: &[u8]) -> bool
         ensures { IsTrue result ↔ IsPolicySymbol names.now self }
     {
@@ -91,7 +91,7 @@ pub fn policy_in(entries: &[u8], names: &[u8]) -> Option<Symbol>
 /// The longest name that is read.
 const LONGEST: usize = 256;
 
-/// The name that begins there, up to the 0 that ends it. A longer one is cut behind 256 bytes.
+/// Answers the name that begins there, up to the 0 that ends it. A longer name is cut after 256 bytes.
 pub fn name_at(names: &[u8], at: u32) -> &[u8] {
     let from = (at as usize).min(names.len());
     let rest = &names[from..];

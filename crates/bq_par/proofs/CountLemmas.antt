@@ -30,12 +30,15 @@ total_map f g [] = refl
 total_map f g (x ∷ xs) = ap (λ n. f (g x) + n) (total_map f g xs) ∙ sym (sum_by-cons (λ y. f (g y)) x xs)
 
 -- one more on either side
-pub same_more : {A B C : Type 0} (f : A → C) (g : B → C) (xs : List A) (ys : List B) (x : A) (y : B) → map g ys ≡ map f xs → g y ≡ f x → map g (ys ++ y ∷ []) ≡ map f (xs ++ x ∷ [])
-same_more f g xs ys x y e here = map_push g ys y ∙ (ap (λ zs. zs ++ g y ∷ []) e ∙ (ap (λ z. map f xs ++ z ∷ []) here ∙ sym (map_push f xs x)))
+pub same_more : {A B C : Type 0} (f : A → C) (g : B → C) (xs : List A) (ys : List B) (x : A) (y : B)
+    → map g ys ≡ map f xs → g y ≡ f x → map g (ys ++ y ∷ []) ≡ map f (xs ++ x ∷ [])
+same_more f g xs ys x y e here =
+    map_push g ys y ∙ (ap (λ zs. zs ++ g y ∷ []) e ∙ (ap (λ z. map f xs ++ z ∷ []) here ∙ sym (map_push f xs x)))
 
 module _ {A B X : Type 0} (f : A → List X) (g : B → List X) where
   -- what is so of all items of the lists of the one is so of those of the other
-  same_items : (P : X → Type 0) (Q : A → Type 0) (xs : List A) (ys : List B) → map g ys ≡ map f xs → Each (λ x. Each P (f x) × Q x) xs → Each (λ y. All P (g y)) ys
+  same_items : (P : X → Type 0) (Q : A → Type 0) (xs : List A) (ys : List B)
+      → map g ys ≡ map f xs → Each (λ x. Each P (f x) × Q x) xs → Each (λ y. All P (g y)) ys
   same_items P Q [] [] e each = tt
   same_items P Q [] (y ∷ ys) e each = absurd (cc)
   same_items P Q (x ∷ xs) [] e each = absurd (cc)
@@ -44,8 +47,9 @@ module _ {A B X : Type 0} (f : A → List X) (g : B → List X) where
       let tail : map g ys ≡ map f xs = cc in
       (rw head (each_at P (f x) first.0), same_items P Q xs ys tail rest)
 
-  -- the same, at each place
-  pub all_items : (P : X → Type 0) (Q : A → Type 0) (xs : List A) (ys : List B) → map g ys ≡ map f xs → Each (λ x. Each P (f x) × Q x) xs → All (λ y. All P (g y)) ys
+  -- what is so of all items of the lists of the one is so of those of the other, at each place
+  pub all_items : (P : X → Type 0) (Q : A → Type 0) (xs : List A) (ys : List B)
+      → map g ys ≡ map f xs → Each (λ x. Each P (f x) × Q x) xs → All (λ y. All P (g y)) ys
   all_items P Q xs ys e each = each_at (λ y. All P (g y)) ys (same_items P Q xs ys e each)
 
   -- they have as many items
@@ -73,11 +77,15 @@ pub fresh_none : (R : Type 0) (s n : ℕ) → Each (λ (c : ℕ × List (Receipt
 fresh_none R s zero = tt
 fresh_none R s (suc n) =
     let low : s < s + suc n = omega arith in
-    let more : s + 1 + n ≡ s + suc n = omega arith in
-    ((low, refl), subst (λ (k : ℕ). Each (λ (c : ℕ × List (Receipt R)). (c.0 < k) × (c.1 ≡ [])) (fresh (s + 1) n)) more (fresh_none R (s + 1) n))
+    let more : s + 1 + n ≡ s + suc n = omega arith in (
+      (low, refl),
+      subst (λ (k : ℕ). Each (λ (c : ℕ × List (Receipt R)). (c.0 < k) × (c.1 ≡ [])) (fresh (s + 1) n)) more
+          (fresh_none R (s + 1) n),
+    )
 
--- so each of them
-pub fresh_at : (R : Type 0) (n : ℕ) (js : List (ℕ × List (Receipt R))) → js ≡ fresh 0 n → All (λ (c : ℕ × List (Receipt R)). (c.0 < n) × (c.1 ≡ [])) js
+-- the number of each fresh seat is below that, and none has a receipt
+pub fresh_at : (R : Type 0) (n : ℕ) (js : List (ℕ × List (Receipt R)))
+    → js ≡ fresh 0 n → All (λ (c : ℕ × List (Receipt R)). (c.0 < n) × (c.1 ≡ [])) js
 fresh_at R n js e =
     let zero_more : 0 + n ≡ n = omega arith in
     let each = subst (λ (k : ℕ). Each (λ (c : ℕ × List (Receipt R)). (c.0 < k) × (c.1 ≡ [])) (fresh 0 n)) zero_more (fresh_none R 0 n) in

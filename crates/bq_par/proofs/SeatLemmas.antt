@@ -5,7 +5,7 @@ use denote.Param.SendFields.{declared_send}
 use Rattle.std.proofs.Crossing.{crosses, Vec-send}
 use Rattle.std.specs.contracts.option.Option as Option
 use Rattle.arrayvec.proofs.array_vec.ArrayVec.TheSendSync as list
-use Rattle.bq_bpf.proofs.board.Call.TheSendSync as call
+use Rattle.bq_bpf.proofs.board.CounterCall.TheSendSync as call
 use Rattle.bq_history.specs.declared.law.Naming as Naming
 use Rattle.bq_history.proofs.holder.Holder.TheSendSync as holder
 use Rattle.bq_shared.specs.declared.account.Counting as Counting
@@ -24,7 +24,7 @@ use Rattle.bq_shared.specs.contracts.seat.Seat.TheInside as seat
 use Rattle.bq_shared.specs.contracts.working.Working as Working
 use Rattle.bq_shared.proofs.working.Working.TheSendSync as working
 use Rattle.bq_shared.specs.contracts.record.Record as Record
-use Rattle.bq_shared.specs.contracts.record.RecordTellsCalls.TheImpl as told
+use Rattle.bq_shared.specs.contracts.record.RecordReportsCalls.TheImpl as reported
 use Rattle.bq_shared.specs.contracts.law.JournalState as JournalState
 use Rattle.bq_shared.specs.contracts.law.WorldPart as WorldPart
 use Rattle.bq_shared.proofs.SendLemmas.{record_send}
@@ -41,16 +41,20 @@ spare_send R s = search (crosses, sendable) depth 20
 
 -- room for a record
 pub room_send : (R : RattleType) → IsSend R → IsSend (Room.the_row R)
-room_send R s = view_send (room.the_row R) _ _ _ _ (declared_send (room.the_type R) (spare_send R (slip_send (Chunk.the_row R) (chunk_send R s)), tt))
+room_send R s =
+    view_send (room.the_row R) _ _ _ _
+    (declared_send (room.the_type R) (spare_send R (slip_send (Chunk.the_row R) (chunk_send R s)), tt))
 
 calls_send : IsSend (Option.the_row CallRooms.the_row)
 calls_send = search (crosses, list.the_send, call.the_send, sendable) depth 40
 
 -- a seat
-pub seat_send : (N : RattleType) (n : Naming.Ghosts N.Denot) (m : Counting.Ghosts N.Denot) → IsSend (Seat.the_row Record.the_row WorldPart.the_row JournalState.the_row N told.ghosts n m)
+pub seat_send : (N : RattleType) (n : Naming.Ghosts N.Denot) (m : Counting.Ghosts N.Denot)
+    → IsSend (Seat.the_row Record.the_row WorldPart.the_row JournalState.the_row N reported.ghosts n m)
 seat_send N n m =
     let spare = room_send Record.the_row record_send in
-    view_send (seat.the_row Record.the_row WorldPart.the_row JournalState.the_row N told.ghosts n m) _ _ _ _ (declared_send (seat.the_type Record.the_row WorldPart.the_row JournalState.the_row N told.ghosts n m)
+    view_send (seat.the_row Record.the_row WorldPart.the_row JournalState.the_row N reported.ghosts n m) _ _ _ _
+    (declared_send (seat.the_type Record.the_row WorldPart.the_row JournalState.the_row N reported.ghosts n m)
     (search (working.the_send, crosses, sendable) depth 20, (spare, (spare, (calls_send, tt)))))
 
 receipt_send : IsSend (Receipt.the_row Record.the_row)
@@ -58,4 +62,5 @@ receipt_send = search (receipt.the_send, record_send) depth 10
 
 -- a seat that has come back, and its receipts
 pub done_send : (N : RattleType) (n : Naming.Ghosts N.Denot) (m : Counting.Ghosts N.Denot) → IsSend (ReturnedSeat.the_row N n m)
-done_send N n m = declared_send (ReturnedSeat.the_type N n m) (seat_send N n m, (Vec-send (Receipt.the_row Record.the_row) receipt_send, tt))
+done_send N n m =
+    declared_send (ReturnedSeat.the_type N n m) (seat_send N n m, (Vec-send (Receipt.the_row Record.the_row) receipt_send, tt))

@@ -29,4 +29,6 @@ cfs_queue = Ruled.the_row cfs_tree Cfs.the_row (timeline.ghosts NoSums.the_row n
 
 -- a queue under CFS may
 pub cfs_queue_send : IsSend cfs_queue
-cfs_queue_send = sent.the_send cfs_tree Cfs.the_row (timeline.ghosts NoSums.the_row no_sums.ghosts timeline.no_dict) cfs.ghosts cfs_tree_send
+cfs_queue_send =
+    sent.the_send cfs_tree Cfs.the_row (timeline.ghosts NoSums.the_row no_sums.ghosts timeline.no_dict)
+    cfs.ghosts cfs_tree_send

@@ -41,7 +41,9 @@ tasks_send : IsSend Inbox.the_row
 tasks_send = search (crosses, knot.crosses, sendable) depth 60 fits 20000
 
 -- what all callers share beside the locks of the parts
-recorder_sync : (Q N R : RattleType) (n : Naming.Ghosts N.Denot) (m : Counting.Ghosts N.Denot) (g : Queue.Ghosts Q.Denot R.Denot) (h : Discipline.Ghosts R.Denot) → IsSync (Recorder.the_row Q N R n m g h)
+recorder_sync : (Q N R : RattleType) (n : Naming.Ghosts N.Denot) (m : Counting.Ghosts N.Denot)
+    (g : Queue.Ghosts Q.Denot R.Denot) (h : Discipline.Ghosts R.Denot)
+    → IsSync (Recorder.the_row Q N R n m g h)
 recorder_sync Q N R n m g h =
     let journals = Journal.the_row Record.the_row WorldPart.the_row JournalState.the_row N n in
     declared_sync (Recorder.the_type Q N R n m g h) (
@@ -53,7 +55,9 @@ recorder_sync Q N R n m g h =
     )
 
 -- a machine may be shared
-pub machine_sync : (Q K N P R : RattleType) (k : Clock.Ghosts K.Denot) (n : Naming.Ghosts N.Denot) (m : Counting.Ghosts N.Denot) (g : Queue.Ghosts Q.Denot R.Denot) (h : Discipline.Ghosts R.Denot) → IsSend Q → IsSync K → IsSync (Machine.the_row Q K N P R g h k n m)
+pub machine_sync : (Q K N P R : RattleType) (k : Clock.Ghosts K.Denot) (n : Naming.Ghosts N.Denot)
+    (m : Counting.Ghosts N.Denot) (g : Queue.Ghosts Q.Denot R.Denot) (h : Discipline.Ghosts R.Denot)
+    → IsSend Q → IsSync K → IsSync (Machine.the_row Q K N P R g h k n m)
 machine_sync Q K N P R k n m g h s y =
     let cpu = Numbered.the_row Q R g h in
     let a = cpu_part.ghosts Q R g cpu_part.no_dict h cpu_part.no_dict in
@@ -66,11 +70,15 @@ machine_sync Q K N P R k n m g h s y =
       (
         recorder_sync Q N R n m g h,
         (
-          Vec-sync (Mutex.the_row place) (mutex_sync place (locked.the_send cpu Record.the_row WorldPart.the_row JournalState.the_row N a n (numbered_send Q R g h s))),
+          Vec-sync (Mutex.the_row place) (mutex_sync place
+              (locked.the_send cpu Record.the_row WorldPart.the_row JournalState.the_row N a n (numbered_send Q R g h s))),
           (
-            Vec-sync (Mutex.the_row inbox) (mutex_sync inbox (locked.the_send NumberedInbox.the_row Record.the_row WorldPart.the_row JournalState.the_row N inbox_part.ghosts n inbox_send)),
+            Vec-sync (Mutex.the_row inbox) (mutex_sync inbox
+                (locked.the_send NumberedInbox.the_row Record.the_row WorldPart.the_row JournalState.the_row N
+                inbox_part.ghosts n inbox_send)),
             (
-              mutex_sync lobby (locked.the_send OneLobby.the_row Record.the_row WorldPart.the_row JournalState.the_row N lobby_part.ghosts n lobby_send),
+              mutex_sync lobby (locked.the_send OneLobby.the_row Record.the_row WorldPart.the_row JournalState.the_row N
+                  lobby_part.ghosts n lobby_send),
               (
                 mutex_sync room (room_send Q P R g h (numbered_send Q R g h s) inbox_send (cpu_send Q R g h s) tasks_send),
                 (search sendable, tt),

@@ -14,7 +14,8 @@ pub none_more : (p : ℕ) (l : List (Receipt Record)) → TicksMore p 0 l l
 none_more p l = record { beats = []; behind = sym (append-nil l); many = refl; each = tt }
 
 -- one more
-pub one_more : (p n : ℕ) (before after : List (Receipt Record)) (x : Receipt Record) → IsTickAt p x → TicksMore p n before after → TicksMore p (n + 1) before (after ++ x ∷ [])
+pub one_more : (p n : ℕ) (before after : List (Receipt Record)) (x : Receipt Record)
+    → IsTickAt p x → TicksMore p n before after → TicksMore p (n + 1) before (after ++ x ∷ [])
 one_more p n before after x tick t = record {
   beats = t.beats ++ x ∷ [];
   behind = ap (λ l. l ++ x ∷ []) t.behind ∙ append_assoc before t.beats (x ∷ []);
@@ -23,20 +24,24 @@ one_more p n before after x tick t = record {
 }
 
 -- the wake ends at a reading, whatever else is known of it
-pub woken_there : (p : ℕ) (G : ℕ → Type 0) (o : Option (Receipt Record)) → IfSome o (λ (r : Receipt Record). (now : ℕ) × G now × (r.entry.event ≡ EndWake p now))
+pub woken_there : (p : ℕ) (G : ℕ → Type 0) (o : Option (Receipt Record))
+    → IfSome o (λ (r : Receipt Record). (now : ℕ) × G now × (r.entry.event ≡ EndWake p now))
     → IfSome o (λ (r : Receipt Record). (now : ℕ) × (r.entry.event ≡ EndWake p now))
 woken_there p G None woken = tt
 woken_there p G (Some r) (now, gives, is) = (now, is)
 
 -- the receipts of the beginning, one after another
-pub start_whole : (l0 l1 l2 l3 o : List (Receipt Record)) (a b d : Receipt Record) → l0 ≡ [] → l1 ≡ l0 ++ a ∷ [] → l2 ≡ (l1 ++ b ∷ []) ++ o → l3 ≡ l2 ++ d ∷ [] → l3 ≡ a ∷ b ∷ (o ++ d ∷ [])
+pub start_whole : (l0 l1 l2 l3 o : List (Receipt Record)) (a b d : Receipt Record)
+    → l0 ≡ [] → l1 ≡ l0 ++ a ∷ [] → l2 ≡ (l1 ++ b ∷ []) ++ o → l3 ≡ l2 ++ d ∷ [] → l3 ≡ a ∷ b ∷ (o ++ d ∷ [])
 start_whole l0 l1 l2 l3 o a b d e0 e1 e2 e3 = rw (e3, e2, e1, e0) refl
 
--- and what they are for
+-- what the receipts of the beginning are for
 pub start_is : (p : ℕ) (l0 l1 l2 l3 : List (Receipt Record)) (a b d : Receipt Record) (o : Option (Receipt Record))
     → l0 ≡ [] → l1 ≡ l0 ++ a ∷ [] → l2 ≡ (l1 ++ b ∷ []) ++ option_to_list o → l3 ≡ l2 ++ d ∷ []
-    → a.entry.event ≡ Admit p (pos 0) (2 ^ 64 - 1) 3000000 → b.entry.event ≡ BeginWake p p → IfSome o (λ (r : Receipt Record). (now : ℕ) × (r.entry.event ≡ EndWake p now)) → (IsSome o ↔ IsOk b.entry.reply)
-    → (now : ℕ) × (d.entry.event ≡ Drain p now) → IsStart p l3
+    → a.entry.event ≡ Admit p (pos 0) (2 ^ 64 - 1) 3000000 → b.entry.event ≡ BeginWake p p
+    → IfSome o (λ (r : Receipt Record). (now : ℕ) × (r.entry.event ≡ EndWake p now)) → (IsSome o ↔ IsOk b.entry.reply)
+    → (now : ℕ) × (d.entry.event ≡ Drain p now)
+    → IsStart p l3
 start_is p l0 l1 l2 l3 a b d o e0 e1 e2 e3 admitted begun woken ended drained = record {
   admit = a;
   begin = b;
@@ -56,7 +61,8 @@ ticks_of l = total (λ (x : Receipt Record). one_tick x.entry) l
 
 ticks_append : (xs ys : List (Receipt Record)) → ticks_of (xs ++ ys) ≡ ticks_of xs + ticks_of ys
 ticks_append [] ys = omega arith
-ticks_append (x ∷ xs) ys = ap (λ n. one_tick x.entry + n) (ticks_append xs ys) ∙ sym (add_assoc (one_tick x.entry) (ticks_of xs) (ticks_of ys))
+ticks_append (x ∷ xs) ys =
+    ap (λ n. one_tick x.entry + n) (ticks_append xs ys) ∙ sym (add_assoc (one_tick x.entry) (ticks_of xs) (ticks_of ys))
 
 beats_count : (p : ℕ) (l : List (Receipt Record)) → Each (IsTickAt p) l → ticks_of l ≡ length l
 beats_count p [] each = refl
@@ -65,7 +71,8 @@ beats_count p (x ∷ xs) ((now, tick), more) =
     let rest = beats_count p xs more in
     omega (arith, here, rest)
 
-end_counts : (p : ℕ) (end : Option (Receipt Record)) → IfSome end (λ (r : Receipt Record). (now : ℕ) × (r.entry.event ≡ EndWake p now)) → ticks_of (option_to_list end) ≡ 0
+end_counts : (p : ℕ) (end : Option (Receipt Record)) → IfSome end (λ (r : Receipt Record). (now : ℕ) × (r.entry.event ≡ EndWake p now))
+    → ticks_of (option_to_list end) ≡ 0
 end_counts p None woken = refl
 end_counts p (Some r) (now, is) = let here : one_tick r.entry ≡ 0 = ap tick_of is in omega (arith, here)
 

@@ -11,8 +11,8 @@ use Rattle.bq_shared.specs.declared.record.Record.{Record}
 abbrev pub IsTickAt : ℕ → Receipt Record → Type 0
 IsTickAt p r = (now : ℕ) × (r.entry.event ≡ Tick p now)
 
--- The processor's task, whose id is the processor's number, is admitted for all processors, then woken there, and then drained
--- there. The wake ends exactly when its beginning was not refused
+-- The processor's task, whose id is the processor's number, is admitted for all processors, then woken and drained at this
+-- one. The wake ends exactly when its beginning was not refused
 pub record IsStart (p : ℕ) (l : List (Receipt Record)) : Type 0 where
   pub admit : Receipt Record
   pub begin : Receipt Record
@@ -25,14 +25,14 @@ pub record IsStart (p : ℕ) (l : List (Receipt Record)) : Type 0 where
   pub ended : IsSome end ↔ IsOk begin.entry.reply
   pub drained : (now : ℕ) × (drain.entry.event ≡ Drain p now)
 
--- this many ticks of the processor stand behind the receipts before
+-- the receipts after are the receipts before, then this many ticks of the processor
 pub record TicksMore (p ticks : ℕ) (before after : List (Receipt Record)) : Type 0 where
   pub beats : List (Receipt Record)
   pub behind : after ≡ before ++ beats
   pub many : length beats ≡ ticks
   pub each : Each (IsTickAt p) beats
 
--- the receipts of a shift: the task comes, is woken and is drained there, and then the processor ticks so often
+-- the receipts of a shift: the processor's task is admitted, woken and drained there, then the processor ticks this many times
 pub record IsShift (p ticks : ℕ) (l : List (Receipt Record)) : Type 0 where
   pub start : List (Receipt Record)
   pub started : IsStart p start

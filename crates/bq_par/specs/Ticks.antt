@@ -1,4 +1,4 @@
--- Ticks among what a history tells.
+-- The ticks among some records.
 use Rattle.std.specs.Prelude.{ℕ, List}
 use Rattle.bq_history.specs.Whole.{total}
 use Rattle.bq_parts.specs.declared.event.Event.{Event}
@@ -10,6 +10,7 @@ abbrev pub tick_of : Event → ℕ
 tick_of (Tick c now) = 1
 tick_of e = 0
 
+-- 1 for the record of a tick, else 0
 abbrev pub one_tick : Record → ℕ
 one_tick r = tick_of r.event
 

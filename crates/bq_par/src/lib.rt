@@ -1,5 +1,5 @@
-//! Processors that run by threads of their own, each with a seat of one locked machine, and what their one history is.
-//! Promises that the history is one of this scheduler, that it has a place for each answer given, and that each processor
+//! Processors that run in threads of their own, each with a seat of one locked machine, and what their one history is.
+//! Promises that the history is one of this scheduler, that each answer given has a place in it, and that each processor
 //! ticked as often as was asked for.
 #![tactic(auto)]
 

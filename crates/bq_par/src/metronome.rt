@@ -4,10 +4,11 @@ use bq_machine::Clock;
 use std::alloc::{AllocError, Global};
 use std::sync::atomic::{AtomicU64, Ordering};
 
-/// What each reading at a processor is above the last one there, in nanoseconds.
+/// The distance of each reading at a processor from the one before, in nanoseconds.
 const BEAT: u64 = 1_000_000;
 
-/// A clock for each processor, of which each reading is 1,000,000 above the last; the first is 0. No contract speaks of its readings.
+/// A clock for each processor. Its first reading is 0, and each later reading is 1,000,000 above the one before. No contract
+/// speaks of its readings.
 #[derive(Drop)]
 pub struct Metronome {
     readings: Vec<AtomicU64>,

@@ -21,9 +21,10 @@ use std::marker::Brand;
 use std::sync::Wait;
 use std::thread::{Threads, map_vec};
 
-/// Runs this many processors under the rule of a kind of queue, each by a thread of its own (where none can be made, in turn): its
-/// task, whose id is its number, is admitted, woken and drained there, and then it ticks so often. Answers how long their one
-/// history is, how many of its events are ticks, and how many receipts stand in it, which is all. Lack of memory is the only error.
+/// Runs this many processors under the rule of a kind of queue, each in a thread of its own (or in turn, if no thread can be
+/// made). The task of each processor has the processor's number as its id. It is admitted, woken and drained there, and then
+/// the processor ticks as often as asked for. Answers how long the one history is, how many of its events are ticks, and how
+/// many receipts are confirmed by it, which is all of them. The only error is that memory runs out.
 pub fn run<Q: RunQueue + Drop + Send, T: Threads + Wait + Sync>(
     rt: &T,
     alloc: Global,
@@ -39,7 +40,7 @@ where
     run_sized::<Q, Brand, T>(rt, alloc, prepared, unnamed, size, ticks)
 }
 
-/// Runs the machine that `N` names, of a number of processors that the types below take as a constant.
+/// Runs the machine that `N` names. The types below take the number of processors as a constant.
 fn run_sized<
     Q: RunQueue + Drop + Send,
     N: Naming + Counting + Send + Sync,
@@ -74,7 +75,7 @@ where
     }
 }
 
-/// Opens the machine, has each seat's processor driven by a thread, and ends the machine.
+/// Opens the machine, lets a thread drive the processor of each seat, and ends the machine.
 fn run_machine<
     Q: RunQueue + Drop + Send,
     N: Naming + Counting + Send + Sync,
@@ -103,7 +104,7 @@ where
     finish(alloc, machine, done, ticks)
 }
 
-/// Drives the processor of each seat by a thread of its own.
+/// Drives the processor of each seat in a thread of its own.
 fn drive_all<
     Q: RunQueue + Drop + Send,
     N: Naming + Counting + Send + Sync,

@@ -21,15 +21,15 @@ pub struct ReturnedSeat<N: Naming + Counting> {
     ghost held: { seat.1 ≡ receipts.items },
 }
 
-/// What a thread does once its task runs: it lets a processor tick so often.
+/// What a thread does once its task runs: it lets a processor tick a given number of times.
 #[derive(Clone, Copy)]
 struct Duty {
     processor: u8,
     ticks: u32,
 }
 
-/// Drives the processor of a seat's number: its task, whose id is that number too, is admitted, woken and drained there, and
-/// then the processor ticks so often. The only error is that memory ran out.
+/// Drives the processor with the seat's number. Its task, whose id is that number too, is admitted, woken and drained there.
+/// Then the processor ticks a given number of times. The only error is that memory runs out.
 pub fn drive<Q: RunQueue + Drop, K: Clock + Drop, N: Naming + Counting, R: Wait, const P: usize>(
     rt: &R,
     alloc: Global,
@@ -53,8 +53,8 @@ pub fn drive<Q: RunQueue + Drop, K: Clock + Drop, N: Naming + Counting, R: Wait,
     Ok(ReturnedSeat { seat, receipts })
 }
 
-/// Lets a processor tick so often. It stands apart, so that the compiler keeps what the loop needs in registers; what it is to
-/// do is read before the loop.
+/// Lets a processor tick a given number of times. It is a function of its own, so that the compiler keeps in registers what
+/// the loop needs. What it is to do is read before the loop.
 #[inline(never)]
 fn tick_all<Q: RunQueue + Drop, K: Clock + Drop, N: Naming + Counting, R: Wait, const P: usize>(
     rt: &R,
@@ -105,7 +105,7 @@ fn start<Q: RunQueue + Drop, K: Clock + Drop, N: Naming + Counting, R: Wait, con
     keep(receipts, drained)
 }
 
-/// The receipts of a wake more.
+/// Adds the receipts of a wake to a list.
 fn keep_wake(receipts: &mut Vec<Receipt<Record>>, woken: WakeReceipts) -> Result<(), Refusal>
     ensures { OnOk result (receipts.new.items ≡ (receipts.old.items ++ woken.begin ∷ []) ++ option_to_list woken.end) }
 {
@@ -117,7 +117,7 @@ fn keep_wake(receipts: &mut Vec<Receipt<Record>>, woken: WakeReceipts) -> Result
     }
 }
 
-/// One receipt more.
+/// Adds a receipt to a list.
 #[inline(always)]
 fn keep(receipts: &mut Vec<Receipt<Record>>, receipt: Receipt<Record>) -> Result<(), Refusal>
     ensures { OnOk result (receipts.new.items ≡ receipts.old.items ++ receipt ∷ []) }

@@ -1,9 +1,9 @@
-//! What is said of a parallel run, once all seats have come back.
+//! The summary of a parallel run, once all seats have come back.
 ghost use Rattle.std.specs.Prelude.{◌≡◌, ◌↔◌, ◌<◌, ◌≤◌, ◌^◌, IfOk, IsTrue, map, length, vec_len, slice_get, string_bytes};
 ghost use Rattle.std.specs.List.{All, sum_by};
 ghost use Rattle.std.specs.Option.{option_map};
 ghost use Rattle.bq_history.specs.Whole.{Each};
-ghost use Rattle.bq_history.specs.History.{IsConfirmed, Stands};
+ghost use Rattle.bq_history.specs.History.{IsConfirmed, IsRecorded};
 ghost use Rattle.bq_par.specs.Shifts.{IsShift};
 ghost use Rattle.bq_par.specs.Summaries.{IsSummary, summary_line};
 ghost use Rattle.bq_par.specs.Ticks.{one_tick, ticks_in};
@@ -17,8 +17,8 @@ use bq_recording::{Closed, Seat};
 use bq_shared::{Counting, Record};
 use std::alloc::{AllocError, Global};
 
-/// The history of a machine that was closed, how many events it has, how many of them are ticks, and how many of the receipts
-/// stand in it. Only the end of a history makes a `ClosedRecords`, so no summary is made without one.
+/// The history of a closed machine, how many events it has, how many of them are ticks, and how many of the receipts it
+/// confirms. Only the end of a history makes a `ClosedRecords`, so no summary is made without one.
 #[derive(Drop)]
 pub struct HistorySummary {
     pub history: ClosedRecords<Record>,
@@ -28,7 +28,7 @@ pub struct HistorySummary {
 }
 
 impl HistorySummary {
-    /// The line that says these numbers.
+    /// The line of text with these numbers.
     pub fn line(&self, alloc: Global) -> Result<String, AllocError>
         ensures { IfOk result (λ t. string_bytes t ≡ summary_line self.now) }
     {
@@ -50,8 +50,8 @@ struct ReturnedSeats<N: Naming + Counting> {
     ghost same: { map (λ l. l.items) lists.items ≡ map (λ s. s.1) seats.items },
 }
 
-/// Ends a machine whose seats have come back, each with the receipts of its processor's shift, and says what its history is.
-/// Lack of memory is the only error.
+/// Ends a machine and makes its summary. Its seats must have come back, each with the receipts of its processor's shift. The
+/// only error is that memory runs out.
 pub fn finish<Q: RunQueue + Drop, K: Clock + Drop, N: Naming + Counting, const P: usize>(
     alloc: Global,
     machine: Machine<Q, K, N, P>,
@@ -64,7 +64,7 @@ pub fn finish<Q: RunQueue + Drop, K: Clock + Drop, N: Naming + Counting, const P
     ensures { IfOk result (IsSummary Q.R.discipline P ticks) }
 {
     let ReturnedSeats { seats, lists } = returned(alloc, done, ticks)?;
-    // Each thread has given its seat back, so they are all there.
+    // Each thread has given its seat back, so all seats are here.
     if !machine.owns(&seats) {
         return Err(AllocError);
     }
@@ -79,13 +79,13 @@ pub fn finish<Q: RunQueue + Drop, K: Clock + Drop, N: Naming + Counting, const P
     })
 }
 
-/// How many events of the history are ticks, and how many of the receipts stand in it.
+/// Counts the events of the history that are ticks, and the receipts that the history confirms.
 fn counted(
     alloc: Global,
     history: &ClosedRecords<Record>,
     lists: &[Vec<Receipt<Record>>],
 ) -> Result<(u64, u64), AllocError>
-    requires stand { All (λ l. All (Stands history.now) l.items) lists.now }
+    requires stand { All (λ l. All (IsRecorded history.now) l.items) lists.now }
     requires few { sum_by (λ l. length l.items) lists.now < 2 ^ 64 }
     ensures ticks { IfOk result (λ r. r.0 ≡ ticks_in history.now) }
     ensures confirmed { IfOk result (λ r. r.1 ≡ sum_by (λ l. length l.items) lists.now) }
@@ -94,7 +94,8 @@ fn counted(
     Ok((ticks_among(&records), confirmed_among(&records, lists)))
 }
 
-/// The seats and the receipts of all threads, each those of its processor's shift. A thread that wanted memory is an error.
+/// The seats and the receipts of all threads, for each seat those of its processor's shift. The error is that memory ran out
+/// in a thread.
 fn returned<N: Naming + Counting>(
     alloc: Global,
     done: Vec<Result<ReturnedSeat<N>, Refusal>>,
@@ -117,7 +118,7 @@ fn returned<N: Naming + Counting>(
     Ok(ReturnedSeats { seats, lists })
 }
 
-/// How many of the records are of ticks.
+/// Answers how many of the records are of ticks.
 fn ticks_among(records: &[&Record]) -> u64
     ensures { result ≡ sum_by (λ r. one_tick r.now) records.now }
 {
@@ -128,7 +129,7 @@ fn ticks_among(records: &[&Record]) -> u64
     ticks
 }
 
-/// How many ticks a record tells: 1 or 0.
+/// Answers how many ticks a record is of: 1 or 0.
 fn ticks_of_one(entry: &Record) -> u64
     ensures is { result ≡ one_tick entry.now }
     ensures few { result ≤ 1 }
@@ -139,9 +140,9 @@ fn ticks_of_one(entry: &Record) -> u64
     }
 }
 
-/// How many receipts of all lists stand among the records at their places.
+/// Answers how many receipts of all lists the records confirm.
 fn confirmed_among(records: &[&Record], lists: &[Vec<Receipt<Record>>]) -> u64
-    requires stand { All (λ l. All (Stands (map (λ r. r.now) records.now)) l.items) lists.now }
+    requires stand { All (λ l. All (IsRecorded (map (λ r. r.now) records.now)) l.items) lists.now }
     requires few { sum_by (λ l. length l.items) lists.now < 2 ^ 64 }
     ensures { result ≡ sum_by (λ l. length l.items) lists.now }
 {
@@ -152,9 +153,9 @@ fn confirmed_among(records: &[&Record], lists: &[Vec<Receipt<Record>>]) -> u64
     confirmed
 }
 
-/// How many receipts of one list do.
+/// Answers how many receipts of one list the records confirm.
 fn confirmed_in(records: &[&Record], list: &[Receipt<Record>]) -> u64
-    requires { All (Stands (map (λ r. r.now) records.now)) list.now }
+    requires { All (IsRecorded (map (λ r. r.now) records.now)) list.now }
     ensures { result ≡ length list.now }
 {
     let mut confirmed = 0;
@@ -164,7 +165,7 @@ fn confirmed_in(records: &[&Record], list: &[Receipt<Record>]) -> u64
     confirmed
 }
 
-/// Whether the receipt's record stands among the records at the receipt's place.
+/// Whether the records have the receipt's record at the receipt's place.
 fn is_confirmed(records: &[&Record], receipt: &Receipt<Record>) -> bool
     ensures { IsTrue result ↔ IsConfirmed (λ r s. r ≡ s) (map (λ r. r.now) records.now) receipt.now }
 {
@@ -174,7 +175,7 @@ fn is_confirmed(records: &[&Record], receipt: &Receipt<Record>) -> bool
     }
 }
 
-/// The record at a place, or none where there are not that many.
+/// The record at a place; None if there are not that many records.
 fn record_at<'a>(records: &[&'a Record], place: u64) -> Option<&'a Record>
     ensures { option_map (λ r. r.now) result ≡ slice_get (map (λ r. r.now) records.now) place }
 {

@@ -22,7 +22,7 @@ pub count_of-tally : (id : ℕ) (xs : List Task) → count_of id xs ≡ TallyLem
 count_of-tally id [] = refl
 count_of-tally id (x ∷ xs) = ap (λ n. one id x + n) (count_of-tally id xs)
 
--- those of two lists together
+-- the count of two lists together is the sum of their counts
 pub count_of-append : (id : ℕ) (xs ys : List Task) → count_of id (xs ++ ys) ≡ count_of id xs + count_of id ys
 count_of-append id [] ys = omega arith
 count_of-append id (x ∷ xs) ys = omega (arith, count_of-append id xs ys)
@@ -33,7 +33,8 @@ count_of-place id t xs = omega (arith, count_of-tally id (place t xs), count_of-
 
 -- what is taken was there one time more
 pub count_of-without : (i j : ℕ) (xs : List Task) (t : Task) → with_id j xs ≡ Some t → count_of i xs ≡ one i t + count_of i (without j xs)
-count_of-without i j xs t h = omega (arith, count_of-tally i (without j xs), count_of-tally i xs, TallyLemmas.tally-without (ones i) j xs t h)
+count_of-without i j xs t h =
+    omega (arith, count_of-tally i (without j xs), count_of-tally i xs, TallyLemmas.tally-without (ones i) j xs t h)
 
 -- a task has its own id
 pub one_self : (t : Task) → one t.id t ≡ 1
@@ -65,19 +66,26 @@ current_apart p t s e =
     with_id-absent t.id p.queue (omega (arith, one_self t))
 
 -- the next is the current one: nothing changes
-pub switched_same : (d : Discipline) (p : Running) (t : Task) → HasEachOnce (present_at p) → p.current ≡ Some t → t.id ≡ next_of d t p.queue → switched d p p.current ≡ p
+pub switched_same : (d : Discipline) (p : Running) (t : Task)
+    → HasEachOnce (present_at p) → p.current ≡ Some t → t.id ≡ next_of d t p.queue
+    → switched d p p.current ≡ p
 switched_same d p t s e i = rw (e, ← i, current_apart p t s e) refl
 
 -- the next is not in the queue: nothing changes
-pub switched_absent : (d : Discipline) (p : Running) (t : Task) (id : ℕ) → p.current ≡ Some t → id ≡ next_of d t p.queue → with_id id p.queue ≡ None → switched d p p.current ≡ p
+pub switched_absent : (d : Discipline) (p : Running) (t : Task) (id : ℕ)
+    → p.current ≡ Some t → id ≡ next_of d t p.queue → with_id id p.queue ≡ None → switched d p p.current ≡ p
 switched_absent d p t id e i f = rw (e, ← i, f) refl
 
 -- the next runs, and the current one stands in the queue
-pub switched_to : (d : Discipline) (p : Running) (t n : Task) (id : ℕ) → p.current ≡ Some t → id ≡ next_of d t p.queue → Some n ≡ with_id id p.queue → switched d p p.current ≡ record p { current = Some n; queue = place t (without id p.queue) }
+pub switched_to : (d : Discipline) (p : Running) (t n : Task) (id : ℕ)
+    → p.current ≡ Some t → id ≡ next_of d t p.queue → Some n ≡ with_id id p.queue
+    → switched d p p.current ≡ record p { current = Some n; queue = place t (without id p.queue) }
 switched_to d p t n id e i f = rw (e, ← i, ← f, with_id-id id p.queue n (sym f)) refl
 
 -- the current task is not in the rest of the queue either
-pub current_apart_without : (p : Running) (t n : Task) (id : ℕ) → HasEachOnce (present_at p) → p.current ≡ Some t → with_id id p.queue ≡ Some n → with_id t.id (without id p.queue) ≡ None
+pub current_apart_without : (p : Running) (t n : Task) (id : ℕ)
+    → HasEachOnce (present_at p) → p.current ≡ Some t → with_id id p.queue ≡ Some n
+    → with_id t.id (without id p.queue) ≡ None
 current_apart_without p t n id s e f =
     let h = s t.id in
     let k : count_of t.id (t ∷ p.queue) ≤ 1 = rw e at h in
@@ -90,17 +98,26 @@ HasDistinctIds-from_counts (x ∷ xs) h =
     (with_id-absent x.id xs (omega (arith, one_self x, h x.id)), HasDistinctIds-from_counts xs (λ id. omega (arith, h id)))
 
 -- what stays by every tally stays by every count
-same_count : (id : ℕ) (p q : Running) → TallyLemmas.tally (ones id) (present_at q) ≡ TallyLemmas.tally (ones id) (present_at p) → count_of id (present_at q) ≡ count_of id (present_at p)
+same_count : (id : ℕ) (p q : Running) → TallyLemmas.tally (ones id) (present_at q) ≡ TallyLemmas.tally (ones id) (present_at p)
+    → count_of id (present_at q) ≡ count_of id (present_at p)
 same_count id p q h = omega (arith, count_of-tally id (present_at p), count_of-tally id (present_at q), h)
 
 -- to charge the current task keeps how often each id stands there
-pub keeps_charge : (id : ℕ) (d : Discipline) (p : Running) (now : ℕ) → count_of id (present_at (charge d p now)) ≡ count_of id (present_at p)
+pub keeps_charge : (id : ℕ) (d : Discipline) (p : Running) (now : ℕ)
+    → count_of id (present_at (charge d p now)) ≡ count_of id (present_at p)
 keeps_charge id d p now = same_count id p (charge d p now) (TallyLemmas.tally-charge (ones id) d p now)
 
--- those that enter come to those that were there
-pub count_of-enter_all : (id : ℕ) (d : Discipline) (p : Running) (tasks : List Task) → count_of id (present_at (enter_all d p tasks)) ≡ count_of id (present_at p) + count_of id tasks
+-- tasks that enter a processor are counted beside those that were there
+pub count_of-enter_all : (id : ℕ) (d : Discipline) (p : Running) (tasks : List Task)
+    → count_of id (present_at (enter_all d p tasks)) ≡ count_of id (present_at p) + count_of id tasks
 count_of-enter_all id d p tasks =
-    omega (arith, count_of-tally id (present_at (enter_all d p tasks)), count_of-tally id (present_at p), count_of-tally id tasks, TallyLemmas.tally-enter_all (ones id) d p tasks)
+    omega (
+      arith,
+      count_of-tally id (present_at (enter_all d p tasks)),
+      count_of-tally id (present_at p),
+      count_of-tally id tasks,
+      TallyLemmas.tally-enter_all (ones id) d p tasks,
+    )
 
 -- where each task stands once, each still does after a charge
 pub HasEachOnce-charge : (d : Discipline) (p : Running) (now : ℕ) → HasEachOnce (present_at p) → HasEachOnce (present_at (charge d p now))

@@ -10,7 +10,7 @@ use Rattle.bq_hooks.specs.Permitted.{may_place}
 use Rattle.bq_hooks.proofs.PermittedLemmas.{own_place_permitted}
 use Rattle.bq_parts.specs.declared.carried.Carried.{Carried}
 use Rattle.bq_parts.specs.Processors.{Processor, count_of, HasLobbyIds}
-use Rattle.bq_parts.specs.Choices.{Decision, SettlesPlace, policies}
+use Rattle.bq_parts.specs.Choices.{SettledChoice, SettlesPlace, by_programs}
 use Rattle.bq_parts.proofs.CountLemmas.{one, one_self, keeps_charge}
 use Rattle.bq_parts.proofs.PermittedLemmas.{settled_permitted, may_place_fits}
 
@@ -23,14 +23,20 @@ below_by_case : (t : Task) (m n : ℕ) → (1024 ≤ t.id → m ≡ 0) → m ≡
 below_by_case t m n h e = elim (cases_lt t.id 1024) [ inl l ↦ l | inr g ↦ absurd (omega (arith, one_self t, h g, e)) ]
 
 -- the task that runs has an entry, if all have
-pub current_id : (d : Discipline) (p : Running) (now : ℕ) (t : Task) → HasLobbyIds (present_at p) → Some t ≡ (charge d p now).current → t.id < 1024
+pub current_id : (d : Discipline) (p : Running) (now : ℕ) (t : Task)
+    → HasLobbyIds (present_at p) → Some t ≡ (charge d p now).current → t.id < 1024
 current_id d p now t s e =
     let q = charge d p now in
-    let here : count_of t.id (present_at q) ≡ one t.id t + count_of t.id q.queue = ap (λ (x : Option Task). count_of t.id (present x q.queue)) (sym e) in
+    let here : count_of t.id (present_at q) ≡ one t.id t + count_of t.id q.queue =
+    ap (λ (x : Option Task). count_of t.id (present x q.queue)) (sym e) in
     below_by_case t (count_of t.id (present_at p)) (count_of t.id q.queue) (s t.id) (omega (arith, here, keeps_charge t.id d p now))
 
 -- what is placed is one of those processors
-pub placed_fits : (d : Discipline) (count processor : ℕ) (p : Processor) (carried : Carried) (settled : Decision) → HasPlace count carried.task → SettlesPlace (policies d) count processor p carried settled → settled.choice < count
+pub placed_fits : (d : Discipline) (count processor : ℕ) (p : Processor) (carried : Carried) (settled : SettledChoice)
+    → HasPlace count carried.task → SettlesPlace (by_programs d) count processor p carried settled
+    → settled.choice < count
 placed_fits d count processor p carried settled h k =
-    let goes = settled_permitted (policies d) _ p.hooks.place p.running.last processor (may_place count carried.task) _ settled (own_place_permitted count carried.loads carried.task h) k in
+    let goes =
+    settled_permitted (by_programs d) _ p.hooks.place p.running.last processor (may_place count carried.task) _ settled
+    (own_place_permitted count carried.loads carried.task h) k in
     (may_place_fits count carried.task settled.choice goes).0

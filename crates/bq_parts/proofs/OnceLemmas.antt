@@ -23,8 +23,9 @@ held_le id [] processor = omega arith
 held_le id (p ∷ ps) zero = omega arith
 held_le id (p ∷ ps) (suc processor) = omega (arith, held_le id ps processor)
 
--- those of two processors too
-pub held_two : (id : ℕ) (ps : List Processor) (a b : ℕ) → a ≢ b → count_of id (held_by (get_or ps a opening)) + count_of id (held_by (get_or ps b opening)) ≤ held_count id ps
+-- the tasks of two processors are among those of all
+pub held_two : (id : ℕ) (ps : List Processor) (a b : ℕ) → a ≢ b
+    → count_of id (held_by (get_or ps a opening)) + count_of id (held_by (get_or ps b opening)) ≤ held_count id ps
 held_two id [] a b n = omega arith
 held_two id (p ∷ ps) zero zero n = absurd (n refl)
 held_two id (p ∷ ps) zero (suc b) n = omega (arith, held_le id ps b)
@@ -51,7 +52,8 @@ pub count_of-held_by : (id : ℕ) (p : Processor) → count_of id (held_by p) �
 count_of-held_by id p = count_of-append id (present_at p.running) (in_hand p)
 
 -- a processor has each of its tasks once, with those of its inbox and its hand
-pub once_at : (w : World) (processor : ℕ) → IsOrderly w → HasEachOnce (present_at (processor_at w processor).running ++ inbox w processor ++ in_hand (processor_at w processor))
+pub once_at : (w : World) (processor : ℕ) → IsOrderly w
+    → HasEachOnce (present_at (processor_at w processor).running ++ inbox w processor ++ in_hand (processor_at w processor))
 once_at w processor o = λ id.
     let p : Processor = processor_at w processor in
     omega (
@@ -65,12 +67,16 @@ once_at w processor o = λ id.
     )
 
 -- without its hand
-pub each_once_runnable : (w : World) (processor : ℕ) → IsOrderly w → HasEachOnce (present_at (processor_at w processor).running ++ inbox w processor)
-each_once_runnable w processor o = HasEachOnce-left (present_at (processor_at w processor).running ++ inbox w processor) (in_hand (processor_at w processor)) (once_at w processor o)
+pub each_once_runnable : (w : World) (processor : ℕ) → IsOrderly w
+    → HasEachOnce (present_at (processor_at w processor).running ++ inbox w processor)
+each_once_runnable w processor o =
+    HasEachOnce-left (present_at (processor_at w processor).running ++ inbox w processor) (in_hand (processor_at w processor))
+    (once_at w processor o)
 
--- and without its inbox
+-- a processor has each of its tasks once, without its hand and its inbox
 pub each_once_running : (w : World) (processor : ℕ) → IsOrderly w → HasEachOnce (present_at (processor_at w processor).running)
-each_once_running w processor o = HasEachOnce-left (present_at (processor_at w processor).running) (inbox w processor) (each_once_runnable w processor o)
+each_once_running w processor o =
+    HasEachOnce-left (present_at (processor_at w processor).running) (inbox w processor) (each_once_runnable w processor o)
 
 -- an id beyond the lobby stands nowhere
 pub none_beyond : (w : World) (id : ℕ) → length w.lobby ≡ 1024 → IsOrderly w → 1024 ≤ id → standing_count id w ≡ 0
@@ -79,21 +85,35 @@ none_beyond w id l o h =
     o.once.away id ∙ ap (λ s. as_number (is_away s)) past
 
 -- a processor's tasks have no id beyond the lobby
-pub none_beyond_at : (w : World) (processor id : ℕ) → length w.lobby ≡ 1024 → IsOrderly w → 1024 ≤ id → count_of id (present_at (processor_at w processor).running ++ inbox w processor) ≡ 0
+pub none_beyond_at : (w : World) (processor id : ℕ) → length w.lobby ≡ 1024 → IsOrderly w → 1024 ≤ id
+    → count_of id (present_at (processor_at w processor).running ++ inbox w processor) ≡ 0
 none_beyond_at w processor id l o h =
     let p : Processor = processor_at w processor in
-    omega (arith, none_beyond w id l o h, held_le id w.processors processor, placed_le id w.inboxes processor, count_of-held_by id p, count_of-append id (present_at p.running) (inbox w processor))
+    omega (
+      arith,
+      none_beyond w id l o h,
+      held_le id w.processors processor,
+      placed_le id w.inboxes processor,
+      count_of-held_by id p,
+      count_of-append id (present_at p.running) (inbox w processor),
+    )
 
 -- the tasks that run or wait at a processor have ids of the lobby
-pub ids_running : (w : World) (processor : ℕ) → length w.lobby ≡ 1024 → IsOrderly w → HasLobbyIds (present_at (processor_at w processor).running)
-ids_running w processor l o = λ id h. omega (arith, none_beyond_at w processor id l o h, count_of-append id (present_at (processor_at w processor).running) (inbox w processor))
+pub ids_running : (w : World) (processor : ℕ) → length w.lobby ≡ 1024 → IsOrderly w
+    → HasLobbyIds (present_at (processor_at w processor).running)
+ids_running w processor l o = λ id h. omega (
+  arith,
+  none_beyond_at w processor id l o h,
+  count_of-append id (present_at (processor_at w processor).running) (inbox w processor),
+)
 
 -- the first of some tasks has an id below a bound from which none stands there
 head_below : (x : Task) (m n : ℕ) → (n ≤ x.id → one x.id x + m ≡ 0) → x.id < n
 head_below x m n h = elim (cases_lt x.id n) [ inl l ↦ l | inr g ↦ absurd (omega (arith, one_self x, h g)) ]
 
 -- two processors have each of their tasks once, together
-pub each_once_two : (w : World) (processor from : ℕ) → processor ≢ from → IsOrderly w → HasEachOnce (present_at (processor_at w processor).running ++ present_at (processor_at w from).running)
+pub each_once_two : (w : World) (processor from : ℕ) → processor ≢ from → IsOrderly w
+    → HasEachOnce (present_at (processor_at w processor).running ++ present_at (processor_at w from).running)
 each_once_two w processor from n o = λ id.
     let p : Processor = processor_at w processor in
     let q : Processor = processor_at w from in
@@ -106,8 +126,9 @@ each_once_two w processor from n o = λ id.
       count_of-append id (present_at p.running) (present_at q.running),
     )
 
--- and none beyond the lobby
-pub ids_two : (w : World) (processor from : ℕ) → length w.lobby ≡ 1024 → IsOrderly w → HasLobbyIds (present_at (processor_at w processor).running ++ present_at (processor_at w from).running)
+-- two processors have no task with an id beyond the lobby
+pub ids_two : (w : World) (processor from : ℕ) → length w.lobby ≡ 1024 → IsOrderly w
+    → HasLobbyIds (present_at (processor_at w processor).running ++ present_at (processor_at w from).running)
 ids_two w processor from l o = λ id h.
     omega (
       arith,
@@ -135,14 +156,21 @@ below_by_test q i n c false e l k rest = rest k
 all_below : (xs : List Task) (n q : ℕ) → ((id : ℕ) → n ≤ id → count_of id xs ≡ 0) → list_any (eqb q) (ids xs) ≡ true → q < n
 all_below [] n q h k = cc
 all_below (x ∷ xs) n q h k =
-    below_by_test q x.id n (list_any (eqb q) (ids xs)) (eqb q x.id) refl (head_below x (count_of x.id xs) n (h x.id)) k (all_below xs n q (λ id l. omega (arith, h id l)))
+    below_by_test q x.id n (list_any (eqb q) (ids xs)) (eqb q x.id) refl (head_below x (count_of x.id xs) n (h x.id)) k
+    (all_below xs n q (λ id l. omega (arith, h id l)))
 
 -- tasks with ids below n, of which none stands twice, are at most n
 pub few_below : (xs : List Task) (n : ℕ) → HasEachOnce xs → ((id : ℕ) → n ≤ id → count_of id xs ≡ 0) → length xs ≤ n
 few_below xs n h k = rw length-ids at (length-le_from_distinct_below (ids xs) n (distinct xs h) (λ q a. all_below xs n q k a))
 
--- so a processor has at most 1024 tasks, with those of its inbox
-pub few_at : (w : World) (processor : ℕ) → length w.lobby ≡ 1024 → IsOrderly w → length (present_at (processor_at w processor).running) + length (inbox w processor) ≤ 1024
+-- a processor has at most 1024 tasks, with those of its inbox
+pub few_at : (w : World) (processor : ℕ) → length w.lobby ≡ 1024 → IsOrderly w
+    → length (present_at (processor_at w processor).running) + length (inbox w processor) ≤ 1024
 few_at w processor l o =
     let xs : List Task = present_at (processor_at w processor).running in
-    omega (arith, length-append xs (inbox w processor), few_below (xs ++ inbox w processor) 1024 (each_once_runnable w processor o) (λ id h. none_beyond_at w processor id l o h))
+    omega (
+      arith,
+      length-append xs (inbox w processor),
+      few_below (xs ++ inbox w processor) 1024 (each_once_runnable w processor o)
+          (λ id h. none_beyond_at w processor id l o h),
+    )

@@ -17,26 +17,35 @@ use Rattle.bq_disc.specs.Masks.{allows}
 use Rattle.bq_hooks.specs.Permitted.{may_place, may_pull, task_numbered}
 use Rattle.bq_hooks.specs.Settled.{Settled as Chosen, settled as chosen}
 use Rattle.bq_parts.specs.Processors.{Processor, count_of, size_of, HasEachOnce}
-use Rattle.bq_parts.specs.Choices.{PolicySemantics, Decision, SettlesBy, Settles, SettlesPull, own_pull, unasked}
+use Rattle.bq_parts.specs.Choices.{PolicySemantics, SettledChoice, SettlesBy, Settles, SettlesPull, own_pull, unasked}
 use Rattle.bq_parts.proofs.CountLemmas.{one}
 
-by_test : (b : Bool) (permitted : ℕ → Bool) (r0 own : ℕ) → permitted r0 ≡ b → permitted own ≡ true → permitted (cond {A = Chosen} b (record { choice = r0; by = who.Policy }) (record { choice = own; by = who.Discipline })).choice ≡ true
+by_test : (b : Bool) (permitted : ℕ → Bool) (r0 own : ℕ) → permitted r0 ≡ b → permitted own ≡ true
+    → permitted (cond {A = Chosen} b (record { choice = r0; by = who.Policy }) (record { choice = own; by = who.Discipline })).choice
+    ≡ true
 by_test true permitted r0 own e o = e
 by_test false permitted r0 own e o = o
 
 -- an answer is the choice where it is permitted, and else the own choice is
-pub answer_is_permitted : (permitted : ℕ → Bool) (r0 own : ℕ) → permitted own ≡ true → permitted (chosen permitted (Some r0) own).choice ≡ true
+pub answer_is_permitted : (permitted : ℕ → Bool) (r0 own : ℕ)
+    → permitted own ≡ true → permitted (chosen permitted (Some r0) own).choice ≡ true
 answer_is_permitted permitted r0 own o = by_test (permitted r0) permitted r0 own refl o
 
-settles_by : (s : PolicySemantics) (policy : Option Accepted) (context : Version → List ℕ) (attached : Attached) (now processor : ℕ) (permitted : ℕ → Bool) (own : ℕ) (settled : Decision) →
-    permitted own ≡ true → SettlesBy s policy context attached now processor permitted own settled → permitted settled.choice ≡ true
-settles_by s None context attached now processor permitted own settled o h = ap (λ (x : Decision). permitted x.choice) h ∙ o
-settles_by s (Some policy) context attached now processor permitted own settled o h = ap permitted h.choice ∙ answer_is_permitted permitted h.r0 own o
+settles_by : (s : PolicySemantics) (policy : Option Accepted) (context : Version → List ℕ) (attached : Attached)
+    (now processor : ℕ) (permitted : ℕ → Bool) (own : ℕ) (settled : SettledChoice)
+    → permitted own ≡ true → SettlesBy s policy context attached now processor permitted own settled
+    → permitted settled.choice ≡ true
+settles_by s None context attached now processor permitted own settled o h = ap (λ (x : SettledChoice). permitted x.choice) h ∙ o
+settles_by s (Some policy) context attached now processor permitted own settled o h =
+    ap permitted h.choice ∙ answer_is_permitted permitted h.r0 own o
 
 -- where the own choice is permitted, what is settled is
-pub settled_permitted : (s : PolicySemantics) (context : Version → List ℕ) (attached : Attached) (now processor : ℕ) (permitted : ℕ → Bool) (own : ℕ) (settled : Decision) →
-    permitted own ≡ true → Settles s context attached now processor permitted own settled → permitted settled.choice ≡ true
-settled_permitted s context attached now processor permitted own settled o h = settles_by s attached.policy context attached now processor permitted own settled o h
+pub settled_permitted : (s : PolicySemantics) (context : Version → List ℕ) (attached : Attached) (now processor : ℕ)
+    (permitted : ℕ → Bool) (own : ℕ) (settled : SettledChoice)
+    → permitted own ≡ true → Settles s context attached now processor permitted own settled
+    → permitted settled.choice ≡ true
+settled_permitted s context attached now processor permitted own settled o h =
+    settles_by s attached.policy context attached now processor permitted own settled o h
 
 -- a place that is permitted is a processor of the machine that the mask allows
 pub may_place_fits : (count : ℕ) (t : Task) (p : ℕ) → may_place count t p ≡ true → (p < count) × (allows t.mask p ≡ true)
@@ -50,10 +59,13 @@ itself t o = let same : has_id t.id t ≡ true = grind (arith, nat_tests) in rw 
 later : (id : ℕ) (x : Task) (xs : List Task) → is_some (with_id id xs) ≡ true → is_some (with_id id (x ∷ xs)) ≡ true
 later id x xs h = elim (has_id id x) as (λ b. is_some (cond b (Some x) (with_id id xs)) ≡ true) [ true ↦ refl | false ↦ h ]
 
-former_there : (before : Task → Task → Bool) (x : Task) (o : Option Task) (xs : List Task) → ((y : Task) → o ≡ Some y → is_some (with_id y.id xs) ≡ true) → is_some (with_id (former before x o).id (x ∷ xs)) ≡ true
+former_there : (before : Task → Task → Bool) (x : Task) (o : Option Task) (xs : List Task)
+    → ((y : Task) → o ≡ Some y → is_some (with_id y.id xs) ≡ true)
+    → is_some (with_id (former before x o).id (x ∷ xs)) ≡ true
 former_there before x None xs h = itself x (with_id x.id xs)
 former_there before x (Some y) xs h =
-    elim (before y x) as (λ b. is_some (with_id (cond b y x).id (x ∷ xs)) ≡ true) [ true ↦ later y.id x xs (h y refl) | false ↦ itself x (with_id x.id xs) ]
+    elim (before y x)
+    as (λ b. is_some (with_id (cond b y x).id (x ∷ xs)) ≡ true) [ true ↦ later y.id x xs (h y refl) | false ↦ itself x (with_id x.id xs) ]
 
 -- the first of some tasks stands among them
 first_there : (before : Task → Task → Bool) (xs : List Task) (m : Task) → first_by before xs ≡ Some m → is_some (with_id m.id xs) ≡ true
@@ -62,7 +74,8 @@ first_there before (x ∷ xs) m h =
     let is : former before x (first_by before xs) ≡ m = cc in
     subst (λ (y : Task). is_some (with_id y.id (x ∷ xs)) ≡ true) is (former_there before x (first_by before xs) xs (first_there before xs))
 
-counted_by_test : (b : Bool) (x : Task) (n : ℕ) (o : Option Task) → is_some (cond b (Some x) o) ≡ true → (is_some o ≡ true → 1 ≤ n) → 1 ≤ cond b 1 0 + n
+counted_by_test : (b : Bool) (x : Task) (n : ℕ) (o : Option Task)
+    → is_some (cond b (Some x) o) ≡ true → (is_some o ≡ true → 1 ≤ n) → 1 ≤ cond b 1 0 + n
 counted_by_test true x n o h rest = omega arith
 counted_by_test false x n o h rest = omega (arith, rest h)
 
@@ -80,25 +93,34 @@ count_of-filter id p (x ∷ xs) =
       | false ↦ omega (arith, count_of-filter id p xs)
     ]
 
-movable_by_tests : (a b : Bool) (processor id : ℕ) (x t : Task) (xs : List Task) → has_id id x ≡ a → can_use processor x ≡ b → HasEachOnce (x ∷ xs) →
-    is_some (with_id id (cond b (x ∷ movable processor xs) (movable processor xs))) ≡ true → cond a (Some x) (with_id id xs) ≡ Some t →
-    (is_some (with_id id (movable processor xs)) ≡ true → with_id id xs ≡ Some t → can_use processor t ≡ true) → can_use processor t ≡ true
+movable_by_tests : (a b : Bool) (processor id : ℕ) (x t : Task) (xs : List Task)
+    → has_id id x ≡ a → can_use processor x ≡ b → HasEachOnce (x ∷ xs)
+    → is_some (with_id id (cond b (x ∷ movable processor xs) (movable processor xs))) ≡ true
+    → cond a (Some x) (with_id id xs) ≡ Some t
+    → (is_some (with_id id (movable processor xs)) ≡ true → with_id id xs ≡ Some t → can_use processor t ≡ true)
+    → can_use processor t ≡ true
 movable_by_tests true true processor id x t xs e f once h k rest = let is : x ≡ t = cc in subst (λ y. can_use processor y ≡ true) is f
 movable_by_tests true false processor id x t xs e f once h k rest =
     let here : one id x ≡ 1 = ap (λ b. cond b 1 0) e in
     absurd (omega (arith, once id, here, counted id (movable processor xs) h, count_of-filter id (can_use processor) xs))
 movable_by_tests false true processor id x t xs e f once h k rest =
-    let there : is_some (with_id id (movable processor xs)) ≡ true = sym (ap (λ b. is_some (cond b (Some x) (with_id id (movable processor xs)))) e) ∙ h in
+    let there : is_some (with_id id (movable processor xs)) ≡ true =
+    sym (ap (λ b. is_some (cond b (Some x) (with_id id (movable processor xs)))) e) ∙ h in
     rest there k
 movable_by_tests false false processor id x t xs e f once h k rest = rest h k
 
 -- where ids stand once, the task of an id that may move may use the processor
-pub movable_can_use : (processor id : ℕ) (queue : List Task) (t : Task) → HasEachOnce queue → is_some (with_id id (movable processor queue)) ≡ true → with_id id queue ≡ Some t → can_use processor t ≡ true
+pub movable_can_use : (processor id : ℕ) (queue : List Task) (t : Task)
+    → HasEachOnce queue → is_some (with_id id (movable processor queue)) ≡ true → with_id id queue ≡ Some t
+    → can_use processor t ≡ true
 movable_can_use processor id [] t once h k = cc
 movable_can_use processor id (x ∷ xs) t once h k =
-    movable_by_tests (has_id id x) (can_use processor x) processor id x t xs refl refl once h k (movable_can_use processor id xs t (λ i. omega (arith, once i)))
+    movable_by_tests (has_id id x) (can_use processor x) processor id x t xs refl refl once h k
+    (movable_can_use processor id xs t (λ i. omega (arith, once i)))
 
-found_by_test : (b : Bool) (id : ℕ) (x : Task) (xs : List Task) → cond b (Some x) (with_id id xs) ≡ None → (with_id id xs ≡ None → count_of id xs ≡ 0) → cond b 1 0 + count_of id xs ≡ 0
+found_by_test : (b : Bool) (id : ℕ) (x : Task) (xs : List Task)
+    → cond b (Some x) (with_id id xs) ≡ None → (with_id id xs ≡ None → count_of id xs ≡ 0)
+    → cond b 1 0 + count_of id xs ≡ 0
 found_by_test true id x xs h rest = cc
 found_by_test false id x xs h rest = omega (arith, rest h)
 
@@ -107,52 +129,71 @@ found : (id : ℕ) (xs : List Task) → with_id id xs ≡ None → count_of id x
 found id [] h = refl
 found id (x ∷ xs) h = found_by_test (has_id id x) id x xs h (found id xs)
 
-movable_by_case : (processor id : ℕ) (queue : List Task) (o : Option Task) → HasEachOnce queue → is_some (with_id id (movable processor queue)) ≡ true → with_id id queue ≡ o → option_map_or (can_use processor) o false ≡ true
-movable_by_case processor id queue None once h e = absurd (omega (arith, found id queue e, counted id (movable processor queue) h, count_of-filter id (can_use processor) queue))
+movable_by_case : (processor id : ℕ) (queue : List Task) (o : Option Task)
+    → HasEachOnce queue → is_some (with_id id (movable processor queue)) ≡ true → with_id id queue ≡ o
+    → option_map_or (can_use processor) o false ≡ true
+movable_by_case processor id queue None once h e =
+    absurd (omega (arith, found id queue e, counted id (movable processor queue) h, count_of-filter id (can_use processor) queue))
 movable_by_case processor id queue (Some t) once h e = movable_can_use processor id queue t once h e
 
 -- where ids stand once, a task that is found among the movable ones may be named
-named : (processor id : ℕ) (queue : List Task) → HasEachOnce queue → is_some (with_id id (movable processor queue)) ≡ true → is_movable_to processor id queue ≡ true
+named : (processor id : ℕ) (queue : List Task) → HasEachOnce queue → is_some (with_id id (movable processor queue)) ≡ true
+    → is_movable_to processor id queue ≡ true
 named processor id queue once h = movable_by_case processor id queue (with_id id queue) once h refl
 
-own_pull_by_case : (processor : ℕ) (queue : List Task) (o : Option Task) → HasEachOnce queue → first_by pulled_before (movable processor queue) ≡ o → may_pull processor queue (or_nobody (id_of o)) ≡ true
+own_pull_by_case : (processor : ℕ) (queue : List Task) (o : Option Task)
+    → HasEachOnce queue → first_by pulled_before (movable processor queue) ≡ o
+    → may_pull processor queue (or_nobody (id_of o)) ≡ true
 own_pull_by_case processor queue None once e = refl
 own_pull_by_case processor queue (Some m) once e =
-    ap (λ b. m.id == nobody || b) (named processor m.id queue once (first_there pulled_before (movable processor queue) m e)) ∙ or_right (m.id == nobody) true refl
+    ap (λ b. m.id == nobody || b) (named processor m.id queue once (first_there pulled_before (movable processor queue) m e))
+    ∙ or_right (m.id == nobody) true refl
 
-own_pull_by_test : (b : Bool) (processor : ℕ) (queue : List Task) → HasEachOnce queue → may_pull processor queue (or_nobody (id_of (cond b (first_by pulled_before (movable processor queue)) None))) ≡ true
+own_pull_by_test : (b : Bool) (processor : ℕ) (queue : List Task)
+    → HasEachOnce queue
+    → may_pull processor queue (or_nobody (id_of (cond b (first_by pulled_before (movable processor queue)) None))) ≡ true
 own_pull_by_test true processor queue once = own_pull_by_case processor queue (first_by pulled_before (movable processor queue)) once refl
 own_pull_by_test false processor queue once = refl
 
 -- the own choice of a task to pull is permitted
-pub own_pull_permitted : (processor : ℕ) (p from : Processor) → HasEachOnce from.running.queue → may_pull processor from.running.queue (or_nobody (own_pull processor p from)) ≡ true
+pub own_pull_permitted : (processor : ℕ) (p from : Processor)
+    → HasEachOnce from.running.queue
+    → may_pull processor from.running.queue (or_nobody (own_pull processor p from)) ≡ true
 own_pull_permitted processor p from once = own_pull_by_test (nat_le (size_of p + 2) (size_of from)) processor from.running.queue once
 
 stands_for : (o : Option ℕ) → IfSome o (λ id. id < 2 ^ 16) → o ≡ task_numbered (or_nobody o)
 stands_for None small = refl
 stands_for (Some id) small = grind (arith, nat_tests)
 
-none_stands : (policy : Option Accepted) (version : Option Version) → version ≡ option_map (λ p. p.version) policy → version ≡ None → policy ≡ None
+none_stands : (policy : Option Accepted) (version : Option Version)
+    → version ≡ option_map (λ p. p.version) policy → version ≡ None → policy ≡ None
 none_stands None version e none = refl
 none_stands (Some policy) version e none = cc
 
 -- where no policy stands at the hook, a pull is settled by the discipline's own choice
-pub settles_unasked : (s : PolicySemantics) (processor from : ℕ) (p other : Processor) (version : Option Version) →
-    version ≡ option_map (λ policy. policy.version) p.hooks.pull.policy → version ≡ None → IfSome (own_pull processor p other) (λ id. id < 2 ^ 16) →
-    (choice : ℕ) × SettlesPull s processor from p other (unasked choice p.hooks.pull) × (own_pull processor p other ≡ task_numbered choice)
-settles_unasked s processor from p other version e none small =
-    (or_nobody (own_pull processor p other), rw (none_stands p.hooks.pull.policy version e none) refl, stands_for (own_pull processor p other) small)
+pub settles_unasked : (s : PolicySemantics) (processor from : ℕ) (p other : Processor) (version : Option Version)
+    → version ≡ option_map (λ policy. policy.version) p.hooks.pull.policy → version ≡ None
+    → IfSome (own_pull processor p other) (λ id. id < 2 ^ 16)
+    → (choice : ℕ) × SettlesPull s processor from p other (unasked choice p.hooks.pull)
+    × (own_pull processor p other ≡ task_numbered choice)
+settles_unasked s processor from p other version e none small = (
+  or_nobody (own_pull processor p other),
+  rw (none_stands p.hooks.pull.policy version e none) refl,
+  stands_for (own_pull processor p other) small,
+)
 
 numbered : (b : Bool) (n id : ℕ) (moves : Bool) → cond b None (Some n) ≡ Some id → (b || moves) ≡ true → (n ≡ id) × (moves ≡ true)
 numbered true n id moves e h = cc
 numbered false n id moves e h = (cc, h)
 
 -- a task of that number is then one that may move
-pub may_pull_names : (processor : ℕ) (queue : List Task) (n id : ℕ) → may_pull processor queue n ≡ true → task_numbered n ≡ Some id → is_movable_to processor id queue ≡ true
+pub may_pull_names : (processor : ℕ) (queue : List Task) (n id : ℕ)
+    → may_pull processor queue n ≡ true → task_numbered n ≡ Some id → is_movable_to processor id queue ≡ true
 may_pull_names processor queue n id h e =
     let f = numbered (n == nobody) n id (is_movable_to processor n queue) e h in
     subst (λ i. is_movable_to processor i queue ≡ true) f.0 f.1
 
--- and the task of that id may use the processor
-pub may_go : (processor id : ℕ) (queue : List Task) (t : Task) → is_movable_to processor id queue ≡ true → with_id id queue ≡ Some t → can_use processor t ≡ true
+-- the task of an id that may move may use the processor
+pub may_go : (processor id : ℕ) (queue : List Task) (t : Task)
+    → is_movable_to processor id queue ≡ true → with_id id queue ≡ Some t → can_use processor t ≡ true
 may_go processor id queue t h e = sym (ap (λ o. option_map_or (can_use processor) o false) e) ∙ h

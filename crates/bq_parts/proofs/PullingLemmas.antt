@@ -29,13 +29,17 @@ size_by_case f None queue = refl
 size_by_case f (Some t) queue = refl
 
 -- the puller, once charged, has no more tasks than the lobby has entries
-pub puller_within_lobby : (d : Discipline) (p q : Running) (now : ℕ) → HasEachOnce (present_at p ++ present_at q) → HasLobbyIds (present_at p ++ present_at q) → length (present_at (charge d p now)) ≤ 1024
+pub puller_within_lobby : (d : Discipline) (p q : Running) (now : ℕ)
+    → HasEachOnce (present_at p ++ present_at q) → HasLobbyIds (present_at p ++ present_at q)
+    → length (present_at (charge d p now)) ≤ 1024
 puller_within_lobby d p q now h k =
     let same : length (present_at (charge d p now)) ≡ length (present_at p) = size_by_case _ p.current p.queue in
     omega (arith, same, few_running p (HasEachOnce-left (present_at p) (present_at q) h) (ids_left (present_at p) (present_at q) k))
 
 -- the source has no more tasks than the lobby has entries either
-pub source_within_lobby : (p q : Running) → HasEachOnce (present_at p ++ present_at q) → HasLobbyIds (present_at p ++ present_at q) → length (present_at q) ≤ 1024
+pub source_within_lobby : (p q : Running) → HasEachOnce (present_at p ++ present_at q)
+    → HasLobbyIds (present_at p ++ present_at q)
+    → length (present_at q) ≤ 1024
 source_within_lobby p q h k = few_running q (HasEachOnce-right (present_at p) (present_at q) h) (ids_right (present_at p) (present_at q) k)
 
 -- the source's ids are distinct
@@ -43,22 +47,31 @@ pub source_distinct : (p q : Running) → HasEachOnce (present_at p ++ present_a
 source_distinct p q h = HasDistinctIds-from_counts q.queue (each_once_queue q (HasEachOnce-right (present_at p) (present_at q) h))
 
 -- a task of the source's queue is not in the puller's
-pulled_free : (p q : Running) (id : ℕ) (t : Task) → HasEachOnce (present_at p ++ present_at q) → with_id id q.queue ≡ Some t → with_id t.id p.queue ≡ None
+pulled_free : (p q : Running) (id : ℕ) (t : Task) → HasEachOnce (present_at p ++ present_at q) → with_id id q.queue ≡ Some t
+    → with_id t.id p.queue ≡ None
 pulled_free p q id t h f =
     let itself : one id t ≡ 1 = subst (λ i. one i t ≡ 1) (with_id-id id q.queue t f) (one_self t) in
     let free : with_id id p.queue ≡ None =
-    with_id-absent id p.queue (
-    omega (arith, h id, count_of-append id (present_at p) (present_at q), queue_le_present id p.current p.queue, queue_le_present id q.current q.queue, count_of-without id id q.queue t f, itself)
-    ) in
+    with_id-absent id p.queue (omega (
+      arith,
+      h id,
+      count_of-append id (present_at p) (present_at q),
+      queue_le_present id p.current p.queue,
+      queue_le_present id q.current q.queue,
+      count_of-without id id q.queue t f,
+      itself,
+    )) in
     subst (λ i. with_id i p.queue ≡ None) (sym (with_id-id id q.queue t f)) free
 
-fresh_by_case : (id mark : ℕ) (xs ys : List Task) (o : Option Task) → with_id id xs ≡ o → ((t : Task) → with_id id xs ≡ Some t → with_id t.id ys ≡ None) →
-    IfSome (option_map (left_at mark) o) (λ t. with_id t.id ys ≡ None)
+fresh_by_case : (id mark : ℕ) (xs ys : List Task) (o : Option Task)
+    → with_id id xs ≡ o → ((t : Task) → with_id id xs ≡ Some t → with_id t.id ys ≡ None)
+    → IfSome (option_map (left_at mark) o) (λ t. with_id t.id ys ≡ None)
 fresh_by_case id mark xs ys None e h = tt
 fresh_by_case id mark xs ys (Some t) e h = h t e
 
--- so its id is free where it comes to
+-- the id of a task of the source's queue is free at the puller
 pub taken_fresh : (d : Discipline) (p q : Running) (now : ℕ) (task : Option ℕ) → HasEachOnce (present_at p ++ present_at q) →
     IfSome (taken_from (marked d q) task) (λ t. with_id t.id (charge d p now).queue ≡ None)
 taken_fresh d p q now None h = tt
-taken_fresh d p q now (Some id) h = fresh_by_case id (marked d q).kept q.queue p.queue (with_id id q.queue) refl (λ t e. pulled_free p q id t h e)
+taken_fresh d p q now (Some id) h =
+    fresh_by_case id (marked d q).kept q.queue p.queue (with_id id q.queue) refl (λ t e. pulled_free p q id t h e)

@@ -23,9 +23,12 @@ unlinked_send = search (crosses, knot.crosses, sendable) depth 60 fits 20000
 pub carried_send : IsSend (Option.the_row Carried.the_row)
 carried_send = search (crosses, knot.crosses, loads.the_send, sendable) depth 60 fits 20000
 
-inside_send : (Q R : RattleType) (g : Queue.Ghosts Q.Denot R.Denot) (h : Discipline.Ghosts R.Denot) → IsSend Q → IsSend (inside.the_row Q R g h)
-inside_send Q R g h s = declared_send (inside.the_type Q R g h) (as_row_send (row_field Q) s, (unlinked_send, (search sendable, (carried_send, (hooks.the_send, tt)))))
+inside_send : (Q R : RattleType) (g : Queue.Ghosts Q.Denot R.Denot) (h : Discipline.Ghosts R.Denot)
+    → IsSend Q → IsSend (inside.the_row Q R g h)
+inside_send Q R g h s = declared_send (inside.the_type Q R g h)
+    (as_row_send (row_field Q) s, (unlinked_send, (search sendable, (carried_send, (hooks.the_send, tt)))))
 
 -- a processor
-pub cpu_send : (Q R : RattleType) (g : Queue.Ghosts Q.Denot R.Denot) (h : Discipline.Ghosts R.Denot) → IsSend Q → IsSend (Cpu.the_row Q R g h)
+pub cpu_send : (Q R : RattleType) (g : Queue.Ghosts Q.Denot R.Denot) (h : Discipline.Ghosts R.Denot)
+    → IsSend Q → IsSend (Cpu.the_row Q R g h)
 cpu_send Q R g h s = view_send (inside.the_row Q R g h) _ _ _ _ (inside_send Q R g h s)

@@ -16,6 +16,6 @@ some_by_test false n j h = cc
 pub next_is_current : (d : Discipline) (t : Task) (queue : List Task) → None ≡ next_other d t queue → t.id ≡ next_of d t queue
 next_is_current d t queue h = none_by_test (eqb (next_of d t queue) t.id) (next_of d t queue) t.id refl h
 
--- another is next
+-- a task other than the current one is next
 pub next_is_other : (d : Discipline) (t : Task) (queue : List Task) (id : ℕ) → Some id ≡ next_other d t queue → id ≡ next_of d t queue
 next_is_other d t queue id h = some_by_test (eqb (next_of d t queue) t.id) (next_of d t queue) id h

@@ -1,11 +1,11 @@
--- Settled choices: a policy's answer where it is permitted, else the discipline's own choice.
+-- Settled choices: a policy's answer if it is permitted, else the discipline's own choice.
 use Rattle.std.specs.Prelude.{◌≡◌, ℕ, ◌==◌, Bool, List, [], Option, Some, None, unwrap_or}
 use Rattle.bq_disc.specs.Tasks.{Task, id_of}
 use Rattle.bq_disc.specs.Discipline.{Discipline}
 use Rattle.bq_disc.specs.Movable.{movable_to}
 use Rattle.bq_disc.specs.Pulls.{pull_of}
 use Rattle.bq_disc.specs.OneProcessor.{decided, own_preempt}
-use Rattle.bq_bpf.specs.declared.board.Call.{Call as Asked}
+use Rattle.bq_bpf.specs.declared.board.CounterCall.{CounterCall}
 use Rattle.bq_hooks.specs.declared.hook.Version.{Version}
 use Rattle.bq_hooks.specs.declared.hook.Version.TheVariants.{First, Second}
 use Rattle.bq_verify.specs.Accepted.{Accepted}
@@ -19,39 +19,39 @@ use Rattle.bq_hooks.specs.OwnPlace.{own_place}
 use Rattle.bq_hooks.specs.Permitted.{may_place, may_preempt, may_pull, task_numbered}
 use Rattle.bq_hooks.specs.Settled.{settled as chosen}
 use Rattle.bq_parts.specs.declared.carried.Carried.{Carried}
-use Rattle.bq_parts.specs.declared.decision.Decision.{Decision as Decided}
+use Rattle.bq_parts.specs.declared.decision.Decision.{Decision}
 use Rattle.bq_parts.specs.Processors.{Processor, size_of}
 
--- what the world runs under: the discipline, and how a policy answers. `Answers policy context maps now processor r0 left steps calls`: on
--- this context and these maps, at this reading and processor, the policy answers r0, leaves the maps so, takes so many steps and makes
--- these calls of counters
+-- what the world runs under: the discipline, and how a policy answers. `Answers policy context maps now processor r0 left
+-- steps calls` says: on this context and these maps, at this reading and processor, the policy answers r0, leaves the maps
+-- `left`, takes this many steps and makes these calls of counters
 pub record PolicySemantics : Type 1 where
   pub discipline : Discipline
-  pub Answers : Accepted → List ℕ → List (List ℕ) → ℕ → ℕ → ℕ → List (List ℕ) → ℕ → List Asked → Type 0
+  pub Answers : Accepted → List ℕ → List (List ℕ) → ℕ → ℕ → ℕ → List (List ℕ) → ℕ → List CounterCall → Type 0
 
--- policies answer as their programs run
-abbrev pub policies : Discipline → PolicySemantics
-policies d = record { discipline = d; Answers = Answers }
+-- the semantics by which policies answer as their programs run
+abbrev pub by_programs : Discipline → PolicySemantics
+by_programs d = record { discipline = d; Answers = Answers }
 
--- a choice, whose it was, how many steps it took, what was asked of the counters, and what is installed at the hook afterwards
-pub record Decision : Type 0 where
+-- a choice, who made it, how many steps it took, what was asked of the counters, and what is attached to the hook afterwards
+pub record SettledChoice : Type 0 where
   pub choice : ℕ
   pub by : By
   pub steps : ℕ
-  pub calls : List Asked
+  pub calls : List CounterCall
   pub attached : Attached
 
--- what a processor decided, where its choice is of that number, with these calls, and with what is installed at the hook afterwards
-abbrev pub decision_of : {T : Type 0} → (T → ℕ) → Decided T → List Asked → Attached → Decision
+-- a decision of a processor, with its choice as a number, its calls, and what is attached to the hook afterwards
+abbrev pub decision_of : {T : Type 0} → (T → ℕ) → Decision T → List CounterCall → Attached → SettledChoice
 decision_of number d calls attached = record { choice = number d.choice; by = d.by; steps = d.steps; calls = calls; attached = attached }
 
--- no policy was asked
-abbrev pub unasked : ℕ → Attached → Decision
+-- the own choice, with no policy asked
+abbrev pub unasked : ℕ → Attached → SettledChoice
 unasked own attached = record { choice = own; by = who.Discipline; steps = 0; calls = []; attached = attached }
 
 module _ (s : PolicySemantics) (policy : Accepted) where
-  -- a policy settles it: it answers r0. That is the choice if permitted; otherwise the discipline's own choice is
-  pub record PolicySettles (context : Version → List ℕ) (attached : Attached) (now processor : ℕ) (permitted : ℕ → Bool) (own : ℕ) (settled : Decision) : Type 0 where
+  -- a policy that is asked settles the choice: it answers r0. If r0 is permitted, it is the choice; else the own choice is
+  pub record PolicySettles (context : Version → List ℕ) (attached : Attached) (now processor : ℕ) (permitted : ℕ → Bool) (own : ℕ) (settled : SettledChoice) : Type 0 where
     pub r0 : ℕ
     pub maps : List (List ℕ)
     pub answers : s.Answers policy (context policy.version) attached.maps now processor r0 maps settled.steps settled.calls
@@ -63,12 +63,13 @@ module _ (s : PolicySemantics) (policy : Accepted) where
     -- it answers within its budget, with sixteen calls of counters at most
     pub within : IsWithin policy settled.steps settled.calls
 
--- the policy that is installed settles it; where none is, the own choice stands
-abbrev pub SettlesBy : PolicySemantics → Option Accepted → (Version → List ℕ) → Attached → ℕ → ℕ → (ℕ → Bool) → ℕ → Decision → Type 0
+-- if a policy is given, it settles the choice; else the choice is the discipline's own
+abbrev pub SettlesBy : PolicySemantics → Option Accepted → (Version → List ℕ) → Attached → ℕ → ℕ → (ℕ → Bool) → ℕ → SettledChoice → Type 0
 SettlesBy s None context attached now processor permitted own settled = settled ≡ unasked own attached
 SettlesBy s (Some policy) context attached now processor permitted own settled = PolicySettles s policy context attached now processor permitted own settled
 
-abbrev pub Settles : PolicySemantics → (Version → List ℕ) → Attached → ℕ → ℕ → (ℕ → Bool) → ℕ → Decision → Type 0
+-- the policy that is attached, if there is one, settles the choice
+abbrev pub Settles : PolicySemantics → (Version → List ℕ) → Attached → ℕ → ℕ → (ℕ → Bool) → ℕ → SettledChoice → Type 0
 Settles s context attached = SettlesBy s attached.policy context attached
 
 -- the context of a placement, by the version of the policy's image
@@ -76,15 +77,15 @@ abbrev pub place_bytes : PlaceFacts → Version → List ℕ
 place_bytes facts First = place_bytes_first facts
 place_bytes facts Second = place_bytes_second facts
 
--- a placement is settled, of the task in a hand, among this many processors
-abbrev pub SettlesPlace : PolicySemantics → ℕ → ℕ → Processor → Carried → Decision → Type 0
+-- the place of the task in the hand is settled, among this many processors
+abbrev pub SettlesPlace : PolicySemantics → ℕ → ℕ → Processor → Carried → SettledChoice → Type 0
 SettlesPlace s count processor p carried settled =
     let own = unwrap_or (own_place count carried.loads carried.task) 0 in
     let context = place_bytes (record { task = carried.task; waking = processor; processors = count; own = own; loads = carried.loads }) in
     Settles s context p.hooks.place p.running.last processor (may_place count carried.task) own settled
 
--- a preemption is settled: where nothing runs no policy is asked; else it is answered by 0 or 1
-abbrev pub SettlesPreempt : PolicySemantics → ℕ → Processor → Option Task → Decision → Type 0
+-- it is settled whether the current task gives way, as 0 or 1; if nothing runs, no policy is asked
+abbrev pub SettlesPreempt : PolicySemantics → ℕ → Processor → Option Task → SettledChoice → Type 0
 SettlesPreempt s processor p None settled = settled ≡ unasked 0 p.hooks.preempt
 SettlesPreempt s processor p (Some current) settled =
     let queue = p.running.queue in
@@ -96,21 +97,21 @@ SettlesPreempt s processor p (Some current) settled =
 abbrev pub own_pull : ℕ → Processor → Processor → Option ℕ
 own_pull processor p other = id_of (pull_of processor (size_of p) (size_of other) other.running.queue)
 
--- a pull is settled, from another processor
-abbrev pub SettlesPull : PolicySemantics → ℕ → ℕ → Processor → Processor → Decision → Type 0
+-- it is settled which task is pulled from another processor
+abbrev pub SettlesPull : PolicySemantics → ℕ → ℕ → Processor → Processor → SettledChoice → Type 0
 SettlesPull s processor from p other settled =
     let queue = other.running.queue in
     let own = own_pull processor p other in
     let context = pull_bytes (record { puller = processor; source = from; puller_size = size_of p; source_size = size_of other; movable = movable_to processor queue; own = own }) in
     Settles s (λ version. context) p.hooks.pull p.running.last processor (may_pull processor queue) (or_nobody own) settled
 
--- a task is pulled, or none: it is that of the number that was chosen
-abbrev pub SettlesPulled : PolicySemantics → ℕ → ℕ → Processor → Processor → Decided (Option ℕ) → List Asked → Attached → Type 0
+-- the pulled task, or none, is the one whose number was chosen
+abbrev pub SettlesPulled : PolicySemantics → ℕ → ℕ → Processor → Processor → Decision (Option ℕ) → List CounterCall → Attached → Type 0
 SettlesPulled s processor from p other d calls attached =
     (choice : ℕ) × SettlesPull s processor from p other (decision_of (λ task. choice) d calls attached) × (d.choice ≡ task_numbered choice)
 
--- Decide: who runs after a preemption was settled, and what is installed at the hook
-abbrev pub decided_by : PolicySemantics → Processor → Decision → Processor
+-- Decide: the processor after it was settled whether the current task gives way
+abbrev pub decided_by : PolicySemantics → Processor → SettledChoice → Processor
 decided_by s p settled =
     record p {
       running = decided s.discipline p.running p.running.current (settled.choice == 1);

@@ -13,15 +13,15 @@ pub record Processor : Type 0 where
   pub hand : Option Carried
   pub hooks : Attachments
 
--- nothing has come to it, and nothing is installed
+-- a processor to which nothing has come, with nothing installed
 abbrev pub opening : Processor
 opening = record { running = at_rest; hand = None; hooks = none_attached }
 
--- the task in a hand
+-- the task in a processor's hand, if any
 abbrev pub in_hand : Processor → List Task
 in_hand p = option_to_list (option_map (λ (c : Carried). c.task) p.hand)
 
--- all tasks that a processor has, in its hand too
+-- all tasks that a processor has, the one in its hand included
 abbrev pub held_by : Processor → List Task
 held_by p = present_at p.running ++ in_hand p
 
@@ -29,19 +29,19 @@ held_by p = present_at p.running ++ in_hand p
 abbrev pub size_of : Processor → ℕ
 size_of p = length (present_at p.running)
 
--- load: those of its inbox are counted too
+-- load: the size, and the tasks of the inbox
 abbrev pub load_of : Processor → List Task → ℕ
 load_of p inbox = size_of p + length inbox
 
--- how many of some tasks have an id
+-- how many of the tasks have this id
 abbrev pub count_of : ℕ → List Task → ℕ
 count_of id [] = 0
 count_of id (x ∷ xs) = (if has_id id x then 1 else 0) + count_of id xs
 
--- no id stands there twice
+-- no two of the tasks share an id
 abbrev pub HasEachOnce : List Task → Type 0
 HasEachOnce xs = (id : ℕ) → count_of id xs ≤ 1
 
--- each id is one of the lobby
+-- each id is one that the lobby has an entry for
 abbrev pub HasLobbyIds : List Task → Type 0
 HasLobbyIds xs = (id : ℕ) → TASKS ≤ id → count_of id xs ≡ 0

@@ -4,7 +4,7 @@ use Rattle.std.specs.Fmt.{decimal}
 use Rattle.bq_parts.specs.declared.refusal.Refusal.{Refusal}
 use Rattle.bq_parts.specs.declared.refusal.Refusal.TheVariants.{NoProcessor, NoTask, NotBlocked, TaskExists, EmptyMask, Nice, Slice, Idle, SameProcessor, InHand, NothingInHand, Older, NotDrawn, WrongHook, OutOfMemory}
 
--- its number and its name
+-- the number and the name of a refusal
 abbrev pub refusal_name : Refusal → List ℕ
 refusal_name NoProcessor = codes "C1 NoProcessor"
 refusal_name NoTask = codes "C2 NoTask"
@@ -22,10 +22,11 @@ refusal_name NotDrawn = codes "C13 NotDrawn"
 refusal_name WrongHook = codes "C14 WrongHook"
 refusal_name OutOfMemory = codes "C15 OutOfMemory"
 
--- the generation that it names, if it names one
+-- the generation that a refusal names, if it names one
 abbrev pub newest_text : Refusal → List ℕ
 newest_text (Older newest) = decimal newest
 newest_text refusal = []
 
+-- the text of a refusal
 abbrev pub refusal_text : Refusal → List ℕ
 refusal_text refusal = refusal_name refusal ++ newest_text refusal

@@ -1,6 +1,6 @@
--- The step that each event makes in the world: what it is replied, and what its share leaves of the parts that it touches.
+-- The step that each event makes in the world: its reply, and what its share does to the parts that it touches.
 use Rattle.std.specs.Prelude.{◌≡◌, ◌+◌, ◌⊎◌, true, List, [], ◌∷◌, ◌++◌, Some, None, is_some, Result, Ok, Err}
-use Rattle.bq_bpf.specs.declared.board.Call.{Call as Asked}
+use Rattle.bq_bpf.specs.declared.board.CounterCall.{CounterCall}
 use Rattle.bq_bpf.specs.Counters.{Through}
 use Rattle.bq_installed.specs.Answers.{fresh_maps}
 use Rattle.bq_parts.specs.declared.lobby_entry.LobbyEntry.{LobbyEntry}
@@ -13,22 +13,22 @@ use Rattle.bq_parts.specs.declared.refusal.Refusal.TheVariants as no
 use Rattle.bq_parts.specs.declared.wakes.Placement.{Placement}
 use Rattle.bq_parts.specs.Processors.{Processor}
 use Rattle.bq_parts.specs.World.{World, processor_at, inbox, count_in, with_processor, with_inbox, with_lobby, loads_of}
-use Rattle.bq_parts.specs.Counts.{counted}
+use Rattle.bq_parts.specs.Counts.{saturating_sum}
 use Rattle.bq_parts.specs.Refusals.{refusal, argument_refusal}
 use Rattle.bq_parts.specs.Moves.{admitted}
 use Rattle.bq_parts.specs.Choices.{PolicySemantics}
 use Rattle.bq_parts.specs.Shares.{Admits, Retires, Ticks, Drains, Blocks, BeginsWake, Places, Installs, Pulls}
 
 -- the reply to an event that is not refused, and the world that it leaves
-abbrev pub Performs : PolicySemantics → World → Event → List Asked → Reply → World → Type 0
--- the task stands in the lobby
+abbrev pub Performs : PolicySemantics → World → Event → List CounterCall → Reply → World → Type 0
+-- the task enters the lobby
 Performs s w (Admit id nice mask slice) calls r w' =
     (lobby : List LobbyEntry) × Admits id (admitted (count_in w) id nice mask slice) w.lobby (Ok r) lobby × (calls ≡ []) × (w' ≡ with_lobby w lobby)
--- it leaves the lobby for good
+-- the task leaves the lobby for good
 Performs s w (Retire id) calls r w' = (lobby : List LobbyEntry) × Retires id w.lobby (Ok r) lobby × (calls ≡ []) × (w' ≡ with_lobby w lobby)
--- the next number is drawn, and the greatest again and again
-Performs s w Draw calls r w' = let n = counted w.drawn 1 in (r ≡ Drawn n) × (calls ≡ []) × (w' ≡ record w { drawn = n })
--- a policy or none stands at the hook, with maps of its own
+-- the next number is drawn; after the greatest, that one again and again
+Performs s w Draw calls r w' = let n = saturating_sum w.drawn 1 in (r ≡ Drawn n) × (calls ≡ []) × (w' ≡ record w { drawn = n })
+-- a policy or none replaces what is at the hook, with maps of its own
 Performs s w (Install processor h g policy) calls r w' =
     (q : Processor) × Installs h w.drawn (processor_at w processor) (record { policy = policy; generation = g; maps = fresh_maps policy }) (Ok r) q
     × (calls ≡ []) × (w' ≡ with_processor w processor q)
@@ -48,35 +48,35 @@ Performs s w (Tick processor now) calls r w' = (q : Processor) × Ticks s proces
 Performs s w (Block processor now) calls r w' =
     (q : Processor) × (lobby : List LobbyEntry) × Blocks s.discipline processor now (processor_at w processor) w.lobby (Ok r) q lobby
     × (calls ≡ []) × (w' ≡ with_lobby (with_processor w processor q) lobby)
--- a task of the other processor's queue enters this one's; where nothing runs, the choice does
+-- a task of the other processor's queue, or none, enters this one's; if nothing ran, the queue's choice runs
 Performs s w (Pull processor from now) calls r w' =
     (q : Processor) × (other : Processor) × Pulls s processor from now (processor_at w processor) (processor_at w from) calls r q other
     × (w' ≡ with_processor (with_processor w processor q) from other)
 
--- the events that ask for memory: a task is admitted, or a policy installed
+-- the events that take memory: a task is admitted, or a policy installed
 abbrev pub TakesMemory : Event → Type 0
 TakesMemory (Admit id nice mask slice) = Unit {0}
 TakesMemory (Install processor h g policy) = is_some policy ≡ true
 TakesMemory e = ⊥
 
--- What an event does. A refusal leaves the world as it was, and so does lack of memory, which only Admit and Install may
--- meet: after a refusal of their arguments, and before one of the world's.
-abbrev pub WorldStep : PolicySemantics → World → Event → List Asked → Result Reply Refusal → World → Type 0
+-- What an event does. A refused event does not change the world, and neither does an event that runs out of memory. Only
+-- Admit and Install may run out of memory. A reason in their arguments comes before that, a reason in the world after it.
+abbrev pub WorldStep : PolicySemantics → World → Event → List CounterCall → Result Reply Refusal → World → Type 0
 WorldStep s w e calls (Ok r) w' = (refusal w e ≡ None) × Performs s w e calls r w'
 WorldStep s w e calls (Err r) w' =
     (calls ≡ []) × (w' ≡ w) × ((refusal w e ≡ Some r) ⊎ (TakesMemory e × (argument_refusal (count_in w) e ≡ None) × (r ≡ no.OutOfMemory)))
 
--- the answers to some events are those of steps one after another
-abbrev pub WorldRun : PolicySemantics → World → List Event → List (List Asked) → List (Result Reply Refusal) → World → Type 0
+-- the answers to some events are those of steps, one after another
+abbrev pub WorldRun : PolicySemantics → World → List Event → List (List CounterCall) → List (Result Reply Refusal) → World → Type 0
 WorldRun s w [] [] [] w' = w' ≡ w
 WorldRun s w (e ∷ es) (calls ∷ more) (a ∷ answers) w' = (mid : World) × WorldStep s w e calls a mid × WorldRun s mid es more answers w'
 WorldRun s w es more answers w' = ⊥
 
--- what was asked of the counters in each of some events leads from the one board to the other, one event after another
-abbrev pub ThroughAll : {B : Type 0} → (B → Asked → B → Type 0) → B → List (List Asked) → B → Type 0
+-- the calls of counters of some events lead from the one board to the other, one event after another
+abbrev pub ThroughAll : {B : Type 0} → (B → CounterCall → B → Type 0) → B → List (List CounterCall) → B → Type 0
 ThroughAll leads old [] new = new ≡ old
 ThroughAll {B} leads old (calls ∷ more) new = (mid : B) × Through leads old calls mid × ThroughAll leads mid more new
 
--- the events lead from the one world to the other with these answers, and from the one board to the other
-abbrev pub RunsOn : {B : Type 0} → PolicySemantics → (B → Asked → B → Type 0) → World → B → List Event → List (Result Reply Refusal) → World → B → Type 0
-RunsOn s leads w board es answers w' board' = (calls : List (List Asked)) × WorldRun s w es calls answers w' × ThroughAll leads board calls board'
+-- with these answers the events lead from the one world to the other, and from the one board to the other
+abbrev pub RunsOn : {B : Type 0} → PolicySemantics → (B → CounterCall → B → Type 0) → World → B → List Event → List (Result Reply Refusal) → World → B → Type 0
+RunsOn s leads w board es answers w' board' = (calls : List (List CounterCall)) × WorldRun s w es calls answers w' × ThroughAll leads board calls board'

@@ -1,4 +1,4 @@
-//! The choices of a processor: its policies' where they are permitted, and else the discipline's own.
+//! The choices of a processor: its policies' if they are permitted, else the discipline's own.
 ghost use Rattle.std.specs.Prelude.{◌≡◌, ◌≤◌, ◌<◌, ◌^◌, [], length, Some, IfSome};
 ghost use Rattle.std.specs.Option.{option_map};
 ghost use Rattle.bq_bpf.specs.Counters.{Through};
@@ -10,7 +10,7 @@ ghost use Rattle.bq_hooks.specs.OwnPlace.{HasPlace};
 ghost use Rattle.bq_disc.specs.Queues.{HasDistinctIds};
 ghost use Rattle.bq_disc.specs.OneProcessor.{present_at};
 ghost use Rattle.bq_parts.specs.Processors.{HasEachOnce, HasLobbyIds, size_of};
-ghost use Rattle.bq_parts.specs.Choices.{policies, place_bytes, SettlesPlace, SettlesPreempt, SettlesPulled, decided_by, decision_of};
+ghost use Rattle.bq_parts.specs.Choices.{by_programs, place_bytes, SettlesPlace, SettlesPreempt, SettlesPulled, decided_by, decision_of};
 
 use crate::{Carried, Cpu, Decision};
 use bq_bpf::Board;
@@ -24,7 +24,7 @@ use bq_installed::Scratch;
 use bq_interp::{Done, Env};
 
 impl<T> Decision<T> {
-    /// The decision that is a choice of the discipline, with no policy asked.
+    /// The discipline's own choice as a decision, with no policy asked.
     #[inline(always)]
     pub(crate) fn unasked(choice: T) -> Decision<T>
         ensures { result ≡ record { choice = choice; by = By.Discipline; steps = 0 } }
@@ -36,7 +36,7 @@ impl<T> Decision<T> {
         }
     }
 
-    /// The decision that is this choice, after a policy took this many steps.
+    /// A choice as a decision, after a policy took this many steps.
     #[inline(always)]
     pub(crate) fn after(chosen: Choice<T>, steps: u32) -> Decision<T>
         ensures { result ≡ record { choice = chosen.value; by = chosen.by; steps = steps } }
@@ -50,7 +50,7 @@ impl<T> Decision<T> {
 }
 
 impl<Q: RunQueue> Cpu<Q> {
-    /// What policies may ask at this processor.
+    /// What a policy may ask at this processor: the last reading of its clock, and its number.
     fn env(&self, processor: u8) -> Env
         ensures { result ≡ record { now = self.now.running.last; processor = processor } }
     {
@@ -60,7 +60,7 @@ impl<Q: RunQueue> Cpu<Q> {
         }
     }
 
-    /// The processor, of the first `count`, where the task in a hand is placed.
+    /// Chooses the processor, of the first `count`, where the task in the hand is placed.
     #[inline(never)]
     pub fn choose_place<B: Board>(
         &mut self,
@@ -73,7 +73,7 @@ impl<Q: RunQueue> Cpu<Q> {
         requires few { count ≤ PROCESSORS }
         requires usable { HasPlace count carried.now.task }
         requires unasked { scratch.old ≡ [] }
-        ensures settled { SettlesPlace (policies Q.R.discipline) count processor self.old carried.now (decision_of (λ number. number) result scratch.new self.new.hooks.place) }
+        ensures settled { SettlesPlace (by_programs Q.R.discipline) count processor self.old carried.now (decision_of (λ number. number) result scratch.new self.new.hooks.place) }
         ensures rest { self.new ≡ record self.old { hooks = record self.old.hooks { place = self.new.hooks.place } } }
         ensures board { Through B.leads board.old scratch.new board.new }
     {
@@ -93,7 +93,7 @@ impl<Q: RunQueue> Cpu<Q> {
         Decision::after(settle_place(Some(done.r0), count, task, own), done.steps)
     }
 
-    /// What the place policy, whose image has that version, answers to these facts.
+    /// Asks the place policy, whose image has this version, about these facts.
     fn ask_place<B: Board>(
         &mut self,
         processor: u8,
@@ -124,7 +124,7 @@ impl<Q: RunQueue> Cpu<Q> {
         }
     }
 
-    /// Whether the task that runs gives way. Where none runs no policy is asked.
+    /// Decides whether the running task gives way. If none runs, no policy is asked.
     fn choose_preempt<B: Board>(
         &mut self,
         processor: u8,
@@ -134,7 +134,7 @@ impl<Q: RunQueue> Cpu<Q> {
         requires distinct { HasDistinctIds self.old.running.queue }
         requires few { length self.old.running.queue < 2 ^ 32 }
         requires unasked { scratch.old ≡ [] }
-        ensures settled { SettlesPreempt (policies Q.R.discipline) processor self.old self.old.running.current (decision_of as_number result scratch.new self.new.hooks.preempt) }
+        ensures settled { SettlesPreempt (by_programs Q.R.discipline) processor self.old self.old.running.current (decision_of as_number result scratch.new self.new.hooks.preempt) }
         ensures rest { self.new ≡ record self.old { hooks = record self.old.hooks { preempt = self.new.hooks.preempt } } }
         ensures board { Through B.leads board.old scratch.new board.new }
     {
@@ -158,7 +158,7 @@ impl<Q: RunQueue> Cpu<Q> {
         Decision::after(settle_preempt(Some(done.r0), own), done.steps)
     }
 
-    /// It is decided who runs. Where nothing runs the queue's choice does, unasked.
+    /// Decides who runs. If nothing runs, the queue's choice does, and no policy is asked.
     pub fn decide<B: Board>(
         &mut self,
         processor: u8,
@@ -168,8 +168,8 @@ impl<Q: RunQueue> Cpu<Q> {
         requires once { HasEachOnce (present_at self.old.running) }
         requires ids { HasLobbyIds (present_at self.old.running) }
         requires unasked { scratch.old ≡ [] }
-        ensures settled { SettlesPreempt (policies Q.R.discipline) processor self.old self.old.running.current (decision_of as_number result scratch.new self.new.hooks.preempt) }
-        ensures decided { self.new ≡ decided_by (policies Q.R.discipline) self.old (decision_of as_number result scratch.new self.new.hooks.preempt) }
+        ensures settled { SettlesPreempt (by_programs Q.R.discipline) processor self.old self.old.running.current (decision_of as_number result scratch.new self.new.hooks.preempt) }
+        ensures decided { self.new ≡ decided_by (by_programs Q.R.discipline) self.old (decision_of as_number result scratch.new self.new.hooks.preempt) }
         ensures board { Through B.leads board.old scratch.new board.new }
     {
         let preempted = self.choose_preempt(processor, scratch, board);
@@ -181,7 +181,7 @@ impl<Q: RunQueue> Cpu<Q> {
         preempted
     }
 
-    /// The task that is pulled from another processor, if any. A policy is shown the sizes as they are now.
+    /// Decides which task is pulled from another processor, if any. A policy is shown the sizes as they are now.
     pub(crate) fn choose_pull<B: Board>(
         &mut self,
         processor: u8,
@@ -195,7 +195,7 @@ impl<Q: RunQueue> Cpu<Q> {
         requires few_from { size_of source.now ≤ TASKS }
         requires distinct { HasDistinctIds source.now.running.queue }
         requires unasked { scratch.old ≡ [] }
-        ensures settled { SettlesPulled (policies Q.R.discipline) processor from self.old source.now result scratch.new self.new.hooks.pull }
+        ensures settled { SettlesPulled (by_programs Q.R.discipline) processor from self.old source.now result scratch.new self.new.hooks.pull }
         ensures rest { self.new ≡ record self.old { hooks = record self.old.hooks { pull = self.new.hooks.pull } } }
         ensures board { Through B.leads board.old scratch.new board.new }
     {

@@ -3,7 +3,7 @@
 use crate::Unlinked;
 use bq_hooks::Loads;
 
-/// A woken task, with the loads of the moment when its wake began.
+/// A woken task, with the loads from when its wake began.
 #[derive(Drop)]
 pub struct Carried {
     pub task: Unlinked,

@@ -1,4 +1,4 @@
-//! One processor: its queue, the task that runs, the clock, the task in its hand, and what is installed at its hooks.
+//! One processor: its queue, the running task, the clock, the task in its hand, and what is installed at its hooks.
 ghost use Rattle.std.specs.Prelude.{◌≡◌, ◌<◌, ◌≤◌, ◌^◌, ◌+◌, ℕ, [], Option, Some, None, IfSome, find, is_some};
 ghost use Rattle.std.specs.Option.{option_map};
 ghost use Rattle.bq_disc.specs.Tasks.{id_of, with_id};
@@ -23,7 +23,8 @@ use bq_installed::{Hooks, Installed};
 use bq_interp::Done;
 use std::marker::Model;
 
-/// A processor. Each of its calls is its share of an event's step.
+/// A processor. A call whose contract has a clause `share` is the processor's share of an event. The other calls make a processor,
+/// only read one, or are pieces of such calls.
 #[derive(Drop)]
 pub struct Cpu<Q: RunQueue> {
     pub(crate) queue: Q,
@@ -44,7 +45,7 @@ impl<Q: RunQueue> Model for Cpu<Q> {
     ghost invariant = { λ c. c.last < 2 ^ 48 };
 }
 
-/// The node of the task that runs.
+/// The node of the running task.
 fn node_of(current: &Option<Unlinked>) -> Option<&Node>
     ensures { option_map (λ n. task_of n.now) result ≡ current.now }
 {
@@ -55,15 +56,14 @@ fn node_of(current: &Option<Unlinked>) -> Option<&Node>
 }
 
 impl<Q: RunQueue> Cpu<Q> {
-    /// A processor to which nothing has come, and at whose hooks nothing stands.
+    /// A processor to which nothing has come, with nothing installed at its hooks.
     pub fn new() -> Cpu<Q>
         ensures { result ≡ opening }
     {
         Cpu::over(Q::empty())
     }
 
-    /// A processor to which nothing has come, and at whose hooks nothing stands, over a queue that was made before and that nothing
-    /// has come to.
+    /// A new processor over an empty queue that the caller hands in. Nothing is installed at its hooks.
     pub fn over(queue: Q) -> Cpu<Q>
         requires empty { Q.members queue ≡ [] }
         requires mark { Q.kept_mark queue ≡ 2 ^ 32 }
@@ -78,14 +78,14 @@ impl<Q: RunQueue> Cpu<Q> {
         }
     }
 
-    /// The task that runs.
+    /// The running task.
     pub fn current(&self) -> Option<&Node>
         ensures { option_map (λ n. task_of n.now) result ≡ self.now.running.current }
     {
         node_of(&self.current)
     }
 
-    /// The id of the task that runs.
+    /// The id of the running task.
     pub fn running_id(&self) -> Option<u16>
         ensures { result ≡ id_of self.now.running.current }
     {
@@ -95,14 +95,14 @@ impl<Q: RunQueue> Cpu<Q> {
         }
     }
 
-    /// The mark that was computed last, in virtual nanoseconds.
+    /// The mark as it was last computed, in virtual nanoseconds.
     pub fn kept(&self) -> u64
         ensures { result ≡ self.now.running.kept }
     {
         self.queue.kept()
     }
 
-    /// The queue's task of least (v, id) above the pair that is given. If none is given, the task of least (v, id).
+    /// The queue's task of least (v, id) above `last`; its task of least (v, id) of all if there is no `last`.
     pub fn after(&self, last: Option<(u64, u16)>) -> Option<&Node>
         ensures task { option_map (λ n. task_of n.now) result ≡ find (follows last) self.now.running.queue }
         ensures rising { IsRising self.now.running.queue }
@@ -111,22 +111,22 @@ impl<Q: RunQueue> Cpu<Q> {
         self.queue.after(last)
     }
 
-    /// The generation that stands at a hook, 0 where nothing was installed.
+    /// The generation of what is installed at a hook; 0 if nothing has been installed.
     pub fn generation(&self, hook: Hook) -> u64
         ensures { result ≡ (at_hook hook self.now.hooks).generation }
     {
         self.hooks.generation(hook)
     }
 
-    /// What the policy at a hook answered when it was asked last, and in how many steps: some run of it gives that. `None` if it was
-    /// not asked since it was installed.
+    /// The last answer of the policy at a hook, with its steps: some run of the policy gives it. `None` if it has not been
+    /// asked since it was installed.
     pub fn answered(&self, hook: Hook) -> Option<Done>
         ensures { WasAnswered (at_hook hook self.now.hooks).policy result }
     {
         self.hooks.answered(hook)
     }
 
-    /// How many tasks run or wait in the queue.
+    /// Answers how many tasks run or wait in the queue.
     pub fn size(&self) -> usize
         requires { size_of self.now < 2 ^ 32 }
         ensures { result ≡ size_of self.now }
@@ -137,7 +137,7 @@ impl<Q: RunQueue> Cpu<Q> {
         }
     }
 
-    /// How many tasks run or wait here, those of the inbox too.
+    /// Answers how many tasks run or wait here, those of the inbox included.
     pub fn load(&self, inbox: &Inbox) -> u32
         requires few { load_of self.now inbox.now < 2 ^ 32 }
         ensures { result ≡ load_of self.now inbox.now }
@@ -145,7 +145,7 @@ impl<Q: RunQueue> Cpu<Q> {
         self.size() as u32 + inbox.len()
     }
 
-    /// The current task has run up to now.
+    /// Charges the current task for the time up to `now`, and computes the mark again.
     pub fn charge(&mut self, now: u64)
         ensures { self.new ≡ record self.old { running = charge Q.R.discipline self.old.running now } }
     {
@@ -159,14 +159,14 @@ impl<Q: RunQueue> Cpu<Q> {
         self.remark();
     }
 
-    /// The mark is computed again.
+    /// Computes the mark again.
     pub fn remark(&mut self)
         ensures { self.new ≡ record self.old { running = marked Q.R.discipline self.old.running } }
     {
         self.queue.mark(node_of(&self.current));
     }
 
-    /// The queue's choice runs.
+    /// Starts to run the queue's choice.
     pub fn start(&mut self)
         requires { self.old.running.current ≡ None }
         ensures { self.new ≡ record self.old { running = start Q.R.discipline self.old.running } }
@@ -178,7 +178,7 @@ impl<Q: RunQueue> Cpu<Q> {
         }
     }
 
-    /// If nothing runs, the queue's choice starts to run.
+    /// Starts to run the queue's choice if nothing runs.
     pub fn start_if_idle(&mut self)
         ensures { self.new ≡ record self.old { running = started_if_idle Q.R.discipline self.old.running self.old.running.current } }
     {
@@ -187,7 +187,7 @@ impl<Q: RunQueue> Cpu<Q> {
         }
     }
 
-    /// The current task and the next change places.
+    /// Exchanges the current task with the next one, unless they are one and the same.
     pub fn switch(&mut self)
         requires once { HasEachOnce (present_at self.old.running) }
         ensures { self.new ≡ record self.old { running = switched Q.R.discipline self.old.running self.old.running.current } }
@@ -206,7 +206,7 @@ impl<Q: RunQueue> Cpu<Q> {
         }
     }
 
-    /// The tasks of a chain enter the queue in their order, woken.
+    /// Lets the tasks of a chain enter the queue in their order, as woken tasks.
     pub fn enter_all(&mut self, tasks: Link)
         requires straight { IsStraightBehind tasks }
         requires apart { (id : ℕ) → count_of id self.old.running.queue + count_of id (chain_behind tasks) ≤ 1 }
@@ -215,7 +215,7 @@ impl<Q: RunQueue> Cpu<Q> {
         enter_chain(&mut self.queue, tasks);
     }
 
-    /// The current task leaves the processor, whose number is given, to sleep.
+    /// The current task goes to sleep and leaves the processor, whose number is `processor`.
     pub fn leave(&mut self, processor: u8) -> Option<Unlinked>
         ensures task { result ≡ option_map (λ t. record (left_at self.old.running.kept t) { prev = Some processor }) self.old.running.current }
         ensures left { self.new ≡ record self.old { running = record self.old.running { current = None } } }
@@ -229,7 +229,7 @@ impl<Q: RunQueue> Cpu<Q> {
         Some(Unlinked::new(node))
     }
 
-    /// The task that the discipline would move to a processor of that size.
+    /// The task that the discipline would move to a processor with `size` tasks.
     pub fn own_pull(&self, processor: u8, size: usize) -> Option<u16>
         requires inside { processor < PROCESSORS }
         requires few { size_of self.now < 2 ^ 32 }
@@ -238,7 +238,7 @@ impl<Q: RunQueue> Cpu<Q> {
         self.queue.own_pull(processor, size, self.size())
     }
 
-    /// The task of that id, if any, leaves the queue for another processor's.
+    /// The task with this id, if any, leaves the queue for another processor's.
     pub fn give(&mut self, task: Option<u16>) -> Option<Unlinked>
         ensures task { result ≡ taken_from self.old.running task }
         ensures rest { self.new ≡ record self.old { running = without_task self.old.running task } }
@@ -253,7 +253,7 @@ impl<Q: RunQueue> Cpu<Q> {
         Some(Unlinked::new(node))
     }
 
-    /// A task of another processor's queue, if any, enters.
+    /// Lets a task from another processor's queue, if there is one, enter the queue.
     pub fn accept(&mut self, task: Option<Unlinked>)
         requires fresh { IfSome task (λ t. with_id t.id self.old.running.queue ≡ None) }
         ensures { self.new ≡ record self.old { running = with_pulled Q.R.discipline self.old.running task } }
@@ -265,14 +265,14 @@ impl<Q: RunQueue> Cpu<Q> {
         }
     }
 
-    /// Whether there is a task in the hand.
+    /// Whether the hand has a task.
     pub fn has_in_hand(&self) -> bool
         ensures { result ≡ is_some self.now.hand }
     {
         self.hand.is_some()
     }
 
-    /// A woken task comes into the hand.
+    /// Takes a woken task into the hand.
     pub fn begin(&mut self, carried: Carried)
         requires { self.old.hand ≡ None }
         ensures { self.new ≡ record self.old { hand = Some carried } }
@@ -280,7 +280,7 @@ impl<Q: RunQueue> Cpu<Q> {
         self.hand = Some(carried);
     }
 
-    /// The hand gives its task.
+    /// Gives away the task in the hand.
     pub fn release(&mut self) -> Option<Carried>
         ensures carried { result ≡ self.old.hand }
         ensures left { self.new ≡ record self.old { hand = None } }
@@ -288,7 +288,7 @@ impl<Q: RunQueue> Cpu<Q> {
         self.hand.take()
     }
 
-    /// Something else stands at a hook from now on.
+    /// Replaces what is installed at a hook.
     pub fn install(&mut self, hook: Hook, installed: Installed)
         requires { IsFor hook installed.policy }
         ensures { self.new ≡ record self.old { hooks = with_attached hook self.old.hooks installed } }
@@ -297,7 +297,7 @@ impl<Q: RunQueue> Cpu<Q> {
     }
 }
 
-/// The tasks of a chain enter a queue one after another.
+/// Lets the tasks of a chain enter a queue, one after another.
 fn enter_chain<Q: RunQueue>(queue: &mut Q, tasks: Link)
     requires straight { IsStraightBehind tasks }
     requires apart { (id : ℕ) → count_of id (Q.members queue.old) + count_of id (chain_behind tasks) ≤ 1 }

@@ -1,9 +1,9 @@
-//! What comes of a choice.
+//! A choice as it was decided.
 
 use bq_hooks::By;
 use std::alloc::AllocError;
 
-/// What was chosen, by whom, and in how many steps of a policy; 0 where none was asked.
+/// What was chosen, by whom, and in how many steps of a policy; 0 steps if none was asked.
 #[derive(Copy)]
 pub struct Decision<T> {
     pub choice: T,

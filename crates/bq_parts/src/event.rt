@@ -9,8 +9,7 @@ use bq_installed::Policy;
 /// nanoseconds.
 #[derive(Drop)]
 pub enum Event {
-    /// A new task stands in the lobby. Bits of the mask from the number of processors on are ignored; the slice is in
-    /// nanoseconds.
+    /// A new task enters the lobby. Mask bits from the number of processors on are ignored. The slice is in nanoseconds.
     Admit {
         task: u16,
         nice: i8,
@@ -23,14 +22,14 @@ pub enum Event {
     },
     /// The next generation's number is drawn.
     Draw,
-    /// A policy, or none, stands at a hook of a processor from now on, as this generation.
+    /// A policy, or none, replaces what is installed at a hook of a processor, as this generation.
     Install {
         processor: u8,
         hook: Hook,
         generation: u64,
         policy: Option<Policy>,
     },
-    /// A sleeping task comes into the hand of a processor, with the loads of that moment.
+    /// A sleeping task goes into the hand of a processor, with the loads of that moment.
     BeginWake {
         processor: u8,
         task: u16,
@@ -64,7 +63,7 @@ pub enum Event {
 }
 
 impl Event {
-    /// A copy of the event, with this policy or none in place of the one that it brings, if it brings one.
+    /// A copy of the event; that of an `Install` has `policy` in place of its own.
     #[inline(always)]
     pub fn with_policy(&self, policy: Option<Policy>) -> Event
         ensures { result ≡ with_policy self.now policy }
@@ -85,7 +84,7 @@ impl Event {
         }
     }
 
-    /// A copy of the event, with no policy.
+    /// A copy of the event that brings no policy.
     #[inline(always)]
     fn with_none(&self) -> Event
         ensures { result ≡ with_policy self.now None }

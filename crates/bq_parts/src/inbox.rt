@@ -6,8 +6,8 @@ use crate::Unlinked;
 use bq_disc::node::Link;
 use std::marker::Model;
 
-/// The tasks placed on a processor. They are linked by their own nodes, the last one first, so that a task is added at
-/// once and without memory; contracts see them in the order in which they came.
+/// The tasks placed on a processor. They are linked by their own nodes, the last one first, so adding a task is quick and
+/// takes no memory. Contracts see the tasks in the order in which they came.
 #[derive(Drop)]
 pub struct Inbox {
     last: Link,
@@ -31,14 +31,14 @@ impl Model for Inbox {
 }
 
 impl Inbox {
-    /// No task.
+    /// An inbox without tasks.
     pub fn new() -> Inbox
         ensures { result ≡ [] }
     {
         Inbox { last: None, len: 0 }
     }
 
-    /// How many tasks there are.
+    /// Answers how many tasks are in the inbox.
     pub fn len(&self) -> u32
         ensures { result ≡ length self.now }
     {
@@ -67,7 +67,7 @@ impl Inbox {
     }
 }
 
-/// A chain turned round.
+/// Reverses a chain.
 fn reversed(link: Link) -> Link
     requires { IsStraightBehind link }
     ensures tasks { chain_behind result ≡ reverse (chain_behind link) }

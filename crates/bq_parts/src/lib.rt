@@ -1,8 +1,9 @@
-//! The parts of the world: a processor, an inbox, the lobby of the tasks that sleep, and what each event does to the parts
+//! The parts of the world: a processor, an inbox, the lobby of the sleeping tasks, and what each event does to the parts
 //! that it touches.
-//! Promises that each call on the parts is its event's share of the world's step, with each choice the policy's where
-//! permitted and else the discipline's own. So a caller that owns only those parts, as a world or a lock does, makes the step.
-//! Stands on the queues of bq_disc only by their contract, on bq_hooks for what is chosen, and on bq_installed for answers.
+//! Promises that each share call does what its event does to the parts that it is given. Each choice in it is the policy's if
+//! that is permitted, and otherwise the discipline's own. So a caller that has only those parts, as a world or a lock does,
+//! makes the step.
+//! Uses the queues of bq_disc only by their contract, bq_hooks for what is chosen, and bq_installed for answers.
 #![tactic(auto)]
 
 mod asking;

@@ -1,14 +1,14 @@
-//! Where tasks stand that sleep.
+//! The place of the sleeping tasks.
 ghost use Rattle.std.specs.Prelude.{◌≡◌, ◌<◌, false, length, IfOk, replicate, slice_index_or, slice_set};
 ghost use Rattle.bq_parts.specs.Refusals.{is_absent, is_away};
-ghost use Rattle.bq_parts.specs.declared.lobby_entry.LobbyEntry.TheVariants.{Absent, Blocked, Away};
+ghost use Rattle.bq_parts.specs.declared.lobby_entry.LobbyEntry.TheVariants.{Absent, Sleeping, Away};
 
 use crate::{LobbyEntry, Unlinked};
 use bq_disc::limits::TASKS;
 use std::alloc::{AllocError, Global};
 use std::marker::Model;
 
-/// The entry of each id. So a task is found by its id at once.
+/// An entry for each id, so that a task is found by its id at once.
 #[derive(Drop)]
 pub struct Lobby {
     entries: Vec<LobbyEntry>,
@@ -38,7 +38,7 @@ impl Lobby {
         Ok(Lobby { entries })
     }
 
-    /// Whether an id is not admitted.
+    /// Whether this id is not admitted.
     pub fn is_absent(&self, id: u16) -> bool
         requires { id < TASKS }
         ensures { result ≡ is_absent (slice_index_or self.now id Absent) }
@@ -46,7 +46,7 @@ impl Lobby {
         matches!(self.entries[usize::from(id)], LobbyEntry::Absent)
     }
 
-    /// Whether the task of an id is with a processor.
+    /// Whether the task with this id is with a processor.
     pub fn is_away(&self, id: u16) -> bool
         requires { id < TASKS }
         ensures { result ≡ is_away (slice_index_or self.now id Absent) }
@@ -54,15 +54,15 @@ impl Lobby {
         matches!(self.entries[usize::from(id)], LobbyEntry::Away)
     }
 
-    /// A task comes into the lobby.
+    /// Puts a task into the lobby.
     pub fn enter(&mut self, id: u16, task: Unlinked)
         requires { id < TASKS }
-        ensures { self.new ≡ slice_set self.old id (Blocked task) }
+        ensures { self.new ≡ slice_set self.old id (Sleeping task) }
     {
-        self.entries[usize::from(id)] = LobbyEntry::Blocked(task);
+        self.entries[usize::from(id)] = LobbyEntry::Sleeping(task);
     }
 
-    /// An entry is given up for good.
+    /// Gives up an entry for good.
     pub fn clear(&mut self, id: u16)
         requires { id < TASKS }
         ensures { self.new ≡ slice_set self.old id Absent }
@@ -70,16 +70,16 @@ impl Lobby {
         self.entries[usize::from(id)] = LobbyEntry::Absent;
     }
 
-    /// The sleeping task of an entry goes to a processor.
-    pub fn send(&mut self, id: u16) -> Unlinked
+    /// Gives the sleeping task of an entry to a processor.
+    pub fn take_sleeper(&mut self, id: u16) -> Unlinked
         requires below { id < TASKS }
         requires there { is_absent (slice_index_or self.old id Absent) ≡ false }
         requires here { is_away (slice_index_or self.old id Absent) ≡ false }
-        ensures task { slice_index_or self.old id Absent ≡ Blocked result }
+        ensures task { slice_index_or self.old id Absent ≡ Sleeping result }
         ensures lobby { self.new ≡ slice_set self.old id Away }
     {
         match std::mem::replace(&mut self.entries[usize::from(id)], LobbyEntry::Away) {
-            LobbyEntry::Blocked(task) => task,
+            LobbyEntry::Sleeping(task) => task,
             LobbyEntry::Absent | LobbyEntry::Away => unreachable!(),
         }
     }

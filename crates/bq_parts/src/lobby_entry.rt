@@ -1,11 +1,11 @@
-//! Where a task may stand between two wakes.
+//! What the lobby knows of a task.
 
 use crate::Unlinked;
 
-/// What the lobby knows of an id: no such task, a sleeping task, or one that some processor has.
+/// What the lobby knows of an id: no task has it, its task sleeps, or its task is with some processor.
 #[derive(Drop)]
 pub enum LobbyEntry {
     Absent,
-    Blocked(Unlinked),
+    Sleeping(Unlinked),
     Away,
 }

@@ -4,7 +4,7 @@ ghost use Rattle.bq_disc.specs.Tasks.{id_of, with_id};
 ghost use Rattle.bq_disc.specs.OneProcessor.{present_at};
 ghost use Rattle.bq_bpf.specs.Counters.{Through};
 ghost use Rattle.bq_parts.specs.Processors.{HasEachOnce, HasLobbyIds};
-ghost use Rattle.bq_parts.specs.Choices.{policies};
+ghost use Rattle.bq_parts.specs.Choices.{by_programs};
 ghost use Rattle.bq_parts.specs.Moves.{after_pull, taken_from, without_task};
 ghost use Rattle.bq_parts.specs.Shares.{Pulls};
 
@@ -15,8 +15,9 @@ use bq_disc::limits::PROCESSORS;
 use bq_installed::Scratch;
 
 impl<Q: RunQueue> Cpu<Q> {
-    /// The processor takes a task from the queue of another: the one that its policy names, where that is permitted, and else
-    /// that of the discipline, which takes one where the other has at least two tasks more. Each is called by its number.
+    /// The processor takes a task from the queue of another. It is the task that its policy names, if that is permitted;
+    /// otherwise it is that of the discipline, which takes one only if the other has at least two more tasks. `processor` is
+    /// the number of `self`, and `from` that of `source`.
     pub fn pull<B: Board>(
         &mut self,
         source: &mut Cpu<Q>,
@@ -30,7 +31,7 @@ impl<Q: RunQueue> Cpu<Q> {
         requires once { HasEachOnce (present_at self.old.running ++ present_at source.old.running) }
         requires ids { HasLobbyIds (present_at self.old.running ++ present_at source.old.running) }
         requires unasked { scratch.old ≡ [] }
-        ensures share { Pulls (policies Q.R.discipline) processor from now self.old source.old scratch.new result self.new source.new }
+        ensures share { Pulls (by_programs Q.R.discipline) processor from now self.old source.old scratch.new result self.new source.new }
         ensures board { Through B.leads board.old scratch.new board.new }
     {
         self.charge(now);
@@ -45,8 +46,8 @@ impl<Q: RunQueue> Cpu<Q> {
         }
     }
 
-    /// The task of this id, if any, comes here from the other's queue. If nothing runs here then, the queue's choice starts to run.
-    /// Answers who runs here.
+    /// The task with this id, if any, comes here from the other's queue. If nothing runs here then, the queue's choice
+    /// starts to run. Answers who runs here.
     fn take_task(&mut self, source: &mut Cpu<Q>, task: Option<u16>) -> Option<u16>
         requires fresh { IfSome (taken_from source.old.running task) (λ t. with_id t.id self.old.running.queue ≡ None) }
         ensures run { result ≡ id_of self.new.running.current }

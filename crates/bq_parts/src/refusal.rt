@@ -5,7 +5,7 @@ ghost use Rattle.bq_parts.specs.RefusalTexts.{refusal_name};
 use std::error::Error;
 use std::fmt;
 
-/// Why an event was refused. A refused event leaves the world as it was. The texts are those that a trace is answered.
+/// Why an event was refused. A refused event does not change the world. A refusal is shown as the text that answers a trace.
 #[derive(Clone, Copy, PartialEq, Eq)]
 pub enum Refusal {
     /// A processor's number is not below the number of processors.
@@ -30,7 +30,7 @@ pub enum Refusal {
     InHand,
     /// The processor's hand is empty.
     NothingInHand,
-    /// The generation is not above the newest one of that processor and hook, which is named.
+    /// The generation is not above the newest one of that processor and hook, which is given.
     Older(u64),
     /// The generation is 0, or was not drawn.
     NotDrawn,
@@ -41,7 +41,7 @@ pub enum Refusal {
 }
 
 impl Refusal {
-    /// Its number and its name; a number may come after it.
+    /// Its number and its name. Only `Older` is followed by a generation.
     fn name(self) -> &'static str
         ensures { result.now ≡ refusal_name self }
     {
@@ -65,7 +65,7 @@ impl Refusal {
     }
 }
 
-/// The text that a trace is answered.
+/// Shows a refusal as the text that answers a trace.
 impl fmt::Display for Refusal {
     ghost use Rattle.bq_parts.specs.RefusalTexts.{refusal_text};
 
@@ -80,7 +80,7 @@ impl fmt::Display for Refusal {
     }
 }
 
-/// The text that a trace is answered, for debugging too.
+/// Shows the same text as `Display`.
 impl fmt::Debug for Refusal {
     fn fmt<W: fmt::Write>(&self, f: &mut fmt::Formatter<W>) -> fmt::Result {
         fmt::Display::fmt(self, f)

@@ -1,9 +1,9 @@
-//! What an event that is not refused is answered.
+//! The replies to events that are not refused.
 
 use bq_hooks::{By, Loads};
 
-/// The reply to an event. `run` is the task that runs afterwards; `steps` is the number of instructions that the policy
-/// took, 0 where none was asked.
+/// The reply to an event. `run` is the task that runs afterwards. `steps` is the number of instructions that the policy
+/// took, 0 if none was asked.
 #[derive(PartialEq, Drop)]
 pub enum Reply {
     Admitted,

@@ -1,12 +1,12 @@
 //! What an event does to the parts that it touches: one processor, its inbox, the lobby. Here are the shares of an
-//! admission, a retirement, a tick, a drain and a block. Those of a wake and an installation are in `wakes`, that of
-//! a pull in `pulls`.
+//! admission, a retirement, a tick, a drain and a block. The shares of a wake and an installation are in `wakes`, and the
+//! share of a pull is in `pulls`.
 ghost use Rattle.std.specs.Prelude.{◌≡◌, ◌≤◌, ◌<◌, ◌++◌, [], None, IfOk};
 ghost use Rattle.bq_bpf.specs.Counters.{Through};
 ghost use Rattle.bq_disc.specs.OneProcessor.{present_at};
 ghost use Rattle.bq_parts.specs.Processors.{HasEachOnce, HasLobbyIds};
 ghost use Rattle.bq_parts.specs.Refusals.{argument_refusal};
-ghost use Rattle.bq_parts.specs.Choices.{policies};
+ghost use Rattle.bq_parts.specs.Choices.{by_programs};
 ghost use Rattle.bq_parts.specs.Moves.{admitted};
 ghost use Rattle.bq_parts.specs.Shares.{Admits, Blocks, Drains, Retires, Ticks};
 
@@ -18,7 +18,7 @@ use bq_hooks::low_bits;
 use bq_installed::Scratch;
 use std::alloc::{AllocError, Global};
 
-/// A task as it is admitted among this many processors. It takes memory for the task.
+/// A task as it is admitted in a world of `count` processors. It takes memory for the task.
 pub fn new_task(
     alloc: Global,
     count: usize,
@@ -40,7 +40,7 @@ pub fn new_task(
 }
 
 impl Lobby {
-    /// A new task stands in the lobby.
+    /// A new task enters the lobby.
     pub fn admit(&mut self, id: u16, task: Unlinked) -> Result<Reply, Refusal>
         requires below { id < TASKS }
         ensures share { Admits id task self.old result self.new }
@@ -80,7 +80,7 @@ impl<Q: RunQueue> Cpu<Q> {
         requires once { HasEachOnce (present_at self.old.running) }
         requires ids { HasLobbyIds (present_at self.old.running) }
         requires unasked { scratch.old ≡ [] }
-        ensures share { Ticks (policies Q.R.discipline) processor now self.old scratch.new result self.new }
+        ensures share { Ticks (by_programs Q.R.discipline) processor now self.old scratch.new result self.new }
         ensures board { Through B.leads board.old scratch.new board.new }
     {
         self.charge(now);
@@ -92,7 +92,7 @@ impl<Q: RunQueue> Cpu<Q> {
         }
     }
 
-    /// All tasks of its inbox enter.
+    /// All tasks of the processor's inbox enter its queue, and it is decided who runs.
     pub fn drain<B: Board>(
         &mut self,
         inbox: &mut Inbox,
@@ -104,7 +104,7 @@ impl<Q: RunQueue> Cpu<Q> {
         requires once { HasEachOnce (present_at self.old.running ++ inbox.old) }
         requires ids { HasLobbyIds (present_at self.old.running ++ inbox.old) }
         requires unasked { scratch.old ≡ [] }
-        ensures share { Drains (policies Q.R.discipline) processor now self.old inbox.old scratch.new result self.new }
+        ensures share { Drains (by_programs Q.R.discipline) processor now self.old inbox.old scratch.new result self.new }
         ensures emptied { inbox.new ≡ [] }
         ensures board { Through B.leads board.old scratch.new board.new }
     {
@@ -121,7 +121,7 @@ impl<Q: RunQueue> Cpu<Q> {
         }
     }
 
-    /// Its running task goes to the lobby.
+    /// The processor's running task goes to the lobby, and the queue's choice runs.
     pub fn block(&mut self, lobby: &mut Lobby, processor: u8, now: u64) -> Result<Reply, Refusal>
         requires { HasLobbyIds (present_at self.old.running) }
         ensures share { Blocks Q.R.discipline processor now self.old lobby.old result self.new lobby.new }

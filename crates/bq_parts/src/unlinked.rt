@@ -1,11 +1,11 @@
-//! A task that stands in no queue.
+//! A task that is in no queue.
 ghost use Rattle.std.specs.Prelude.{◌≡◌};
 ghost use Rattle.bq_disc.specs.Chains.{task_of, IsLone};
 
 use bq_disc::Node;
 use std::marker::Model;
 
-/// A task whose node is linked to none. Contracts see only the task.
+/// A task whose node is linked to no other. Contracts see only the task.
 #[derive(Drop)]
 pub struct Unlinked {
     node: Box<Node>,
@@ -26,7 +26,7 @@ impl Model for Unlinked {
 }
 
 impl Unlinked {
-    /// The task of a node that is linked to none.
+    /// The task of a node that is linked to no other.
     pub fn new(node: Box<Node>) -> Unlinked
         requires { IsLone node.value }
         ensures { result ≡ task_of node.value }
@@ -34,7 +34,7 @@ impl Unlinked {
         Unlinked { node }
     }
 
-    /// Its node, to be linked.
+    /// The task's node, to be linked.
     pub fn into_node(self) -> Box<Node>
         ensures task { task_of result.value ≡ self }
         ensures lone { IsLone result.value }
@@ -42,14 +42,14 @@ impl Unlinked {
         self.node
     }
 
-    /// Its node.
+    /// The task's node.
     pub fn node(&self) -> &Node
         ensures { task_of result.now ≡ self.now }
     {
         &self.node
     }
 
-    /// Its id.
+    /// The task's id.
     pub fn id(&self) -> u16
         ensures { result ≡ self.now.id }
     {

@@ -4,7 +4,7 @@ ghost use Rattle.bq_bpf.specs.Counters.{Through};
 ghost use Rattle.bq_hooks.specs.OwnPlace.{HasPlace};
 ghost use Rattle.bq_installed.specs.Attachments.{IsFor};
 ghost use Rattle.bq_parts.specs.Refusals.{generation_refusal};
-ghost use Rattle.bq_parts.specs.Choices.{policies};
+ghost use Rattle.bq_parts.specs.Choices.{by_programs};
 ghost use Rattle.bq_parts.specs.Shares.{BeginsWake, Installs, Places};
 
 use crate::{Carried, Cpu, Lobby, Refusal, Reply, Unlinked};
@@ -14,7 +14,8 @@ use bq_disc::limits::{PROCESSORS, TASKS};
 use bq_hooks::{By, Hook, Loads};
 use bq_installed::{Installed, Scratch};
 
-/// A task that left a hand, and where it goes: to a processor that a policy chose in this many steps, or the discipline.
+/// A task that left a hand, and the processor to which it goes. `by` says whose choice that is; `steps` is how many steps the
+/// policy took, 0 if none was asked.
 #[derive(Drop)]
 pub struct Placement {
     pub task: Unlinked,
@@ -24,7 +25,7 @@ pub struct Placement {
 }
 
 impl<Q: RunQueue> Cpu<Q> {
-    /// A sleeping task of the lobby comes into the hand, with these loads.
+    /// A sleeping task goes from the lobby into the hand, with a copy of these loads.
     pub fn begin_wake(
         &mut self,
         lobby: &mut Lobby,
@@ -37,7 +38,7 @@ impl<Q: RunQueue> Cpu<Q> {
         self.begin_with(lobby, task, loads.copy())
     }
 
-    /// A sleeping task of the lobby comes into the hand, with loads that were counted only for this wake.
+    /// A sleeping task goes from the lobby into the hand, with loads that were counted only for this wake.
     pub fn begin_with(
         &mut self,
         lobby: &mut Lobby,
@@ -57,14 +58,14 @@ impl<Q: RunQueue> Cpu<Q> {
             return Err(Refusal::InHand);
         }
         let carried = Carried {
-            task: lobby.send(task),
+            task: lobby.take_sleeper(task),
             loads: loads.copy(),
         };
         self.begin(carried);
         Ok(Reply::Begun { task, loads })
     }
 
-    /// The task in the hand is given, and it is chosen where it goes among the first `count` processors.
+    /// The task in the hand leaves it, and a processor for it is chosen among the first `count`.
     pub fn end_wake<B: Board>(
         &mut self,
         processor: u8,
@@ -76,7 +77,7 @@ impl<Q: RunQueue> Cpu<Q> {
         requires few { count ≤ PROCESSORS }
         requires usable { IfSome self.old.hand (λ c. HasPlace count c.task) }
         requires unasked { scratch.old ≡ [] }
-        ensures share { Places (policies Q.R.discipline) count processor now self.old scratch.new result self.new }
+        ensures share { Places (by_programs Q.R.discipline) count processor now self.old scratch.new result self.new }
         ensures below { IfSome result (λ x. x.to < count) }
         ensures board { Through B.leads board.old scratch.new board.new }
     {
@@ -94,8 +95,7 @@ impl<Q: RunQueue> Cpu<Q> {
         })
     }
 
-    /// Something else stands at a hook from now on, if its generation is above the one that stands there, and is one of
-    /// the numbers drawn so far.
+    /// Replaces what is installed at a hook, if the new generation is above the one at the hook and has been drawn.
     pub fn replace(
         &mut self,
         hook: Hook,
@@ -114,7 +114,7 @@ impl<Q: RunQueue> Cpu<Q> {
     }
 }
 
-/// Why a generation may not stand where `newest` stands and this many numbers were drawn, if it may not.
+/// Why a generation is refused at a hook, if it is: `newest` is the one at the hook, and `drawn` numbers were drawn so far.
 fn generation_refusal(newest: u64, drawn: u64, generation: u64) -> Option<Refusal>
     ensures { result ≡ generation_refusal newest drawn generation }
 {

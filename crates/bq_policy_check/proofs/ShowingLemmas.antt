@@ -1,4 +1,5 @@
--- An object that has members put last under names of their own has each of them, and the first line of a text is that of what it begins with.
+-- An object that has members put last under names of their own has each of them, and the first line of a text is that
+-- of what it begins with.
 use Rattle.std.proofs.Common.{◌≡◌, ◌∙◌, ◌==◌, ◌+◌, ℕ, suc, Bool, true, false, not, cond, true≢false, List, [], ◌∷◌, ◌++◌, take, ap, arith, refl, subst, sym}
 use Rattle.std.specs.Prelude.{codes}
 use Rattle.std.specs.Fmt.{decimal, signed_decimal}
@@ -37,16 +38,23 @@ differ : (a b : List ℕ) → bytes_eq a b ≡ false → a ≡ b → ⊥
 differ a b other same = true≢false (sym ((bytes_eq-Decides a b).1 same) ∙ other)
 
 -- members under other names leave what is under that one
-others_leave : (name : List ℕ) (named : List (List ℕ × Data)) (old : Members) → AreOthers name named → get_member name (put_all named old) ≡ get_member name old
+others_leave : (name : List ℕ) (named : List (List ℕ × Data)) (old : Members)
+    → AreOthers name named → get_member name (put_all named old) ≡ get_member name old
 others_leave name [] old others = refl
-others_leave name (first ∷ rest) old others = others_leave name rest (put first.0 first.1 old) others.1 ∙ get_member-put_other name first.0 first.1 old (differ name first.0 others.0)
+others_leave name (first ∷ rest) old others =
+    others_leave name rest (put first.0 first.1 old) others.1
+    ∙ get_member-put_other name first.0 first.1 old (differ name first.0 others.0)
 
 has_all : (named : List (List ℕ × Data)) (old : Members) → AreApart named → HasMembers named (object (put_all named old))
 has_all [] old apart = tt
-has_all (first ∷ rest) old apart = (others_leave first.0 rest (put first.0 first.1 old) apart.0 ∙ get_member-put first.0 first.1 old, has_all rest (put first.0 first.1 old) apart.1)
+has_all (first ∷ rest) old apart = (
+  others_leave first.0 rest (put first.0 first.1 old) apart.0 ∙ get_member-put first.0 first.1 old,
+  has_all rest (put first.0 first.1 old) apart.1,
+)
 
 -- what stands behind a line's end does not change the first line
-more_behind : (goes_on : Bool) (x m n : ℕ) (xs ys : List ℕ) → take m xs ≡ take n ys → take (cond goes_on (1 + m) 0) (x ∷ xs) ≡ take (cond goes_on (1 + n) 0) (x ∷ ys)
+more_behind : (goes_on : Bool) (x m n : ℕ) (xs ys : List ℕ) → take m xs ≡ take n ys
+    → take (cond goes_on (1 + m) 0) (x ∷ xs) ≡ take (cond goes_on (1 + n) 0) (x ∷ ys)
 more_behind true x m n xs ys same =
     let first : 1 + m ≡ suc m = omega arith in
     let second : 1 + n ≡ suc n = omega arith in
@@ -57,18 +65,26 @@ first_of_line : (line behind : List ℕ) → first_line ((line ++ codes "\n") ++
 first_of_line [] behind = refl
 first_of_line (x ∷ line) behind = more_behind (not (x == 10)) x _ _ _ _ (first_of_line line behind)
 
-first_refused : (why text line : List ℕ) → StartsWith (refused_line why) text → line ≡ first_line text → line ≡ first_line (refused_line why)
+first_refused : (why text line : List ℕ) → StartsWith (refused_line why) text → line ≡ first_line text
+    → line ≡ first_line (refused_line why)
 first_refused why text line begins is = is ∙ ap first_line begins.1 ∙ first_of_line (codes "refused " ++ why) begins.0
 
-first_of_verdict : (p : PolicySource) (verdict : Verdict) (text line : List ℕ) → StartsWith (first_words p verdict) text → line ≡ first_line text → IsFirstLine p verdict line
+first_of_verdict : (p : PolicySource) (verdict : Verdict) (text line : List ℕ)
+    → StartsWith (first_words p verdict) text → line ≡ first_line text → IsFirstLine p verdict line
 first_of_verdict p (Accepted budget) text line begins is = (text, begins, is)
-first_of_verdict p (OverSteps budget most) text line begins is = first_refused (codes "limit steps " ++ (decimal budget ++ (codes " of " ++ decimal most))) text line begins is
-first_of_verdict p (Forbidden helper) text line begins is = first_refused (codes "limit helper " ++ signed_decimal helper) text line begins is
+first_of_verdict p (OverSteps budget most) text line begins is =
+    first_refused (codes "limit steps " ++ (decimal budget ++ (codes " of " ++ decimal most))) text line begins is
+first_of_verdict p (Forbidden helper) text line begins is =
+    first_refused (codes "limit helper " ++ signed_decimal helper) text line begins is
 first_of_verdict p OtherHook text line begins is = first_refused (codes "limit hook " ++ hook_word p.form.hook) text line begins is
-first_of_verdict p (Beyond over) text line begins is = first_refused (codes "limit " ++ (measure_word over.measure ++ (codes " " ++ (decimal over.used ++ (codes " of " ++ decimal over.most))))) text line begins is
+first_of_verdict p (Beyond over) text line begins is =
+    first_refused
+    (codes "limit " ++ (measure_word over.measure ++ (codes " " ++ (decimal over.used ++ (codes " of " ++ decimal over.most)))))
+    text line begins is
 first_of_verdict p (Refused slot cause) text line begins is = first_refused (image_text (load.Refused slot cause)) text line begins is
 
-verdict_apart : (p : PolicySource) (verdict : Verdict) (accepted : Bool) (answer : Data) → AreApart (answer_members accepted answer ++ of_verdict p verdict)
+verdict_apart : (p : PolicySource) (verdict : Verdict) (accepted : Bool) (answer : Data)
+    → AreApart (answer_members accepted answer ++ of_verdict p verdict)
 verdict_apart p (Accepted budget) accepted answer = search
 verdict_apart p (OverSteps budget most) accepted answer = search
 verdict_apart p (Forbidden helper) accepted answer = search
@@ -77,26 +93,39 @@ verdict_apart p (Beyond over) accepted answer = search
 verdict_apart p (Refused slot cause) accepted answer = search
 
 -- a line of the members that are put last has them
-shows : (named : List (List ℕ × Data)) (old new : Members) (text : List ℕ) → AreApart named → new ≡ put_all named old → IsLineOf (object new) text → IsJson named text
-shows named old new text apart is line = (object new, subst (λ (now : Members). HasMembers named (object now)) (sym is) (has_all named old apart), line)
+shows : (named : List (List ℕ × Data)) (old new : Members) (text : List ℕ)
+    → AreApart named → new ≡ put_all named old → IsLineOf (object new) text → IsJson named text
+shows named old new text apart is line =
+    (object new, subst (λ (now : Members). HasMembers named (object now)) (sym is) (has_all named old apart), line)
 
 -- an object whose last members are the answer's and those of the verdict shows the verdict
-pub shows_verdict : (p : PolicySource) (verdict : Verdict) (first prose text : List ℕ) (old new : Members) → StartsWith (first_words p verdict) prose → first ≡ first_line prose
-    → new ≡ put_all (answer_members (is_accepted verdict) (string first) ++ of_verdict p verdict) old → IsLineOf (object new) text → ShowsVerdict p verdict text
+pub shows_verdict : (p : PolicySource) (verdict : Verdict) (first prose text : List ℕ) (old new : Members)
+    → StartsWith (first_words p verdict) prose → first ≡ first_line prose
+    → new ≡ put_all (answer_members (is_accepted verdict) (string first) ++ of_verdict p verdict) old
+    → IsLineOf (object new) text
+    → ShowsVerdict p verdict text
 shows_verdict p verdict first prose text old new begins is made line =
-    let named = answer_members (is_accepted verdict) (string first) ++ of_verdict p verdict in
-    (first, first_of_verdict p verdict prose first begins is, shows named old new text (verdict_apart p verdict (is_accepted verdict) (string first)) made line)
+    let named = answer_members (is_accepted verdict) (string first) ++ of_verdict p verdict in (
+      first,
+      first_of_verdict p verdict prose first begins is,
+      shows named old new text (verdict_apart p verdict (is_accepted verdict) (string first)) made line,
+    )
 
--- the same of a fault of a file
-pub shows_fault : (named : PolicyFault) (first prose text : List ℕ) (old new : Members) → StartsWith (fault_line named) prose → first ≡ first_line prose
-    → new ≡ put_all (answer_members false (string first) ++ of_fault named) old → IsLineOf (object new) text → ShowsFault named text
+-- an object whose last members are the answer's shows a fault of a file
+pub shows_fault : (named : PolicyFault) (first prose text : List ℕ) (old new : Members)
+    → StartsWith (fault_line named) prose → first ≡ first_line prose
+    → new ≡ put_all (answer_members false (string first) ++ of_fault named) old → IsLineOf (object new) text
+    → ShowsFault named text
 shows_fault named first prose text old new begins is made line =
     let apart : AreApart (answer_members false (string first) ++ of_fault named) = search in
-    subst (λ (l : List ℕ). IsJson (answer_members false (string l) ++ of_fault named) text) (first_refused (fault_text named) prose first begins is)
+    subst (λ (l : List ℕ). IsJson (answer_members false (string l) ++ of_fault named) text)
+    (first_refused (fault_text named) prose first begins is)
     (shows (answer_members false (string first) ++ of_fault named) old new text apart made line)
 
--- and of no answer
-pub shows_none : (old new : Members) (text : List ℕ) → new ≡ put_all (answer_members false null) old → IsLineOf (object new) text → ShowsNone text
+-- an object whose last members are those of no answer shows no answer
+pub shows_none : (old new : Members) (text : List ℕ) → new ≡ put_all (answer_members false null) old
+    → IsLineOf (object new) text
+    → ShowsNone text
 shows_none old new text made line =
     let apart : AreApart (answer_members false null) = ((refl, tt), (tt, tt)) in
     shows (answer_members false null) old new text apart made line

@@ -12,7 +12,7 @@ use Rattle.bq_policy_file.specs.declared.fault.PolicyFault.TheVariants.{OutOfMem
 use Rattle.bq_policy_file.specs.declared.head.Head.{Head}
 use Rattle.bq_policy_file.specs.declared.policy_source.PolicySource.{PolicySource}
 use Rattle.bq_policy_file.specs.Files.{IsPolicy, IsPolicyFault}
-use Rattle.bq_policy_check.specs.Checking.{SaysTerms}
+use Rattle.bq_policy_check.specs.Checking.{GivesTerms}
 use Rattle.bq_policy_check.specs.declared.words.CheckWords.{CheckWords}
 
 -- the file is this policy, which the verifier and the limits accept, and the bytes are its image
@@ -36,16 +36,16 @@ pub record IsNotAccepted (bytes : List ℕ) (h : Head) (l : Limits) : Type 0 whe
 abbrev pub HasNoImage : List ℕ → Head → Limits → Type 0
 HasNoImage bytes h l = ((named : PolicyFault) × IsPolicyFault bytes h named × (named ≢ OutOfMemory)) ⊎ IsNotAccepted bytes h l
 
--- what is found: the image by that head and those limits, or that there is none
+-- what is found: the image by that head and those limits, or nothing if there is no such image
 abbrev pub IsFoundUnder : List ℕ → Head → Limits → Option (Vec ℕ Global) → Type 0
 IsFoundUnder bytes h l found = MatchOption found (HasNoImage bytes h l) (λ image. IsImageUnder bytes h l image.items)
 
 -- the image by the head and the limits that the words say
 pub record IsAcceptedImage (w : CheckWords) (bytes image : List ℕ) : Type 0 where
   pub terms : Head × Limits
-  pub says : SaysTerms w terms
+  pub gives : GivesTerms w terms
   pub is : IsImageUnder bytes terms.0 terms.1 image
 
 -- the words say no head or no limits, or the file has no image by those that they say
 abbrev pub IsNoImage : CheckWords → List ℕ → Type 0
-IsNoImage w bytes = ((terms : Head × Limits) → ¬ SaysTerms w terms) ⊎ ((terms : Head × Limits) × SaysTerms w terms × HasNoImage bytes terms.0 terms.1)
+IsNoImage w bytes = ((terms : Head × Limits) → ¬ GivesTerms w terms) ⊎ ((terms : Head × Limits) × GivesTerms w terms × HasNoImage bytes terms.0 terms.1)

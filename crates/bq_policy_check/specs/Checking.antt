@@ -14,62 +14,64 @@ use Rattle.bq_policy_check.specs.declared.answered.Answered.TheVariants.{Done, R
 use Rattle.bq_policy_check.specs.declared.words.CheckWords.{CheckWords}
 use Rattle.bq_policy_check.specs.Limiting.{HasLimits}
 use Rattle.bq_policy_check.specs.Refusing.{fault_line}
-use Rattle.bq_policy_check.specs.Saying.{IsWordsFault, SaysHead}
+use Rattle.bq_policy_check.specs.Given.{IsWordsFault, GivesHead}
 use Rattle.bq_policy_check.specs.Showing.{ShowsFault, ShowsVerdict}
 
 -- neither explained nor as JSON the answer is only this line
-abbrev pub IsTold : CheckWords → List ℕ → List ℕ → Type 0
-IsTold w line text = w.is_explained ≡ false → w.is_json ≡ false → text ≡ line
+abbrev pub IsPlainLine : CheckWords → List ℕ → List ℕ → Type 0
+IsPlainLine w line text = w.is_explained ≡ false → w.is_json ≡ false → text ≡ line
 
 -- as JSON the answer shows this
-abbrev pub IsShown : CheckWords → (List ℕ → Type 0) → List ℕ → Type 0
-IsShown w Shows text = w.is_json ≡ true → Shows text
+abbrev pub IsShownAsJson : CheckWords → (List ℕ → Type 0) → List ℕ → Type 0
+IsShownAsJson w Shows text = w.is_json ≡ true → Shows text
 
+-- the answer with this text, done or refused
 abbrev pub answered : Bool → String Global → Answered
 answered true text = Done text
 answered false text = Refused text
 
--- it is done where the verdict accepts the policy, else refused, by the line that tells the verdict
-pub record TellsVerdict (w : CheckWords) (p : PolicySource) (l : Limits) (answer : Answered) : Type 0 where
+-- the answer reports the verdict: done if the verdict accepts the policy, refused otherwise; its line is that of the verdict
+pub record ReportsVerdict (w : CheckWords) (p : PolicySource) (l : Limits) (answer : Answered) : Type 0 where
   pub verdict : Verdict
   pub is_verdict : IsVerdict p l verdict
   pub text : String Global
   pub is : answer ≡ answered (is_accepted verdict) text
-  pub told : IsTold w (verdict_line p.form.hook verdict) (string_bytes text)
-  pub shown : IsShown w (ShowsVerdict p verdict) (string_bytes text)
+  pub reported : IsPlainLine w (verdict_line p.form.hook verdict) (string_bytes text)
+  pub shown : IsShownAsJson w (ShowsVerdict p verdict) (string_bytes text)
 
 -- the file is no policy, for this fault, by the line that names it
-pub record TellsFault (w : CheckWords) (bytes : List ℕ) (h : Head) (answer : Answered) : Type 0 where
+pub record ReportsFault (w : CheckWords) (bytes : List ℕ) (h : Head) (answer : Answered) : Type 0 where
   pub named : PolicyFault
   pub is_fault : IsPolicyFault bytes h named
   pub other : named ≢ fault.OutOfMemory
   pub text : String Global
   pub is : answer ≡ Refused text
-  pub told : IsTold w (fault_line named) (string_bytes text)
-  pub shown : IsShown w (ShowsFault named) (string_bytes text)
+  pub reported : IsPlainLine w (fault_line named) (string_bytes text)
+  pub shown : IsShownAsJson w (ShowsFault named) (string_bytes text)
 
 -- the file is this policy, and its verdict is reported
-pub record TellsPolicy (w : CheckWords) (bytes : List ℕ) (h : Head) (l : Limits) (answer : Answered) : Type 0 where
+pub record ReportsPolicy (w : CheckWords) (bytes : List ℕ) (h : Head) (l : Limits) (answer : Answered) : Type 0 where
   pub policy : PolicySource
   pub is_policy : IsPolicy bytes h policy
-  pub tells : TellsVerdict w policy l answer
+  pub reports : ReportsVerdict w policy l answer
 
+-- the answer of a check of a file under a head and limits: its fault, or its verdict
 abbrev pub ChecksFile : CheckWords → List ℕ → Head → Limits → Answered → Type 0
-ChecksFile w bytes h l answer = TellsFault w bytes h answer ⊎ TellsPolicy w bytes h l answer
+ChecksFile w bytes h l answer = ReportsFault w bytes h answer ⊎ ReportsPolicy w bytes h l answer
 
--- by the head and the limits that the words say
+-- the answer of a check under the head and the limits that the words say
 pub record ChecksAsked (w : CheckWords) (bytes : List ℕ) (answer : Answered) : Type 0 where
   pub head : Head
-  pub says : SaysHead w.policy head
+  pub gives : GivesHead w.policy head
   pub limits : Limits
   pub has : HasLimits w.limits limits
   pub checks : ChecksFile w bytes head limits answer
 
 -- the words say this head, and these limits
-pub record SaysTerms (w : CheckWords) (terms : Head × Limits) : Type 0 where
-  pub head : SaysHead w.policy terms.0
+pub record GivesTerms (w : CheckWords) (terms : Head × Limits) : Type 0 where
+  pub head : GivesHead w.policy terms.0
   pub limits : HasLimits w.limits terms.1
 
 -- words that say none are refused, and no others
 abbrev pub ChecksTo : CheckWords → List ℕ → Answered → Type 0
-ChecksTo w bytes answer = IsWordsFault (SaysTerms w) answer ⊎ ChecksAsked w bytes answer
+ChecksTo w bytes answer = IsWordsFault (GivesTerms w) answer ⊎ ChecksAsked w bytes answer

@@ -4,7 +4,7 @@ use Rattle.bq_policy_file.specs.declared.form.ProgramForm.{ProgramForm}
 use Rattle.bq_policy_file.specs.declared.options.Options.{Options}
 use Rattle.bq_policy_file.specs.Forms.{AsksFor, HasBadFormat, HasBadMaps}
 
--- of options that ask for a form there is no complaint, and one of those that ask for none
+-- there is no complaint only if the options ask for a form, and one only if they have bad maps or a bad format
 abbrev pub ComplainsOf : {S : Type 0} → Options → Option S → Type 0
 ComplainsOf o None = (form : ProgramForm) × AsksFor o form
-ComplainsOf o (Some told) = HasBadMaps o ⊎ HasBadFormat o
+ComplainsOf o (Some reported) = HasBadMaps o ⊎ HasBadFormat o

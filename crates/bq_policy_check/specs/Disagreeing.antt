@@ -1,6 +1,6 @@
--- Where the words of `asm` say another thing than the marks of the text.
+-- The case in which the words of `asm` contradict the marks of the text.
 use Rattle.std.specs.Prelude.{◌≡◌, ◌≢◌, ℕ, List, ◌⊎◌, Option, Some, None, IsSome, string_bytes}
-use Rattle.bq_console.specs.Words.{SaysWord}
+use Rattle.bq_console.specs.Words.{GivesWord}
 use Rattle.bq_policy_file.specs.declared.fault.PolicyFault.{PolicyFault}
 use Rattle.bq_policy_file.specs.declared.fault.PolicyFault.TheVariants.{Disagrees, OutOfMemory}
 use Rattle.bq_policy_file.specs.declared.head.Head.{Head}
@@ -10,11 +10,11 @@ use Rattle.bq_policy_file.specs.declared.options.Options.{Options}
 use Rattle.bq_policy_file.specs.declared.policy_source.PolicySource.{PolicySource}
 use Rattle.bq_policy_file.specs.Files.{IsPolicy, IsPolicyFault, kind_of}
 use Rattle.bq_policy_file.specs.Forms.{maps_text}
-use Rattle.bq_policy_file.specs.Heads.{Names}
+use Rattle.bq_policy_file.specs.Heads.{NamesMapShapes}
 use Rattle.bq_policy_check.specs.Refusing.{fault_line}
 use Rattle.bq_policy_check.specs.declared.asm_head.AsmRefusal.{AsmRefusal}
 
--- the mark that is said otherwise, where that is the fault
+-- the mark that the words contradict, if that is the fault
 abbrev pub differing : PolicyFault → Option Key
 differing (Disagrees key) = Some key
 differing other = None
@@ -23,16 +23,16 @@ differing other = None
 abbrev pub NoneDiffers : List ℕ → Head → Type 0
 NoneDiffers bytes h = ((p : PolicySource) × IsPolicy bytes h p) ⊎ ((named : PolicyFault) × IsPolicyFault bytes h named × (named ≢ OutOfMemory) × (differing named ≡ None))
 
--- of a text, the words differ from its marks in that; other bytes have no marks
+-- the key in which the words differ from the marks of a text, if they do; other bytes have no marks
 abbrev pub IsDifference : List ℕ → Head → Option Key → Type 0
 IsDifference bytes h None = (kind_of bytes ≢ Text) ⊎ NoneDiffers bytes h
 IsDifference bytes h (Some key) = (named : PolicyFault) × IsPolicyFault bytes h named × (differing named ≡ Some key)
 
 -- the options ask for an image, and say this of it
-pub record SaysImage (o : Options) (h : Head) : Type 0 where
+pub record GivesImage (o : Options) (h : Head) : Type 0 where
   pub asked : IsSome o.hook
   pub hook : h.hook ≡ o.hook
-  pub maps : SaysWord Names (maps_text o) h.maps
+  pub maps : GivesWord NamesMapShapes (maps_text o) h.maps
   pub format : h.format ≡ o.format
 
 -- the refusal, if there is one, names the mark of the text from which the words differ
@@ -40,6 +40,6 @@ abbrev pub IsRefusalBeside : List ℕ → Head → Option AsmRefusal → Type 0
 IsRefusalBeside bytes h None = IsDifference bytes h None
 IsRefusalBeside bytes h (Some refusal) = (key : Key) × IsDifference bytes h (Some key) × (string_bytes refusal.line ≡ fault_line (Disagrees key))
 
--- options that ask for no image, or name no maps, are not refused here; others where they differ from the marks of the text
+-- options that ask for no image, or name no maps, are not refused here; others are refused if they differ from the marks of the text
 abbrev pub IsAsmRefusal : Options → List ℕ → Option AsmRefusal → Type 0
-IsAsmRefusal o bytes refusal = (((h : Head) → ¬ SaysImage o h) × (refusal ≡ None)) ⊎ ((h : Head) × SaysImage o h × IsRefusalBeside bytes h refusal)
+IsAsmRefusal o bytes refusal = (((h : Head) → ¬ GivesImage o h) × (refusal ≡ None)) ⊎ ((h : Head) × GivesImage o h × IsRefusalBeside bytes h refusal)

@@ -6,5 +6,5 @@ pub mod Limiting
 pub mod Listing
 pub mod Noting
 pub mod Refusing
-pub mod Saying
+pub mod Given
 pub mod Showing

@@ -1,28 +1,24 @@
 -- The limits that the words of a command set.
-use Rattle.std.specs.Prelude.{◌≡◌, ℕ, ◌+◌, ◌^◌, ℤ, pos, neg_ℤ, List, [], ◌∷◌, drop, Option, Some, option_map, nat_eq, codes, if◌then◌else◌}
-use Rattle.std.specs.List.{AllZip, starts_with}
+use Rattle.std.specs.Prelude.{◌≡◌, ℕ, ◌^◌, ℤ, pos, List, [], ◌∷◌, Some, option_map}
+use Rattle.std.specs.List.{AllZip}
 use Rattle.std.specs.declared.alloc.Global.{Global}
 use Rattle.std.specs.declared.vec.Vec.{Vec}
-use Rattle.bq_words.specs.Numbers.{below, number_of}
+use Rattle.bq_words.specs.Numbers.{number_of}
+use Rattle.bq_bpf.specs.Helpers.{number_of_helper}
+use Rattle.bq_bpf.specs.declared.helper.Helper.{Helper}
 use Rattle.bq_explain.specs.declared.limits.Limits.{Limits}
 use Rattle.bq_words.specs.Words.{parts}
-use Rattle.bq_console.specs.Words.{SaysWord}
+use Rattle.bq_console.specs.Words.{GivesWord}
 use Rattle.bq_hooks.specs.Hooks.{hook_of}
 use Rattle.bq_hooks.specs.declared.hook.Hook.{Hook}
 use Rattle.bq_policy_check.specs.declared.words.LimitWords.{LimitWords}
-use Rattle.bq_policy_check.specs.Saying.{IsNumberBelow, option_bytes}
+use Rattle.bq_policy_check.specs.Given.{IsNumberBelow, option_bytes}
 
--- a number of 32 bits in decimal, behind a `-` where it is below 0
-abbrev pub helper_of : List ℕ → Option ℤ
-helper_of word =
-    if starts_with nat_eq word (codes "-") then option_map (λ n. neg_ℤ (pos n)) (below (2 ^ 31 + 1) (number_of 10 (drop 1 word)))
-    else option_map (λ n. pos n) (below (2 ^ 31) (number_of 10 word))
-
--- the word writes that helper
+-- the word writes the number of a helper, in decimal
 abbrev pub IsHelper : List ℕ → ℤ → Type 0
-IsHelper word helper = helper_of word ≡ Some helper
+IsHelper word number = (h : Helper) × (number_of_helper h ≡ number) × (option_map (λ n. pos n) (number_of 10 word) ≡ Some number)
 
--- the word is that of the hook
+-- the word names the hook
 abbrev pub IsHook : List ℕ → Hook → Type 0
 IsHook word hook = hook_of word ≡ Some hook
 
@@ -51,11 +47,11 @@ NamesNoHooks text = (hooks : Vec Hook Global) → ¬ NamesHooks text hooks
 abbrev pub IsMost : List ℕ → ℕ → Type 0
 IsMost word most = IsNumberBelow (2 ^ 32) word most
 
--- a limit is the number that is said, of 32 bits; helpers and hooks are limited where a list of them is said, to those
+-- a limit is the number that is said, of 32 bits; if a list of helpers or hooks is said, the policy is limited to those
 pub record HasLimits (w : LimitWords) (l : Limits) : Type 0 where
-  pub steps : SaysWord IsMost (option_bytes w.steps) l.steps
-  pub helpers : SaysWord NamesHelpers (option_bytes w.helpers) l.helpers
-  pub hooks : SaysWord NamesHooks (option_bytes w.hooks) l.hooks
-  pub maps : SaysWord IsMost (option_bytes w.maps) l.maps
-  pub map_bytes : SaysWord IsMost (option_bytes w.map_bytes) l.map_bytes
-  pub counters : SaysWord IsMost (option_bytes w.counters) l.counters
+  pub steps : GivesWord IsMost (option_bytes w.steps) l.steps
+  pub helpers : GivesWord NamesHelpers (option_bytes w.helpers) l.helpers
+  pub hooks : GivesWord NamesHooks (option_bytes w.hooks) l.hooks
+  pub maps : GivesWord IsMost (option_bytes w.maps) l.maps
+  pub map_bytes : GivesWord IsMost (option_bytes w.map_bytes) l.map_bytes
+  pub counters : GivesWord IsMost (option_bytes w.counters) l.counters

@@ -10,7 +10,7 @@ use Rattle.bq_policy_check.specs.declared.answered.Answered.{Answered}
 use Rattle.bq_policy_check.specs.declared.answered.Answered.TheVariants.{Done}
 use Rattle.bq_policy_check.specs.declared.words.ListWords.{ListWords}
 use Rattle.bq_policy_check.specs.Refusing.{IsRefusedFile}
-use Rattle.bq_policy_check.specs.Saying.{IsWordsFault, SaysHead}
+use Rattle.bq_policy_check.specs.Given.{IsWordsFault, GivesHead}
 
 -- the file is this policy, and its listing is written, which is read as that policy again and as no other
 pub record IsListing (w : ListWords) (bytes : List ℕ) (h : Head) (answer : Answered) : Type 0 where
@@ -21,9 +21,10 @@ pub record IsListing (w : ListWords) (bytes : List ℕ) (h : Head) (answer : Ans
   pub listed : IsListed policy w.has_slots (string_bytes text)
   pub file : IsFileOf policy (string_bytes text)
 
+-- the answer for a file under a head: its fault, or its listing
 abbrev pub ListsFile : ListWords → List ℕ → Head → Answered → Type 0
 ListsFile w bytes h answer = IsRefusedFile bytes h answer ⊎ IsListing w bytes h answer
 
--- by the head that the words say; words that say none are refused, and no others
+-- the answer for a file under the head that the words say; only words that say none are refused
 abbrev pub ListsTo : ListWords → List ℕ → Answered → Type 0
-ListsTo w bytes answer = IsWordsFault (SaysHead w.policy) answer ⊎ ((h : Head) × SaysHead w.policy h × ListsFile w bytes h answer)
+ListsTo w bytes answer = IsWordsFault (GivesHead w.policy) answer ⊎ ((h : Head) × GivesHead w.policy h × ListsFile w bytes h answer)

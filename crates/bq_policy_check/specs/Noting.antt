@@ -9,12 +9,13 @@ use Rattle.bq_policy_file.specs.declared.kind.FileKind.TheVariants.{Text}
 use Rattle.bq_policy_file.specs.declared.options.Options.{Options}
 use Rattle.bq_policy_file.specs.declared.policy_source.PolicySource.{PolicySource}
 use Rattle.bq_policy_file.specs.Files.{IsPolicy, IsPolicyFault, kind_of}
-use Rattle.bq_policy_check.specs.Disagreeing.{SaysImage}
+use Rattle.bq_policy_check.specs.Disagreeing.{GivesImage}
 
 -- the text says maps, and the options none
 abbrev pub leaves_maps : Head → PolicySource → Bool
 leaves_maps h p = not (is_some h.maps) && nat_lt 0 (length p.form.shapes.items)
 
+-- a version is the second
 abbrev pub is_second : Version → Bool
 is_second First = false
 is_second Second = true
@@ -29,17 +30,18 @@ left_text h p =
     (if leaves_maps h p then codes "the text says maps, and the image has none: asm takes them only from --maps; check --image OUT writes the image with them\n" else [])
     ++ (if leaves_format h p then codes "the text says format 2, and the image has version 1: asm takes it only from --format; check --image OUT writes version 2\n" else [])
 
--- the line on what is no mark, where that is the fault
-abbrev pub TellsHead : PolicyFault → List ℕ → Type 0
-TellsHead (fault.Head line cause) note = (reason : List ℕ) × (note ≡ reason ++ codes "; asm goes by its options alone\n")
-TellsHead other note = note ≡ []
+-- the note on the line that is no mark, if that is the fault
+abbrev pub NotesHead : PolicyFault → List ℕ → Type 0
+NotesHead (fault.Head line cause) note = (reason : List ℕ) × (note ≡ reason ++ codes "; asm goes by its options alone\n")
+NotesHead other note = note ≡ []
 
--- of a policy with these words, what they leave out; of a text that is no policy, the first that is no mark; other bytes have no marks
+-- the note on a text: on what the words leave out, if the text is a policy under them; otherwise on the first line that is no
+-- mark. Other bytes have no marks
 abbrev pub IsNoteBeside : List ℕ → Head → List ℕ → Type 0
 IsNoteBeside bytes h note =
     ((kind_of bytes ≢ Text) × (note ≡ []))
-    ⊎ (((p : PolicySource) × IsPolicy bytes h p × (note ≡ left_text h p)) ⊎ ((named : PolicyFault) × IsPolicyFault bytes h named × (named ≢ fault.OutOfMemory) × TellsHead named note))
+    ⊎ (((p : PolicySource) × IsPolicy bytes h p × (note ≡ left_text h p)) ⊎ ((named : PolicyFault) × IsPolicyFault bytes h named × (named ≢ fault.OutOfMemory) × NotesHead named note))
 
 -- options that ask for no image, or name no maps, leave nothing
 abbrev pub IsAsmNote : Options → List ℕ → List ℕ → Type 0
-IsAsmNote o bytes note = (((h : Head) → ¬ SaysImage o h) × (note ≡ [])) ⊎ ((h : Head) × SaysImage o h × IsNoteBeside bytes h note)
+IsAsmNote o bytes note = (((h : Head) → ¬ GivesImage o h) × (note ≡ [])) ⊎ ((h : Head) × GivesImage o h × IsNoteBeside bytes h note)

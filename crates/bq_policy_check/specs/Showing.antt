@@ -74,7 +74,7 @@ abbrev pub IsFirstLine : PolicySource → Verdict → List ℕ → Type 0
 IsFirstLine p (Accepted budget) line = (text : List ℕ) × StartsWith (accepted_words p budget) text × (line ≡ first_line text)
 IsFirstLine p refusal line = line ≡ first_line (verdict_line p.form.hook refusal)
 
--- as JSON a verdict is told by its first line, and each of its parts by a member
+-- as JSON a verdict has its first line, and a member for each of its parts
 abbrev pub ShowsVerdict : PolicySource → Verdict → List ℕ → Type 0
 ShowsVerdict p verdict text = (line : List ℕ) × IsFirstLine p verdict line × IsJson (answer_members (is_accepted verdict) (string line) ++ of_verdict p verdict) text
 
@@ -95,7 +95,7 @@ stage_of other = codes "file"
 abbrev pub of_fault : PolicyFault → List (List ℕ × Data)
 of_fault named = (codes "stage", string (stage_of named)) ∷ (codes "code", string (fault_text named)) ∷ (codes "slot", slot_of named) ∷ []
 
--- so is a fault of a file
+-- as JSON a fault of a file has its first line, and a member for each of its parts
 abbrev pub ShowsFault : PolicyFault → List ℕ → Type 0
 ShowsFault named text =
     IsJson (answer_members false (string (first_line (fault_line named))) ++ of_fault named) text

@@ -1,7 +1,7 @@
 //! The words of `asm` beside the marks of its text.
 ghost use Rattle.std.specs.Prelude.{◌≡◌, IfOk, MatchOption};
-ghost use Rattle.bq_policy_file.specs.declared.head.Head.{Head as Said};
-ghost use Rattle.bq_policy_check.specs.Disagreeing.{IsAsmRefusal, IsDifference, IsRefusalBeside, SaysImage, differing};
+ghost use Rattle.bq_policy_file.specs.declared.head.Head.{Head as StatedHead};
+ghost use Rattle.bq_policy_check.specs.Disagreeing.{IsAsmRefusal, IsDifference, IsRefusalBeside, GivesImage, differing};
 
 use crate::reasons::{fault_line, fault_reason};
 use bq_policy_file::{FileKind, Head, Key, Options, PolicyFault, kind_of, read_policy, shapes_of};
@@ -16,7 +16,7 @@ pub struct AsmRefusal {
     pub reason: String,
 }
 
-/// Whether the words of `asm` say another thing than the marks of the text: then its answer is a refusal.
+/// The refusal of the options of `asm`, if they contradict the marks of the text; `None` if they do not.
 pub fn asm_refusal(
     alloc: Global,
     options: &Options,
@@ -30,7 +30,7 @@ pub fn asm_refusal(
     }
 }
 
-/// Why words that say this of the image are refused beside the text, if they are.
+/// Why the options are refused, given what the marks of the text say; `None` if they agree.
 fn refusal_beside(
     alloc: Global,
     given: &Head,
@@ -49,10 +49,10 @@ fn refusal_beside(
     }
 }
 
-/// What the words say of the image, if they ask for one. Maps that are none are refused by `asm` itself.
+/// What the options say of the image, if they ask for one. A `--maps` that names no maps is refused later, by `asm` itself.
 #[tactic(auto, using(crate::proofs::DifferenceLemmas::no_image, crate::proofs::DifferenceLemmas::no_maps))]
 pub(crate) fn head_of(alloc: Global, options: &Options) -> Result<Option<Head>, AllocError>
-    ensures { IfOk result (λ said. MatchOption said ((h : Said) → ¬ SaysImage options.now h) (SaysImage options.now)) }
+    ensures { IfOk result (λ stated. MatchOption stated ((h : StatedHead) → ¬ GivesImage options.now h) (GivesImage options.now)) }
 {
     if options.hook.is_none() {
         return Ok(None);
@@ -89,7 +89,7 @@ fn difference(alloc: Global, given: &Head, text: &[u8]) -> Result<Option<Key>, A
     }
 }
 
-/// The mark that is said otherwise, where that is the fault.
+/// Answers the mark that the words contradict, if that is the fault.
 fn differing(fault: PolicyFault) -> Option<Key>
     ensures { result ≡ differing fault }
 {

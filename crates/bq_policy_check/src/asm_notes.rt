@@ -1,6 +1,6 @@
 //! What `asm` leaves of the marks of its text.
 ghost use Rattle.std.specs.Prelude.{◌≡◌, IfOk, string_bytes};
-ghost use Rattle.bq_policy_check.specs.Noting.{IsAsmNote, IsNoteBeside, TellsHead, left_text, leaves_format, leaves_maps};
+ghost use Rattle.bq_policy_check.specs.Noting.{IsAsmNote, IsNoteBeside, NotesHead, left_text, leaves_format, leaves_maps};
 
 use crate::asm_head::head_of;
 use crate::reasons::fault_reason;
@@ -8,8 +8,8 @@ use bq_hooks::Version;
 use bq_policy_file::{FileKind, Head, Options, PolicyFault, PolicySource, kind_of, read_policy};
 use std::alloc::{AllocError, Global};
 
-/// Lines on what an image lacks that the marks of its text say, as the options leave it out, or on the first that is no mark. Nothing
-/// where there is nothing to say.
+/// Answers lines on what the marks of a text say and its image lacks, since the options leave it out; or on the first line that
+/// is no mark. Empty if there is nothing to say.
 ///
 /// ```text
 /// the text says maps, and the image has none: asm takes them only from --maps; check --image OUT writes the image with them
@@ -38,9 +38,9 @@ fn note_beside(alloc: Global, given: &Head, text: &[u8]) -> Result<String, Alloc
     }
 }
 
-/// The line on what is no mark, where that is the fault.
+/// Answers the note on the line that is no mark, if that is the fault.
 fn head_note(alloc: Global, text: &[u8], fault: PolicyFault) -> Result<String, AllocError>
-    ensures { IfOk result (λ note. TellsHead fault (string_bytes note)) }
+    ensures { IfOk result (λ note. NotesHead fault (string_bytes note)) }
 {
     match fault {
         PolicyFault::Head { line: _, cause: _ } => {
@@ -76,14 +76,14 @@ fn left_text(alloc: Global, given: &Head, policy: &PolicySource) -> Result<Strin
     Ok(note)
 }
 
-/// Whether the text says maps, and the options none.
+/// Answers whether the text has maps, and the options none.
 fn leaves_maps(given: &Head, policy: &PolicySource) -> bool
     ensures { result ≡ leaves_maps given.now policy.now }
 {
     given.maps.is_none() && !policy.form.shapes.is_empty()
 }
 
-/// Whether the text says the second version, and the options none.
+/// Answers whether the text has the second version, and the options none.
 fn leaves_format(given: &Head, policy: &PolicySource) -> bool
     ensures { result ≡ leaves_format given.now policy.now }
 {

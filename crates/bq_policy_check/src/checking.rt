@@ -1,15 +1,15 @@
 //! `check` of a policy's file.
 ghost use Rattle.std.specs.Prelude.{◌≡◌, ◌≢◌, IfErr, IfOk, OnOk, false, string_bytes};
 ghost use Rattle.bq_policy_file.specs.declared.fault.PolicyFault.TheVariants.{OutOfMemory};
-ghost use Rattle.bq_policy_check.specs.Checking.{ChecksFile, ChecksTo, IsShown, IsTold, SaysTerms, TellsVerdict, answered};
+ghost use Rattle.bq_policy_check.specs.Checking.{ChecksFile, ChecksTo, IsShownAsJson, IsPlainLine, GivesTerms, ReportsVerdict, answered};
 ghost use Rattle.bq_policy_check.specs.Limiting.{HasLimits};
 ghost use Rattle.bq_policy_check.specs.Refusing.{fault_line};
-ghost use Rattle.bq_console.specs.Words.{SaysNone};
-ghost use Rattle.bq_policy_check.specs.Saying.{SaysHead};
+ghost use Rattle.bq_console.specs.Words.{GivesNone};
+ghost use Rattle.bq_policy_check.specs.Given.{GivesHead};
 ghost use Rattle.bq_policy_check.specs.Showing.{ShowsFault, ShowsVerdict};
 
 use crate::answered::Answered;
-use crate::given::said_by;
+use crate::given::given_head;
 use crate::json_text::{explanation_json, name_text, reason_json};
 use crate::limits::limits_of;
 use crate::listing::reasoned;
@@ -21,8 +21,8 @@ use bq_explain::{Explanation, Limits, explain, explanation_text, judge, verdict_
 use bq_policy_file::{Head, PolicyFault, PolicySource, read_policy};
 use std::alloc::{AllocError, Global};
 
-/// The verdict on the policy whose file has that name and these bytes, or why the file is no policy. Words are refused only where they say
-/// no head or no limits. Standard input has no name.
+/// Answers the verdict on the policy whose file has that name and these bytes, or why the file is no policy. Words are refused
+/// only if they say no head or no limits. Standard input has no name.
 pub fn check(
     alloc: Global,
     words: &CheckWords,
@@ -47,11 +47,11 @@ pub(crate) struct Terms {
 
 /// What the words say beside the file, and the limits that they set.
 pub(crate) fn terms_of(alloc: Global, words: &CheckWords) -> Result<Terms, WordsFault>
-    ensures says { IfOk result (λ terms. SaysHead words.now.policy terms.head) }
+    ensures gives { IfOk result (λ terms. GivesHead words.now.policy terms.head) }
     ensures has { IfOk result (λ terms. HasLimits words.now.limits terms.limits) }
-    ensures none { IfErr result (SaysNone (SaysTerms words.now)) }
+    ensures none { IfErr result (GivesNone (GivesTerms words.now)) }
 {
-    let head = said_by(alloc, &words.policy)?;
+    let head = given_head(alloc, &words.policy)?;
     let limits = limits_of(alloc, &words.limits)?;
     Ok(Terms { head, limits })
 }
@@ -80,7 +80,7 @@ fn check_policy(
     policy: &PolicySource,
     limits: &Limits,
 ) -> Result<Answered, AllocError>
-    ensures { IfOk result (TellsVerdict words.now policy.now limits.now) }
+    ensures { IfOk result (ReportsVerdict words.now policy.now limits.now) }
 {
     if words.is_explained || words.is_json {
         let explanation = explain(alloc, policy, bytes, limits)?;
@@ -98,7 +98,7 @@ fn judge_policy(
     limits: &Limits,
 ) -> Result<Answered, AllocError>
     requires { words.now.is_json ≡ false }
-    ensures { IfOk result (TellsVerdict words.now policy.now limits.now) }
+    ensures { IfOk result (ReportsVerdict words.now policy.now limits.now) }
 {
     let verdict = judge(alloc, policy, limits)?;
     let line = verdict_line(alloc, policy.form.hook, verdict)?;
@@ -113,8 +113,8 @@ fn refusal(
     bytes: &[u8],
     fault: PolicyFault,
 ) -> Result<String, AllocError>
-    ensures told { IfOk result (λ text. IsTold words.now (fault_line fault) (string_bytes text)) }
-    ensures shown { IfOk result (λ text. IsShown words.now (ShowsFault fault) (string_bytes text)) }
+    ensures reported { IfOk result (λ text. IsPlainLine words.now (fault_line fault) (string_bytes text)) }
+    ensures shown { IfOk result (λ text. IsShownAsJson words.now (ShowsFault fault) (string_bytes text)) }
     ensures other { OnOk result (fault ≢ OutOfMemory) }
 {
     let line = fault_line(alloc, fault)?;
@@ -145,7 +145,7 @@ fn reasoned_refusal(
     line: &String,
 ) -> Result<String, AllocError>
     requires { string_bytes line.now ≡ fault_line fault }
-    ensures { IfOk result (λ text. IsShown words.now (ShowsFault fault) (string_bytes text)) }
+    ensures { IfOk result (λ text. IsShownAsJson words.now (ShowsFault fault) (string_bytes text)) }
 {
     let reason = reason_of(alloc, bytes, fault)?;
     let text = reasoned(alloc, name, &reason, line)?;
@@ -155,7 +155,7 @@ fn reasoned_refusal(
     Ok(text)
 }
 
-/// An explanation, in words or as JSON. In words it ends with the line of C, where the text names it.
+/// Answers an explanation, in words or as JSON. In words it ends with the line of C, if the text names one.
 fn shown(
     alloc: Global,
     words: &CheckWords,
@@ -164,7 +164,7 @@ fn shown(
     policy: &PolicySource,
     explanation: &Explanation,
 ) -> Result<String, AllocError>
-    ensures { IfOk result (λ text. IsShown words.now (ShowsVerdict policy.now explanation.now.verdict) (string_bytes text)) }
+    ensures { IfOk result (λ text. IsShownAsJson words.now (ShowsVerdict policy.now explanation.now.verdict) (string_bytes text)) }
 {
     if words.is_json {
         return explanation_json(alloc, name, policy, explanation);

@@ -85,7 +85,7 @@ fn put_refusal(
     put_number(fields, alloc, "slot", slot as u64)
 }
 
-/// Of an accepted policy: its maps, and what it uses.
+/// Answers the fields for an accepted policy: its maps, and what it uses.
 pub(crate) fn fields_of_summary(
     alloc: Global,
     policy: &PolicySource,
@@ -101,8 +101,8 @@ pub(crate) fn fields_of_summary(
     Ok(fields)
 }
 
-/// Of a policy that the verifier refuses: the cause in words, the instruction, the need, what is known, where that comes from, and
-/// what helps.
+/// Answers the fields for a policy that the verifier refuses: the cause in words, the instruction, the need, what is known,
+/// where that comes from, and what helps.
 pub(crate) fn fields_of_refusal(
     alloc: Global,
     policy: &PolicySource,
@@ -123,7 +123,7 @@ pub(crate) fn fields_of_refusal(
     Ok(fields)
 }
 
-/// Of a policy beyond a limit: the place of a call that is not allowed.
+/// Answers the fields for a policy that exceeds a limit: the place of a call that is not allowed.
 pub(crate) fn fields_of_limit(
     alloc: Global,
     place: &Option<Place>,
@@ -188,7 +188,7 @@ pub(crate) fn number_value(number: Option<usize>) -> Value {
     }
 }
 
-/// What is known of each register, by its name; null where nothing is known before the instruction.
+/// Answers what is known of each register, by its name; null if nothing is known before the instruction.
 fn registers_value(
     alloc: Global,
     shapes: &[MapShape],
@@ -226,7 +226,7 @@ fn trail_value(alloc: Global, shapes: &[MapShape], trail: &[Made]) -> Result<Val
     Ok(Value::Array(values))
 }
 
-/// An instruction that made a register, and what that is known to be right behind it.
+/// An instruction that made a register, and what the register is known to be after it.
 fn made_value(alloc: Global, shapes: &[MapShape], made: &Made) -> Result<Value, AllocError> {
     let mut fields = Map::new(alloc);
     put_place(&mut fields, alloc, &made.place)?;

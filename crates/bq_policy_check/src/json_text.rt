@@ -93,7 +93,7 @@ pub(crate) fn name_text(alloc: Global, name: Option<&str>) -> Result<Option<Stri
     }
 }
 
-/// The first line of a text, and what stands behind it.
+/// Answers the first line of a text, and the rest after it.
 fn first_line(text: &str) -> (&str, &str)
     ensures { result.0.now ≡ first_line text.now }
 {
@@ -130,7 +130,7 @@ fn put_explanation(
     )
 }
 
-/// Whether the policy is accepted, and the answer's first line.
+/// Adds whether the policy is accepted, and the answer's first line.
 fn put_answer(
     fields: &mut Map<String, Value>,
     alloc: Global,

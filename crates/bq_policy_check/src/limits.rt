@@ -1,15 +1,17 @@
-//! A keeper's own limits from the words of a command.
+//! A keeper's own limits, from the words of a command.
 ghost use Rattle.std.specs.Prelude.{◌≡◌, [], List, ℤ, IfErr, IfOk, MatchBool, MatchOption};
 ghost use Rattle.std.specs.List.{AllZip};
 ghost use Rattle.bq_words.specs.Words.{parts};
-ghost use Rattle.bq_console.specs.Words.{SaysNone, SaysWord};
+ghost use Rattle.bq_console.specs.Words.{GivesNone, GivesWord};
 ghost use Rattle.bq_hooks.specs.declared.hook.Hook.{Hook as Place};
-ghost use Rattle.bq_policy_check.specs.Saying.{option_bytes};
+ghost use Rattle.bq_policy_check.specs.Given.{option_bytes};
 ghost use Rattle.bq_policy_check.specs.Limiting.{HasLimits, IsHelper, IsHook, IsMost, NamesHelpers, NamesHooks, NamesNoHelpers, NamesNoHooks};
 
+use crate::given::HOOK_WORDS;
 use crate::numbers::{helper, small_number};
 use crate::words::LimitWords;
-use bq_console::{Quoted, WordsFault, words_fault};
+use bq_bpf::with_helpers;
+use bq_console::{WordsFault, value_words, words_fault};
 use bq_explain::Limits;
 use bq_hooks::{Hook, with_hooks};
 use bq_words::with_32_bits;
@@ -21,11 +23,13 @@ const STEPS: &str = with_32_bits!("a limit is a number of instructions below ", 
 const MOST: &str = with_32_bits!("a limit is a number below ", ", as 100");
 /// What a list of hooks is.
 const HOOKS: &str = with_hooks!("each is one of ", ", with commas between them");
+/// What a list of helpers is.
+const HELPERS: &str = with_helpers!("each is the number of a helper, with commas between them: ");
 
-/// The limits that the words set. They are refused only where they set none.
+/// Answers the limits that the words set. They are refused only if they set none.
 pub fn limits_of(alloc: Global, words: &LimitWords) -> Result<Limits, WordsFault>
     ensures has { IfOk result (HasLimits words.now) }
-    ensures none { IfErr result (SaysNone (HasLimits words.now)) }
+    ensures none { IfErr result (GivesNone (HasLimits words.now)) }
 {
     let steps = most_in(alloc, &words.steps, "max-steps", STEPS)?;
     let helpers = helpers_in(alloc, &words.helpers)?;
@@ -50,25 +54,22 @@ fn most_in(
     option: &'static str,
     what: &'static str,
 ) -> Result<Option<u32>, WordsFault>
-    ensures says { IfOk result (SaysWord IsMost (option_bytes word.now)) }
-    ensures none { IfErr result (SaysNone (SaysWord IsMost (option_bytes word.now))) }
+    ensures gives { IfOk result (GivesWord IsMost (option_bytes word.now)) }
+    ensures none { IfErr result (GivesNone (GivesWord IsMost (option_bytes word.now))) }
 {
     let Some(word) = word else {
         return Ok(None);
     };
     match small_number(word.as_str()) {
         Some(most) => Ok(Some(most)),
-        None => {
-            let word = Quoted(word.as_str());
-            Err(words_fault(format!(in alloc; "--{option} {word}: {what}")))
-        }
+        None => Err(words_fault(value_words(alloc, option, word, what, ""))),
     }
 }
 
 /// The hooks that a policy may be for, if there is a word of them: their words with commas between.
 fn hooks_in(alloc: Global, word: &Option<String>) -> Result<Option<Vec<Hook>>, WordsFault>
-    ensures says { IfOk result (SaysWord NamesHooks (option_bytes word.now)) }
-    ensures none { IfErr result (SaysNone (SaysWord NamesHooks (option_bytes word.now))) }
+    ensures gives { IfOk result (GivesWord NamesHooks (option_bytes word.now)) }
+    ensures none { IfErr result (GivesNone (GivesWord NamesHooks (option_bytes word.now))) }
 {
     let Some(word) = word else {
         return Ok(None);
@@ -76,10 +77,20 @@ fn hooks_in(alloc: Global, word: &Option<String>) -> Result<Option<Vec<Hook>>, W
     match hooks_of(alloc, word.as_str())? {
         Some(hooks) => Ok(Some(hooks)),
         None => {
-            let word = Quoted(word.as_str());
-            Err(words_fault(format!(in alloc; "--hooks {word}: {HOOKS}")))
+            let wrong = no_hook(word);
+            Err(words_fault(value_words(alloc, "hooks", wrong, HOOKS, HOOK_WORDS)))
         }
     }
+}
+
+/// The first part between commas that is no hook, or the whole text if each is one.
+fn no_hook(text: &str) -> &str {
+    for part in text.split(',') {
+        if Hook::of_word(part.as_bytes()).is_none() {
+            return part;
+        }
+    }
+    text
 }
 
 /// The hooks of a text with commas between; none of an empty text.
@@ -97,7 +108,7 @@ fn hooks_of(alloc: Global, text: &str) -> Result<Option<Vec<Hook>>, AllocError>
     Ok(None)
 }
 
-/// Adds the hooks of a text with commas between, up to a part that is no hook; whether there is no such part.
+/// Adds the hooks of a comma-separated text, up to the first part that is no hook. Answers whether all parts are hooks.
 fn push_hooks(hooks: &mut Vec<Hook>, text: &str) -> Result<bool, AllocError>
     requires { hooks.old.items ≡ [] }
     ensures { IfOk result (λ all. MatchBool all (AllZip IsHook (parts 44 text.now) hooks.new.items) ((hooks : List Place) → ¬ AllZip IsHook (parts 44 text.now) hooks)) }
@@ -111,26 +122,31 @@ fn push_hooks(hooks: &mut Vec<Hook>, text: &str) -> Result<bool, AllocError>
     Ok(true)
 }
 
-/// The helpers that may be called, if there is a word of them: numbers with commas between.
+/// The helpers that may be called, if there is a word of them: their numbers with commas between.
 fn helpers_in(alloc: Global, word: &Option<String>) -> Result<Option<Vec<i32>>, WordsFault>
-    ensures says { IfOk result (SaysWord NamesHelpers (option_bytes word.now)) }
-    ensures none { IfErr result (SaysNone (SaysWord NamesHelpers (option_bytes word.now))) }
+    ensures gives { IfOk result (GivesWord NamesHelpers (option_bytes word.now)) }
+    ensures none { IfErr result (GivesNone (GivesWord NamesHelpers (option_bytes word.now))) }
 {
     let Some(word) = word else {
         return Ok(None);
     };
     match numbers_of(alloc, word.as_str())? {
         Some(numbers) => Ok(Some(numbers)),
-        None => {
-            let word = Quoted(word.as_str());
-            Err(words_fault(format!(in alloc;
-                "--helpers {word}: helpers are numbers with commas between, as 1,2,5,8"
-            )))
-        }
+        None => Err(words_fault(value_words(alloc, "helpers", no_helper(word), HELPERS, ""))),
     }
 }
 
-/// The numbers of a text with commas between; none of an empty text.
+/// The first part between commas that is no helper, or the whole text if each is one.
+fn no_helper(text: &str) -> &str {
+    for part in text.split(',') {
+        if helper(part.as_bytes()).is_none() {
+            return part;
+        }
+    }
+    text
+}
+
+/// The helpers of a text with commas between; none of an empty text.
 #[tactic(auto, using(crate::proofs::ListLemmas::none_named, crate::proofs::ListLemmas::all_named, crate::proofs::ListLemmas::not_named))]
 fn numbers_of(alloc: Global, text: &str) -> Result<Option<Vec<i32>>, AllocError>
     ensures { IfOk result (λ named. MatchOption named (NamesNoHelpers text.now) (NamesHelpers text.now)) }
@@ -145,7 +161,7 @@ fn numbers_of(alloc: Global, text: &str) -> Result<Option<Vec<i32>>, AllocError>
     Ok(None)
 }
 
-/// Adds the numbers of a text with commas between, up to a part that is no number; whether there is no such part.
+/// Adds the helpers of a comma-separated text, up to the first part that is no helper's number. Answers whether all parts are.
 fn push_numbers(numbers: &mut Vec<i32>, text: &str) -> Result<bool, AllocError>
     requires { numbers.old.items ≡ [] }
     ensures { IfOk result (λ all. MatchBool all (AllZip IsHelper (parts 44 text.now) numbers.new.items) ((helpers : List ℤ) → ¬ AllZip IsHelper (parts 44 text.now) helpers)) }

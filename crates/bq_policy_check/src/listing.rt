@@ -5,19 +5,19 @@ ghost use Rattle.bq_policy_check.specs.Listing.{ListsFile, ListsTo};
 ghost use Rattle.bq_policy_check.specs.Refusing.{Refuses};
 
 use crate::answered::Answered;
-use crate::given::said_by;
+use crate::given::given_head;
 use crate::reasons::{Reason, fault_line, reason_of, reason_text};
 use crate::words::ListWords;
 use bq_console::{WordsFault, file_named};
 use bq_policy_file::{Head, PolicyFault, policy_text, read_policy};
 use std::alloc::{AllocError, Global};
 
-/// The listing of the policy whose file has these bytes, under the marks that say its hook, maps and version. Words
-/// are refused only where they say no head.
+/// Answers the listing of the policy whose file has these bytes, under the marks that say its hook, maps and version. Words are
+/// refused only if they say no head.
 pub fn list(alloc: Global, words: &ListWords, bytes: &[u8]) -> Result<Answered, AllocError>
     ensures { IfOk result (ListsTo words.now bytes.now) }
 {
-    match said_by(alloc, &words.policy) {
+    match given_head(alloc, &words.policy) {
         Ok(head) => list_file(alloc, words, bytes, &head),
         Err(WordsFault::Words(why)) => Ok(Answered::Words(why)),
         Err(WordsFault::OutOfMemory) => Err(AllocError),
@@ -59,7 +59,7 @@ pub fn refused_file(
     reasoned(alloc, file_named(file), &reason, &line)
 }
 
-/// A line that refuses a file, and the reason behind it.
+/// Answers a line that refuses a file, and the reason after it.
 pub(crate) fn reasoned(
     alloc: Global,
     name: Option<&str>,

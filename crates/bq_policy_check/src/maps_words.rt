@@ -7,7 +7,8 @@ use std::alloc::{AllocError, Global};
 /// What a part of the text is.
 const MAP: &str = "a map is the size of a value, a colon and the number of entries, as 8:2";
 
-/// What is wrong with a text that names no maps: the first part that names none with what it may say, or that there are too many.
+/// What is wrong with a text that names no maps: its first part that names no map, and what a part may say; or that there are
+/// too many parts.
 pub(crate) fn maps_words(alloc: Global, text: &str) -> Result<String, AllocError> {
     let mut number: usize = 0;
     for part in text.split(',') {
@@ -24,7 +25,7 @@ fn many_words(alloc: Global, number: usize) -> Result<String, AllocError> {
     format!(in alloc; "{number} maps; a program has {MAPS} at most")
 }
 
-/// Whether a text names maps.
+/// Answers whether a text names maps.
 fn is_maps(alloc: Global, text: &str) -> Result<bool, AllocError> {
     Ok(shapes_of(alloc, text.as_bytes())?.is_some())
 }
@@ -52,7 +53,7 @@ fn map_words(alloc: Global, part: &str) -> Result<String, AllocError> {
     }
 }
 
-/// What is wrong with a size and a number of entries, which are those of no map.
+/// Says what is wrong with a size and a number of entries that no map can have.
 fn pair_words(alloc: Global, size: &str, entries: &str) -> Result<String, AllocError> {
     let with_an_entry = format!(in alloc; "{size}:1")?;
     if is_maps(alloc, with_an_entry.as_str())? {
@@ -74,7 +75,7 @@ fn entries_words(alloc: Global, entries: &str) -> Result<String, AllocError> {
     format!(in alloc; "the number of entries is {ENTRIES_WORDS} (got {got})")
 }
 
-/// A word as it was given, and whether it is no number.
+/// Says a word as it was given, and whether it is no number.
 fn got(alloc: Global, word: &str) -> Result<String, AllocError> {
     if word.is_empty() {
         return String::from_str(alloc, "nothing");

@@ -32,7 +32,7 @@ pub fn fault_line(alloc: Global, fault: PolicyFault) -> Result<String, AllocErro
     }
 }
 
-/// What is wrong with a file: where, if it is at a place of it, and why.
+/// The fault of a file: its place, if it has one, and its reason.
 #[derive(Drop)]
 pub struct Reason {
     /// The line, counted from 1.
@@ -42,7 +42,7 @@ pub struct Reason {
     pub why: String,
 }
 
-/// Of the whole file.
+/// A reason for the whole file.
 fn whole(why: String) -> Reason {
     Reason {
         line: None,
@@ -51,7 +51,7 @@ fn whole(why: String) -> Reason {
     }
 }
 
-/// Of that line.
+/// A reason for that line.
 fn at_line(line: usize, why: String) -> Reason {
     Reason {
         line: Some(line),
@@ -60,7 +60,7 @@ fn at_line(line: usize, why: String) -> Reason {
     }
 }
 
-/// Whether the file of these bytes is an object file.
+/// Answers whether the file of these bytes is an object file.
 fn is_object(bytes: &[u8]) -> bool {
     bytes.starts_with(b"\x7fELF")
 }
@@ -100,18 +100,18 @@ pub(crate) fn reason_of(
     }
 }
 
-/// Of the whole file, in these words.
+/// A reason for the whole file, in these words.
 fn plain(alloc: Global, why: &str) -> Result<Reason, AllocError> {
     Ok(whole(String::from_str(alloc, why)?))
 }
 
-/// What is wrong with the file of these bytes, by its line or slot where it has one.
+/// Says what is wrong with the file of these bytes, by its line or slot if it has one.
 pub fn fault_reason(alloc: Global, bytes: &[u8], fault: PolicyFault) -> Result<String, AllocError> {
     let reason = reason_of(alloc, bytes, fault)?;
     reason_text(alloc, None, &reason)
 }
 
-/// The reason behind the file's name, if there is one: `p.s line 3: why`, `p.s: why`.
+/// Answers the reason after the file's name, if there is one: `p.s line 3: why`, `p.s: why`.
 pub(crate) fn reason_text(
     alloc: Global,
     name: Option<&str>,
@@ -126,7 +126,7 @@ pub(crate) fn reason_text(
     }
 }
 
-/// The reason behind the file's name, and behind its place unless that is the whole file.
+/// Answers the reason after the file's name and its place, unless the place is the whole file.
 fn named_text(alloc: Global, name: Name<'_>, at: &str, why: &str) -> Result<String, AllocError> {
     if at.is_empty() {
         return format!(in alloc; "{name}: {why}");
@@ -134,7 +134,7 @@ fn named_text(alloc: Global, name: Name<'_>, at: &str, why: &str) -> Result<Stri
     format!(in alloc; "{name} {at}: {why}")
 }
 
-/// Where it is; nothing of the whole file.
+/// Says the place; empty if the fault is of the whole file.
 fn place_text(alloc: Global, reason: &Reason) -> Result<String, AllocError> {
     match (reason.line, reason.slot) {
         (Some(line), _) => format!(in alloc; "line {line}"),
@@ -178,7 +178,7 @@ fn slot_value(fault: PolicyFault) -> Value
     }
 }
 
-/// Which part of the program refuses the file.
+/// Answers which part of the program refuses the file.
 fn stage_of(fault: PolicyFault) -> &'static str
     ensures { result.now ≡ stage_of fault }
 {
@@ -206,7 +206,7 @@ fn difference_words(alloc: Global, key: Key) -> Result<String, AllocError> {
     }
 }
 
-/// What is wrong with a text that the assembler refuses there; line 0 stands for a text without instruction.
+/// Says what is wrong with a text that the assembler refuses there; line 0 means that the text has no instruction.
 fn assembly_reason(
     alloc: Global,
     bytes: &[u8],
@@ -214,8 +214,8 @@ fn assembly_reason(
     cause: Cause,
 ) -> Result<Reason, AllocError> {
     let text = std::str::from_utf8(bytes).unwrap_or("");
-    let said = assembly_words(alloc, text, line, cause)?;
-    let shown = Lines(said.as_str());
+    let stated = assembly_words(alloc, text, line, cause)?;
+    let shown = Lines(stated.as_str());
     let why = format!(in alloc; "{shown}")?;
     if line == 0 {
         return Ok(whole(why));

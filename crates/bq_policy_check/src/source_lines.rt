@@ -4,7 +4,7 @@ use bq_explain::{Detail, Explanation};
 use std::alloc::{AllocError, Global};
 use std::str::from_utf8;
 
-/// What an explanation says of the line of C; nothing where no comment above the instruction names one.
+/// Answers what an explanation says of the line of C; empty if no comment above the instruction names one.
 pub(crate) fn source_text(
     alloc: Global,
     file: &[u8],
@@ -21,18 +21,18 @@ fn source_of<'a>(file: &'a [u8], explanation: &Explanation) -> Option<&'a str> {
     let line = line_at_fault(explanation)?;
     let text = from_utf8(file).ok()?;
     let mut source = None;
-    for (index, said) in text.lines().enumerate() {
+    for (index, stated) in text.lines().enumerate() {
         if index >= line {
             return source;
         }
-        if let Some(named) = source_named(said) {
+        if let Some(named) = source_named(stated) {
             source = Some(named);
         }
     }
     source
 }
 
-/// The line of the text on which the instruction at fault stands.
+/// Answers the line of the text that has the instruction at fault.
 fn line_at_fault(explanation: &Explanation) -> Option<usize> {
     match &explanation.detail {
         Detail::Refused(refusal) => refusal.place.line,
@@ -42,8 +42,8 @@ fn line_at_fault(explanation: &Explanation) -> Option<usize> {
 }
 
 /// The line of C that the comment names, if it is one of `import`.
-fn source_named(said: &str) -> Option<&str> {
-    let words = said.strip_prefix("; ")?;
+fn source_named(stated: &str) -> Option<&str> {
+    let words = stated.strip_prefix("; ")?;
     let (file, line) = words.rsplit_once(':')?;
     let is_number = !line.is_empty() && line.as_bytes().iter().all(|byte| byte.is_ascii_digit());
     if is_number && !file.is_empty() && words.split_once(' ').is_none() {

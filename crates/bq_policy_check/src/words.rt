@@ -22,7 +22,7 @@ pub struct CheckWords {
     pub policy: PolicyWords,
     /// All files, in their order.
     pub files: Vec<String>,
-    /// Whether a refusal is explained, and an accepted policy told in full.
+    /// Whether a refusal is explained, and an accepted policy described in full.
     pub is_explained: bool,
     /// Whether the answer is JSON.
     pub is_json: bool,
@@ -49,12 +49,12 @@ pub struct LimitWords {
     pub counters: Option<String>,
 }
 
-/// Which run is shown, and how.
+/// The way in which a run is reported.
 #[derive(Drop)]
-pub struct TellingWords {
+pub struct ReportWords {
     /// Whether each instruction is shown.
     pub is_traced: bool,
-    /// How many runs there are, of which the last is shown.
+    /// The number of runs, of which the last is shown.
     pub repeat: Option<String>,
 }
 
@@ -62,7 +62,7 @@ pub struct TellingWords {
 #[derive(Drop)]
 pub struct RunWords {
     pub policy: PolicyWords,
-    pub telling: TellingWords,
+    pub report: ReportWords,
     /// The bytes of the context, in hex.
     pub context: Option<String>,
     /// Fields of the context by their names, as `task=3,mask=0x6`.

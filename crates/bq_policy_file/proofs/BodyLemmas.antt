@@ -26,7 +26,7 @@ use Rattle.bq_asm.proofs.WellFormedLemmas.{IsInRange}
 abbrev pub is_clean : ℕ → Bool
 is_clean b = nat_lt b 128 && (not (b == 10) && not (b == 13))
 
--- and begins no comment
+-- an ASCII byte that ends no line and begins no comment
 abbrev pub is_inner : ℕ → Bool
 is_inner b = not (b == 59) && is_clean b
 
@@ -35,20 +35,25 @@ digit_inner b h =
     let parts = and_parts (nat_le 48 b) (nat_le b 57) h in
     let low : 48 ≤ b = leb-true 48 b parts.0 in
     let high : b ≤ 57 = leb-true b 57 parts.1 in
-    (λ i. not (ne_eqb b 59 (λ e. omega arith) i) && (lt-ltb b 128 (omega arith) i && (not (ne_eqb b 10 (λ e. omega arith) i) && not (ne_eqb b 13 (λ e. omega arith) i))))
+    (λ i.
+    not (ne_eqb b 59 (λ e. omega arith) i)
+    && (lt-ltb b 128 (omega arith) i && (not (ne_eqb b 10 (λ e. omega arith) i) && not (ne_eqb b 13 (λ e. omega arith) i))))
 
 -- the digits of a number end no line and begin no comment
 pub decimal_inner : (n : ℕ) → n < 2 ^ 64 → list_all is_inner (decimal n) ≡ true
 decimal_inner n h = list_all-weaker is_digit is_inner digit_inner (decimal n) (decimal_digits n h)
 
 -- a word that the table names passes what all its words pass
-entry_passes : (test : List ℕ → Bool) (word : List ℕ) (entries : List (List ℕ × Mnemonic)) (m : Mnemonic) → list_all (λ e. test e.0) entries ≡ true → entry_with word entries ≡ Some m → test word ≡ true
+entry_passes : (test : List ℕ → Bool) (word : List ℕ) (entries : List (List ℕ × Mnemonic)) (m : Mnemonic)
+    → list_all (λ e. test e.0) entries ≡ true → entry_with word entries ≡ Some m → test word ≡ true
 entry_passes test word [] m h e = cc
 entry_passes test word (x ∷ entries) m h e =
     let parts = and_parts (test x.0) (list_all (λ y. test y.0) entries) h in
     go (bytes_eq x.0 word) ((bytes_eq-Decides x.0 word).0) parts.0 (entry_passes test word entries m parts.1) e
   where
-    go : (b : Bool) → (b ≡ true → x.0 ≡ word) → test x.0 ≡ true → (entry_with word entries ≡ Some m → test word ≡ true) → cond b (Some x.1) (entry_with word entries) ≡ Some m → test word ≡ true
+    go : (b : Bool) → (b ≡ true → x.0 ≡ word) → test x.0 ≡ true → (entry_with word entries ≡ Some m → test word ≡ true)
+        → cond b (Some x.1) (entry_with word entries) ≡ Some m
+        → test word ≡ true
     go true same here rest k = subst (λ w. test w ≡ true) (same refl) here
     go false same here rest k = rest k
 
@@ -75,7 +80,8 @@ near_inner z h = signed_inner z (omega (arith, ints, h))
 
 memory_inner : (r : ℕ) (z : ℤ) → r ≤ 10 → FitsSigned w16 z → list_all is_inner (operand_text (operand.Memory r z)) ≡ true
 memory_inner r z h k =
-    list_all-append is_inner (decimal r) (signed_text z ++ codes "]") (decimal_inner r (omega arith)) (list_all-append is_inner (signed_text z) (codes "]") (near_inner z k) refl)
+    list_all-append is_inner (decimal r) (signed_text z ++ codes "]") (decimal_inner r (omega arith))
+    (list_all-append is_inner (signed_text z) (codes "]") (near_inner z k) refl)
 
 operand_inner : (o : Operand) → IsInRange o → list_all is_inner (operand_text o) ≡ true
 operand_inner (operand.Register r) h = decimal_inner r (omega arith)
@@ -105,7 +111,8 @@ body_inner i h k =
 pub body_begins : (i : Insn) → is_insn i ≡ true → (b : ℕ) × (rest : List ℕ) × (line_body i ≡ b ∷ rest) × (is_inner b ≡ true)
 body_begins i h = go (name_of (mnemonic_of i)) (first_word i h)
   where
-    go : (name : List ℕ) → is_first_word name ≡ true → (b : ℕ) × (rest : List ℕ) × (name ++ operands_text (operands_of i) ≡ b ∷ rest) × (is_inner b ≡ true)
+    go : (name : List ℕ) → is_first_word name ≡ true
+        → (b : ℕ) × (rest : List ℕ) × (name ++ operands_text (operands_of i) ≡ b ∷ rest) × (is_inner b ≡ true)
     go [] h = cc
     go (b ∷ bs) h =
         let all = (and_parts (nat_lt 0 (length (b ∷ bs))) (list_all is_inner (b ∷ bs)) h).1 in

@@ -13,8 +13,10 @@ use Rattle.bq_load.specs.Naming.{fault_text}
 use Rattle.bq_policy_file.specs.Check.{CheckWrites}
 
 -- where an image has a fault, the answer that refuses it by the text of that fault is what is to be written
-pub refuses_fault : (text bytes reason : List ℕ) (f : LoadFault) (r : Result Answer AllocError) → SpellsBytes text bytes → IsUnloaded bytes f → f ≢ fault.OutOfMemory → reason ≡ fault_text f
-    → IfOk r (λ a. string_bytes a.text ≡ refused_line reason) → IfOk r (λ a. a.accepted ≡ false) → IfOk r (λ a. CheckWrites text a.accepted (string_bytes a.text))
+pub refuses_fault : (text bytes reason : List ℕ) (f : LoadFault) (r : Result Answer AllocError)
+    → SpellsBytes text bytes → IsUnloaded bytes f → f ≢ fault.OutOfMemory → reason ≡ fault_text f
+    → IfOk r (λ a. string_bytes a.text ≡ refused_line reason) → IfOk r (λ a. a.accepted ≡ false)
+    → IfOk r (λ a. CheckWrites text a.accepted (string_bytes a.text))
 refuses_fault text bytes reason f (Err e) spells unloaded other is line refused = tt
 refuses_fault text bytes reason f (Ok a) spells unloaded other is line refused =
     subst (λ b. CheckWrites text b (string_bytes a.text)) (sym refused) (inr (bytes, spells, f, unloaded, other, line ∙ ap refused_line is))

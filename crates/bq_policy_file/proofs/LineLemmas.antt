@@ -41,14 +41,17 @@ line_first : (line rest : List ℕ) → list_all is_clean line ≡ true → line
 line_first line rest h =
     let feed = λ (b : ℕ). b == 10 in
     let more : 0 < length (slice_split feed rest) = omega (arith, length-slice_split feed rest) in
-    let kept : strip_carriage_return line ≡ line = ap (λ t. cond t (take (length line - 1) line) line) (ne_eqb (slice_index line (length line - 1)) 13 (no_return line (length line - 1) h)) in
+    let kept : strip_carriage_return line ≡ line =
+    ap (λ t. cond t (take (length line - 1) line) line)
+    (ne_eqb (slice_index line (length line - 1)) 13 (no_return line (length line - 1) h)) in
     ap lines_of_parts (slice_split_at feed line 10 rest (All-from_recursion (λ b. (b == 10) ≡ false) line (no_feed line h)) refl)
     ∙ parts_more line (slice_split feed rest) more ∙ ap (λ b. b ∷ lines rest) kept
 
 -- what is ended line by line has these lines
 pub lines_ended : (ls : List (List ℕ)) → AreClean ls → lines (ended ls) ≡ ls
 lines_ended [] h = refl
-lines_ended (l ∷ ls) h = ap lines (append_assoc l (10 ∷ []) (ended ls)) ∙ line_first l (ended ls) h.0 ∙ ap (λ rest. l ∷ rest) (lines_ended ls h.1)
+lines_ended (l ∷ ls) h =
+    ap lines (append_assoc l (10 ∷ []) (ended ls)) ∙ line_first l (ended ls) h.0 ∙ ap (λ rest. l ∷ rest) (lines_ended ls h.1)
 
 ascii_of : (bs : List ℕ) → list_all is_clean bs ≡ true → AllByRecursion (λ b. b < 128) bs
 ascii_of [] h = tt
@@ -56,7 +59,8 @@ ascii_of (b ∷ bs) h =
     let parts = and_parts (is_clean b) (list_all is_clean bs) h in
     (ltb-true b 128 (and_parts (nat_lt b 128) (not (b == 10) && not (b == 13)) parts.0).0, ascii_of bs parts.1)
 
-both_ascii : (xs ys : List ℕ) → AllByRecursion (λ b. b < 128) xs → AllByRecursion (λ b. b < 128) ys → AllByRecursion (λ b. b < 128) (xs ++ ys)
+both_ascii : (xs ys : List ℕ) → AllByRecursion (λ b. b < 128) xs → AllByRecursion (λ b. b < 128) ys
+    → AllByRecursion (λ b. b < 128) (xs ++ ys)
 both_ascii [] ys h k = k
 both_ascii (x ∷ xs) ys h k = (h.0, both_ascii xs ys h.1 k)
 
@@ -66,9 +70,10 @@ ended_ascii (l ∷ ls) h =
     let feed : AllByRecursion (λ b. b < 128) (10 ∷ []) = (omega arith, tt) in
     both_ascii (l ++ 10 ∷ []) (ended ls) (both_ascii l (10 ∷ []) (ascii_of l h.0) feed) (ended_ascii ls h.1)
 
--- and they are text
+-- clean lines that are ended one by one are text
 pub text_ended : (ls : List (List ℕ)) → AreClean ls → IsUtf8 (ended ls)
-text_ended ls h = IsUtf8-from_ascii (ended ls) (IsAscii-from_all (ended ls) (All-from_recursion (λ b. b < 128) (ended ls) (ended_ascii ls h)))
+text_ended ls h =
+    IsUtf8-from_ascii (ended ls) (IsAscii-from_all (ended ls) (All-from_recursion (λ b. b < 128) (ended ls) (ended_ascii ls h)))
 
 -- lines and others after them
 pub ended_append : (xs ys : List (List ℕ)) → ended (xs ++ ys) ≡ ended xs ++ ended ys

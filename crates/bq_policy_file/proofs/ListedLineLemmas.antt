@@ -6,7 +6,7 @@ use Rattle.std.proofs.lemmas.Bool.{and_parts, not-true, ne_eqb, eqb-false}
 use Rattle.bq_insn.specs.declared.Insn.{Insn}
 use Rattle.bq_insn.specs.Laws.{AllFit}
 use Rattle.bq_insn.specs.Spelling.{is_insn}
-use Rattle.bq_asm.specs.Lines.{line_said, lines_of}
+use Rattle.bq_asm.specs.Lines.{parsed_line, lines_of}
 use Rattle.bq_asm.specs.Names.{name_of}
 use Rattle.bq_asm.specs.Text.{listing_text, mnemonic_of, operands_of, operands_text, line_body}
 use Rattle.std.specs.Str.Lines.{lines}
@@ -50,13 +50,16 @@ bodies_no_marks (i ∷ insns) h =
     (ap mark_words begins.2 ∙ no_mark begins.0 begins.1 begins.3, bodies_no_marks insns parts.1)
 
 -- the lines of a listing say what the texts of its instructions say
-pub bodies_said : (insns : List Insn) → list_all is_insn insns ≡ true → AllFit insns → lines_of (listing_text insns) ≡ map line_said (map line_body insns)
-bodies_said insns h k = ap (λ t. map line_said (lines t)) (listing_ended insns) ∙ ap (map line_said) (lines_ended (map line_body insns) (bodies_clean insns h k))
+pub bodies_parsed : (insns : List Insn) → list_all is_insn insns ≡ true → AllFit insns
+    → lines_of (listing_text insns) ≡ map parsed_line (map line_body insns)
+bodies_parsed insns h k =
+    ap (λ t. map parsed_line (lines t)) (listing_ended insns)
+    ∙ ap (map parsed_line) (lines_ended (map line_body insns) (bodies_clean insns h k))
 
 -- a listing without comments
 pub plain_lines : (insns : List Insn) → list_all is_insn insns ≡ true → AllFit insns → AreLines insns (map line_body insns)
 plain_lines insns h k = record {
   clean = bodies_clean insns h k;
   no_marks = bodies_no_marks insns h;
-  said = sym (bodies_said insns h k);
+  stated = sym (bodies_parsed insns h k);
 }

@@ -19,14 +19,14 @@ use Rattle.bq_hooks.specs.declared.hook.Version.TheVariants.{First, Second}
 use Rattle.bq_hooks.proofs.HookLemmas.{hook_of-hook_word}
 use Rattle.bq_words.specs.Words.{is_space, words}
 use Rattle.bq_words.proofs.WordLemmas.{words-blank, words-word}
-use Rattle.bq_asm.specs.Lines.{Blank, line_said}
+use Rattle.bq_asm.specs.Lines.{Blank, parsed_line}
 use Rattle.bq_asm.proofs.DigitLemmas.{is_digit, list_all-append, list_all-weaker, decimal_digits}
 use Rattle.bq_policy_file.specs.declared.head.Head.{Head}
 use Rattle.bq_policy_file.specs.declared.mark.Key.TheVariants as key
 use Rattle.bq_policy_file.specs.declared.policy_source.PolicySource.{PolicySource}
-use Rattle.bq_policy_file.specs.Heads.{SaysHead}
+use Rattle.bq_policy_file.specs.Heads.{StatesHead}
 use Rattle.bq_policy_file.specs.Marks.{key_word, mark_words}
-use Rattle.bq_policy_file.proofs.HeadLemmas.{says_nothing, says_mark, says_no_mark}
+use Rattle.bq_policy_file.proofs.HeadLemmas.{states_nothing, states_mark, states_no_mark}
 use Rattle.bq_policy_file.specs.MarkLines.{AreMarks, shape_text, more_maps, maps_mark, format_mark}
 use Rattle.bq_policy_file.proofs.BodyLemmas.{is_clean}
 use Rattle.bq_policy_file.proofs.LineLemmas.{AreClean, ended}
@@ -67,12 +67,16 @@ format_ended First = refl
 format_ended Second = refl
 
 -- the marks are these lines
-pub marks_ended : (p : PolicySource) (marks : List ℕ) → AreMarks p marks → marks ≡ ended (mark_lines p.form.hook p.form.shapes.items p.form.version)
+pub marks_ended : (p : PolicySource) (marks : List ℕ) → AreMarks p marks
+    → marks ≡ ended (mark_lines p.form.hook p.form.shapes.items p.form.version)
 marks_ended p marks are =
-    let others : maps_mark p.form.shapes.items ++ format_mark p.form.version ≡ ended (maps_lines p.form.shapes.items ++ format_lines p.form.version) =
-    (λ i. maps_ended p.form.shapes.items i ++ format_ended p.form.version i) ∙ sym (flat_map-append (λ l. l ++ 10 ∷ []) (maps_lines p.form.shapes.items) (format_lines p.form.version)) in
+    let others : maps_mark p.form.shapes.items ++ format_mark p.form.version
+    ≡ ended (maps_lines p.form.shapes.items ++ format_lines p.form.version) =
+    (λ i. maps_ended p.form.shapes.items i ++ format_ended p.form.version i)
+    ∙ sym (flat_map-append (λ l. l ++ 10 ∷ []) (maps_lines p.form.shapes.items) (format_lines p.form.version)) in
     are ∙ ap (λ t. codes ";@ hook " ++ (hook_word p.form.hook ++ (10 ∷ t))) others
-    ∙ ap (λ t. codes ";@ hook " ++ t) (sym (append_assoc (hook_word p.form.hook) (10 ∷ []) (ended (maps_lines p.form.shapes.items ++ format_lines p.form.version))))
+    ∙ ap (λ t. codes ";@ hook " ++ t)
+    (sym (append_assoc (hook_word p.form.hook) (10 ∷ []) (ended (maps_lines p.form.shapes.items ++ format_lines p.form.version))))
 
 -- a byte of a word of a line
 abbrev is_plain : ℕ → Bool
@@ -83,14 +87,18 @@ digit_plain b h =
     let parts = and_parts (nat_le 48 b) (nat_le b 57) h in
     let low : 48 ≤ b = leb-true 48 b parts.0 in
     let high : b ≤ 57 = leb-true b 57 parts.1 in
-    (λ i. not (ne_eqb b 32 (λ e. omega arith) i || ne_eqb b 9 (λ e. omega arith) i) && (lt-ltb b 128 (omega arith) i && (not (ne_eqb b 10 (λ e. omega arith) i) && not (ne_eqb b 13 (λ e. omega arith) i))))
+    (λ i.
+    not (ne_eqb b 32 (λ e. omega arith) i || ne_eqb b 9 (λ e. omega arith) i)
+    && (lt-ltb b 128 (omega arith) i && (not (ne_eqb b 10 (λ e. omega arith) i) && not (ne_eqb b 13 (λ e. omega arith) i))))
 
 decimal_plain : (n : ℕ) → n < 2 ^ 64 → list_all is_plain (decimal n) ≡ true
 decimal_plain n h = list_all-weaker is_digit is_plain digit_plain (decimal n) (decimal_digits n h)
 
 shape_plain : (s : MapShape) → list_all is_plain (shape_text s) ≡ true
 shape_plain s =
-    list_all-append is_plain (decimal s.value_size) (58 ∷ decimal s.entries) (decimal_plain s.value_size (omega (arith, s.greatest_size))) (decimal_plain s.entries (omega (arith, s.greatest_entries)))
+    list_all-append is_plain (decimal s.value_size) (58 ∷ decimal s.entries)
+    (decimal_plain s.value_size (omega (arith, s.greatest_size)))
+    (decimal_plain s.entries (omega (arith, s.greatest_entries)))
 
 more_plain : (shapes : List MapShape) → list_all is_plain (more_maps shapes) ≡ true
 more_plain [] = refl
@@ -112,8 +120,11 @@ hook_clean Pull = refl
 
 maps_clean : (shapes : List MapShape) → AreClean (maps_lines shapes)
 maps_clean [] = tt
-maps_clean (first ∷ rest) =
-    (list_all-weaker is_plain is_clean (λ b k. (and_parts (not (is_space b)) (is_clean b) k).1) (shapes_text first rest) (text_plain first rest), tt)
+maps_clean (first ∷ rest) = (
+  list_all-weaker is_plain is_clean (λ b k. (and_parts (not (is_space b)) (is_clean b) k).1) (shapes_text first rest)
+      (text_plain first rest),
+  tt,
+)
 
 -- the lines of marks are clean
 pub marks_clean : (h : Hook) (shapes : List MapShape) (v : Version) → AreClean (mark_lines h shapes v)
@@ -123,16 +134,17 @@ marks_clean h (first ∷ rest) First = (hook_clean h, maps_clean (first ∷ rest
 marks_clean h (first ∷ rest) Second = (hook_clean h, ((maps_clean (first ∷ rest)).0, (refl, tt)))
 
 -- to the assembler they are comments
-pub marks_blank : (h : Hook) (shapes : List MapShape) (v : Version) → (n : ℕ) × (map line_said (mark_lines h shapes v) ≡ replicate n Blank)
+pub marks_blank : (h : Hook) (shapes : List MapShape) (v : Version)
+    → (n : ℕ) × (map parsed_line (mark_lines h shapes v) ≡ replicate n Blank)
 marks_blank h [] First = (1, refl)
 marks_blank h [] Second = (2, refl)
 marks_blank h (first ∷ rest) First = (2, refl)
 marks_blank h (first ∷ rest) Second = (3, refl)
 
-hook_says : (h : Hook) → mark_words (hook_line h) ≡ Some (key_word key.Hook ∷ hook_word h ∷ [])
-hook_says Place = refl
-hook_says Preempt = refl
-hook_says Pull = refl
+hook_states : (h : Hook) → mark_words (hook_line h) ≡ Some (key_word key.Hook ∷ hook_word h ∷ [])
+hook_states Place = refl
+hook_states Preempt = refl
+hook_states Pull = refl
 
 text_some : (first : MapShape) (rest : List MapShape) → 0 < length (shapes_text first rest)
 text_some first rest =
@@ -140,28 +152,32 @@ text_some first rest =
     let entries = decimal first.entries in
     omega (arith, length-append (size ++ 58 ∷ entries) (more_maps rest), length-append size (58 ∷ entries))
 
-maps_says : (first : MapShape) (rest : List MapShape) → mark_words (codes ";@ maps " ++ shapes_text first rest) ≡ Some (key_word key.Maps ∷ shapes_text first rest ∷ [])
-maps_says first rest =
+maps_state : (first : MapShape) (rest : List MapShape)
+    → mark_words (codes ";@ maps " ++ shapes_text first rest) ≡ Some (key_word key.Maps ∷ shapes_text first rest ∷ [])
+maps_state first rest =
     let t = shapes_text first rest in
     let some : 0 < length t = text_some first rest in
     let plain = All-from_recursion (λ b. is_space b ≡ false) t (no_blank t (text_plain first rest)) in
     ap (λ ws. Some ws) (words-blank is_space 32 (codes "maps " ++ t) refl
-    ∙ words-word is_space (codes "maps") (32 ∷ t) (omega arith) (All-from_recursion (λ b. is_space b ≡ false) (codes "maps") (refl, (refl, (refl, (refl, tt))))) refl
-    ∙ ap (λ ws. codes "maps" ∷ ws) (words-blank is_space 32 t refl ∙ ap words (sym (append-nil t)) ∙ words-word is_space t [] some plain tt))
+    ∙ words-word is_space (codes "maps") (32 ∷ t) (omega arith)
+    (All-from_recursion (λ b. is_space b ≡ false) (codes "maps") (refl, (refl, (refl, (refl, tt))))) refl
+    ∙ ap (λ ws. codes "maps" ∷ ws)
+    (words-blank is_space 32 t refl ∙ ap words (sym (append-nil t)) ∙ words-word is_space t [] some plain tt))
 
 -- what was said, and what one line more says
-abbrev pub head_of : (h : Option Hook) (maps : Option (Vec MapShape Global)) (v : Option Version) → ForSome maps (λ shapes. length shapes.items ≤ 8) → Head
+abbrev pub head_of : (h : Option Hook) (maps : Option (Vec MapShape Global)) (v : Option Version)
+    → ForSome maps (λ shapes. length shapes.items ≤ 8) → Head
 head_of h maps v few = record { hook = h; maps = maps; format = v; few = few }
 
 -- the maps, if there are some
-abbrev pub maps_said : Vec MapShape Global → List MapShape → Option (Vec MapShape Global)
-maps_said shapes [] = None
-maps_said shapes (first ∷ rest) = Some shapes
+abbrev pub maps_stated : Vec MapShape Global → List MapShape → Option (Vec MapShape Global)
+maps_stated shapes [] = None
+maps_stated shapes (first ∷ rest) = Some shapes
 
 -- the version, if it is the second
-abbrev pub format_said : Version → Option Version
-format_said First = None
-format_said Second = Some Second
+abbrev pub format_stated : Version → Option Version
+format_stated First = None
+format_stated Second = Some Second
 
 -- if maps are said, they are at most eight
 abbrev pub AreFew : Option (Vec MapShape Global) → Type 0
@@ -176,47 +192,63 @@ pub AreFew-some : (shapes : Vec MapShape Global) → length shapes.items ≤ 8 �
 AreFew-some shapes h = λ x e. let same : shapes ≡ x = cc in subst (λ (v : Vec MapShape Global). length v.items ≤ 8) same h
 
 -- at most eight maps are not too many, whether they are said or not
-pub AreFew-said : (shapes : Vec MapShape Global) (items : List MapShape) → length shapes.items ≤ 8 → AreFew (maps_said shapes items)
-AreFew-said shapes [] h = AreFew-none
-AreFew-said shapes (first ∷ rest) h = AreFew-some shapes h
+pub AreFew-stated : (shapes : Vec MapShape Global) (items : List MapShape) → length shapes.items ≤ 8 → AreFew (maps_stated shapes items)
+AreFew-stated shapes [] h = AreFew-none
+AreFew-stated shapes (first ∷ rest) h = AreFew-some shapes h
 
 -- the head that the marks say
-abbrev pub said_of : PolicySource → Head
-said_of p = head_of (Some p.form.hook) (maps_said p.form.shapes p.form.shapes.items) (format_said p.form.version) (AreFew-said p.form.shapes p.form.shapes.items p.form.few)
+abbrev pub stated_head : PolicySource → Head
+stated_head p =
+    head_of (Some p.form.hook) (maps_stated p.form.shapes p.form.shapes.items) (format_stated p.form.version)
+    (AreFew-stated p.form.shapes p.form.shapes.items p.form.few)
 
 begun : Head
 begun = head_of None None None AreFew-none
 
-says_hook : (h : Hook) (few : AreFew None) → SaysHead (hook_line h ∷ []) (head_of (Some h) None None few)
+states_hook : (h : Hook) (few : AreFew None) → StatesHead (hook_line h ∷ []) (head_of (Some h) None None few)
 unfolding begun
-says_hook h few = says_mark begun (head_of (Some h) None None few) key.Hook [] (hook_line h) (hook_word h) (h, refl, hook_of-hook_word h, refl, refl, refl) (hook_says h) (says_nothing begun refl refl refl)
+states_hook h few =
+    states_mark begun (head_of (Some h) None None few) key.Hook [] (hook_line h) (hook_word h)
+    (h, refl, hook_of-hook_word h, refl, refl, refl) (hook_states h) (states_nothing begun refl refl refl)
 
-says_maps : (h : Hook) (shapes : Vec MapShape Global) (items : List MapShape) (few : AreFew (maps_said shapes items)) → length items ≤ 8 → shapes.items ≡ items →
-    SaysHead (hook_line h ∷ maps_lines items) (head_of (Some h) (maps_said shapes items) None few)
-says_maps h shapes [] few eight e = says_hook h few
-says_maps h shapes (first ∷ rest) few eight e =
-    let names : NamesShapes (shapes_text first rest) shapes.items = subst (NamesShapes (shapes_text first rest)) (sym e) (names_shapes first rest eight) in
-    says_mark (head_of (Some h) None None AreFew-none) (head_of (Some h) (Some shapes) None few) key.Maps (hook_line h ∷ []) (codes ";@ maps " ++ shapes_text first rest) (shapes_text first rest)
-    (shapes, refl, names, refl, refl, refl) (maps_says first rest) (says_hook h AreFew-none)
+states_maps : (h : Hook) (shapes : Vec MapShape Global) (items : List MapShape) (few : AreFew (maps_stated shapes items))
+    → length items ≤ 8 → shapes.items ≡ items
+    → StatesHead (hook_line h ∷ maps_lines items) (head_of (Some h) (maps_stated shapes items) None few)
+states_maps h shapes [] few eight e = states_hook h few
+states_maps h shapes (first ∷ rest) few eight e =
+    let names : NamesShapes (shapes_text first rest) shapes.items =
+    subst (NamesShapes (shapes_text first rest)) (sym e) (names_shapes first rest eight) in
+    states_mark (head_of (Some h) None None AreFew-none) (head_of (Some h) (Some shapes) None few) key.Maps (hook_line h ∷ [])
+    (codes ";@ maps " ++ shapes_text first rest) (shapes_text first rest) (shapes, refl, names, refl, refl, refl)
+    (maps_state first rest) (states_hook h AreFew-none)
 
-says_format : (h : Hook) (maps : Option (Vec MapShape Global)) (v : Version) (few : ForSome maps (λ shapes. length shapes.items ≤ 8)) (before : List (List ℕ)) →
-    SaysHead before (head_of (Some h) maps None few) → SaysHead (before ++ format_lines v) (head_of (Some h) maps (format_said v) few)
-says_format h maps First few before s = subst (λ ls. SaysHead ls (head_of (Some h) maps None few)) (sym (append-nil before)) s
-says_format h maps Second few before s =
-    says_mark (head_of (Some h) maps None few) (head_of (Some h) maps (Some Second) few) key.Format before (codes ";@ format 2") (codes "2") (Second, refl, refl, refl, refl, refl) refl s
+states_format : (h : Hook) (maps : Option (Vec MapShape Global)) (v : Version)
+    (few : ForSome maps (λ shapes. length shapes.items ≤ 8)) (before : List (List ℕ))
+    → StatesHead before (head_of (Some h) maps None few)
+    → StatesHead (before ++ format_lines v) (head_of (Some h) maps (format_stated v) few)
+states_format h maps First few before s = subst (λ ls. StatesHead ls (head_of (Some h) maps None few)) (sym (append-nil before)) s
+states_format h maps Second few before s =
+    states_mark (head_of (Some h) maps None few) (head_of (Some h) maps (Some Second) few) key.Format before
+    (codes ";@ format 2") (codes "2") (Second, refl, refl, refl, refl, refl) refl s
 
 -- lines that are no marks
 abbrev pub AreNoMarks : List (List ℕ) → Type 0
 AreNoMarks ls = AllByRecursion (λ l. mark_words l ≡ None) ls
 
-says_others : (head : Head) (before others : List (List ℕ)) → AreNoMarks others → SaysHead before head → SaysHead (before ++ others) head
-says_others head before [] h s = subst (λ ls. SaysHead ls head) (sym (append-nil before)) s
-says_others head before (l ∷ others) h s =
-    subst (λ ls. SaysHead ls head) (append_assoc before (l ∷ []) others) (says_others head (before ++ l ∷ []) others h.1 (says_no_mark head before l h.0 s))
+states_others : (head : Head) (before others : List (List ℕ))
+    → AreNoMarks others → StatesHead before head → StatesHead (before ++ others) head
+states_others head before [] h s = subst (λ ls. StatesHead ls head) (sym (append-nil before)) s
+states_others head before (l ∷ others) h s =
+    subst (λ ls. StatesHead ls head) (append_assoc before (l ∷ []) others)
+    (states_others head (before ++ l ∷ []) others h.1 (states_no_mark head before l h.0 s))
 
 -- the marks of a policy, and lines that are none
-pub says_policy : (p : PolicySource) (others : List (List ℕ)) → AreNoMarks others → SaysHead (mark_lines p.form.hook p.form.shapes.items p.form.version ++ others) (said_of p)
-says_policy p others h =
-    says_others (said_of p) (mark_lines p.form.hook p.form.shapes.items p.form.version) others h
-    (says_format p.form.hook (maps_said p.form.shapes p.form.shapes.items) p.form.version (AreFew-said p.form.shapes p.form.shapes.items p.form.few) (hook_line p.form.hook ∷ maps_lines p.form.shapes.items)
-    (says_maps p.form.hook p.form.shapes p.form.shapes.items (AreFew-said p.form.shapes p.form.shapes.items p.form.few) p.form.few refl))
+pub states_policy : (p : PolicySource) (others : List (List ℕ))
+    → AreNoMarks others
+    → StatesHead (mark_lines p.form.hook p.form.shapes.items p.form.version ++ others) (stated_head p)
+states_policy p others h =
+    states_others (stated_head p) (mark_lines p.form.hook p.form.shapes.items p.form.version) others h
+    (states_format p.form.hook (maps_stated p.form.shapes p.form.shapes.items) p.form.version
+    (AreFew-stated p.form.shapes p.form.shapes.items p.form.few) (hook_line p.form.hook ∷ maps_lines p.form.shapes.items)
+    (states_maps p.form.hook p.form.shapes p.form.shapes.items
+    (AreFew-stated p.form.shapes p.form.shapes.items p.form.few) p.form.few refl))

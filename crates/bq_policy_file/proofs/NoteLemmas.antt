@@ -12,13 +12,13 @@ use Rattle.bq_insn.specs.Slots.{slots_of}
 use Rattle.bq_insn.specs.Spelling.{insn_bytes, is_insn, slot_count}
 use Rattle.bq_insn.proofs.CountLemmas.{slot_count-cons}
 use Rattle.bq_words.proofs.WordLemmas.{words-blank}
-use Rattle.bq_asm.specs.Lines.{is_blank, is_comment, line_of, line_said, words}
+use Rattle.bq_asm.specs.Lines.{is_blank, is_comment, line_of, parsed_line, words}
 use Rattle.bq_asm.specs.Text.{line_body}
 use Rattle.bq_asm.proofs.DigitLemmas.{list_all-append}
 use Rattle.bq_policy_file.specs.Listed.{blanks_to, noted_line, noted_text}
 use Rattle.bq_policy_file.proofs.BodyLemmas.{is_clean, is_inner, body_inner, decimal_inner, inner_clean}
 use Rattle.bq_policy_file.proofs.LineLemmas.{AreClean, ended}
-use Rattle.bq_policy_file.proofs.ListedLineLemmas.{bodies_said, body_no_mark}
+use Rattle.bq_policy_file.proofs.ListedLineLemmas.{bodies_parsed, body_no_mark}
 use Rattle.bq_policy_file.proofs.MarkLemmas.{AreNoMarks}
 use Rattle.bq_policy_file.proofs.ReadBackLemmas.{AreLines}
 
@@ -36,18 +36,21 @@ some_split {X} p (x ∷ xs) = go (p x) (slice_split p xs)
     go false (q ∷ ps) = omega arith
 
 -- where a byte splits, the parts before it and those after it
-split_append : {X : Type 0} (p : X → Bool) (xs : List X) (y : X) (ys : List X) → p y ≡ true → slice_split p (xs ++ y ∷ ys) ≡ slice_split p xs ++ slice_split p ys
+split_append : {X : Type 0} (p : X → Bool) (xs : List X) (y : X) (ys : List X)
+    → p y ≡ true → slice_split p (xs ++ y ∷ ys) ≡ slice_split p xs ++ slice_split p ys
 split_append p [] y ys h = rw h refl
 split_append p (x ∷ xs) y ys h = go (p x) (split_append p xs y ys h)
   where
     go : (b : Bool) → slice_split p (xs ++ y ∷ ys) ≡ slice_split p xs ++ slice_split p ys
-        → cond b ([] ∷ slice_split p (xs ++ y ∷ ys)) (onto_first x (slice_split p (xs ++ y ∷ ys))) ≡ cond b ([] ∷ slice_split p xs) (onto_first x (slice_split p xs)) ++ slice_split p ys
+        → cond b ([] ∷ slice_split p (xs ++ y ∷ ys)) (onto_first x (slice_split p (xs ++ y ∷ ys)))
+        ≡ cond b ([] ∷ slice_split p xs) (onto_first x (slice_split p xs)) ++ slice_split p ys
     go true e = ap (λ ps. [] ∷ ps) e
     go false e = ap (onto_first x) e ∙ onto_more x (slice_split p xs) (slice_split p ys) (some_split p xs)
 
 words_append : (xs ys : List ℕ) → words (xs ++ 32 ∷ ys) ≡ words xs ++ words ys
 words_append xs ys =
-    ap (filter (λ w. nat_lt 0 (length w))) (split_append is_blank xs 32 ys refl) ∙ filter-append (λ w. nat_lt 0 (length w)) (slice_split is_blank xs) (slice_split is_blank ys)
+    ap (filter (λ w. nat_lt 0 (length w))) (split_append is_blank xs 32 ys refl)
+    ∙ filter-append (λ w. nat_lt 0 (length w)) (slice_split is_blank xs) (slice_split is_blank ys)
 
 no_words : (n : ℕ) → words (replicate n 32) ≡ []
 no_words zero = refl
@@ -66,7 +69,8 @@ before_note (x ∷ xs) ys h =
     let other = (and_parts (not (x == 59)) (is_clean x) parts.0).0 in
     let n = position_or_len is_comment (xs ++ 59 ∷ ys) in
     let one : 1 + n ≡ suc n = omega arith in
-    ap (λ t. take (cond t (1 + n) 0) (x ∷ (xs ++ 59 ∷ ys))) other ∙ ap (λ k. take k (x ∷ (xs ++ 59 ∷ ys))) one ∙ ap (λ bs. x ∷ bs) (before_note xs ys parts.1)
+    ap (λ t. take (cond t (1 + n) 0) (x ∷ (xs ++ 59 ∷ ys))) other ∙ ap (λ k. take k (x ∷ (xs ++ 59 ∷ ys))) one
+    ∙ ap (λ bs. x ∷ bs) (before_note xs ys parts.1)
 
 no_note : (xs : List ℕ) → list_all is_inner xs ≡ true → before_first is_comment xs ≡ xs
 no_note [] h = refl
@@ -82,11 +86,13 @@ blanks_inner zero = refl
 blanks_inner (suc n) = blanks_inner n
 
 -- a line says the same with blanks and a comment behind it
-noted_says : (body note : List ℕ) (n : ℕ) → list_all is_inner body ≡ true → line_said (body ++ (replicate n 32 ++ 59 ∷ note)) ≡ line_said body
-noted_says body note n h =
+noted_parses : (body note : List ℕ) (n : ℕ) → list_all is_inner body ≡ true
+    → parsed_line (body ++ (replicate n 32 ++ 59 ∷ note)) ≡ parsed_line body
+noted_parses body note n h =
     let blanks = replicate n 32 in
     let before : before_first is_comment (body ++ (blanks ++ 59 ∷ note)) ≡ body ++ blanks =
-    ap (before_first is_comment) (sym (append_assoc body blanks (59 ∷ note))) ∙ before_note (body ++ blanks) note (list_all-append is_inner body blanks h (blanks_inner n)) in
+    ap (before_first is_comment) (sym (append_assoc body blanks (59 ∷ note)))
+    ∙ before_note (body ++ blanks) note (list_all-append is_inner body blanks h (blanks_inner n)) in
     ap (λ bs. line_of (words bs)) before ∙ ap line_of (words_blanks body n) ∙ ap (λ bs. line_of (words bs)) (sym (no_note body h))
 
 index_clean : (t : List ℕ) (k : ℕ) → list_all is_clean t ≡ true → is_clean (slice_index t k) ≡ true
@@ -98,8 +104,11 @@ hex_clean : (bytes : List ℕ) → list_all is_clean (encode_lower bytes) ≡ tr
 unfolding encode_with
 hex_clean [] = refl
 hex_clean (b ∷ bytes) =
-    and_from (is_clean (slice_index lower_digits (b / 16))) (is_clean (slice_index lower_digits (b % 16)) && list_all is_clean (encode_lower bytes)) (index_clean lower_digits (b / 16) refl)
-    (and_from (is_clean (slice_index lower_digits (b % 16))) (list_all is_clean (encode_lower bytes)) (index_clean lower_digits (b % 16) refl) (hex_clean bytes))
+    and_from (is_clean (slice_index lower_digits (b / 16)))
+    (is_clean (slice_index lower_digits (b % 16)) && list_all is_clean (encode_lower bytes))
+    (index_clean lower_digits (b / 16) refl)
+    (and_from (is_clean (slice_index lower_digits (b % 16))) (list_all is_clean (encode_lower bytes))
+    (index_clean lower_digits (b % 16) refl) (hex_clean bytes))
 
 -- the comment on an instruction: its slot, and its bytes
 abbrev note_of : ℕ → Insn → List ℕ
@@ -109,8 +118,10 @@ note_clean : (slot : ℕ) (i : Insn) → slot < 2 ^ 64 → list_all is_clean (no
 note_clean slot i h =
     let blanks = blanks_to 4 (decimal slot) in
     let hex = encode_lower (insn_bytes i) in
-    list_all-append is_clean blanks (decimal slot ++ (codes "  " ++ hex)) (inner_clean blanks (blanks_inner (4 - length (decimal slot))))
-    (list_all-append is_clean (decimal slot) (codes "  " ++ hex) (inner_clean (decimal slot) (decimal_inner slot h)) (hex_clean (insn_bytes i)))
+    list_all-append is_clean blanks (decimal slot ++ (codes "  " ++ hex))
+    (inner_clean blanks (blanks_inner (4 - length (decimal slot))))
+    (list_all-append is_clean (decimal slot) (codes "  " ++ hex) (inner_clean (decimal slot) (decimal_inner slot h))
+    (hex_clean (insn_bytes i)))
 
 -- the lines, without their ends
 abbrev noted_body : ℕ → Insn → List ℕ
@@ -131,9 +142,11 @@ noted_ended slot (i ∷ insns) =
     let room = blanks_to 4 (decimal slot) in
     let hex = encode_lower (insn_bytes i) in
     let comment : note ++ codes "\n" ≡ codes "; " ++ (room ++ (decimal slot ++ (codes "  " ++ (hex ++ codes "\n")))) =
-    ap (λ t. codes "; " ++ t) (append_assoc room (decimal slot ++ (codes "  " ++ hex)) (codes "\n") ∙ ap (λ t. room ++ t) (append_assoc (decimal slot) (codes "  " ++ hex) (codes "\n"))) in
+    ap (λ t. codes "; " ++ t) (append_assoc room (decimal slot ++ (codes "  " ++ hex)) (codes "\n")
+    ∙ ap (λ t. room ++ t) (append_assoc (decimal slot) (codes "  " ++ hex) (codes "\n"))) in
     let line : noted_line slot i ≡ noted_body slot i ++ codes "\n" =
-    sym (append_assoc body (blanks ++ note) (codes "\n") ∙ ap (λ t. body ++ t) (append_assoc blanks note (codes "\n") ∙ ap (λ t. blanks ++ t) comment)) in
+    sym (append_assoc body (blanks ++ note) (codes "\n")
+    ∙ ap (λ t. body ++ t) (append_assoc blanks note (codes "\n") ∙ ap (λ t. blanks ++ t) comment)) in
     λ n. line n ++ noted_ended (slot + slots_of i) insns n
 
 -- the instructions that are left have room
@@ -143,14 +156,16 @@ HasRoom slot insns = slot + slot_count insns < 2 ^ 64
 later_room : (slot : ℕ) (i : Insn) (insns : List Insn) → HasRoom slot (i ∷ insns) → HasRoom (slot + slots_of i) insns
 later_room slot i insns h = omega (arith, h, slot_count-cons i insns)
 
-notes_clean : (slot : ℕ) (insns : List Insn) → HasRoom slot insns → list_all is_insn insns ≡ true → AllFit insns → AreClean (noted_lines slot insns)
+notes_clean : (slot : ℕ) (insns : List Insn) → HasRoom slot insns → list_all is_insn insns ≡ true → AllFit insns
+    → AreClean (noted_lines slot insns)
 notes_clean slot [] r h k = tt
 notes_clean slot (i ∷ insns) r h k =
     let parts = and_parts (is_insn i) (list_all is_insn insns) h in
     let body = line_body i in
     let blanks = blanks_to 32 body in (
       list_all-append is_clean body (blanks ++ note_of slot i) (inner_clean body (body_inner i parts.0 k.0))
-          (list_all-append is_clean blanks (note_of slot i) (inner_clean blanks (blanks_inner (32 - length body))) (note_clean slot i (omega (arith, r)))),
+          (list_all-append is_clean blanks (note_of slot i) (inner_clean blanks (blanks_inner (32 - length body)))
+          (note_clean slot i (omega (arith, r)))),
       notes_clean (slot + slots_of i) insns (later_room slot i insns r) parts.1 k.1,
     )
 
@@ -160,17 +175,21 @@ notes_no_marks slot (i ∷ insns) h =
     let parts = and_parts (is_insn i) (list_all is_insn insns) h in
     (body_no_mark i (blanks_to 32 (line_body i) ++ note_of slot i) parts.0, notes_no_marks (slot + slots_of i) insns parts.1)
 
-notes_said : (slot : ℕ) (insns : List Insn) → list_all is_insn insns ≡ true → AllFit insns → map line_said (noted_lines slot insns) ≡ map line_said (map line_body insns)
-notes_said slot [] h k = refl
-notes_said slot (i ∷ insns) h k =
+notes_parsed : (slot : ℕ) (insns : List Insn) → list_all is_insn insns ≡ true → AllFit insns
+    → map parsed_line (noted_lines slot insns) ≡ map parsed_line (map line_body insns)
+notes_parsed slot [] h k = refl
+notes_parsed slot (i ∷ insns) h k =
     let parts = and_parts (is_insn i) (list_all is_insn insns) h in
     let note = 32 ∷ (blanks_to 4 (decimal slot) ++ (decimal slot ++ (codes "  " ++ encode_lower (insn_bytes i)))) in
-    λ n. noted_says (line_body i) note (32 - length (line_body i)) (body_inner i parts.0 k.0) n ∷ notes_said (slot + slots_of i) insns parts.1 k.1 n
+    λ n.
+    noted_parses (line_body i) note (32 - length (line_body i)) (body_inner i parts.0 k.0) n
+    ∷ notes_parsed (slot + slots_of i) insns parts.1 k.1 n
 
 -- a listing with comments
-pub noted_are : (insns : List Insn) → slot_count insns ≤ 4096 → list_all is_insn insns ≡ true → AllFit insns → AreLines insns (noted_lines 0 insns)
+pub noted_are : (insns : List Insn) → slot_count insns ≤ 4096 → list_all is_insn insns ≡ true → AllFit insns
+    → AreLines insns (noted_lines 0 insns)
 noted_are insns few h k = record {
   clean = notes_clean 0 insns (omega (arith, few)) h k;
   no_marks = notes_no_marks 0 insns h;
-  said = notes_said 0 insns h k ∙ sym (bodies_said insns h k);
+  stated = notes_parsed 0 insns h k ∙ sym (bodies_parsed insns h k);
 }

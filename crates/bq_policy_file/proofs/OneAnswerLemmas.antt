@@ -37,7 +37,8 @@ one_image : (a b : List ℕ) (version : Version) (hook : Hook) (shapes : List Ma
     → IsImage a version hook shapes program → IsImage b version hook shapes program → a ≡ b
 one_image a b version hook shapes program p q =
     let slots : p.slots ≡ q.slots = omega (arith, p.framed.whole, q.framed.whole) in
-    p.framed.bytes_are ∙ ap (λ n. header_bytes (record { version = version; hook = hook; shapes = shapes; slots = n }) ++ program) slots ∙ sym q.framed.bytes_are
+    p.framed.bytes_are ∙ ap (λ n. header_bytes (record { version = version; hook = hook; shapes = shapes; slots = n }) ++ program) slots
+    ∙ sym q.framed.bytes_are
 
 -- a program has one spelling in a form
 one_spelling : (form : ProgramForm) (insns : List Insn) (a b : List ℕ) → SpellsForm form insns a → SpellsForm form insns b → a ≡ b
@@ -56,7 +57,8 @@ one_text_refusal text x y (inr p) (inr q) =
 same_assembly : (form : ProgramForm) (text x y : List ℕ) → IsAssembled form text x → IsAssembled form text y → x ≡ y
 same_assembly form text x y p q =
     let insns : p.insns ≡ q.insns = asm.one_program text p.insns q.insns p.assembles q.assembles in
-    let bytes : p.bytes ≡ q.bytes = one_spelling form q.insns p.bytes q.bytes (subst (λ l. SpellsForm form l p.bytes) insns p.spells) q.spells in
+    let bytes : p.bytes ≡ q.bytes =
+    one_spelling form q.insns p.bytes q.bytes (subst (λ l. SpellsForm form l p.bytes) insns p.spells) q.spells in
     p.line ∙ ap (λ b. encode_lower b ++ codes "\n") bytes ∙ sym q.line
 
 -- in each form a text is either assembled or refused, and with one text
@@ -86,8 +88,11 @@ one_hex_refusal text x y (inr p) (inr q) =
 -- a text is either listed or refused, and with one text
 pub one_listing : OneListing
 one_listing text true true x y p q =
-    let bytes : spelling p.0 ≡ spelling q.0 = cc (p.1, q.1) in
-    (refl, p.4 ∙ ap listing_text (insn.one_program p.0 q.0 (well_formed_in_range p.0 p.2) (well_formed_in_range q.0 q.2) p.3 q.3 bytes) ∙ sym q.4)
+    let bytes : spelling p.0 ≡ spelling q.0 = cc (p.1, q.1) in (
+      refl,
+      p.4 ∙ ap listing_text (insn.one_program p.0 q.0 (well_formed_in_range p.0 p.2) (well_formed_in_range q.0 q.2) p.3 q.3 bytes)
+          ∙ sym q.4,
+    )
 one_listing text true false x y p q = absurd (listed_or_refused text x y p q)
 one_listing text false true x y p q = absurd (listed_or_refused text y x q p)
 one_listing text false false x y p q = (refl, one_hex_refusal text x y p q)

@@ -11,18 +11,21 @@ use Rattle.bq_hooks.specs.declared.hook.Version.{Version}
 use Rattle.bq_policy_file.specs.declared.head.Head.{Head}
 use Rattle.bq_policy_file.specs.declared.mark.Key.TheVariants as key
 use Rattle.bq_policy_file.specs.Files.{maps_in}
-use Rattle.bq_policy_file.specs.Heads.{IsSaid, Names, SaysHead}
+use Rattle.bq_policy_file.specs.Heads.{IsStated, NamesMapShapes, StatesHead}
 use Rattle.bq_policy_file.specs.Marks.{values}
 
 -- what is said of a key, seen by a function on which two values of one word agree
-one_said : {A B : Type 0} (see : A → B) (P : List ℕ → A → Type 0) → ((word : List ℕ) (a b : A) → P word a → P word b → see a ≡ see b) → (ws : List (List ℕ)) (x y : Option A) → IsSaid P ws x → IsSaid P ws y → option_map see x ≡ option_map see y
-one_said see P one [] None None h k = refl
-one_said see P one [] None (Some b) h k = absurd k
-one_said see P one [] (Some a) y h k = absurd h
-one_said see P one (w ∷ []) None y h k = absurd h
-one_said see P one (w ∷ []) (Some a) None h k = absurd k
-one_said see P one (w ∷ []) (Some a) (Some b) h k = ap (λ v. Some v) (one w a b h k)
-one_said see P one (w ∷ v ∷ ws) x y h k = absurd h
+one_stated : {A B : Type 0} (see : A → B) (P : List ℕ → A → Type 0)
+    → ((word : List ℕ) (a b : A) → P word a → P word b → see a ≡ see b)
+    → (ws : List (List ℕ)) (x y : Option A) → IsStated P ws x → IsStated P ws y
+    → option_map see x ≡ option_map see y
+one_stated see P one [] None None h k = refl
+one_stated see P one [] None (Some b) h k = absurd k
+one_stated see P one [] (Some a) y h k = absurd h
+one_stated see P one (w ∷ []) None y h k = absurd h
+one_stated see P one (w ∷ []) (Some a) None h k = absurd k
+one_stated see P one (w ∷ []) (Some a) (Some b) h k = ap (λ v. Some v) (one w a b h k)
+one_stated see P one (w ∷ v ∷ ws) x y h k = absurd h
 
 same_pair : (x y : ℕ × ℕ) (xs ys : List (Option (ℕ × ℕ))) → Some x ∷ xs ≡ Some y ∷ ys → x ≡ y
 same_pair x y xs ys h = cc
@@ -48,16 +51,23 @@ as_is None = refl
 as_is (Some a) = refl
 
 -- two heads that the same lines say have one hook
-pub one_hook : (ls : List (List ℕ)) (a b : Head) → SaysHead ls a → SaysHead ls b → a.hook ≡ b.hook
+pub one_hook : (ls : List (List ℕ)) (a b : Head) → StatesHead ls a → StatesHead ls b → a.hook ≡ b.hook
 one_hook ls a b h k =
-    sym (as_is a.hook) ∙ one_said (λ (x : Hook). x) (λ word hook. hook_of word ≡ Some hook) (λ word x y p q. some_same (hook_of word) x y p q) (values key.Hook ls) a.hook b.hook h.hook k.hook ∙ as_is b.hook
+    sym (as_is a.hook)
+    ∙ one_stated (λ (x : Hook). x) (λ word hook. hook_of word ≡ Some hook) (λ word x y p q. some_same (hook_of word) x y p q)
+    (values key.Hook ls) a.hook b.hook h.hook k.hook
+    ∙ as_is b.hook
 
 -- two heads that the same lines say have one version
-pub one_format : (ls : List (List ℕ)) (a b : Head) → SaysHead ls a → SaysHead ls b → a.format ≡ b.format
+pub one_format : (ls : List (List ℕ)) (a b : Head) → StatesHead ls a → StatesHead ls b → a.format ≡ b.format
 one_format ls a b h k =
-    sym (as_is a.format) ∙ one_said (λ (x : Version). x) (λ word version. version_of word ≡ Some version) (λ word x y p q. some_same (version_of word) x y p q) (values key.Format ls) a.format b.format h.format k.format ∙ as_is b.format
+    sym (as_is a.format)
+    ∙ one_stated (λ (x : Version). x) (λ word version. version_of word ≡ Some version)
+    (λ word x y p q. some_same (version_of word) x y p q) (values key.Format ls) a.format b.format h.format k.format
+    ∙ as_is b.format
 
 -- two heads that the same lines say have the same maps
-pub one_maps : (ls : List (List ℕ)) (a b : Head) → SaysHead ls a → SaysHead ls b → maps_in a ≡ maps_in b
+pub one_maps : (ls : List (List ℕ)) (a b : Head) → StatesHead ls a → StatesHead ls b → maps_in a ≡ maps_in b
 one_maps ls a b h k =
-    one_said (λ (x : Vec MapShape Global). x.items) Names (λ word x y p q. same_shapes x.items y.items (sym p.each ∙ q.each)) (values key.Maps ls) a.maps b.maps h.maps k.maps
+    one_stated (λ (x : Vec MapShape Global). x.items) NamesMapShapes
+    (λ word x y p q. same_shapes x.items y.items (sym p.each ∙ q.each)) (values key.Maps ls) a.maps b.maps h.maps k.maps

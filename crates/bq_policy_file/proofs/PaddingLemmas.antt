@@ -19,7 +19,7 @@ count_is (b ∷ text) h =
     let rest = count_is text parts.1 in
     (λ i. (if starts b parts.0 i then 1 else 0) + rest i) ∙ (let one : 1 + length text ≡ length (b ∷ text) = omega arith in one)
 
--- and no more than all of them are shown
+-- a text of ASCII with no more characters than are shown is shown whole
 shown_is : (n : ℕ) (text : List ℕ) → list_all is_ascii text ≡ true → length text ≤ n → take_chars n text ≡ text
 unfolding take_chars
 shown_is n [] h l = refl
@@ -36,13 +36,15 @@ fill_is align width zero = refl
 fill_is align width (suc n) = ap (λ t. 32 ∷ t) (fill_is align width n)
 
 -- a text, and blanks behind it
-pub text_padded : (text : List ℕ) → list_all is_ascii text ≡ true → length text < 2 ^ 63 → styled_text (format_spec 32 1 0 32 18446744073709551615) text ≡ text ++ blanks_to 32 text
+pub text_padded : (text : List ℕ) → list_all is_ascii text ≡ true → length text < 2 ^ 63
+    → styled_text (format_spec 32 1 0 32 18446744073709551615) text ≡ text ++ blanks_to 32 text
 unfolding padded
 text_padded text h l =
     let s = format_spec 32 1 0 32 18446744073709551615 in
     let shown : take_chars 18446744073709551615 text ≡ text = shown_is 18446744073709551615 text h (omega (arith, l)) in
     let count : char_count (take_chars 18446744073709551615 text) ≡ length text = ap char_count shown ∙ count_is text h in
-    (λ i. shown i ++ fill_text s (32 - count i - 0)) ∙ ap (λ n. text ++ fill_text s n) (let e : 32 - length text - 0 ≡ 32 - length text = omega arith in e)
+    (λ i. shown i ++ fill_text s (32 - count i - 0))
+    ∙ ap (λ n. text ++ fill_text s n) (let e : 32 - length text - 0 ≡ 32 - length text = omega arith in e)
     ∙ ap (λ t. text ++ t) (fill_is 1 32 (32 - length text))
 
 -- a number, and blanks before it
@@ -62,10 +64,11 @@ number_padded n =
     ∙ ap (λ (t : List ℕ). t ++ digits) (fill_is 3 4 (4 - length digits))
 
 -- a line with its comment, as it is laid out
-pub line_with_comment : (said spelled shown number : List ℕ) (slot : ℕ) → shown ≡ said ++ blanks_to 32 said → number ≡ blanks_to 4 (decimal slot) ++ decimal slot →
-    shown ++ (codes "; " ++ (number ++ (codes "  " ++ (spelled ++ codes "\n")))) ≡ noted said slot spelled
-line_with_comment said spelled shown number slot first second =
+pub line_with_comment : (stated spelled shown number : List ℕ) (slot : ℕ)
+    → shown ≡ stated ++ blanks_to 32 stated → number ≡ blanks_to 4 (decimal slot) ++ decimal slot
+    → shown ++ (codes "; " ++ (number ++ (codes "  " ++ (spelled ++ codes "\n")))) ≡ noted stated slot spelled
+line_with_comment stated spelled shown number slot first second =
     let rest = codes "  " ++ (spelled ++ codes "\n") in
     (λ i. first i ++ (codes "; " ++ (second i ++ rest)))
-    ∙ append_assoc said (blanks_to 32 said) (codes "; " ++ ((blanks_to 4 (decimal slot) ++ decimal slot) ++ rest))
-    ∙ ap (λ t. said ++ (blanks_to 32 said ++ (codes "; " ++ t))) (append_assoc (blanks_to 4 (decimal slot)) (decimal slot) rest)
+    ∙ append_assoc stated (blanks_to 32 stated) (codes "; " ++ ((blanks_to 4 (decimal slot) ++ decimal slot) ++ rest))
+    ∙ ap (λ t. stated ++ (blanks_to 32 stated ++ (codes "; " ++ t))) (append_assoc (blanks_to 4 (decimal slot)) (decimal slot) rest)

@@ -19,7 +19,8 @@ digit_below b h =
     let both = and_parts (nat_le 48 b) (nat_le b 57) h in
     (leb-true 48 b both.0, leb-true b 57 both.1)
 
-no_byte : (mark : ℕ) → ((b : ℕ) → is_digit b ≡ true → (b == mark) ≡ false) → (bs : List ℕ) → list_all is_digit bs ≡ true → AllByRecursion (λ b. (b == mark) ≡ false) bs
+no_byte : (mark : ℕ) → ((b : ℕ) → is_digit b ≡ true → (b == mark) ≡ false) → (bs : List ℕ) → list_all is_digit bs ≡ true
+    → AllByRecursion (λ b. (b == mark) ≡ false) bs
 no_byte mark other [] h = tt
 no_byte mark other (b ∷ bs) h =
     let parts = and_parts (is_digit b) (list_all is_digit bs) h in
@@ -46,9 +47,14 @@ shape_again s =
     let size : s.value_size < 2 ^ 16 = omega (arith, s.greatest_size) in
     let entries : s.entries < 2 ^ 16 = omega (arith, s.greatest_entries) in
     let colon = λ (b : ℕ). b == 58 in
-    let first = All-from_recursion (λ b. (b == 58) ≡ false) (decimal s.value_size) (no_byte 58 no_colon (decimal s.value_size) (decimal_digits s.value_size (omega arith))) in
-    let second = All-from_recursion (λ b. (b == 58) ≡ false) (decimal s.entries) (no_byte 58 no_colon (decimal s.entries) (decimal_digits s.entries (omega arith))) in
-    ap pair_of (slice_split_at colon (decimal s.value_size) 58 (decimal s.entries) first refl ∙ ap (λ ps. decimal s.value_size ∷ ps) (slice_split_none colon (decimal s.entries) second))
+    let first =
+    All-from_recursion (λ b. (b == 58) ≡ false) (decimal s.value_size)
+    (no_byte 58 no_colon (decimal s.value_size) (decimal_digits s.value_size (omega arith))) in
+    let second =
+    All-from_recursion (λ b. (b == 58) ≡ false) (decimal s.entries)
+    (no_byte 58 no_colon (decimal s.entries) (decimal_digits s.entries (omega arith))) in
+    ap pair_of (slice_split_at colon (decimal s.value_size) 58 (decimal s.entries) first refl
+    ∙ ap (λ ps. decimal s.value_size ∷ ps) (slice_split_none colon (decimal s.entries) second))
     ∙ (λ i. both (number_again s.value_size size i) (number_again s.entries entries i))
 
 no_comma_in : (s : MapShape) → AllByRecursion (λ b. (b == 44) ≡ false) (shape_text s)
@@ -56,7 +62,8 @@ no_comma_in s = joined (decimal s.value_size) (58 ∷ decimal s.entries)
     (no_byte 44 no_comma (decimal s.value_size) (decimal_digits s.value_size (omega (arith, s.greatest_size))))
     (refl, no_byte 44 no_comma (decimal s.entries) (decimal_digits s.entries (omega (arith, s.greatest_entries))))
   where
-    joined : (xs ys : List ℕ) → AllByRecursion (λ b. (b == 44) ≡ false) xs → AllByRecursion (λ b. (b == 44) ≡ false) ys → AllByRecursion (λ b. (b == 44) ≡ false) (xs ++ ys)
+    joined : (xs ys : List ℕ) → AllByRecursion (λ b. (b == 44) ≡ false) xs → AllByRecursion (λ b. (b == 44) ≡ false) ys
+        → AllByRecursion (λ b. (b == 44) ≡ false) (xs ++ ys)
     joined [] ys h k = k
     joined (x ∷ xs) ys h k = (h.0, joined xs ys h.1 k)
 
@@ -66,9 +73,13 @@ shapes_text first rest = shape_text first ++ more_maps rest
 
 -- its parts are the shapes' texts
 parts_are : (first : MapShape) (rest : List MapShape) → parts 44 (shapes_text first rest) ≡ shape_text first ∷ map shape_text rest
-parts_are first [] = ap (parts 44) (append-nil (shape_text first)) ∙ slice_split_none (λ b. b == 44) (shape_text first) (All-from_recursion (λ b. (b == 44) ≡ false) (shape_text first) (no_comma_in first))
+parts_are first [] =
+    ap (parts 44) (append-nil (shape_text first))
+    ∙ slice_split_none (λ b. b == 44) (shape_text first)
+    (All-from_recursion (λ b. (b == 44) ≡ false) (shape_text first) (no_comma_in first))
 parts_are first (next ∷ rest) =
-    slice_split_at (λ b. b == 44) (shape_text first) 44 (shapes_text next rest) (All-from_recursion (λ b. (b == 44) ≡ false) (shape_text first) (no_comma_in first)) refl
+    slice_split_at (λ b. b == 44) (shape_text first) 44 (shapes_text next rest)
+    (All-from_recursion (λ b. (b == 44) ≡ false) (shape_text first) (no_comma_in first)) refl
     ∙ ap (λ ps. shape_text first ∷ ps) (parts_are next rest)
 
 all_again : (shapes : List MapShape) → map numbers_in (map shape_text shapes) ≡ map numbers_of shapes
@@ -76,7 +87,8 @@ all_again [] = refl
 all_again (s ∷ shapes) = λ i. shape_again s i ∷ all_again shapes i
 
 -- the text names the shapes
-pub names_shapes : (first : MapShape) (rest : List MapShape) → length (first ∷ rest) ≤ 8 → NamesShapes (shapes_text first rest) (first ∷ rest)
+pub names_shapes : (first : MapShape) (rest : List MapShape) → length (first ∷ rest) ≤ 8
+    → NamesShapes (shapes_text first rest) (first ∷ rest)
 names_shapes first rest few = record {
   each = ap (map numbers_in) (parts_are first rest) ∙ all_again (first ∷ rest);
   few = few;

@@ -6,7 +6,8 @@ use Rattle.bq_words.specs.Words.{parts}
 use Rattle.bq_policy_file.specs.ShapesText.{IsPartLen}
 
 -- a mark follows the first part
-pub parts-first : (mark : ℕ) (text : List ℕ) (len : ℕ) → IsPartLen mark text len → len < length text → parts mark text ≡ take len text ∷ parts mark (drop (len + 1) text)
+pub parts-first : (mark : ℕ) (text : List ℕ) (len : ℕ) → IsPartLen mark text len → len < length text
+    → parts mark text ≡ take len text ∷ parts mark (drop (len + 1) text)
 parts-first mark text len h more =
     ap (parts mark) (sym (take-append-drop len text) ∙ ap (λ r. take len text ++ r) (drop_more text len 0 more))
     ∙ slice_split_at _ (take len text) (get_or text len 0) (drop (len + 1) text) h.others (h.ends more)

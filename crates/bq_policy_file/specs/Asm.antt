@@ -13,7 +13,7 @@ use Rattle.bq_policy_file.specs.declared.form.ProgramForm.{ProgramForm}
 use Rattle.bq_policy_file.specs.Forms.{SpellsForm}
 use Rattle.bq_words.specs.Refused.{refused_line}
 
--- the text stands for a program: its bytes in that form as hex in lower case, and the line's end
+-- a text assembles to a program, and what is written is the program's bytes in this form, as hex in lower case, and a line feed
 pub record IsAssembled (form : ProgramForm) (text written : List ℕ) : Type 0 where
   pub is_text : IsUtf8 text
   pub insns : List Insn

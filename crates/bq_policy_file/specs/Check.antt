@@ -23,7 +23,7 @@ pub record IsAcceptedImage (text written : List ℕ) : Type 0 where
   pub loads : Loads bytes program
   pub line : written ≡ accepted_line program.hook program.budget
 
--- no program is loaded from the bytes, for this fault, which is not lack of memory
+-- no program is loaded from the bytes, for this fault, and memory did not run out
 abbrev pub IsFaultyImage : List ℕ → List ℕ → Type 0
 IsFaultyImage text written =
     (bytes : List ℕ) × SpellsBytes text bytes × (named : LoadFault) × IsUnloaded bytes named × (named ≢ fault.OutOfMemory)

@@ -11,7 +11,7 @@ use Rattle.bq_asm.specs.Text.{listing_text}
 use Rattle.bq_policy_file.specs.HexText.{SpellsBytes, IsNoHex}
 use Rattle.bq_words.specs.Refused.{refused_line}
 
--- the bytes are those of a program: its listing
+-- a text spells the bytes of a program, and what is written is the program's listing
 abbrev pub IsListed : List ℕ → List ℕ → Type 0
 IsListed text written =
     (insns : List Insn) × SpellsBytes text (spelling insns) × (is_well_formed insns ≡ true) × AllFit insns × (written ≡ listing_text insns)

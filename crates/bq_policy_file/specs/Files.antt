@@ -15,7 +15,7 @@ use Rattle.bq_hooks.specs.declared.hook.Version.{Version}
 use Rattle.bq_hooks.specs.declared.hook.Version.TheVariants.{First}
 use Rattle.bq_asm.specs.Assembly.{Assembles}
 use Rattle.bq_asm.specs.Faults.{Faulty}
-use Rattle.bq_asm.specs.Lines.{is_instruction, line_said, lines_of}
+use Rattle.bq_asm.specs.Lines.{is_instruction, parsed_line, lines_of}
 use Rattle.bq_load.specs.Answers.{HasProgram}
 use Rattle.bq_load.specs.Faults.{IsFault as HasFault}
 use Rattle.bq_load.specs.Layout.{IsImage, magic}
@@ -28,7 +28,7 @@ use Rattle.bq_policy_file.specs.declared.kind.FileKind.TheVariants as kind
 use Rattle.bq_policy_file.specs.declared.mark.Key.{Key}
 use Rattle.bq_policy_file.specs.declared.mark.Key.TheVariants as key
 use Rattle.bq_policy_file.specs.declared.policy_source.PolicySource.{PolicySource}
-use Rattle.bq_policy_file.specs.Heads.{IsBadAt, SaysHead}
+use Rattle.bq_policy_file.specs.Heads.{IsBadAt, StatesHead}
 
 -- the first byte that is no blank
 abbrev pub first_dark : List ℕ → Option ℕ
@@ -49,7 +49,7 @@ abbrev pub either : {A : Type 0} → Option A → Option A → Option A
 either (Some a) b = Some a
 either None b = b
 
--- where both are there, they are the same
+-- if both values are there, they are equal
 abbrev pub Agree : {A : Type 0} → Option A → Option A → Type 0
 Agree (Some a) (Some b) = a ≡ b
 Agree _ _ = Unit {0}
@@ -60,12 +60,14 @@ Differ (Some a) (Some b) = a ≢ b
 Differ _ _ = ⊥
 
 -- the answer says whether they differ
-abbrev pub TellsDifference : {A : Type 0} → Option A → Option A → Bool → Type 0
-TellsDifference a b differs = MatchBool differs (Differ a b) (Agree a b)
+abbrev pub ReportsDifference : {A : Type 0} → Option A → Option A → Bool → Type 0
+ReportsDifference a b differs = MatchBool differs (Differ a b) (Agree a b)
 
+-- the shapes that some maps have, if maps are named
 abbrev pub shapes_in : Option (Vec MapShape Global) → Option (List MapShape)
 shapes_in maps = option_map (λ shapes. shapes.items) maps
 
+-- the shapes of a head's maps, if the head names maps
 abbrev pub maps_in : Head → Option (List MapShape)
 maps_in h = shapes_in h.maps
 
@@ -75,7 +77,7 @@ pub record Agrees (given : Head) (hook : Option Hook) (maps : Option (List MapSh
   pub shapes : Agree (maps_in given) maps
   pub formats : Agree given.format format
 
--- it differs from what the file says: of the hook, the maps and the format this is the first
+-- what is given differs from what the file says in this key, and in none before it: the hook, the maps and the format, in this order
 abbrev pub DiffersIn : Key → Head → Option Hook → Option (List MapShape) → Option Version → Type 0
 DiffersIn key.Hook given hook maps format = Differ given.hook hook
 DiffersIn key.Maps given hook maps format = Agree given.hook hook × Differ (maps_in given) maps
@@ -83,20 +85,20 @@ DiffersIn key.Format given hook maps format = Agree given.hook hook × Agree (ma
 
 -- nothing differs, and neither names the hook
 abbrev pub NamesNoHook : Head → Head → Type 0
-NamesNoHook given said = Agrees given said.hook (maps_in said) said.format × (given.hook ≡ None) × (said.hook ≡ None)
+NamesNoHook given stated = Agrees given stated.hook (maps_in stated) stated.format × (given.hook ≡ None) × (stated.hook ≡ None)
 
 -- together they name this hook, these maps and this version; without a word of them there are no maps, and the version is 1
-pub record CombineTo (given said : Head) (hook : Hook) (shapes : List MapShape) (version : Version) : Type 0 where
-  pub agrees : Agrees given said.hook (maps_in said) said.format
-  pub hook_is : either given.hook said.hook ≡ Some hook
-  pub shapes_are : shapes ≡ unwrap_or (either (maps_in given) (maps_in said)) []
-  pub version_is : version ≡ unwrap_or (either given.format said.format) First
+pub record CombineTo (given stated : Head) (hook : Hook) (shapes : List MapShape) (version : Version) : Type 0 where
+  pub agrees : Agrees given stated.hook (maps_in stated) stated.format
+  pub hook_is : either given.hook stated.hook ≡ Some hook
+  pub shapes_are : shapes ≡ unwrap_or (either (maps_in given) (maps_in stated)) []
+  pub version_is : version ≡ unwrap_or (either given.format stated.format) First
 
--- the numbers of the lines that say an instruction, where the first line has that number
+-- the numbers of the lines that have an instruction; the first line has this number
 abbrev pub instruction_lines : ℕ → List (List ℕ) → List ℕ
 instruction_lines number [] = []
 instruction_lines number (line ∷ rest) =
-    if is_instruction (line_said line) then number ∷ instruction_lines (number + 1) rest else instruction_lines (number + 1) rest
+    if is_instruction (parsed_line line) then number ∷ instruction_lines (number + 1) rest else instruction_lines (number + 1) rest
 
 -- an image, and what was asked for agrees with it
 pub record IsOfImage (bytes : List ℕ) (given : Head) (p : PolicySource) : Type 0 where
@@ -104,15 +106,16 @@ pub record IsOfImage (bytes : List ℕ) (given : Head) (p : PolicySource) : Type
   pub agrees : Agrees given (Some p.form.hook) (Some p.form.shapes.items) (Some p.form.version)
   pub lines : p.lines.items ≡ []
 
--- a text: the program that it stands for, and what its marks and what was asked for say together
+-- the policy of a text: the program to which it assembles, under what its marks and the given head say together
 pub record IsOfText (bytes : List ℕ) (given : Head) (p : PolicySource) : Type 0 where
   pub text : IsUtf8 bytes
-  pub said : Head
-  pub head : SaysHead (lines bytes) said
-  pub combined : CombineTo given said p.form.hook p.form.shapes.items p.form.version
+  pub stated : Head
+  pub head : StatesHead (lines bytes) stated
+  pub combined : CombineTo given stated p.form.hook p.form.shapes.items p.form.version
   pub assembles : Assembles bytes p.insns.items
   pub lines : p.lines.items ≡ instruction_lines 1 (lines bytes)
 
+-- the policy of a file of this kind
 abbrev pub IsOfKind : FileKind → List ℕ → Head → PolicySource → Type 0
 IsOfKind kind.Image bytes given p = IsOfImage bytes given p
 IsOfKind kind.Hex bytes given p = (image : List ℕ) × SpellsBytes bytes image × IsOfImage image given p
@@ -122,42 +125,46 @@ IsOfKind kind.Text bytes given p = IsOfText bytes given p
 abbrev pub IsPolicy : List ℕ → Head → PolicySource → Type 0
 IsPolicy bytes given p = IsOfKind (kind_of bytes) bytes given p
 
--- what is wrong with an image: the first fault of its bytes, or of its program, or what differs; lack of memory says nothing of it
+-- what is wrong with an image: the first fault of its bytes, or of its program, or what differs; if memory runs out, nothing is
+-- said of it
 abbrev pub IsImageFault : List ℕ → Head → PolicyFault → Type 0
 IsImageFault bytes given (fault.Image named) = HasFault bytes named
 IsImageFault bytes given (fault.Program slot cause) =
     (version : Version) × (hook : Hook) × (shapes : List MapShape) × (program : List ℕ) × IsImage bytes version hook shapes program × IsProgramFault program (decode.At slot cause)
 IsImageFault bytes given (fault.Disagrees key) =
-    (insns : List Insn) × (said : HasProgram bytes insns) × DiffersIn key given (Some said.hook) (Some said.shapes) (Some said.version)
+    (insns : List Insn) × (stated : HasProgram bytes insns) × DiffersIn key given (Some stated.hook) (Some stated.shapes) (Some stated.version)
 IsImageFault bytes given fault.OutOfMemory = Unit {0}
 IsImageFault bytes given other = ⊥
 
 -- the bytes are a text, whose marks say this head
-pub record HasHead (bytes : List ℕ) (said : Head) : Type 0 where
+pub record HasHead (bytes : List ℕ) (stated : Head) : Type 0 where
   pub text : IsUtf8 bytes
-  pub says : SaysHead (lines bytes) said
+  pub states : StatesHead (lines bytes) stated
 
--- and which stands for a program
-pub record IsWhole (bytes : List ℕ) (said : Head) : Type 0 where
-  pub head : HasHead bytes said
+-- a text has a head, and assembles to a program
+pub record IsWhole (bytes : List ℕ) (stated : Head) : Type 0 where
+  pub head : HasHead bytes stated
   pub insns : List Insn
   pub assembles : Assembles bytes insns
 
--- what is wrong with a text: the assembler refuses it, else its first bad mark, else the fault of its program, else what differs or is not named
+-- what is wrong with a text, the first of these: the assembler refuses it, a mark is bad, its program has a fault, what is given
+-- differs, or no hook is named
 abbrev pub IsTextFault : List ℕ → Head → PolicyFault → Type 0
 IsTextFault bytes given fault.Text = ¬ (IsUtf8 bytes)
 IsTextFault bytes given (fault.Head line cause) = IsUtf8 bytes × IsBadAt (lines bytes) line cause
-IsTextFault bytes given (fault.Assembly line cause) = (said : Head) × HasHead bytes said × Faulty (lines_of bytes) line cause
-IsTextFault bytes given (fault.Disagrees key) = (said : Head) × IsWhole bytes said × DiffersIn key given said.hook (maps_in said) said.format
-IsTextFault bytes given fault.NoHook = (said : Head) × IsWhole bytes said × NamesNoHook given said
+IsTextFault bytes given (fault.Assembly line cause) = (stated : Head) × HasHead bytes stated × Faulty (lines_of bytes) line cause
+IsTextFault bytes given (fault.Disagrees key) = (stated : Head) × IsWhole bytes stated × DiffersIn key given stated.hook (maps_in stated) stated.format
+IsTextFault bytes given fault.NoHook = (stated : Head) × IsWhole bytes stated × NamesNoHook given stated
 IsTextFault bytes given fault.OutOfMemory = Unit {0}
 IsTextFault bytes given other = ⊥
 
+-- why a text of hex is no policy: it is no hex, or its bytes are no image of a policy
 abbrev pub IsHexFault : List ℕ → Head → PolicyFault → Type 0
 IsHexFault bytes given fault.Hex = IsNoHex bytes
 IsHexFault bytes given fault.OutOfMemory = Unit {0}
 IsHexFault bytes given other = (image : List ℕ) × SpellsBytes bytes image × IsImageFault image given other
 
+-- why a file of this kind is no policy
 abbrev pub IsFaultOfKind : FileKind → List ℕ → Head → PolicyFault → Type 0
 IsFaultOfKind kind.Image bytes given named = IsImageFault bytes given named
 IsFaultOfKind kind.Hex bytes given named = IsHexFault bytes given named

@@ -36,7 +36,7 @@ HasBadMaps o = (text : List ℕ) × (maps_text o ≡ Some text) × ((o.hook ≡ 
 abbrev pub HasBadFormat : Options → Type 0
 HasBadFormat o = (o.hook ≡ None) × (maps_text o ≡ None) × IsSome o.format
 
--- lack of memory says nothing of the options
+-- if memory runs out, nothing is said of the options
 abbrev pub HasOptionsFault : Options → OptionsFault → Type 0
 HasOptionsFault o Maps = HasBadMaps o
 HasOptionsFault o Format = HasBadFormat o
@@ -46,7 +46,7 @@ HasOptionsFault o OutOfMemory = Unit {0}
 abbrev pub RefusesOptions : Options → List ℕ → Type 0
 RefusesOptions o written = (HasBadMaps o × (written ≡ refused_line (codes "maps"))) ⊎ (HasBadFormat o × (written ≡ refused_line (codes "format")))
 
--- the bytes are those of the program in this form
+-- the bytes are those of the program, in this form
 abbrev pub SpellsForm : ProgramForm → List Insn → List ℕ → Type 0
 SpellsForm Program insns bytes = bytes ≡ spelling insns
 SpellsForm (Image i) insns bytes = IsImage bytes i.version i.hook i.shapes.items (spelling insns)

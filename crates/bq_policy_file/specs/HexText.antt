@@ -7,7 +7,7 @@ use Rattle.hex.specs.Hex.{decode_of}
 abbrev pub is_blank : ℕ → Bool
 is_blank b = (b == 32) || ((b == 9) || ((b == 13) || (b == 10)))
 
--- what stands between blanks
+-- a text without its blanks
 abbrev pub digits_in : List ℕ → List ℕ
 digits_in text = filter (λ b. not (is_blank b)) text
 

@@ -15,11 +15,11 @@ use Rattle.bq_policy_file.specs.Files.{IsPolicy, IsPolicyFault}
 abbrev pub OneAssembly : Type 0
 OneAssembly = (form : ProgramForm) (text : List ℕ) (a b : Bool) (x y : List ℕ) → AsmWrites form text a x → AsmWrites form text b y → (a ≡ b) × (x ≡ y)
 
--- nor does `dis`
+-- `dis` does not both accept and refuse a text, and writes one text for it
 abbrev pub OneListing : Type 0
 OneListing = (text : List ℕ) (a b : Bool) (x y : List ℕ) → DisWrites text a x → DisWrites text b y → (a ≡ b) × (x ≡ y)
 
--- a file with a fault is no policy, and has no other fault; lack of memory is no fault of the file
+-- a file with a fault is no policy, and has no other fault; if memory runs out, that is no fault of the file
 abbrev pub OnePolicyAnswer : Type 0
 OnePolicyAnswer =
     (bytes : List ℕ) (given : Head) (named : PolicyFault) → AreBytes bytes → named ≢ OutOfMemory → IsPolicyFault bytes given named

@@ -13,24 +13,25 @@ use Rattle.bq_policy_file.specs.MarkLines.{AreMarks}
 abbrev pub blanks_to : ℕ → List ℕ → List ℕ
 blanks_to width text = replicate (width - length text) 32
 
+-- a byte is ASCII
 abbrev pub is_ascii : ℕ → Bool
 is_ascii b = nat_lt b 128
 
 -- a line, and beside it a comment: a slot and bytes
 abbrev pub noted : List ℕ → ℕ → List ℕ → List ℕ
-noted said slot spelled =
-    said ++ (blanks_to 32 said ++ (codes "; " ++ (blanks_to 4 (decimal slot) ++ (decimal slot ++ (codes "  " ++ (spelled ++ codes "\n"))))))
+noted stated slot spelled =
+    stated ++ (blanks_to 32 stated ++ (codes "; " ++ (blanks_to 4 (decimal slot) ++ (decimal slot ++ (codes "  " ++ (spelled ++ codes "\n"))))))
 
 -- the line of an instruction, and beside it its slot and its bytes
 abbrev pub noted_line : ℕ → Insn → List ℕ
 noted_line slot insn = noted (line_body insn) slot (encode_lower (insn_bytes insn))
 
--- the listing with comments, where the first instruction stands at that slot
+-- the listing with comments; the first instruction is at this slot
 abbrev pub noted_text : ℕ → List Insn → List ℕ
 noted_text slot [] = []
 noted_text slot (insn ∷ insns) = noted_line slot insn ++ noted_text (slot + slots_of insn) insns
 
--- beside each instruction its slot and its bytes, where that is asked for
+-- the listing of a program; if slots are asked for, each instruction has its slot and its bytes in a comment
 abbrev pub program_text : Bool → List Insn → List ℕ
 program_text false insns = listing_text insns
 program_text true insns = noted_text 0 insns

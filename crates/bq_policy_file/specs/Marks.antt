@@ -6,6 +6,7 @@ use Rattle.bq_words.specs.Words.{words}
 use Rattle.bq_policy_file.specs.declared.mark.Key.{Key}
 use Rattle.bq_policy_file.specs.declared.mark.Key.TheVariants as key
 
+-- the word of a key
 abbrev pub key_word : Key → List ℕ
 key_word key.Hook = codes "hook"
 key_word key.Maps = codes "maps"
@@ -24,6 +25,7 @@ value_in key other = []
 abbrev pub values : Key → List (List ℕ) → List (List ℕ)
 values key lines = flat_map (λ line. value_in (key_word key) (mark_words line)) lines
 
+-- a word is one of the keys
 abbrev pub is_key : List ℕ → Bool
 is_key word = bytes_eq word (codes "hook") || (bytes_eq word (codes "maps") || bytes_eq word (codes "format"))
 

@@ -15,24 +15,27 @@ use Rattle.bq_policy_file.specs.declared.fault.PolicyFault.{PolicyFault}
 use Rattle.bq_policy_file.specs.declared.fault.PolicyFault.TheVariants.{Text, Hex, Head, Assembly, Image, Program, Disagrees, NoHook, OutOfMemory}
 use Rattle.bq_policy_file.specs.Marks.{key_word}
 
+-- the fault of a policy for a fault of its head
 abbrev pub of_head : HeadFault → PolicyFault
 of_head (heads.At line cause) = Head line cause
 of_head heads.OutOfMemory = OutOfMemory
 
+-- the fault of a policy for a fault of its assembler text
 abbrev pub of_assembly : AsmFault → PolicyFault
 of_assembly (assembly.At line cause) = Assembly line cause
 of_assembly assembly.OutOfMemory = OutOfMemory
 
+-- the fault of a policy for a fault of its image
 abbrev pub of_image : LoadFault → PolicyFault
 of_image load.OutOfMemory = OutOfMemory
 of_image named = Image named
 
+-- the fault of a policy for a fault of its program's bytes
 abbrev pub of_program : DecodeFault → PolicyFault
 of_program (decode.At slot cause) = Program slot cause
 of_program decode.OutOfMemory = OutOfMemory
 
--- why a file is no policy, as it is answered: by the text of the part's fault where it is a part's. Lack of memory is not one of
--- the file
+-- the answer that says why a file is no policy, with the text of the fault of its part. If memory runs out, that is no fault of the file
 abbrev pub fault_text : PolicyFault → List ℕ
 fault_text Text = codes "text"
 fault_text Hex = codes "hex"

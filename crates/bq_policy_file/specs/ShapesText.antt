@@ -7,13 +7,13 @@ use Rattle.std.specs.Str.Parse.{digits_value}
 use Rattle.bq_bpf.specs.declared.shape.MapShape.{MapShape}
 use Rattle.bq_words.specs.Words.{parts}
 
--- this many bytes are none such, and then comes one or the end
+-- the first `len` bytes of the text are no marks, and a mark or the end follows them
 pub record IsPartLen (mark : ℕ) (text : List ℕ) (len : ℕ) : Type 0 where
   pub within : len ≤ length text
   pub others : All (λ b. (b == mark) ≡ false) (take len text)
   pub ends : len < length text → (slice_index text len == mark) ≡ true
 
--- the parts of what follows, where something does
+-- the parts of the text after a mark, if there is one
 abbrev pub parts_after : ℕ → Option (Bor (List ℕ)) → List (List ℕ)
 parts_after mark None = []
 parts_after mark (Some rest) = parts mark rest.now
@@ -24,6 +24,7 @@ number_of word =
     if nat_lt 0 (length word) && (list_all (λ c. nat_lt (digit_value c) 10) word && nat_lt (digits_value 10 word) (2 ^ 16))
     then Some (digits_value 10 word) else None
 
+-- both numbers, if both are there
 abbrev pub both : Option ℕ → Option ℕ → Option (ℕ × ℕ)
 both (Some a) (Some b) = Some (a, b)
 both _ _ = None
@@ -37,6 +38,7 @@ pair_of _ = None
 abbrev pub numbers_in : List ℕ → Option (ℕ × ℕ)
 numbers_in part = pair_of (parts 58 part)
 
+-- the two numbers of a shape: the size of a value and the number of entries
 abbrev pub numbers_of : MapShape → Option (ℕ × ℕ)
 numbers_of s = Some (s.value_size, s.entries)
 

@@ -9,7 +9,7 @@ use std::alloc::{AllocError, Global};
 pub struct Answer {
     /// The text for standard output, with its line ends.
     pub text: String,
-    /// Whether the input was accepted. Where it was not, the text is the line that refuses it.
+    /// Whether the input was accepted. If it was not, the text is the line that refuses it.
     pub accepted: bool,
 }
 

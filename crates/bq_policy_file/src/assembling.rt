@@ -8,7 +8,8 @@ use crate::form::ProgramForm;
 use bq_asm::{AsmFault, assemble};
 use std::alloc::{AllocError, Global};
 
-/// The lower-case hex of the program that an assembler text stands for, in that form, and LF; else why it is refused.
+/// Answers the lower-case hex of the program to which an assembler text assembles, in this form, and LF; otherwise why the text
+/// is refused.
 pub fn assembled(alloc: Global, form: &ProgramForm, text: &[u8]) -> Result<Answer, AllocError>
     ensures { IfOk result (λ a. AsmWrites form.now text.now a.accepted (string_bytes a.text)) }
 {

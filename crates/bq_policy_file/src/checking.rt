@@ -39,8 +39,8 @@ pub fn accepted_line(alloc: Global, hook: Hook, budget: u32) -> Result<String, A
     format!(in alloc; "accepted {hook} budget {budget}\n")
 }
 
-/// How a fault is named: the letter L and its number, and for a fault of the program its cause and its slot. Want of
-/// memory is handed on as such.
+/// Names a fault: the letter L and its number, and for a fault of the program its cause and its slot. If memory runs out, that
+/// is the error.
 pub fn fault_text(alloc: Global, fault: LoadFault) -> Result<String, AllocError>
     ensures named { IfOk result (λ text. string_bytes text ≡ fault_text fault) }
     ensures other { OnOk result (fault ≢ OutOfMemory) }

@@ -1,6 +1,6 @@
 //! What was asked for and what a file says, together.
 ghost use Rattle.std.specs.Prelude.{◌≡◌, option_map, IfOk, IfErr, MatchOption};
-ghost use Rattle.bq_policy_file.specs.Files.{Agrees, CombineTo, DiffersIn, TellsDifference, shapes_in};
+ghost use Rattle.bq_policy_file.specs.Files.{Agrees, CombineTo, DiffersIn, ReportsDifference, shapes_in};
 ghost use Rattle.bq_policy_file.specs.Combining.{IsUncombinable};
 
 use crate::fault::PolicyFault;
@@ -12,18 +12,18 @@ use bq_verify::PolicyForm;
 use std::alloc::Global;
 
 /// What both say together, if they do not differ and one of them names the hook.
-pub(crate) fn combine(alloc: Global, given: &Head, said: &Head) -> Result<PolicyForm, PolicyFault>
-    ensures ok { IfOk result (λ s. CombineTo given.now said.now s.hook s.shapes.items s.version) }
-    ensures err { IfErr result (IsUncombinable given.now said.now) }
+pub(crate) fn combine(alloc: Global, given: &Head, stated: &Head) -> Result<PolicyForm, PolicyFault>
+    ensures ok { IfOk result (λ s. CombineTo given.now stated.now s.hook s.shapes.items s.version) }
+    ensures err { IfErr result (IsUncombinable given.now stated.now) }
 {
-    if let Some(key) = difference(given, said.hook, shapes_said(&said.maps), said.format) {
+    if let Some(key) = difference(given, stated.hook, map_shapes(&stated.maps), stated.format) {
         return Err(PolicyFault::Disagrees(key));
     }
-    let Some(hook) = given.hook.or(said.hook) else {
+    let Some(hook) = given.hook.or(stated.hook) else {
         return Err(PolicyFault::NoHook);
     };
-    let version = given.format.or(said.format).unwrap_or(Version::First);
-    let shapes = match (&given.maps, &said.maps) {
+    let version = given.format.or(stated.format).unwrap_or(Version::First);
+    let shapes = match (&given.maps, &stated.maps) {
         (Some(shapes), _) => Vec::from_slice(alloc, shapes.as_slice())?,
         (None, Some(shapes)) => Vec::from_slice(alloc, shapes.as_slice())?,
         (None, None) => Vec::new(alloc),
@@ -48,7 +48,7 @@ pub(crate) fn difference(
     if hooks_differ(given.hook, hook) {
         return Some(Key::Hook);
     }
-    if maps_differ(shapes_said(&given.maps), maps) {
+    if maps_differ(map_shapes(&given.maps), maps) {
         return Some(Key::Maps);
     }
     if formats_differ(given.format, format) {
@@ -57,35 +57,35 @@ pub(crate) fn difference(
     None
 }
 
-fn hooks_differ(given: Option<Hook>, said: Option<Hook>) -> bool
-    ensures { TellsDifference given said result }
+fn hooks_differ(given: Option<Hook>, stated: Option<Hook>) -> bool
+    ensures { ReportsDifference given stated result }
 {
-    match (given, said) {
+    match (given, stated) {
         (Some(asked), Some(hook)) => asked != hook,
         _ => false,
     }
 }
 
-fn formats_differ(given: Option<Version>, said: Option<Version>) -> bool
-    ensures { TellsDifference given said result }
+fn formats_differ(given: Option<Version>, stated: Option<Version>) -> bool
+    ensures { ReportsDifference given stated result }
 {
-    match (given, said) {
+    match (given, stated) {
         (Some(asked), Some(version)) => asked != version,
         _ => false,
     }
 }
 
-fn maps_differ(given: Option<&[MapShape]>, said: Option<&[MapShape]>) -> bool
-    ensures { TellsDifference (option_map (λ b. b.now) given.entry) (option_map (λ b. b.now) said.entry) result }
+fn maps_differ(given: Option<&[MapShape]>, stated: Option<&[MapShape]>) -> bool
+    ensures { ReportsDifference (option_map (λ b. b.now) given.entry) (option_map (λ b. b.now) stated.entry) result }
 {
-    match (given, said) {
+    match (given, stated) {
         (Some(asked), Some(shapes)) => !same_shapes(asked, shapes),
         _ => false,
     }
 }
 
 /// The shapes that are said, if some are.
-fn shapes_said(maps: &Option<Vec<MapShape>>) -> Option<&[MapShape]>
+fn map_shapes(maps: &Option<Vec<MapShape>>) -> Option<&[MapShape]>
     ensures { option_map (λ b. b.now) result ≡ shapes_in maps.now }
 {
     match maps {

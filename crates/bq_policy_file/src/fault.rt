@@ -16,7 +16,7 @@ pub enum HeadCause {
     Unknown,
     /// The key may not have that value.
     Value(Key),
-    /// The key stood in a line before.
+    /// A line before has the key too.
     Twice(Key),
 }
 
@@ -65,20 +65,20 @@ pub enum PolicyFault {
     },
     /// The bytes are no image, for this fault.
     Image(LoadFault),
-    /// The bytes of the image's program are none: the slot, counted from 0, and why.
+    /// The bytes of the image's program are no program: the slot, counted from 0, and why.
     Program {
         slot: usize,
         cause: bq_insn::fault::Cause,
     },
     /// What was asked for is not what the file says.
     Disagrees(Key),
-    /// Neither the file nor who asks names the hook.
+    /// Neither the file nor what is given beside it names the hook.
     NoHook,
     /// Memory ran out.
     OutOfMemory,
 }
 
-/// The text that an input is answered: `text`, `head 2`, `A1 3`, `L7 I2 slot`, `hook`.
+/// The text that an input is answered: `text`, `hex`, `head 2`, `A1 3`, `L7 I2 5`, `maps`, `hook`.
 impl fmt::Display for PolicyFault {
     ghost use Rattle.std.specs.Prelude.{Some};
     ghost use Rattle.bq_policy_file.specs.Naming.{fault_text};

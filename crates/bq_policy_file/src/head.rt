@@ -23,7 +23,7 @@ pub struct Head {
 
 impl Head {
     ghost use Rattle.std.specs.Prelude.{◌≡◌, ◌∷◌, [], ◌++◌, List, ℕ, IfErr, OnOk, None};
-    ghost use Rattle.bq_policy_file.specs.Heads.{SaysHead};
+    ghost use Rattle.bq_policy_file.specs.Heads.{StatesHead};
     ghost use Rattle.bq_policy_file.specs.Taking.{IsRefusedLine, IsRefusedValue, TakesValue};
 
     /// Nothing is said.
@@ -46,13 +46,13 @@ impl Head {
         number: usize,
         line: &[u8],
     ) -> Result<(), HeadFault>
-        ensures ok { OnOk result ((before : List (List ℕ)) → SaysHead before self.old → SaysHead (before ++ line.now ∷ []) self.new) }
+        ensures ok { OnOk result ((before : List (List ℕ)) → StatesHead before self.old → StatesHead (before ++ line.now ∷ []) self.new) }
         ensures fault { IfErr result (IsRefusedLine self.old number line.now) }
     {
         match mark_of(line) {
             Mark::Nothing => Ok(()),
             Mark::Unknown => Err(refusal(number, HeadCause::Unknown)),
-            Mark::Says(key, value) => self.take_value(alloc, number, key, value),
+            Mark::States(key, value) => self.take_value(alloc, number, key, value),
         }
     }
 

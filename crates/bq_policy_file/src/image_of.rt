@@ -1,4 +1,4 @@
-//! Images of programs, and copies of what they say beside these.
+//! Images of programs as bytes, and copies of their forms.
 ghost use Rattle.std.specs.Prelude.{◌≡◌, true, IfOk};
 ghost use Rattle.bq_insn.specs.Faults.{is_length};
 ghost use Rattle.bq_load.specs.Layout.{IsImage};

@@ -7,7 +7,7 @@ pub fn one_assembly()
     ensures { OneAssembly }
 {}
 
-/// Nor does `dis`.
+/// `dis` does not both accept and refuse a text, and writes one text for it.
 pub fn one_listing()
     ensures { OneListing }
 {}

@@ -49,7 +49,7 @@ impl Key {
 pub enum Mark<'a> {
     Nothing,
     Unknown,
-    Says(Key, &'a [u8]),
+    States(Key, &'a [u8]),
 }
 
 /// What the line is.
@@ -69,7 +69,7 @@ pub fn mark_of(line: &[u8]) -> Mark<'_>
         return Mark::Unknown;
     }
     match Key::of_word(word) {
-        Some(key) => Mark::Says(key, value),
+        Some(key) => Mark::States(key, value),
         None => Mark::Unknown,
     }
 }

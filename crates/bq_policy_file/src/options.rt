@@ -16,7 +16,7 @@ use thiserror::Error;
 /// The options of `asm`.
 #[derive(Drop)]
 pub struct Options {
-    /// The choice that the program makes. With it the image of the program is written, without it only the program.
+    /// The choice that the program makes. If it is named, the image of the program is written; otherwise only the program.
     pub hook: Option<Hook>,
     /// The shapes of the program's maps, as in `8:2,16:4`; without it there are none.
     pub maps: Option<String>,
@@ -56,7 +56,7 @@ impl From<AllocError> for OptionsFault {
 }
 
 impl Options {
-    /// The form that they ask for. Where both faults are there, `Maps` is answered.
+    /// Answers the form that the options ask for. If both faults are there, the error is `Maps`.
     pub fn form(&self, alloc: Global) -> Result<ProgramForm, OptionsFault>
         ensures ok { IfOk result (AsksFor self.now) }
         ensures err { IfErr result (HasOptionsFault self.now) }
@@ -78,7 +78,7 @@ impl Options {
         }))
     }
 
-    /// The form without a hook, beside which no other option may stand.
+    /// Answers the form without a hook. No other option may be given beside it.
     fn program_alone(&self) -> Result<ProgramForm, OptionsFault>
         requires { self.now.hook ≡ None }
         ensures ok { IfOk result (AsksFor self.now) }
@@ -94,7 +94,7 @@ impl Options {
     }
 }
 
-/// The line that refuses options, for their fault. Lack of memory is handed on as such.
+/// Answers the line that refuses options, for their fault. If memory runs out, that is the error.
 pub fn refused_options(alloc: Global, fault: OptionsFault) -> Result<Answer, AllocError>
     ensures line { IfOk result (λ a. (o : Options) → HasOptionsFault o fault → RefusesOptions o (string_bytes a.text)) }
     ensures refused { IfOk result (λ a. a.accepted ≡ false) }

@@ -14,8 +14,8 @@ use bq_insn::Insn;
 use bq_insn::encode::encode;
 use std::alloc::{AllocError, Global};
 
-/// The marks of a policy and its instructions, each with its slot and its bytes beside it where that is asked for. What is
-/// read of that text is the policy again.
+/// Answers the marks of a policy and its instructions, each with its slot and its bytes in a comment if that is asked for. Read
+/// again, that text is the policy.
 pub fn policy_text(
     alloc: Global,
     policy: &PolicySource,
@@ -38,7 +38,7 @@ fn marked(alloc: Global, policy: &PolicySource, has_slots: bool) -> Result<Strin
     format!(in alloc; "{marks}{lines}")
 }
 
-/// The listing, with slots and bytes where that is asked for.
+/// Answers the listing, with slots and bytes if that is asked for.
 fn program_text(alloc: Global, insns: &[Insn], has_slots: bool) -> Result<String, AllocError>
     requires whole { is_well_formed insns.now ≡ true }
     requires numbers { AllFit insns.now }
@@ -73,9 +73,9 @@ fn noted_line(alloc: Global, slot: usize, insn: Insn) -> Result<String, AllocErr
     requires numbers { Fits insn }
     ensures { IfOk result (λ text. string_bytes text ≡ noted_line slot insn) }
 {
-    let said = instruction_text(alloc, insn)?;
+    let stated = instruction_text(alloc, insn)?;
     let spelled = bytes_text(alloc, insn)?;
-    format!(in alloc; "{said:<32}; {slot:>4}  {spelled}\n")
+    format!(in alloc; "{stated:<32}; {slot:>4}  {spelled}\n")
 }
 
 /// The bytes of an instruction, in hex.

@@ -8,10 +8,10 @@ use bq_insn::encode::encode;
 use bq_verify::{PolicyForm, Program};
 use std::alloc::{AllocError, Global};
 
-/// A policy that nothing is known of yet: a program, what it is beside its instructions, and the lines of its text.
+/// A policy that is not verified: a program with its hook, version and maps, and the lines of its text.
 #[derive(Drop)]
 pub struct PolicySource {
-    /// What its program is beside its instructions.
+    /// The hook, the version and the maps of its program.
     pub form: PolicyForm,
     /// The instructions, one after another.
     pub insns: Vec<Insn>,
@@ -25,7 +25,7 @@ impl PolicySource {
     ghost use Rattle.bq_insn.specs.Spelling.{spelling};
     ghost use Rattle.bq_load.specs.Layout.{IsImage};
     ghost use Rattle.bq_policy_file.specs.Subjects.{subject_in};
-    ghost use Rattle.bq_verify.specs.Subjects.{handed_in};
+    ghost use Rattle.bq_verify.specs.Subjects.{subject_of_program};
 
     /// The bytes of its image.
     pub fn image(&self, alloc: Global) -> Result<Vec<u8>, AllocError>
@@ -42,7 +42,7 @@ impl PolicySource {
         ensures hook { IfOk result (λ program. program.form.hook ≡ self.now.form.hook) }
         ensures version { IfOk result (λ program. program.form.version ≡ self.now.form.version) }
         ensures shapes { IfOk result (λ program. program.form.shapes.items ≡ self.now.form.shapes.items) }
-        ensures judged { IfOk result (λ program. handed_in program ≡ subject_in self.now) }
+        ensures judged { IfOk result (λ program. subject_of_program program ≡ subject_in self.now) }
     {
         Ok(Program {
             insns: Vec::from_slice(alloc, self.insns.as_slice())?,

@@ -3,7 +3,7 @@ ghost use Rattle.std.specs.Prelude.{◌≡◌, IfOk, IfErr};
 ghost use Rattle.std.specs.Str.Lines.{lines};
 ghost use Rattle.bq_insn.specs.Laws.{AllFit};
 ghost use Rattle.bq_policy_file.specs.Files.{IsImageFault, IsOfImage, IsOfText, IsPolicy, IsPolicyFault, IsTextFault, instruction_lines};
-ghost use Rattle.bq_policy_file.specs.Heads.{IsHeadFault, SaysHead};
+ghost use Rattle.bq_policy_file.specs.Heads.{IsHeadFault, StatesHead};
 
 use crate::bytes_of;
 use crate::combined::{combine, difference};
@@ -11,13 +11,13 @@ use crate::fault::{HeadFault, PolicyFault};
 use crate::head::Head;
 use crate::kind::{FileKind, kind_of};
 use crate::policy_source::PolicySource;
-use bq_asm::{assemble, says_instruction};
+use bq_asm::{assemble, is_instruction_line};
 use bq_insn::decode::decode;
 use bq_load::{Image, read_image};
 use std::alloc::{AllocError, Global};
 
-/// The policy that a file holds, as an image, as the hex of one, or as an assembler text whose marks say what it is. What is
-/// given beside it must agree with it, and says of a text what its marks leave out.
+/// Answers the policy that a file holds: an image, the hex of one, or an assembler text whose marks say what it is. What is
+/// given beside the file must agree with it, and says of a text what the marks leave out.
 pub fn read_policy(alloc: Global, bytes: &[u8], given: &Head) -> Result<PolicySource, PolicyFault>
     ensures policy { IfOk result (IsPolicy bytes.now given.now) }
     ensures numbers { IfOk result (λ p. AllFit p.insns.items) }
@@ -70,10 +70,10 @@ fn from_str(alloc: Global, text: &str, given: &Head) -> Result<PolicySource, Pol
     ensures numbers { IfOk result (λ p. AllFit p.insns.items) }
     ensures fault { IfErr result (IsTextFault text.now given.now) }
 {
-    let said = read_head(alloc, text)?;
+    let stated = read_head(alloc, text)?;
     let insns = assemble(alloc, text)?;
     let lines = lines_of(alloc, text)?;
-    match combine(alloc, given, &said) {
+    match combine(alloc, given, &stated) {
         Ok(form) => Ok(PolicySource { form, insns, lines }),
         Err(fault) => Err(fault),
     }
@@ -87,7 +87,7 @@ fn lines_of(alloc: Global, text: &str) -> Result<Vec<usize>, AllocError>
     let mut number: usize = 0;
     for line in text.lines() {
         number += 1;
-        if says_instruction(line.as_bytes()) {
+        if is_instruction_line(line.as_bytes()) {
             numbers.push(number)?;
         }
     }
@@ -96,7 +96,7 @@ fn lines_of(alloc: Global, text: &str) -> Result<Vec<usize>, AllocError>
 
 /// The head that the marks of a text say, or the first line that is refused.
 pub fn read_head(alloc: Global, text: &str) -> Result<Head, HeadFault>
-    ensures head { IfOk result (SaysHead (lines text.now)) }
+    ensures head { IfOk result (StatesHead (lines text.now)) }
     ensures fault { IfErr result (IsHeadFault (lines text.now)) }
 {
     let mut head = Head::nothing();

@@ -7,5 +7,7 @@ use Rattle.bq_policy_check.specs.declared.words.RunWords.{RunWords}
 use Rattle.bq_policy_run.specs.Running.{IsProgramOf, RunsAccepted, RunsProgram}
 
 -- the run of a policy's program is that of the policy
-pub runs_accepted : (w : RunWords) (p : PolicySource) (program : Accepted) (told_as : Answered) → IsProgramOf p program → IsAcceptedPolicy p program.budget → RunsProgram w program told_as → RunsAccepted w p told_as
-runs_accepted w p program told_as of accepted runs = record { program = program; of = of; accepted = accepted; runs = runs }
+pub runs_accepted : (w : RunWords) (p : PolicySource) (program : Accepted) (answered_as : Answered)
+    → IsProgramOf p program → IsAcceptedPolicy p program.budget → RunsProgram w program answered_as
+    → RunsAccepted w p answered_as
+runs_accepted w p program answered_as of accepted runs = record { program = program; of = of; accepted = accepted; runs = runs }

@@ -9,7 +9,7 @@ flat_map-range_more : {X : Type 0} (f : ℕ → List X) (first count : ℕ)
 flat_map-range_more f first zero = grind (arith, common_steps)
 flat_map-range_more f first (suc count) = grind (arith, common_steps, flat_map-range_more f (first + 1) count)
 
--- the same of only those numbers that pass a test
+-- the lists of a range that is longer by one, of only those numbers that pass a test
 flat_map-filter-range_more : {X : Type 0} (f : ℕ → List X) (test : ℕ → Bool) (first count : ℕ)
     → flat_map f (filter test (range_with_len first (count + 1)))
     ≡ flat_map f (filter test (range_with_len first count)) ++ cond (test (first + count)) (f (first + count)) []
@@ -17,12 +17,14 @@ flat_map-filter-range_more f test first zero = grind (arith, common_steps)
 flat_map-filter-range_more f test first (suc count) = grind (arith, common_steps, flat_map-filter-range_more f test (first + 1) count)
 
 -- a text that tells the numbers so far, and then the next one, tells one number more
-pub told_more : (f : ℕ → List ℕ) (count : ℕ) (begun before after : List ℕ) → before ≡ begun ++ flat_map f (range_with_len 0 count) → after ≡ before ++ f count
+pub reported_more : (f : ℕ → List ℕ) (count : ℕ) (begun before after : List ℕ)
+    → before ≡ begun ++ flat_map f (range_with_len 0 count) → after ≡ before ++ f count
     → after ≡ begun ++ flat_map f (range_with_len 0 (count + 1))
-told_more f count begun before after told grown = grind (arith, common_steps, flat_map-range_more f 0 count)
+reported_more f count begun before after reported grown = grind (arith, common_steps, flat_map-range_more f 0 count)
 
--- the same where only those numbers are shown that pass a test
-pub told_more_passing : (f : ℕ → List ℕ) (test : ℕ → Bool) (count : ℕ) (begun before after : List ℕ)
+-- a text that tells the numbers so far that pass a test, and then the next one if it does, tells one number more
+pub reported_more_passing : (f : ℕ → List ℕ) (test : ℕ → Bool) (count : ℕ) (begun before after : List ℕ)
     → before ≡ begun ++ flat_map f (filter test (range_with_len 0 count)) → after ≡ before ++ cond (test count) (f count) []
     → after ≡ begun ++ flat_map f (filter test (range_with_len 0 (count + 1)))
-told_more_passing f test count begun before after told grown = grind (arith, common_steps, flat_map-filter-range_more f test 0 count)
+reported_more_passing f test count begun before after reported grown =
+    grind (arith, common_steps, flat_map-filter-range_more f test 0 count)

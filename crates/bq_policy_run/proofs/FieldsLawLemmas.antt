@@ -8,64 +8,78 @@ use Rattle.bq_hooks.specs.declared.hook.Version.{Version}
 use Rattle.bq_hooks.specs.declared.hook.Version.TheVariants.{First, Second}
 use Rattle.bq_policy_run.specs.declared.fields.Field.{Field}
 use Rattle.bq_policy_run.specs.Fields.{GoesBy, IsField, NamedField, fields_of, row_named}
-use Rattle.bq_policy_run.specs.FieldsLaw.{FactsOf, FieldsAreAsNamed, Holds, Meaning, Says, context_of, meaning_named, meanings_of}
-use Rattle.bq_policy_run.proofs.FieldTableLemmas.{AllTell, Beside, Tells, meaning_beside, named_beside, place_tell, preempt_tell, pull_tell, row_beside}
+use Rattle.bq_policy_run.specs.FieldsLaw.{FactsOf, FieldsAreAsNamed, FieldHolds, Meaning, MeansBytes, context_of, meaning_named, meanings_of}
+use Rattle.bq_policy_run.proofs.FieldTableLemmas.{AllMatch, Beside, MatchesMeaning, meaning_beside, named_beside, place_match, preempt_match, pull_match, row_beside}
 
 -- each row of a hook's table, beside what its name says
-all_tell : (hook : Hook) (version : Version) (f : FactsOf hook) → AllTell (context_of hook version f) (context_length_of hook version) (fields_of hook) (meanings_of hook version f)
-all_tell Place First f = place_tell 16 f (omega arith) (omega arith)
-all_tell Place Second f = place_tell 64 f (omega arith) (omega arith)
-all_tell Preempt version f = preempt_tell f
-all_tell Pull version f = pull_tell f
+all_match : (hook : Hook) (version : Version) (f : FactsOf hook)
+    → AllMatch (context_of hook version f) (context_length_of hook version) (fields_of hook) (meanings_of hook version f)
+all_match Place First f = place_match 16 f (omega arith) (omega arith)
+all_match Place Second f = place_match 64 f (omega arith) (omega arith)
+all_match Preempt version f = preempt_match f
+all_match Pull version f = pull_match f
 
-abbrev TellsIn : (hook : Hook) → Version → FactsOf hook → NamedField → Meaning → Type 0
-TellsIn hook version f row m = Tells (context_of hook version f) (context_length_of hook version) row m
+abbrev MatchesIn : (hook : Hook) → Version → FactsOf hook → NamedField → Meaning → Type 0
+MatchesIn hook version f row m = MatchesMeaning (context_of hook version f) (context_length_of hook version) row m
 
 -- the meaning of the name of a row
-row_told : (hook : Hook) (version : Version) (f : FactsOf hook) (name : List ℕ) (row : NamedField) → row_named (fields_of hook) name ≡ Some row →
-    (m : Meaning) × (meaning_named (meanings_of hook version f) name ≡ Some m) × TellsIn hook version f row m
-row_told hook version f name row is =
+meaning_of_row : (hook : Hook) (version : Version) (f : FactsOf hook) (name : List ℕ) (row : NamedField)
+    → row_named (fields_of hook) name ≡ Some row
+    → (m : Meaning) × (meaning_named (meanings_of hook version f) name ≡ Some m) × MatchesIn hook version f row m
+meaning_of_row hook version f name row is =
     let c = context_of hook version f in
     let end = context_length_of hook version in
     let ms = meanings_of hook version f in
-    meaning_beside c end row (meaning_named ms name) (subst (λ (o : Option NamedField). Beside c end o (meaning_named ms name)) is (named_beside c end (fields_of hook) ms name (all_tell hook version f)))
+    meaning_beside c end row (meaning_named ms name)
+    (subst (λ (o : Option NamedField). Beside c end o (meaning_named ms name)) is
+    (named_beside c end (fields_of hook) ms name (all_match hook version f)))
 
--- and the row of the name of a meaning
-meaning_told : (hook : Hook) (version : Version) (f : FactsOf hook) (name : List ℕ) (m : Meaning) → meaning_named (meanings_of hook version f) name ≡ Some m →
-    (row : NamedField) × (row_named (fields_of hook) name ≡ Some row) × TellsIn hook version f row m
-meaning_told hook version f name m is =
+-- the row of the name of a meaning
+row_of_meaning : (hook : Hook) (version : Version) (f : FactsOf hook) (name : List ℕ) (m : Meaning)
+    → meaning_named (meanings_of hook version f) name ≡ Some m
+    → (row : NamedField) × (row_named (fields_of hook) name ≡ Some row) × MatchesIn hook version f row m
+row_of_meaning hook version f name m is =
     let c = context_of hook version f in
     let end = context_length_of hook version in
-    row_beside c end (row_named (fields_of hook) name) m (subst (λ (o : Option Meaning). Beside c end (row_named (fields_of hook) name) o) is (named_beside c end (fields_of hook) (meanings_of hook version f) name (all_tell hook version f)))
+    row_beside c end (row_named (fields_of hook) name) m
+    (subst (λ (o : Option Meaning). Beside c end (row_named (fields_of hook) name) o) is
+    (named_beside c end (fields_of hook) (meanings_of hook version f) name (all_match hook version f)))
 
 -- the field of a name holds what the name says
-field_holds : (hook : Hook) (version : Version) (f : FactsOf hook) (name : List ℕ) (field : Field) → IsField hook version name field →
-    (bytes : List ℕ) × Says (meanings_of hook version f) name bytes × Holds (context_of hook version f) field.at field.width bytes
+field_holds : (hook : Hook) (version : Version) (f : FactsOf hook) (name : List ℕ) (field : Field)
+    → IsField hook version name field
+    → (bytes : List ℕ) × MeansBytes (meanings_of hook version f) name bytes
+    × FieldHolds (context_of hook version f) field.at field.width bytes
 field_holds hook version f name field is = go is.named
   where
-    go : GoesBy hook name field → (bytes : List ℕ) × Says (meanings_of hook version f) name bytes × Holds (context_of hook version f) field.at field.width bytes
+    go : GoesBy hook name field
+        → (bytes : List ℕ) × MeansBytes (meanings_of hook version f) name bytes
+        × FieldHolds (context_of hook version f) field.at field.width bytes
     go (inl by) =
-        let told = row_told hook version f name by.row by.named in
-        let single = told.2.single.0 by.single.count in
+        let reported = meaning_of_row hook version f name by.row by.named in
+        let single = reported.2.single.0 by.single.count in
         let at : field.at ≡ by.row.at + 0 * by.row.apart = omega (arith, by.single.at) in
-        let here = told.2.holds 0 (omega (arith, single)) in
-        (told.0.bytes 0, inl (record { meaning = told.0; named = told.1; single = single; is = refl }), rw (at, by.single.width) here)
+        let here = reported.2.holds 0 (omega (arith, single)) in (
+          reported.0.bytes 0,
+          inl (record { meaning = reported.0; named = reported.1; single = single; is = refl }),
+          rw (at, by.single.width) here,
+        )
     go (inr by) =
         let has = by.has in
-        let told = row_told hook version f by.stem has.row has.named in
+        let reported = meaning_of_row hook version f by.stem has.row has.named in
         let within = is.within in
-        let below = (told.2.within has.number).0 (has.numbered.below, rw (sym has.numbered.at, sym has.numbered.width) within) in
-        let here = told.2.holds has.number below in (
-          told.0.bytes has.number,
+        let below = (reported.2.within has.number).0 (has.numbered.below, rw (sym has.numbered.at, sym has.numbered.width) within) in
+        let here = reported.2.holds has.number below in (
+          reported.0.bytes has.number,
           inr (record {
             stem = by.stem;
             digits = by.digits;
             splits = by.splits;
             number = has.number;
             is_number = has.is_number;
-            meaning = told.0;
-            named = told.1;
-            several = told.2.several.0 has.numbered.count;
+            meaning = reported.0;
+            named = reported.1;
+            several = reported.2.several.0 has.numbered.count;
             below = below;
             is = refl;
           }),
@@ -73,26 +87,36 @@ field_holds hook version f name field is = go is.named
         )
 
 -- the field of a name that says something
-field_there : (hook : Hook) (version : Version) (f : FactsOf hook) (name bytes : List ℕ) → Says (meanings_of hook version f) name bytes → (field : Field) × IsField hook version name field
-field_there hook version f name bytes (inl says) =
-    let told = meaning_told hook version f name says.meaning says.named in
-    let row : NamedField = told.0 in
-    let single = told.2.single.1 says.single in
-    let within = (told.2.within 0).1 (omega (arith, says.single)) in (
+field_there : (hook : Hook) (version : Version) (f : FactsOf hook) (name bytes : List ℕ)
+    → MeansBytes (meanings_of hook version f) name bytes → (field : Field) × IsField hook version name field
+field_there hook version f name bytes (inl means) =
+    let reported = row_of_meaning hook version f name means.meaning means.named in
+    let row : NamedField = reported.0 in
+    let single = reported.2.single.1 means.single in
+    let within = (reported.2.within 0).1 (omega (arith, means.single)) in (
       record { at = row.at; width = row.width },
-      record { named = inl (record { row = row; named = told.1; single = record { count = single; at = refl; width = refl } }); within = omega (arith, within.1) },
+      record {
+        named = inl (record { row = row; named = reported.1; single = record { count = single; at = refl; width = refl } });
+        within = omega (arith, within.1);
+      },
     )
-field_there hook version f name bytes (inr says) =
-    let told = meaning_told hook version f says.stem says.meaning says.named in
-    let row : NamedField = told.0 in
-    let within = (told.2.within says.number).1 says.below in (
-      record { at = row.at + says.number * row.apart; width = row.width },
+field_there hook version f name bytes (inr means) =
+    let reported = row_of_meaning hook version f means.stem means.meaning means.named in
+    let row : NamedField = reported.0 in
+    let within = (reported.2.within means.number).1 means.below in (
+      record { at = row.at + means.number * row.apart; width = row.width },
       record {
         named = inr (record {
-          stem = says.stem;
-          digits = says.digits;
-          splits = says.splits;
-          has = record { row = row; named = told.1; number = says.number; is_number = says.is_number; numbered = record { count = told.2.several.1 says.several; below = within.0; at = refl; width = refl } };
+          stem = means.stem;
+          digits = means.digits;
+          splits = means.splits;
+          has = record {
+            row = row;
+            named = reported.1;
+            number = means.number;
+            is_number = means.is_number;
+            numbered = record { count = reported.2.several.1 means.several; below = within.0; at = refl; width = refl };
+          };
         });
         within = within.1;
       },

@@ -6,17 +6,17 @@ use Rattle.bq_hooks.specs.declared.hook.Hook.{Hook}
 use Rattle.bq_hooks.specs.declared.hook.Hook.TheVariants.{Place, Preempt}
 use Rattle.bq_hooks.specs.declared.hook.Version.{Version}
 use Rattle.bq_hooks.specs.declared.hook.Version.TheVariants.{First, Second}
-use Rattle.bq_policy_run.specs.declared.permitted.Word.{Word}
-use Rattle.bq_policy_run.specs.declared.permitted.Word.TheVariants.{Permitted, NotPermitted, NotShown}
+use Rattle.bq_policy_run.specs.declared.permitted.Permission.{Permission}
+use Rattle.bq_policy_run.specs.declared.permitted.Permission.TheVariants.{Permitted, NotPermitted, NotShown}
 use Rattle.bq_policy_run.specs.Permitting.{place_permits, word_of}
-use Rattle.bq_policy_run.specs.Judging.{TellsWord, word_begins}
+use Rattle.bq_policy_run.specs.Judging.{BeginsWithWord, word_begins}
 
 -- a text that begins with the word
-pub text_tells_word : (word w : Word) (why : List ℕ) → word ≡ w → TellsWord word (word_begins w ++ why)
-text_tells_word word w why e = (why, ap (λ (x : Word). word_begins x ++ why) (sym e))
+pub text_begins_with_word : (word w : Permission) (why : List ℕ) → word ≡ w → BeginsWithWord word (word_begins w ++ why)
+text_begins_with_word word w why e = (why, ap (λ (x : Permission). word_begins x ++ why) (sym e))
 
 -- of two words it is the one that it may be
-pub not_permitted_is_left : (word : Word) → (word ≡ NotPermitted) ⊎ (word ≡ NotShown) → word ≢ NotShown → word ≡ NotPermitted
+pub not_permitted_is_left : (word : Permission) → (word ≡ NotPermitted) ⊎ (word ≡ NotShown) → word ≢ NotShown → word ≡ NotPermitted
 not_permitted_is_left word (inl e) other = e
 not_permitted_is_left word (inr e) other = absurd (other e)
 
@@ -30,25 +30,35 @@ by_test true h = cc
 by_test false h = cc
 
 -- on a place
-pub judged_place : (hook : Hook) (context : List ℕ) (r0 : ℕ) (word : Word) (text : List ℕ) → hook ≡ Place → ((v : Version) → length context ≡ context_length_of hook v → word ≡ word_of hook context r0)
-    → (36 ≤ length context → word ≢ NotShown → TellsWord word text) → (v : Version) → length context ≡ context_length_of hook v → TellsWord (word_of hook context r0) text
-judged_place hook context r0 word text at is told v h =
+pub judged_place : (hook : Hook) (context : List ℕ) (r0 : ℕ) (word : Permission) (text : List ℕ)
+    → hook ≡ Place → ((v : Version) → length context ≡ context_length_of hook v → word ≡ word_of hook context r0)
+    → (36 ≤ length context → word ≢ NotShown → BeginsWithWord word text)
+    → (v : Version) → length context ≡ context_length_of hook v
+    → BeginsWithWord (word_of hook context r0) text
+judged_place hook context r0 word text at is reported v h =
     let e : word ≡ word_of hook context r0 = is v h in
     let placed : word ≡ word_of Place context r0 = e ∙ ap (λ (k : Hook). word_of k context r0) at in
     let long = place_long v (length context) (subst (λ (k : Hook). length context ≡ context_length_of k v) at h) in
-    subst (λ (w : Word). TellsWord w text) e (told long (subst (λ (w : Word). w ≢ NotShown) (sym placed) (by_test (place_permits context r0))))
+    subst (λ (w : Permission). BeginsWithWord w text) e
+    (reported long (subst (λ (w : Permission). w ≢ NotShown) (sym placed) (by_test (place_permits context r0))))
 
 -- on whether the current task gives way
-pub judged_preempt : (hook : Hook) (context : List ℕ) (r0 : ℕ) (word : Word) (text shown : List ℕ) → hook ≡ Preempt → ((v : Version) → length context ≡ context_length_of hook v → word ≡ word_of hook context r0)
-    → (word ≢ NotShown → TellsWord word shown) → text ≡ shown → (v : Version) → length context ≡ context_length_of hook v → TellsWord (word_of hook context r0) text
-judged_preempt hook context r0 word text shown at is told same v h =
+pub judged_preempt : (hook : Hook) (context : List ℕ) (r0 : ℕ) (word : Permission) (text shown : List ℕ)
+    → hook ≡ Preempt → ((v : Version) → length context ≡ context_length_of hook v → word ≡ word_of hook context r0)
+    → (word ≢ NotShown → BeginsWithWord word shown) → text ≡ shown → (v : Version) → length context ≡ context_length_of hook v
+    → BeginsWithWord (word_of hook context r0) text
+judged_preempt hook context r0 word text shown at is reported same v h =
     let e : word ≡ word_of hook context r0 = is v h in
     let asked : word ≡ word_of Preempt context r0 = e ∙ ap (λ (k : Hook). word_of k context r0) at in
-    subst (λ (t : List ℕ). TellsWord (word_of hook context r0) t) (sym same)
-    (subst (λ (w : Word). TellsWord w shown) e (told (subst (λ (w : Word). w ≢ NotShown) (sym asked) (by_test (nat_lt r0 2)))))
+    subst (λ (t : List ℕ). BeginsWithWord (word_of hook context r0) t) (sym same)
+    (subst (λ (w : Permission). BeginsWithWord w shown) e
+    (reported (subst (λ (w : Permission). w ≢ NotShown) (sym asked) (by_test (nat_lt r0 2)))))
 
 -- on a task to take
-pub judged_pull : (hook : Hook) (context : List ℕ) (r0 : ℕ) (word : Word) (text shown : List ℕ) → ((v : Version) → length context ≡ context_length_of hook v → word ≡ word_of hook context r0)
-    → TellsWord word shown → text ≡ shown → (v : Version) → length context ≡ context_length_of hook v → TellsWord (word_of hook context r0) text
-judged_pull hook context r0 word text shown is told same v h =
-    subst (λ (t : List ℕ). TellsWord (word_of hook context r0) t) (sym same) (subst (λ (w : Word). TellsWord w shown) (is v h) told)
+pub judged_pull : (hook : Hook) (context : List ℕ) (r0 : ℕ) (word : Permission) (text shown : List ℕ)
+    → ((v : Version) → length context ≡ context_length_of hook v → word ≡ word_of hook context r0) → BeginsWithWord word shown
+    → text ≡ shown → (v : Version) → length context ≡ context_length_of hook v
+    → BeginsWithWord (word_of hook context r0) text
+judged_pull hook context r0 word text shown is reported same v h =
+    subst (λ (t : List ℕ). BeginsWithWord (word_of hook context r0) t) (sym same)
+    (subst (λ (w : Permission). BeginsWithWord w shown) (is v h) reported)

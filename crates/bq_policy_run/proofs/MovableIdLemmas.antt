@@ -34,12 +34,15 @@ any_reverse r0 (x ∷ xs) =
     ∙ or_comm (list_any (names r0) (ids xs)) (names r0 x.id)
 
 -- an id is that of a task that may go, exactly if the task of that id may
-any_kept : (processor r0 : ℕ) (queue : List Task) → HasDistinctIds queue → list_any (names r0) (ids (filter (can_use processor) queue)) ≡ is_movable_to processor r0 queue
+any_kept : (processor r0 : ℕ) (queue : List Task) → HasDistinctIds queue
+    → list_any (names r0) (ids (filter (can_use processor) queue)) ≡ is_movable_to processor r0 queue
 any_kept processor r0 [] d = refl
 any_kept processor r0 (x ∷ xs) d = go (eqb x.id r0) (can_use processor x) refl refl (any_kept processor r0 xs d.1)
   where
-    go : (b c : Bool) → eqb x.id r0 ≡ b → can_use processor x ≡ c → list_any (names r0) (ids (filter (can_use processor) xs)) ≡ is_movable_to processor r0 xs
-        → list_any (names r0) (ids (cond c (x ∷ filter (can_use processor) xs) (filter (can_use processor) xs))) ≡ option_map_or (can_use processor) (cond b (Some x) (with_id r0 xs)) false
+    go : (b c : Bool) → eqb x.id r0 ≡ b → can_use processor x ≡ c
+        → list_any (names r0) (ids (filter (can_use processor) xs)) ≡ is_movable_to processor r0 xs
+        → list_any (names r0) (ids (cond c (x ∷ filter (can_use processor) xs) (filter (can_use processor) xs)))
+        ≡ option_map_or (can_use processor) (cond b (Some x) (with_id r0 xs)) false
     go true true e k rest = rw (e, k) refl
     go true false e k rest =
         let none : with_id r0 xs ≡ None = subst (λ n. with_id n xs ≡ None) (eqb-true x.id r0 e) d.0 in
@@ -48,7 +51,8 @@ any_kept processor r0 (x ∷ xs) d = go (eqb x.id r0) (can_use processor x) refl
     go false false e k rest = rest
 
 -- an id is among those of the tasks that may go to a processor exactly when the task of that id may go there
-pub any_movable : (processor r0 : ℕ) (queue : List Task) → HasDistinctIds queue → list_any (names r0) (ids (movable_to processor queue)) ≡ is_movable_to processor r0 queue
+pub any_movable : (processor r0 : ℕ) (queue : List Task) → HasDistinctIds queue
+    → list_any (names r0) (ids (movable_to processor queue)) ≡ is_movable_to processor r0 queue
 any_movable processor r0 queue d = any_reverse r0 (filter (can_use processor) queue) ∙ any_kept processor r0 queue d
 
 -- the ids of the tasks fit 16 bits
@@ -69,7 +73,8 @@ both_small (x ∷ xs) ys h k = (h.0, both_small xs ys h.1 k)
 
 small_reverse : (xs : List Task) → AreSmall xs → AreSmall (reverse xs)
 small_reverse [] h = tt
-small_reverse (x ∷ xs) h = subst AreSmall (sym (reverse-append (x ∷ []) xs)) (both_small (reverse xs) (x ∷ []) (small_reverse xs h.1) (h.0, tt))
+small_reverse (x ∷ xs) h =
+    subst AreSmall (sym (reverse-append (x ∷ []) xs)) (both_small (reverse xs) (x ∷ []) (small_reverse xs h.1) (h.0, tt))
 
 -- the ids of the movable tasks fit 16 bits too
 pub movable_small : (processor : ℕ) (queue : List Task) → HasSmallIds queue → AreSmall (movable_to processor queue)

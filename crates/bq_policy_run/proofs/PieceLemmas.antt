@@ -8,23 +8,32 @@ use Rattle.bq_disc.specs.Tasks.{Task}
 use Rattle.bq_hooks.specs.Contexts.{PlaceFacts, PullFacts, place_header, place_bytes_below, pull_header, pull_bytes, task_bytes, u32_bytes, u64_bytes}
 use Rattle.bq_hooks.proofs.LengthLemmas.{length-task_bytes}
 use Rattle.bq_policy_run.specs.declared.fields.FieldWidth.TheVariants.{Four, Eight}
-use Rattle.bq_policy_run.specs.FieldsLaw.{Holds}
+use Rattle.bq_policy_run.specs.FieldsLaw.{FieldHolds}
 
 -- one of the pieces, and what comes after it
-piece_at : (g : ℕ → List ℕ) (size a n k : ℕ) → ((i : ℕ) → length (g i) ≡ size) → k < n → (rest : List ℕ) × (drop (size * k) (flat_map g (range_with_len a n)) ≡ g (a + k) ++ rest)
+piece_at : (g : ℕ → List ℕ) (size a n k : ℕ) → ((i : ℕ) → length (g i) ≡ size) → k < n
+    → (rest : List ℕ) × (drop (size * k) (flat_map g (range_with_len a n)) ≡ g (a + k) ++ rest)
 piece_at g size a zero k h l = absurd (omega arith)
 piece_at g size a (suc n) zero h l =
-    let none : size * 0 ≡ 0 = omega arith in
-    (flat_map g (range_with_len (a + 1) n), ap (λ m. drop m (g a ++ flat_map g (range_with_len (a + 1) n))) none ∙ ap (λ i. g i ++ flat_map g (range_with_len (a + 1) n)) (let e : a ≡ a + 0 = omega arith in e))
+    let none : size * 0 ≡ 0 = omega arith in (
+      flat_map g (range_with_len (a + 1) n),
+      ap (λ m. drop m (g a ++ flat_map g (range_with_len (a + 1) n))) none
+          ∙ ap (λ i. g i ++ flat_map g (range_with_len (a + 1) n)) (let e : a ≡ a + 0 = omega arith in e),
+    )
 piece_at g size a (suc n) (suc k) h l =
     let later = piece_at g size (a + 1) n k h (omega arith) in
     let further : size * suc k ≡ length (g a) + size * k = grind (arith, h a) in
-    let there : a + 1 + k ≡ a + suc k = omega arith in
-    (later.0, ap (λ m. drop m (g a ++ flat_map g (range_with_len (a + 1) n))) further ∙ drop-append-add (g a) (flat_map g (range_with_len (a + 1) n)) (size * k) ∙ later.1 ∙ ap (λ i. g i ++ later.0) there)
+    let there : a + 1 + k ≡ a + suc k = omega arith in (
+      later.0,
+      ap (λ m. drop m (g a ++ flat_map g (range_with_len (a + 1) n))) further
+          ∙ drop-append-add (g a) (flat_map g (range_with_len (a + 1) n)) (size * k)
+          ∙ later.1 ∙ ap (λ i. g i ++ later.0) there,
+    )
 
 -- this many bytes of a piece, from one of its bytes on
-inside_piece : (head : List ℕ) (g : ℕ → List ℕ) (size n k from count at : ℕ) → ((i : ℕ) → length (g i) ≡ size) → k < n → at ≡ length head + (size * k + from) →
-    (rest : List ℕ) × (slice_range (head ++ flat_map g (range_with_len 0 n)) at (at + count) ≡ take count (drop from (g k ++ rest)))
+inside_piece : (head : List ℕ) (g : ℕ → List ℕ) (size n k from count at : ℕ)
+    → ((i : ℕ) → length (g i) ≡ size) → k < n → at ≡ length head + (size * k + from)
+    → (rest : List ℕ) × (slice_range (head ++ flat_map g (range_with_len 0 n)) at (at + count) ≡ take count (drop from (g k ++ rest)))
 inside_piece head g size n k from count at h l is =
     let pieces : List ℕ = flat_map g (range_with_len 0 n) in
     let there = piece_at g size 0 n k h l in
@@ -38,7 +47,8 @@ inside_piece head g size n k from count at h l is =
     (there.0, λ i. take (many i) (begun i))
 
 -- the load of a processor
-pub load_holds : (limit : ℕ) (f : PlaceFacts) (k : ℕ) → k < limit → Holds (place_bytes_below limit f) (40 + k * 4) Four (u32_bytes (slice_index f.loads k))
+pub load_holds : (limit : ℕ) (f : PlaceFacts) (k : ℕ) → k < limit
+    → FieldHolds (place_bytes_below limit f) (40 + k * 4) Four (u32_bytes (slice_index f.loads k))
 unfolding place_bytes_below place_header
 load_holds limit f k l =
     (inside_piece (place_header limit f) (λ p. u32_bytes (slice_index f.loads p)) 4 limit k 0 4 (40 + k * 4) (λ i. refl) l (omega arith)).1
@@ -53,9 +63,9 @@ task_read (Some t) rest = (refl, refl, refl)
 
 -- the parts of the movable task of a number
 pub tasks_hold : (f : PullFacts) (k : ℕ) → k < 8 →
-    Holds (pull_bytes f) (32 + k * 16) Four (u32_bytes (option_map_or (λ (t : Task). t.id) (slice_get f.movable k) 0))
-    × Holds (pull_bytes f) (36 + k * 16) Four (u32_bytes (option_map_or (λ (t : Task). t.weight) (slice_get f.movable k) 0))
-    × Holds (pull_bytes f) (40 + k * 16) Eight (u64_bytes (option_map_or (λ (t : Task). t.v) (slice_get f.movable k) 0))
+    FieldHolds (pull_bytes f) (32 + k * 16) Four (u32_bytes (option_map_or (λ (t : Task). t.id) (slice_get f.movable k) 0))
+    × FieldHolds (pull_bytes f) (36 + k * 16) Four (u32_bytes (option_map_or (λ (t : Task). t.weight) (slice_get f.movable k) 0))
+    × FieldHolds (pull_bytes f) (40 + k * 16) Eight (u64_bytes (option_map_or (λ (t : Task). t.v) (slice_get f.movable k) 0))
 unfolding pull_bytes pull_header
 tasks_hold f k l =
     let g : ℕ → List ℕ = λ k. task_bytes 0 (slice_get f.movable k) in

@@ -4,11 +4,11 @@ use Rattle.std.specs.Fmt.{decimal}
 use Rattle.std.specs.List.{flat_map, range_with_len}
 use lib.Pointwise.{pointwise}
 use Rattle.hex.specs.Hex.{encode_lower}
-use Rattle.bq_bpf.specs.declared.board.Call.{Call as Asked}
-use Rattle.bq_bpf.specs.declared.board.Call.TheVariants.{Add, Read}
+use Rattle.bq_bpf.specs.declared.board.CounterCall.{CounterCall}
+use Rattle.bq_bpf.specs.declared.board.CounterCall.TheVariants.{Add, Read}
 use Rattle.bq_maps.specs.Arrays.{Arrays, entries_in, entry_of}
 
--- maps of the same shapes, whose bytes are these
+-- maps of these shapes, with these bytes
 abbrev pub with_all : Arrays → List (List ℕ) → Arrays
 with_all maps bytes = record maps { bytes = bytes }
 
@@ -36,13 +36,13 @@ changes_text before after = flat_map (map_changes before after) (range_with_len 
 abbrev pub entry_change : Arrays → Arrays → ℕ → ℕ → List ℕ
 entry_change before after m k = if is_changed before after m k then entry_line m k (entry_of after m k) else []
 
--- a call of a counter: what it was, and for a sum what it is thereafter, modulo 2^64
-abbrev pub call_line : Asked → List ℕ
+-- the line of a call of a counter: what it was, and for a sum what the counter is afterwards, modulo 2^64
+abbrev pub call_line : CounterCall → List ℕ
 call_line (Add counter amount answer) =
     codes "counter " ++ (decimal counter ++ (codes ": " ++ (decimal answer ++ (codes " and " ++ (decimal amount
     ++ (codes " give " ++ (decimal ((answer + amount) % 2 ^ 64) ++ codes "\n")))))))
 call_line (Read counter answer) = codes "counter " ++ (decimal counter ++ (codes ": read " ++ (decimal answer ++ codes "\n")))
 
 -- a line for each call
-abbrev pub calls_text : List Asked → List ℕ
+abbrev pub calls_text : List CounterCall → List ℕ
 calls_text calls = flat_map call_line calls

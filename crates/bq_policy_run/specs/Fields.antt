@@ -1,6 +1,5 @@
 -- The fields of contexts by their names, as docs/CONTEXTS.md lists them.
 use Rattle.std.specs.Prelude.{◌≡◌, ℕ, ◌+◌, ◌*◌, ◌^◌, ◌<◌, ◌≤◌, List, [], ◌∷◌, length, ◌⊎◌, Option, Some, codes}
-use Rattle.std.specs.Borrow.{Bor}
 use Rattle.std.specs.Int.{bytes_low_first}
 use Rattle.std.specs.List.{find}
 use Rattle.std.specs.Str.{bytes_eq}
@@ -10,15 +9,18 @@ use Rattle.bq_hooks.specs.declared.hook.Hook.{Hook}
 use Rattle.bq_hooks.specs.declared.hook.Hook.TheVariants.{Place, Preempt, Pull}
 use Rattle.bq_hooks.specs.declared.hook.Version.{Version}
 use Rattle.bq_policy_run.specs.declared.fields.Field.{Field}
+use Rattle.bq_policy_run.specs.declared.fields.FieldRow.{FieldRow}
 use Rattle.bq_policy_run.specs.declared.fields.FieldWidth.{FieldWidth}
 use Rattle.bq_policy_run.specs.declared.fields.FieldWidth.TheVariants.{Four, Eight}
 use Rattle.bq_console.specs.Words.{IsCut, IsNumber}
 
+-- the number of bytes of a field
 abbrev pub bytes_in : FieldWidth → ℕ
 bytes_in Four = 4
 bytes_in Eight = 8
 
--- a row of the table: the name, the first byte, the width, and for a field that stands several times how far apart and how often
+-- a row of the table: the name, the first byte and the width; for a field that comes several times, the distance between two and
+-- their number
 pub record NamedField : Type 0 where
   pub name : List ℕ
   pub at : ℕ
@@ -26,12 +28,15 @@ pub record NamedField : Type 0 where
   pub apart : ℕ
   pub count : ℕ
 
+-- a row of a field that comes once
 abbrev pub once : List ℕ → ℕ → FieldWidth → NamedField
 once name at width = record { name = name; at = at; width = width; apart = 0; count = 1 }
 
+-- a row of a field that comes several times
 abbrev pub several : List ℕ → ℕ → FieldWidth → ℕ → ℕ → NamedField
 several name at width apart count = record { name = name; at = at; width = width; apart = apart; count = count }
 
+-- the fields of a hook's context
 abbrev pub fields_of : Hook → List NamedField
 fields_of Place =
     once (codes "task") 0 Four
@@ -74,16 +79,16 @@ abbrev pub row_named : List NamedField → List ℕ → Option NamedField
 row_named rows name = find (λ r. bytes_eq r.name name) rows
 
 -- a row as the code has it
-abbrev pub row_of : Bor (List ℕ) × ℕ × FieldWidth × ℕ × ℕ → NamedField
-row_of r = record { name = r.0.now; at = r.1; width = r.2; apart = r.3; count = r.4 }
+abbrev pub row_of : FieldRow → NamedField
+row_of r = record { name = r.name.now; at = r.at; width = r.width; apart = r.apart; count = r.count }
 
--- the field stands once, and goes by its name
+-- the field is that of a row whose field comes once
 pub record IsSingle (row : NamedField) (field : Field) : Type 0 where
   pub count : row.count ≡ 1
   pub at : field.at ≡ row.at
   pub width : field.width ≡ row.width
 
--- the field is the one of that number of those that stand several times
+-- the field has this number among those of a row whose field comes several times
 pub record IsNumbered (row : NamedField) (number : ℕ) (field : Field) : Type 0 where
   pub count : 1 < row.count
   pub below : number < row.count
@@ -96,7 +101,7 @@ pub record GoesByName (hook : Hook) (name : List ℕ) (field : Field) : Type 0 w
   pub named : row_named (fields_of hook) name ≡ Some row
   pub single : IsSingle row field
 
--- the field of those of that name that the digits number
+-- the field is the one with the number that the digits write, of those with that name
 pub record HasNumber (hook : Hook) (stem digits : List ℕ) (field : Field) : Type 0 where
   pub row : NamedField
   pub named : row_named (fields_of hook) stem ≡ Some row
@@ -111,6 +116,7 @@ pub record GoesByNumber (hook : Hook) (name : List ℕ) (field : Field) : Type 0
   pub splits : IsCut 46 name stem digits
   pub has : HasNumber hook stem digits field
 
+-- a field has a name: its row's own, or with a dot and a number
 abbrev pub GoesBy : Hook → List ℕ → Field → Type 0
 GoesBy hook name field = GoesByName hook name field ⊎ GoesByNumber hook name field
 
@@ -119,12 +125,12 @@ pub record IsField (hook : Hook) (version : Version) (name : List ℕ) (field : 
   pub named : GoesBy hook name field
   pub within : field.at + bytes_in field.width ≤ context_length_of hook version
 
--- the bytes stand there, and all else is as before
+-- the bytes are at this place, and all else is as before
 pub record IsPasted (at : ℕ) (bytes before after : List ℕ) : Type 0 where
   pub inside : at + length bytes ≤ length before
   pub pasted : after ≡ overwrite before at bytes
 
--- the word stands in the field, low byte first, and all else is as before
+-- the field holds the word, low byte first, and all else is as before
 pub record IsPut (field : Field) (word : ℕ) (before after : List ℕ) : Type 0 where
   pub fits : word < 256 ^ bytes_in field.width
   pub pasted : IsPasted field.at (bytes_low_first 0 (bytes_in field.width) word) before after

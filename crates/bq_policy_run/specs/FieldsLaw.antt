@@ -1,4 +1,4 @@
--- The law of the fields: where the context is that of a choice, each field holds what its name says of that choice.
+-- The law of the fields: if the context is that of a choice, each field holds what its name says of that choice.
 use Rattle.std.specs.Prelude.{◌≡◌, ℕ, ◌+◌, ◌^◌, ◌%◌, ◌<◌, ◌⊎◌, min, List, [], ◌∷◌, length, slice_get, slice_index, slice_range, Option, Some, codes}
 use Rattle.std.specs.List.{find}
 use Rattle.std.specs.Option.{option_map_or}
@@ -15,7 +15,7 @@ use Rattle.bq_policy_run.specs.declared.fields.Field.{Field}
 use Rattle.bq_policy_run.specs.declared.fields.FieldWidth.{FieldWidth}
 use Rattle.bq_policy_run.specs.Fields.{IsField, bytes_in}
 
--- what there is where a policy of the hook is asked
+-- the facts of a choice for which a policy of the hook is asked
 abbrev pub FactsOf : Hook → Type 0
 FactsOf Place = PlaceFacts
 FactsOf Preempt = PreemptFacts
@@ -28,19 +28,21 @@ context_of Place Second f = place_bytes_second f
 context_of Preempt version f = preempt_bytes f
 context_of Pull version f = pull_bytes f
 
--- a name, how many fields go by it, and the bytes of what it says: where several go by it, of each by its number
+-- a name, the number of its fields, and the bytes that each of them holds, by its number if there are several
 pub record Meaning : Type 0 where
   pub name : List ℕ
   pub count : ℕ
   pub bytes : ℕ → List ℕ
 
+-- a name with one field
 abbrev pub one : List ℕ → List ℕ → Meaning
 one name bytes = record { name = name; count = 1; bytes = λ number. bytes }
 
+-- a name with several fields
 abbrev pub each : List ℕ → ℕ → (ℕ → List ℕ) → Meaning
 each name count bytes = record { name = name; count = count; bytes = bytes }
 
--- of a place context that shows the processors below a limit
+-- the meanings of a place context that shows the processors below a limit
 abbrev pub place_meanings : ℕ → PlaceFacts → List Meaning
 place_meanings limit f =
     one (codes "task") (u32_bytes f.task.id)
@@ -54,6 +56,7 @@ place_meanings limit f =
     ∷ each (codes "load") limit (λ processor. u32_bytes (slice_index f.loads processor))
     ∷ []
 
+-- the meanings of a preempt context
 abbrev pub preempt_meanings : PreemptFacts → List Meaning
 preempt_meanings f =
     one (codes "processor") (u32_bytes f.processor)
@@ -68,6 +71,7 @@ preempt_meanings f =
     ∷ one (codes "own") (u32_bytes (as_number f.own))
     ∷ []
 
+-- the meanings of a pull context
 abbrev pub pull_meanings : PullFacts → List Meaning
 pull_meanings f =
     one (codes "puller") (u32_bytes f.puller)
@@ -82,6 +86,7 @@ pull_meanings f =
     ∷ each (codes "v") 8 (λ place. u64_bytes (option_map_or (λ (t : Task). t.v) (slice_get f.movable place) 0))
     ∷ []
 
+-- the meanings of a hook's context of a version
 abbrev pub meanings_of : (hook : Hook) → Version → FactsOf hook → List Meaning
 meanings_of Place First f = place_meanings 16 f
 meanings_of Place Second f = place_meanings 64 f
@@ -92,15 +97,15 @@ meanings_of Pull version f = pull_meanings f
 abbrev pub meaning_named : List Meaning → List ℕ → Option Meaning
 meaning_named meanings name = find (λ m. bytes_eq m.name name) meanings
 
--- by itself the name says these bytes
-pub record SaysByName (meanings : List Meaning) (name bytes : List ℕ) : Type 0 where
+-- a name without a number says these bytes
+pub record MeansByName (meanings : List Meaning) (name bytes : List ℕ) : Type 0 where
   pub meaning : Meaning
   pub named : meaning_named meanings name ≡ Some meaning
   pub single : meaning.count ≡ 1
   pub is : bytes ≡ meaning.bytes 0
 
--- by what stands before its first dot, and the number behind that
-pub record SaysByNumber (meanings : List Meaning) (name bytes : List ℕ) : Type 0 where
+-- a name says these bytes by the part before its first dot, and the number after the dot
+pub record MeansByNumber (meanings : List Meaning) (name bytes : List ℕ) : Type 0 where
   pub stem : List ℕ
   pub digits : List ℕ
   pub splits : IsCut 46 name stem digits
@@ -112,18 +117,19 @@ pub record SaysByNumber (meanings : List Meaning) (name bytes : List ℕ) : Type
   pub below : number < meaning.count
   pub is : bytes ≡ meaning.bytes number
 
-abbrev pub Says : List Meaning → List ℕ → List ℕ → Type 0
-Says meanings name bytes = SaysByName meanings name bytes ⊎ SaysByNumber meanings name bytes
+-- a name says these bytes, on its own or with a number
+abbrev pub MeansBytes : List Meaning → List ℕ → List ℕ → Type 0
+MeansBytes meanings name bytes = MeansByName meanings name bytes ⊎ MeansByNumber meanings name bytes
 
 -- the field there has these bytes and no more
-abbrev pub Holds : List ℕ → ℕ → FieldWidth → List ℕ → Type 0
-Holds context at width bytes = slice_range context at (at + bytes_in width) ≡ bytes
+abbrev pub FieldHolds : List ℕ → ℕ → FieldWidth → List ℕ → Type 0
+FieldHolds context at width bytes = slice_range context at (at + bytes_in width) ≡ bytes
 
 -- whatever the choice, the field of a name holds what the name says; each name that says something has a field; and the context is as
 -- long as its hook and version say
 pub record FieldsAreAsNamed : Type 0 where
   pub holds : (hook : Hook) (version : Version) (f : FactsOf hook) (name : List ℕ) (field : Field) → IsField hook version name field →
-      (bytes : List ℕ) × Says (meanings_of hook version f) name bytes × Holds (context_of hook version f) field.at field.width bytes
-  pub there : (hook : Hook) (version : Version) (f : FactsOf hook) (name bytes : List ℕ) → Says (meanings_of hook version f) name bytes →
+      (bytes : List ℕ) × MeansBytes (meanings_of hook version f) name bytes × FieldHolds (context_of hook version f) field.at field.width bytes
+  pub there : (hook : Hook) (version : Version) (f : FactsOf hook) (name bytes : List ℕ) → MeansBytes (meanings_of hook version f) name bytes →
       (field : Field) × IsField hook version name field
   pub long : (hook : Hook) (version : Version) (f : FactsOf hook) → length (context_of hook version f) ≡ context_length_of hook version

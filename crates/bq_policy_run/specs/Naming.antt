@@ -14,7 +14,7 @@ use Rattle.bq_policy_run.specs.Fields.{IsField, IsPut}
 use Rattle.bq_words.specs.Words.{parts}
 use Rattle.bq_console.specs.Words.{IsCut, IsNumber, IsValue}
 
--- each word makes its step, one after another: where two name the same place, the last counts
+-- each word makes its step, one after another; if two name one place, the last counts
 abbrev pub InTurn : {W S : Type 0} → (W → S → S → Type 0) → List W → S → S → Type 0
 InTurn step [] before after = after ≡ before
 InTurn {W} {S} step (word ∷ words) before after = (between : S) × step word before between × InTurn step words between after
@@ -23,17 +23,17 @@ InTurn {W} {S} step (word ∷ words) before after = (between : S) × step word b
 abbrev pub TextsInTurn : {S : Type 0} → (List ℕ → S → S → Type 0) → List (String Global) → S → S → Type 0
 TextsInTurn step texts before after = InTurn (λ (t : String Global). step (string_bytes t)) texts before after
 
--- the field of that name may show that there is nobody, by the word that all bits of it are
+-- the field of that name may show that there is no such task or processor, by the word that has all bits set
 abbrev pub shows_nobody : Hook → List ℕ → Bool
 shows_nobody Place name = bytes_eq name (codes "waker") || (bytes_eq name (codes "previous") || bytes_eq name (codes "own"))
 shows_nobody Preempt name = bytes_eq name (codes "next")
 shows_nobody Pull name = bytes_eq name (codes "own")
 
--- a number, or `none` where the field may show nobody
+-- a number, or `none` if the field may show that there is no such task or processor
 abbrev pub IsFieldWord : Hook → List ℕ → List ℕ → ℕ → Type 0
 IsFieldWord hook name text word = IsValue text word ⊎ ((text ≡ codes "none") × (shows_nobody hook name ≡ true) × (word ≡ 2 ^ 32 - 1))
 
--- as `task=3`: the number stands in the field of that name, and no other byte changes
+-- as `task=3`: the field of that name holds the number, and no other byte changes
 pub record SetsField (hook : Hook) (version : Version) (part before after : List ℕ) : Type 0 where
   pub name : List ℕ
   pub text : List ℕ
@@ -61,7 +61,7 @@ pub record NamesEntry (text : List ℕ) (m entry : ℕ) : Type 0 where
   pub is_entry : IsNumber place entry
   pub fits : m < 2 ^ 64
 
--- as `0:2=0a00`: the bytes stand in that entry of that map, and no other byte changes
+-- as `0:2=0a00`: that entry of that map has the bytes, and no other byte changes
 pub record SetsEntry (text : List ℕ) (before after : Arrays) : Type 0 where
   pub place : List ℕ
   pub value : List ℕ
@@ -97,7 +97,7 @@ pub record IsClean (shapes : List MapShape) (maps : Arrays) : Type 0 where
   pub shapes_are : maps.shapes ≡ shapes
   pub zero : (m i : ℕ) → slice_index (bytes_of maps m) i ≡ 0
 
--- the bytes that a hex text names, of just that length; all 0 without a text
+-- the bytes that a hex text names, of exactly this length; all 0 without a text
 abbrev pub IsContextNamed : Option (List ℕ) → ℕ → List ℕ → Type 0
 IsContextNamed None len context = context ≡ replicate len 0
 IsContextNamed (Some text) len context = (decode_of text ≡ Ok context) × (length context ≡ len)

@@ -7,10 +7,10 @@ use Rattle.bq_disc.specs.Masks.{allows}
 use Rattle.bq_hooks.specs.Permitted.{may_preempt}
 use Rattle.bq_hooks.specs.declared.hook.Hook.{Hook}
 use Rattle.bq_hooks.specs.declared.hook.Hook.TheVariants.{Place, Preempt, Pull}
-use Rattle.bq_policy_run.specs.declared.permitted.Word.{Word}
-use Rattle.bq_policy_run.specs.declared.permitted.Word.TheVariants.{Permitted, NotPermitted, NotShown}
+use Rattle.bq_policy_run.specs.declared.permitted.Permission.{Permission}
+use Rattle.bq_policy_run.specs.declared.permitted.Permission.TheVariants.{Permitted, NotPermitted, NotShown}
 
--- the number of the four bytes that stand there
+-- the number that the four bytes at this place write
 abbrev pub number_at : List ℕ → ℕ → ℕ
 number_at context at = little_number 4 (slice_range context at (at + 4))
 
@@ -27,6 +27,7 @@ shown_id context place = number_at context (32 + 16 * place)
 abbrev pub shown_ids : List ℕ → List ℕ
 shown_ids context = map (shown_id context) (range_with_len 0 (min (number_at context 20) 8))
 
+-- a pull context shows a task
 abbrev pub shows_task : List ℕ → ℕ → Bool
 shows_task context r0 = list_any (λ id. id == r0) (shown_ids context)
 
@@ -35,20 +36,20 @@ abbrev pub hides_tasks : List ℕ → Bool
 hides_tasks context = nat_lt (number_at context 20) (number_at context 16)
 
 -- a processor that the context shows, in the mask
-abbrev pub place_word : List ℕ → ℕ → Word
+abbrev pub place_word : List ℕ → ℕ → Permission
 place_word context r0 = if place_permits context r0 then Permitted else NotPermitted
 
 -- the answer decides
-abbrev pub preempt_word : ℕ → Word
+abbrev pub preempt_word : ℕ → Permission
 preempt_word r0 = if may_preempt r0 then Permitted else NotPermitted
 
--- nobody, or a task that is shown; another may be movable only where not all that are movable are shown
-abbrev pub pull_word : List ℕ → ℕ → Word
+-- permitted: no task, or one that is shown. Another may be movable only if not all movable tasks are shown
+abbrev pub pull_word : List ℕ → ℕ → Permission
 pull_word context r0 =
     if r0 == nobody || shows_task context r0 then Permitted else if hides_tasks context then NotShown else NotPermitted
 
--- the word on an answer, where the hook's context is this
-abbrev pub word_of : Hook → List ℕ → ℕ → Word
+-- the word on an answer, for a context of the hook
+abbrev pub word_of : Hook → List ℕ → ℕ → Permission
 word_of Place context r0 = place_word context r0
 word_of Preempt context r0 = preempt_word r0
 word_of Pull context r0 = pull_word context r0

@@ -3,7 +3,7 @@ use Rattle.std.specs.Prelude.{◌≡◌, ℕ, ◌+◌, ◌^◌, Bool, false, Lis
 use Rattle.std.specs.declared.alloc.Global.{Global}
 use Rattle.std.specs.Fmt.{decimal, digits}
 use Rattle.bq_insn.specs.Slots.{spread}
-use Rattle.bq_bpf.specs.declared.board.Call.{Call as Asked}
+use Rattle.bq_bpf.specs.declared.board.CounterCall.{CounterCall}
 use Rattle.bq_bpf.specs.declared.board.TheConstants.{COUNTERS}
 use Rattle.bq_explain.specs.declared.verdict.Verdict.{Verdict}
 use Rattle.bq_explain.specs.declared.verdict.Verdict.TheVariants as verdict
@@ -29,11 +29,11 @@ use Rattle.bq_policy_file.specs.Files.{IsPolicy}
 use Rattle.bq_policy_check.specs.declared.answered.Answered.{Answered}
 use Rattle.bq_policy_check.specs.declared.answered.Answered.TheVariants.{Done, Refused}
 use Rattle.bq_policy_check.specs.declared.words.RunWords.{RunWords}
-use Rattle.bq_policy_run.specs.Judging.{TellsWord}
+use Rattle.bq_policy_run.specs.Judging.{BeginsWithWord}
 use Rattle.bq_policy_check.specs.Refusing.{IsRefusedFile}
-use Rattle.bq_policy_run.specs.Tracing.{TellsSteps}
+use Rattle.bq_policy_run.specs.Tracing.{ReportsSteps}
 use Rattle.bq_words.specs.Durations.{duration_of}
-use Rattle.bq_policy_check.specs.Saying.{IsNumberBelow, IsWordsFault, SaysHead, option_bytes}
+use Rattle.bq_policy_check.specs.Given.{IsNumberBelow, IsWordsFault, GivesHead, option_bytes}
 
 -- without a word the number is 0, and it is below that limit
 abbrev pub IsNumberOrZero : ℕ → Option (List ℕ) → ℕ → Type 0
@@ -86,27 +86,28 @@ answer_line answer judged steps budget =
     ++ (codes "  steps " ++ (decimal steps ++ (codes " of " ++ (decimal budget ++ codes "\n")))))))))
 
 -- a line for each entry of these maps whose bytes are other now, and then one for each call of a counter
-abbrev pub changed_text : Arrays → List (List ℕ) → List Asked → List ℕ
+abbrev pub changed_text : Arrays → List (List ℕ) → List CounterCall → List ℕ
 changed_text maps now calls = changes_text maps (with_all maps now) ++ calls_text calls
 
--- the first line tells the answer of a run on that context, with the rule's word on it; then the steps are shown, and what changed; how
--- long runs take stands last
-pub record TellsRun (program : Accepted) (context : List ℕ) (answer steps : ℕ) (executed changed timing text : List ℕ) : Type 0 where
+-- The first line tells the answer of a run on that context, with the rule's word on it. Then come the steps and what changed,
+-- and at the end how long runs take
+pub record ReportsRun (program : Accepted) (context : List ℕ) (answer steps : ℕ) (executed changed timing text : List ℕ) : Type 0 where
   pub judged : List ℕ
-  pub word : TellsWord (word_of program.hook context answer) judged
+  pub word : BeginsWithWord (word_of program.hook context answer) judged
   pub text_is : text ≡ answer_line answer judged steps program.budget ++ (executed ++ (changed ++ timing))
 
--- of as many runs as the word says, all but the last
+-- the number of runs before the last, of as many runs as the word says
 abbrev pub IsBefore : Option (List ℕ) → ℕ → Type 0
 IsBefore None n = n ≡ 0
 IsBefore (Some word) n = IsNumberBelow (2 ^ 32) word (n + 1)
 
--- this many runs of the program on those inputs, one after another, lead to maps and counters from which there is a run more, whose steps, with its
--- own calls of counters, begin from these snapshots of the machine: its answer is shown, its steps where that is asked for, each entry of
--- the maps that all these runs changed, and its calls; and nothing of how long runs take where no number of them is asked for
-pub record HasRun (traced timed : Bool) (others : ℕ) (program : Accepted) (inputs : Inputs) (told_as : Answered) : Type 0 where
+-- This many runs of the program on those inputs, one after another, lead to maps and counters from which one more run starts.
+-- Its steps, with its own calls of counters, begin from these snapshots of the machine. Shown are its answer, its steps if they
+-- are asked for, each entry of the maps that all these runs changed, and its calls. Nothing is said of how long runs take unless
+-- a number of runs is asked for
+pub record HasRun (traced timed : Bool) (others : ℕ) (program : Accepted) (inputs : Inputs) (answered_as : Answered) : Type 0 where
   pub steps : ℕ
-  pub calls : List Asked
+  pub calls : List CounterCall
   pub answer : ℕ
   pub before : PersistentState
   pub after : PersistentState
@@ -116,22 +117,22 @@ pub record HasRun (traced timed : Bool) (others : ℕ) (program : Accepted) (inp
   pub are : AreSnapshots (setting_of program inputs.context.items inputs.env.now inputs.env.processor) (start before.maps) calls 0 snapshots
   pub each : length snapshots ≡ steps
   pub text : String Global
-  pub is : told_as ≡ Done text
+  pub is : answered_as ≡ Done text
   pub executed : List ℕ
-  pub steps_told : TellsSteps traced program snapshots executed
+  pub steps_reported : ReportsSteps traced program snapshots executed
   pub timing : List ℕ
   pub untimed : timed ≡ false → timing ≡ []
-  pub told : TellsRun program inputs.context.items answer steps executed (changed_text inputs.maps after.maps calls) timing (string_bytes text)
+  pub reported : ReportsRun program inputs.context.items answer steps executed (changed_text inputs.maps after.maps calls) timing (string_bytes text)
 
--- on inputs that the words name; where they name none they are refused
+-- what is answered: a run on the inputs that the words name, or that words which name none are refused
 abbrev pub RunsInputs : RunWords → Accepted → ℕ → Answered → Type 0
-RunsInputs w program others told_as =
-    IsWordsFault (HasInputs w program) told_as ⊎ ((inputs : Inputs) × HasInputs w program inputs × HasRun w.telling.is_traced (is_some w.telling.repeat) others program inputs told_as)
+RunsInputs w program others answered_as =
+    IsWordsFault (HasInputs w program) answered_as ⊎ ((inputs : Inputs) × HasInputs w program inputs × HasRun w.report.is_traced (is_some w.report.repeat) others program inputs answered_as)
 
--- after as many others as the words name; where they name no number of runs they are refused
+-- what is answered: a run after as many others as the words name, or that words which name no number of runs are refused
 abbrev pub RunsProgram : RunWords → Accepted → Answered → Type 0
-RunsProgram w program told_as =
-    IsWordsFault (IsBefore (option_bytes w.telling.repeat)) told_as ⊎ ((others : ℕ) × IsBefore (option_bytes w.telling.repeat) others × RunsInputs w program others told_as)
+RunsProgram w program answered_as =
+    IsWordsFault (IsBefore (option_bytes w.report.repeat)) answered_as ⊎ ((others : ℕ) × IsBefore (option_bytes w.report.repeat) others × RunsInputs w program others answered_as)
 
 -- the program is that of the policy
 pub record IsProgramOf (p : PolicySource) (program : Accepted) : Type 0 where
@@ -141,31 +142,33 @@ pub record IsProgramOf (p : PolicySource) (program : Accepted) : Type 0 where
   pub version : program.version ≡ p.form.version
 
 -- the text begins with the line that tells the verdict
-abbrev pub TellsVerdict : Hook → Verdict → List ℕ → Type 0
-TellsVerdict hook named text = (reason : List ℕ) × (text ≡ verdict_line hook named ++ reason)
+abbrev pub BeginsWithVerdict : Hook → Verdict → List ℕ → Type 0
+BeginsWithVerdict hook named text = (reason : List ℕ) × (text ≡ verdict_line hook named ++ reason)
 
 -- the verifier refuses the policy, which it does to no straight program, and the text begins with the line that says so
-pub record IsUnaccepted (p : PolicySource) (told_as : Answered) : Type 0 where
+pub record IsUnaccepted (p : PolicySource) (answered_as : Answered) : Type 0 where
   pub slot : ℕ
   pub cause : Cause
   pub refusal : IsRefusedPolicy p slot cause
   pub text : String Global
-  pub is : told_as ≡ Refused text
-  pub told : TellsVerdict p.form.hook (verdict.Refused slot cause) (string_bytes text)
+  pub is : answered_as ≡ Refused text
+  pub reported : BeginsWithVerdict p.form.hook (verdict.Refused slot cause) (string_bytes text)
 
 -- the verifier accepts the policy's program with its budget, which is the longest path, and it runs
-pub record RunsAccepted (w : RunWords) (p : PolicySource) (told_as : Answered) : Type 0 where
+pub record RunsAccepted (w : RunWords) (p : PolicySource) (answered_as : Answered) : Type 0 where
   pub program : Accepted
   pub of : IsProgramOf p program
   pub accepted : IsAcceptedPolicy p program.budget
-  pub runs : RunsProgram w program told_as
+  pub runs : RunsProgram w program answered_as
 
+-- the answer for a policy: it is not accepted, or it is run
 abbrev pub RunsPolicy : RunWords → PolicySource → Answered → Type 0
-RunsPolicy w p told_as = IsUnaccepted p told_as ⊎ RunsAccepted w p told_as
+RunsPolicy w p answered_as = IsUnaccepted p answered_as ⊎ RunsAccepted w p answered_as
 
+-- the answer for a file under a head: its fault, or the answer for its policy
 abbrev pub RunsFile : RunWords → List ℕ → Head → Answered → Type 0
-RunsFile w bytes h told_as = IsRefusedFile bytes h told_as ⊎ ((p : PolicySource) × IsPolicy bytes h p × RunsPolicy w p told_as)
+RunsFile w bytes h answered_as = IsRefusedFile bytes h answered_as ⊎ ((p : PolicySource) × IsPolicy bytes h p × RunsPolicy w p answered_as)
 
--- by the head that the words say; words that say none are refused
+-- the answer for a file under the head that the words say; words that say none are refused
 abbrev pub RunsTo : RunWords → List ℕ → Answered → Type 0
-RunsTo w bytes told_as = IsWordsFault (SaysHead w.policy) told_as ⊎ ((h : Head) × SaysHead w.policy h × RunsFile w bytes h told_as)
+RunsTo w bytes answered_as = IsWordsFault (GivesHead w.policy) answered_as ⊎ ((h : Head) × GivesHead w.policy h × RunsFile w bytes h answered_as)

@@ -1,6 +1,6 @@
 -- The one run of a policy on its inputs.
 use Rattle.std.specs.Prelude.{◌≡◌, ℕ, zero, suc, ◌≤◌, List, length}
-use Rattle.bq_bpf.specs.declared.board.Call.{Call as Asked}
+use Rattle.bq_bpf.specs.declared.board.CounterCall.{CounterCall}
 use Rattle.bq_bpf.specs.Counters.{Counts, Through}
 use Rattle.bq_bpf.specs.Memory.{Setting}
 use Rattle.bq_hooks.specs.Hooks.{context_length_of}
@@ -15,18 +15,19 @@ pub record PersistentState : Type 0 where
   pub maps : List (List ℕ)
   pub counters : List ℕ
 
+-- what a run finds in its inputs
 abbrev pub kept_in : Inputs → PersistentState
 kept_in inputs = record { maps = inputs.maps.bytes; counters = inputs.board }
 
 -- the context has the length of the program's hook and version, and the maps have its shapes
-pub record Fits (program : Accepted) (inputs : Inputs) : Type 0 where
+pub record FitsProgram (program : Accepted) (inputs : Inputs) : Type 0 where
   pub context : length inputs.context.items ≡ context_length_of program.hook program.version
   pub shapes : inputs.maps.shapes ≡ program.shapes
 
 -- the machine's run from these maps, on that context, at that time and on that processor, gives this answer after this many instructions,
 -- within the budget, and leaves these maps; its calls of counters are these, and lead from those counters to these
 pub record IsRun (program : Accepted) (context : List ℕ) (now processor : ℕ)
-    (before : PersistentState) (steps : ℕ) (calls : List Asked) (answer : ℕ) (after : PersistentState) : Type 0 where
+    (before : PersistentState) (steps : ℕ) (calls : List CounterCall) (answer : ℕ) (after : PersistentState) : Type 0 where
   pub runs : RunFrom (setting_of program context now processor) (start before.maps) steps calls answer after.maps
   pub counted : Through Counts before.counters calls after.counters
   pub within : steps ≤ program.budget
@@ -42,7 +43,7 @@ setting_on program inputs = setting_of program inputs.context.items inputs.env.n
 
 -- a run leads from these maps and counters to those
 abbrev pub LeadsFrom : Accepted → List ℕ → ℕ → ℕ → PersistentState → PersistentState → Type 0
-LeadsFrom program context now processor before after = (steps : ℕ) × (calls : List Asked) × (answer : ℕ) × IsRun program context now processor before steps calls answer after
+LeadsFrom program context now processor before after = (steps : ℕ) × (calls : List CounterCall) × (answer : ℕ) × IsRun program context now processor before steps calls answer after
 
 -- this many runs, one after another, lead there
 abbrev pub AreRuns : Accepted → List ℕ → ℕ → ℕ → ℕ → PersistentState → PersistentState → Type 0

@@ -17,7 +17,7 @@ changes_below zero before now = []
 changes_below (suc n) before now =
     changes_below n before now ++ (if slice_index before n == slice_index now n then [] else register_text n (slice_index now n))
 
--- the registers that differ where the next instruction begins; the last instruction has none after it
+-- the registers that an instruction changed, by the snapshot at the next one; empty for the last instruction
 abbrev pub changes_to : Snapshot → List Snapshot → List ℕ
 changes_to m [] = []
 changes_to m (next ∷ rest) = changes_below 11 m.registers next.registers
@@ -31,13 +31,13 @@ slot_text (Some insn) = listing_text (insn ∷ [])
 abbrev pub step_text : Accepted → Snapshot → List Snapshot → List ℕ
 step_text program m after = codes "slot " ++ (decimal m.slot ++ (codes ": " ++ (slot_text (instruction_at program.slots m.slot) ++ changes_to m after)))
 
--- each step in its turn; before it the place in the policy's text may stand
+-- the text of each step in order; the place in the policy's text may come before it
 abbrev pub AreSteps : Accepted → List Snapshot → List ℕ → Type 0
 AreSteps program [] text = text ≡ []
 AreSteps program (m ∷ after) text =
     (place rest : List ℕ) × (text ≡ place ++ (step_text program m after ++ rest)) × AreSteps program after rest
 
--- the steps are shown where that is asked for, and nothing is shown of them where it is not
-abbrev pub TellsSteps : Bool → Accepted → List Snapshot → List ℕ → Type 0
-TellsSteps false program snapshots text = text ≡ []
-TellsSteps true program snapshots text = AreSteps program snapshots text
+-- the steps are shown if that is asked for, and nothing of them otherwise
+abbrev pub ReportsSteps : Bool → Accepted → List Snapshot → List ℕ → Type 0
+ReportsSteps false program snapshots text = text ≡ []
+ReportsSteps true program snapshots text = AreSteps program snapshots text

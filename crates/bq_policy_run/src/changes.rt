@@ -4,7 +4,7 @@ ghost use Rattle.bq_maps.specs.Arrays.{HasEntry, entries_in, entry_of};
 ghost use Rattle.bq_policy_run.specs.Changes.{call_line, calls_text, changes_text, entry_change, entry_line, map_changes, with_all};
 
 use crate::inputs::Inputs;
-use bq_bpf::Call;
+use bq_bpf::CounterCall;
 use bq_maps::Maps;
 use std::alloc::{AllocError, Global};
 
@@ -19,8 +19,8 @@ pub fn copied(alloc: Global, maps: &Maps) -> Result<Vec<Vec<u8>>, AllocError>
     Ok(all)
 }
 
-/// A line for each entry whose bytes are other than before, of each map whose bytes before are there. Where memory is wanted a part
-/// of this may stand.
+/// Writes a line for each entry whose bytes differ from before, of each map whose bytes before are there. If memory runs out, a
+/// part of this may be written.
 pub fn write_changes(
     alloc: Global,
     before: &[Vec<u8>],
@@ -51,7 +51,7 @@ fn write_map(
     Ok(())
 }
 
-/// How many entries the map of that number has; `None` if no map has that number.
+/// Answers how many entries the map of that number has; 0 if no map has that number.
 fn entries(maps: &Maps, number: usize) -> u32
     ensures { result ≡ entries_in (slice_get maps.now.shapes number) }
 {
@@ -61,7 +61,7 @@ fn entries(maps: &Maps, number: usize) -> u32
     }
 }
 
-/// The line of an entry that is there if its bytes are other than before, and else nothing.
+/// Appends the line of an entry to `text` if its bytes have changed; otherwise appends nothing.
 fn write_change(
     alloc: Global,
     before: &[Vec<u8>],
@@ -80,7 +80,7 @@ fn write_change(
     write_entry(alloc, number, entry, bytes, text)
 }
 
-/// The bytes that an entry that is there had before, as far as those of its map are there.
+/// Answers the bytes that an entry had before, as far as the bytes of its map are there.
 fn entry_before<'a>(before: &'a [Vec<u8>], maps: &Maps, number: usize, entry: u32) -> &'a [u8]
     requires { HasEntry maps.now number entry }
     ensures { result.now ≡ entry_of (with_all maps.now (map (λ v. v.items) before.now)) number entry }
@@ -102,8 +102,8 @@ fn write_entry(
 ) -> Result<(), AllocError>
     ensures { OnOk result (string_bytes text.new ≡ string_bytes text.old ++ entry_line number entry bytes.now) }
 {
-    let told = hex::encode(alloc, bytes)?;
-    write!(text, "map {number} entry {entry}: {told}\n")
+    let reported = hex::encode(alloc, bytes)?;
+    write!(text, "map {number} entry {entry}: {reported}\n")
 }
 
 /// This many bytes from there on, as far as there are.
@@ -114,8 +114,8 @@ fn part(bytes: &[u8], at: usize, count: usize) -> &[u8]
     &rest[..count.min(rest.len())]
 }
 
-/// A line for each call of a counter. Where memory is wanted a part of this may stand.
-pub fn write_calls(calls: &[Call], text: &mut String) -> Result<(), AllocError>
+/// Writes a line for each call of a counter. If memory runs out, a part of this may be written.
+pub fn write_calls(calls: &[CounterCall], text: &mut String) -> Result<(), AllocError>
     ensures { OnOk result (string_bytes text.new ≡ string_bytes text.old ++ calls_text calls.now) }
 {
     for call in calls {
@@ -125,11 +125,11 @@ pub fn write_calls(calls: &[Call], text: &mut String) -> Result<(), AllocError>
 }
 
 /// The line of a call.
-fn write_call(call: &Call, text: &mut String) -> Result<(), AllocError>
+fn write_call(call: &CounterCall, text: &mut String) -> Result<(), AllocError>
     ensures { OnOk result (string_bytes text.new ≡ string_bytes text.old ++ call_line call.now) }
 {
     match call {
-        Call::Add {
+        CounterCall::Add {
             counter,
             amount,
             answer,
@@ -140,6 +140,6 @@ fn write_call(call: &Call, text: &mut String) -> Result<(), AllocError>
                 "counter {counter}: {answer} and {amount} give {after}\n"
             )
         }
-        Call::Read { counter, answer } => write!(text, "counter {counter}: read {answer}\n"),
+        CounterCall::Read { counter, answer } => write!(text, "counter {counter}: read {answer}\n"),
     }
 }

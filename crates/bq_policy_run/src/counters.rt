@@ -1,7 +1,7 @@
 //! Counters from the words of a command.
 ghost use Rattle.std.specs.Prelude.{◌≡◌, ◌<◌, ◌^◌, ℕ, [], IfErr, IfNone, IfSome, IsOk, slice_set};
 ghost use Rattle.std.specs.Result.{OnErr, OnOk};
-ghost use Rattle.bq_console.specs.Words.{SaysNone};
+ghost use Rattle.bq_console.specs.Words.{GivesNone};
 ghost use Rattle.bq_policy_run.specs.Naming.{NamesCounter, SetsCounter, TextsInTurn};
 
 use crate::faults::refused;
@@ -13,11 +13,11 @@ use bq_console::words::{cut, decimal, value};
 use std::alloc::Global;
 
 impl Inputs {
-    /// Sets the counters that texts name, one after another. Texts are refused only where one of them names none, and where there are
-    /// none nothing is. What texts before a refused one set stands.
+    /// Sets the counters that the texts name, in order. Stops at the first text that names no counter; what the texts before it
+    /// set remains.
     pub fn set_all_counters(&mut self, alloc: Global, texts: &[String]) -> Result<(), WordsFault>
         ensures board { OnOk result (TextsInTurn SetsCounter texts.now self.old.board self.new.board) }
-        ensures refused { IfErr result (SaysNone (TextsInTurn SetsCounter texts.now self.old.board)) }
+        ensures refused { IfErr result (GivesNone (TextsInTurn SetsCounter texts.now self.old.board)) }
         ensures context { self.new.context ≡ self.old.context }
         ensures maps { self.new.maps ≡ self.old.maps }
         ensures env { self.new.env ≡ self.old.env }
@@ -29,10 +29,10 @@ impl Inputs {
         Ok(())
     }
 
-    /// Sets a counter, as `3=10` does. A text is refused only where it names none.
+    /// Sets a counter, as `3=10` does. A text is refused only if it names no counter.
     pub fn set_counter(&mut self, alloc: Global, text: &str) -> Result<(), WordsFault>
         ensures board { OnOk result (SetsCounter text.now self.old.board self.new.board) }
-        ensures refused { IfErr result (SaysNone (SetsCounter text.now self.old.board)) }
+        ensures refused { IfErr result (GivesNone (SetsCounter text.now self.old.board)) }
         ensures left { OnErr result (self.new ≡ self.old) }
         ensures context { self.new.context ≡ self.old.context }
         ensures maps { self.new.maps ≡ self.old.maps }
@@ -74,7 +74,7 @@ fn flaw_of(text: &str) -> &'static str {
     }
 }
 
-/// Makes a counter that word, whatever it was.
+/// Sets a counter to `word`.
 fn set(board: &mut Plain, counter: u8, word: u64)
     requires { counter < COUNTERS }
     ensures { board.new ≡ slice_set board.old counter word }

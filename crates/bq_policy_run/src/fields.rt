@@ -5,11 +5,12 @@ ghost use Rattle.std.specs.List.{find};
 ghost use Rattle.std.specs.Str.{bytes_eq};
 ghost use Rattle.bq_policy_run.specs.Fields.{GoesBy, GoesByName, HasNumber, IsField, IsNumbered, IsPasted, IsPut, IsSingle, bytes_in, fields_of, row_named, row_of};
 ghost use Rattle.bq_policy_run.specs.declared.fields.Field.{Field as OfField};
+ghost use Rattle.bq_policy_run.specs.declared.fields.FieldRow.{FieldRow as OfRow};
 
 use bq_console::words::{cut, decimal};
 use bq_hooks::{Hook, Version, context_length};
 
-/// How many bytes a field has: four, or eight.
+/// The number of bytes of a field: four, or eight.
 #[derive(Clone, Copy)]
 pub enum FieldWidth {
     Four,
@@ -26,57 +27,102 @@ impl FieldWidth {
             FieldWidth::Eight => 8,
         }
     }
+
+    /// The number of bits.
+    pub(crate) fn bits(self) -> usize {
+        match self {
+            FieldWidth::Four => 32,
+            FieldWidth::Eight => 64,
+        }
+    }
 }
 
-/// Where a field stands: its first byte, and how many it has.
+/// The place of a field: its first byte, and its width.
 #[derive(Clone, Copy)]
 pub struct Field {
     pub at: usize,
     pub width: FieldWidth,
 }
 
-/// A row of the table: the name, the first byte, the width, and for a field that stands several times how far apart and how often.
-type FieldRow = (&'static str, usize, FieldWidth, usize, usize);
+/// A row of the table.
+#[derive(Clone, Copy)]
+struct FieldRow {
+    /// The name, without the number of a field that comes several times.
+    name: &'static str,
+    /// The first byte; of a field that comes several times, that of number 0.
+    at: usize,
+    width: FieldWidth,
+    /// The distance in bytes from one number to the next; 0 for a field that comes once.
+    apart: usize,
+    /// How often the field comes.
+    count: usize,
+}
+
+/// A row of a field that comes once.
+macro_rules! once {
+    ($name:literal, $at:literal, $width:ident) => {
+        FieldRow {
+            name: $name,
+            at: $at,
+            width: FieldWidth::$width,
+            apart: 0,
+            count: 1,
+        }
+    };
+}
+
+/// A row of a field that comes `count` times, each `apart` bytes behind the one before.
+macro_rules! several {
+    ($name:literal, $at:literal, $width:ident, apart $apart:literal, count $count:literal) => {
+        FieldRow {
+            name: $name,
+            at: $at,
+            width: FieldWidth::$width,
+            apart: $apart,
+            count: $count,
+        }
+    };
+}
 
 const PLACE: [FieldRow; 9] = [
-    ("task", 0, FieldWidth::Four, 0, 1),
-    ("weight", 4, FieldWidth::Four, 0, 1),
-    ("mask", 8, FieldWidth::Eight, 0, 1),
-    ("slice", 16, FieldWidth::Eight, 0, 1),
-    ("waker", 24, FieldWidth::Four, 0, 1),
-    ("previous", 28, FieldWidth::Four, 0, 1),
-    ("processors", 32, FieldWidth::Four, 0, 1),
-    ("own", 36, FieldWidth::Four, 0, 1),
-    ("load", 40, FieldWidth::Four, 4, 64),
+    once!("task", 0, Four),
+    once!("weight", 4, Four),
+    once!("mask", 8, Eight),
+    once!("slice", 16, Eight),
+    once!("waker", 24, Four),
+    once!("previous", 28, Four),
+    once!("processors", 32, Four),
+    once!("own", 36, Four),
+    several!("load", 40, Four, apart 4, count 64),
 ];
 
 const PREEMPT: [FieldRow; 10] = [
-    ("processor", 0, FieldWidth::Four, 0, 1),
-    ("queued", 4, FieldWidth::Four, 0, 1),
-    ("task", 8, FieldWidth::Four, 0, 1),
-    ("weight", 12, FieldWidth::Four, 0, 1),
-    ("v", 16, FieldWidth::Eight, 0, 1),
-    ("deadline", 24, FieldWidth::Eight, 0, 1),
-    ("next", 32, FieldWidth::Four, 0, 1),
-    ("next_weight", 36, FieldWidth::Four, 0, 1),
-    ("next_v", 40, FieldWidth::Eight, 0, 1),
-    ("own", 48, FieldWidth::Four, 0, 1),
+    once!("processor", 0, Four),
+    once!("queued", 4, Four),
+    once!("task", 8, Four),
+    once!("weight", 12, Four),
+    once!("v", 16, Eight),
+    once!("deadline", 24, Eight),
+    once!("next", 32, Four),
+    once!("next_weight", 36, Four),
+    once!("next_v", 40, Eight),
+    once!("own", 48, Four),
 ];
 
 const PULL: [FieldRow; 10] = [
-    ("puller", 0, FieldWidth::Four, 0, 1),
-    ("other", 4, FieldWidth::Four, 0, 1),
-    ("size", 8, FieldWidth::Four, 0, 1),
-    ("other_size", 12, FieldWidth::Four, 0, 1),
-    ("movable", 16, FieldWidth::Four, 0, 1),
-    ("shown", 20, FieldWidth::Four, 0, 1),
-    ("own", 24, FieldWidth::Four, 0, 1),
-    ("task", 32, FieldWidth::Four, 16, 8),
-    ("weight", 36, FieldWidth::Four, 16, 8),
-    ("v", 40, FieldWidth::Eight, 16, 8),
+    once!("puller", 0, Four),
+    once!("other", 4, Four),
+    once!("size", 8, Four),
+    once!("other_size", 12, Four),
+    once!("movable", 16, Four),
+    once!("shown", 20, Four),
+    once!("own", 24, Four),
+    several!("task", 32, Four, apart 16, count 8),
+    several!("weight", 36, Four, apart 16, count 8),
+    several!("v", 40, Eight, apart 16, count 8),
 ];
 
-/// The field of that name: of one that stands several times it has a dot and the number.
+/// Answers the field of that name. If the field comes several times, the name has a dot and the number.
 pub(crate) fn field_named(hook: Hook, version: Version, name: &str) -> Option<Field>
     ensures some { IfSome result (IsField hook version name.now) }
     ensures none { IfNone result ((field : OfField) → ¬ IsField hook version name.now field) }
@@ -100,7 +146,7 @@ fn field_by(hook: Hook, name: &str) -> Option<Field>
     }
 }
 
-/// The field of that name, if it stands once.
+/// Answers the field of that name, if it comes once.
 fn by_name(hook: Hook, name: &str) -> Option<Field>
     ensures some { IfSome result (GoesByName hook name.now) }
     ensures none { IfNone result ((field : OfField) → ¬ GoesByName hook name.now field) }
@@ -140,35 +186,38 @@ fn row_named(hook: Hook, name: &str) -> Option<FieldRow>
 
 /// The first row of that name, if there is one.
 fn first_named(rows: &[FieldRow], name: &str) -> Option<FieldRow>
-    ensures { result ≡ find (λ row. bytes_eq row.0.now name.now) rows.now }
+    ensures { result ≡ find (λ (row : OfRow). bytes_eq row.name.now name.now) rows.now }
 {
-    rows.iter().copied().find(|row| row.0 == name)
+    rows.iter().copied().find(|row| row.name == name)
 }
 
-/// The field of a row, if it stands once.
+/// Answers the field of a row, if it comes once.
 fn single(row: FieldRow) -> Option<Field>
-    ensures some { IfSome result (IsSingle (row_of row.entry)) }
-    ensures none { IfNone result ((field : OfField) → ¬ IsSingle (row_of row.entry) field) }
+    ensures some { IfSome result (IsSingle (row_of row)) }
+    ensures none { IfNone result ((field : OfField) → ¬ IsSingle (row_of row) field) }
 {
-    if row.4 != 1 {
+    if row.count != 1 {
         return None;
     }
     Some(Field {
-        at: row.1,
-        width: row.2,
+        at: row.at,
+        width: row.width,
     })
 }
 
-/// The field of that number of a row, if it stands several times.
+/// Answers the field of that number of a row, if the row's field comes several times.
 fn numbered(row: FieldRow, number: usize) -> Option<Field>
-    ensures some { IfSome result (IsNumbered (row_of row.entry) number) }
-    ensures none { IfNone result ((field : OfField) → field.at < 2 ^ 64 → ¬ IsNumbered (row_of row.entry) number field) }
+    ensures some { IfSome result (IsNumbered (row_of row) number) }
+    ensures none { IfNone result ((field : OfField) → field.at < 2 ^ 64 → ¬ IsNumbered (row_of row) number field) }
 {
-    if row.4 < 2 || number >= row.4 {
+    if row.count < 2 || number >= row.count {
         return None;
     }
-    let at = row.1.checked_add(number.checked_mul(row.3)?)?;
-    Some(Field { at, width: row.2 })
+    let at = row.at.checked_add(number.checked_mul(row.apart)?)?;
+    Some(Field {
+        at,
+        width: row.width,
+    })
 }
 
 /// Puts a word into a field, and says whether it fits there.

@@ -4,11 +4,12 @@ ghost use Rattle.std.specs.Result.{OnErr, OnOk};
 ghost use Rattle.hex.specs.Hex.{decode_of};
 ghost use Rattle.bq_hooks.specs.Hooks.{context_length_of};
 ghost use Rattle.bq_bpf.specs.declared.board.TheConstants.{COUNTERS};
-ghost use Rattle.bq_console.specs.Words.{SaysNone};
+ghost use Rattle.bq_console.specs.Words.{GivesNone};
 ghost use Rattle.bq_policy_run.specs.Naming.{IsClean, IsContextNamed};
 
+use crate::faults::refused;
 use bq_bpf::Plain;
-use bq_console::{WordsFault, words_fault};
+use bq_console::WordsFault;
 use bq_hooks::context_length;
 use bq_interp::Env;
 use bq_maps::Maps;
@@ -20,15 +21,15 @@ use std::alloc::{AllocError, Global};
 pub struct Inputs {
     /// The bytes that it is shown.
     pub context: Vec<u8>,
-    /// Its maps, as they stand before the run.
+    /// Its maps before the run.
     pub maps: Maps,
     /// The time and the processor.
     pub env: Env,
-    /// The counters, as they stand before the run.
+    /// The counters before the run.
     pub board: Plain,
 }
 
-/// The inputs of no words: all bytes, maps and counters 0.
+/// The inputs if no option names any: all bytes, maps and counters are 0.
 pub fn inputs_of(alloc: Global, verified: &Verified, env: Env) -> Result<Inputs, AllocError>
     ensures context { IfOk result (λ i. i.context.items ≡ replicate (context_length_of verified.now.hook verified.now.version) 0) }
     ensures maps { IfOk result (λ i. IsClean verified.now.shapes i.maps) }
@@ -48,24 +49,25 @@ pub fn inputs_of(alloc: Global, verified: &Verified, env: Env) -> Result<Inputs,
 }
 
 impl Inputs {
-    /// Puts the bytes of a hex text in place of the context, which has as many. A text is refused only where it writes no such bytes.
+    /// Replaces the context by the bytes of a hex text, of the same length. A text is refused only if it writes no such bytes.
     pub fn set_context(&mut self, alloc: Global, text: &str) -> Result<(), WordsFault>
         ensures context { OnOk result (IsContextNamed (Some text.now) (length self.old.context.items) self.new.context.items) }
-        ensures refused { IfErr result (SaysNone (IsContextNamed (Some text.now) (length self.old.context.items))) }
+        ensures refused { IfErr result (GivesNone (IsContextNamed (Some text.now) (length self.old.context.items))) }
         ensures left { OnErr result (self.new ≡ self.old) }
         ensures maps { self.new.maps ≡ self.old.maps }
         ensures env { self.new.env ≡ self.old.env }
         ensures board { self.new.board ≡ self.old.board }
     {
         let Some(bytes) = bytes_named(alloc, text)? else {
-            return Err(words_fault(String::from_str(alloc, "--ctx is no hex")));
+            return Err(refused(alloc, "ctx", text, "a context is hex, two digits a byte"));
         };
         let wanted = self.context.len();
         let count = bytes.len();
         if wanted != count {
-            return Err(words_fault(format!(in alloc;
-                "--ctx has {count} bytes, the context of the hook has {wanted}"
-            )));
+            let right = format!(in alloc;
+                "the context of the hook has {wanted} bytes, not {count}"
+            )?;
+            return Err(refused(alloc, "ctx", text, &right));
         }
         self.context = bytes;
         Ok(())

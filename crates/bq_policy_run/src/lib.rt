@@ -7,6 +7,7 @@
 mod changes;
 mod counters;
 mod entries;
+mod explaining;
 mod faults;
 mod fields;
 mod inputs;
@@ -25,5 +26,5 @@ pub use changes::{copied, write_calls, write_changes};
 pub use fields::{Field, FieldWidth};
 pub use inputs::{Inputs, inputs_of};
 pub use one_run::{RunOutcome, run_often, run_once, trace_once};
-pub use permitted::{PLACE_SHOWN, Word, place_shown, word_on};
+pub use permitted::{PLACE_SHOWN, Permission, place_shown, word_on};
 pub use running::run;

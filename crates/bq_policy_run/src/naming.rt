@@ -4,11 +4,12 @@ ghost use Rattle.bq_hooks.specs.Hooks.{context_length_of};
 ghost use Rattle.bq_bpf.specs.declared.board.TheConstants.{COUNTERS};
 ghost use Rattle.bq_policy_run.specs.Naming.{IsClean, IsContextNamed, SetsCounter, SetsEntry, SetsFields, TextsInTurn};
 ghost use Rattle.bq_policy_run.specs.Running.{HasClock, HasInputs, IsNumberOrZero, IsTime, SetsParts, WritesTime};
-ghost use Rattle.bq_console.specs.Words.{SaysNone};
-ghost use Rattle.bq_policy_check.specs.Saying.{option_bytes};
+ghost use Rattle.bq_console.specs.Words.{GivesNone};
+ghost use Rattle.bq_policy_check.specs.Given.{option_bytes};
 
+use crate::faults::refused;
 use crate::{Inputs, inputs_of};
-use bq_console::{Quoted, WordsFault, words_fault};
+use bq_console::WordsFault;
 use bq_interp::Env;
 use bq_policy_check::{RunWords, small_number};
 use bq_verify::Verified;
@@ -21,17 +22,17 @@ const TIME: &str = with_units!(
     ", as 1500 or 5ms"
 );
 
-/// What a word that names no processor is said to be.
-const NO_PROCESSOR: &str = with_32_bits!("is no number below ", "");
+/// What the number of a processor is.
+const PROCESSOR: &str = with_32_bits!("a processor is a whole number below ", "");
 
-/// The inputs that the words name; all others are 0. Words are refused only where they name none.
+/// Answers the inputs that the words name; all others are 0. Words are refused only if they name no inputs.
 pub(crate) fn inputs_named(
     alloc: Global,
     words: &RunWords,
     verified: &Verified,
 ) -> Result<Inputs, WordsFault>
     ensures names { IfOk result (HasInputs words.now verified.now) }
-    ensures none { IfErr result (SaysNone (HasInputs words.now verified.now)) }
+    ensures none { IfErr result (GivesNone (HasInputs words.now verified.now)) }
 {
     let env = env_named(alloc, words)?;
     let mut inputs = first_inputs(alloc, words, verified, env)?;
@@ -50,7 +51,7 @@ fn set_parts(
     ensures maps { OnOk result (TextsInTurn SetsEntry words.now.entries.items inputs.old.maps inputs.new.maps) }
     ensures board { OnOk result (TextsInTurn SetsCounter words.now.counters.items inputs.old.board inputs.new.board) }
     ensures env { OnOk result (inputs.new.env ≡ inputs.old.env) }
-    ensures refused { IfErr result (SaysNone (SetsParts words.now verified.now inputs.old)) }
+    ensures refused { IfErr result (GivesNone (SetsParts words.now verified.now inputs.old)) }
 {
     let hook = verified.hook();
     let version = verified.version();
@@ -71,7 +72,7 @@ fn first_inputs(
     ensures maps { IfOk result (λ i. IsClean verified.now.shapes i.maps) }
     ensures env { IfOk result (λ i. i.env ≡ env) }
     ensures board { IfOk result (λ i. i.board ≡ replicate COUNTERS 0) }
-    ensures refused { IfErr result (SaysNone (IsContextNamed (option_bytes words.now.context) (context_length_of verified.now.hook verified.now.version))) }
+    ensures refused { IfErr result (GivesNone (IsContextNamed (option_bytes words.now.context) (context_length_of verified.now.hook verified.now.version))) }
 {
     let mut inputs = inputs_of(alloc, verified, env)?;
     if let Some(text) = &words.context {
@@ -83,7 +84,7 @@ fn first_inputs(
 /// The time and the processor.
 fn env_named(alloc: Global, words: &RunWords) -> Result<Env, WordsFault>
     ensures clock { IfOk result (HasClock words.now) }
-    ensures none { IfErr result (SaysNone (HasClock words.now)) }
+    ensures none { IfErr result (GivesNone (HasClock words.now)) }
 {
     let now = time(alloc, &words.time)?;
     let processor = number(alloc, &words.processor)?;
@@ -93,17 +94,14 @@ fn env_named(alloc: Global, words: &RunWords) -> Result<Env, WordsFault>
 /// The nanoseconds that a word names, by a unit or without; 0 without a word.
 fn time(alloc: Global, word: &Option<String>) -> Result<u64, WordsFault>
     ensures time { IfOk result (IsTime (option_bytes word.now)) }
-    ensures none { IfErr result (SaysNone (IsTime (option_bytes word.now))) }
+    ensures none { IfErr result (GivesNone (IsTime (option_bytes word.now))) }
 {
     let Some(word) = word else {
         return Ok(0);
     };
     match time_in(word.as_str()) {
         Some(time) => Ok(time),
-        None => {
-            let word = Quoted(word.as_str());
-            Err(words_fault(format!(in alloc; "--time {word}: {TIME}")))
-        }
+        None => Err(refused(alloc, "time", word, TIME)),
     }
 }
 
@@ -122,16 +120,13 @@ fn time_in(word: &str) -> Option<u64>
 /// The number of a processor that a word names; 0 without a word.
 fn number(alloc: Global, word: &Option<String>) -> Result<u32, WordsFault>
     ensures number { IfOk result (IsNumberOrZero (2 ^ 32) (option_bytes word.now)) }
-    ensures none { IfErr result (SaysNone (IsNumberOrZero (2 ^ 32) (option_bytes word.now))) }
+    ensures none { IfErr result (GivesNone (IsNumberOrZero (2 ^ 32) (option_bytes word.now))) }
 {
     let Some(word) = word else {
         return Ok(0);
     };
     match small_number(word.as_str()) {
         Some(number) => Ok(number),
-        None => {
-            let word = Quoted(word.as_str());
-            Err(words_fault(format!(in alloc; "--processor {word} {NO_PROCESSOR}")))
-        }
+        None => Err(refused(alloc, "processor", word, PROCESSOR)),
     }
 }

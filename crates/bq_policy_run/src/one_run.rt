@@ -3,7 +3,7 @@ ghost use Rattle.std.specs.Prelude.{◌≡◌, ◌<◌, ◌↔◌, [], length, I
 ghost use Rattle.bq_hooks.specs.Hooks.{context_length_of};
 ghost use Rattle.bq_interp.specs.Snapshots.{AreSnapshots};
 ghost use Rattle.bq_bpf.specs.Runs.{start};
-ghost use Rattle.bq_policy_run.specs.Runs.{AreRuns, Fits, IsRunOn, kept_in, setting_on};
+ghost use Rattle.bq_policy_run.specs.Runs.{AreRuns, FitsProgram, IsRunOn, kept_in, setting_on};
 
 use crate::inputs::Inputs;
 use bq_bpf::same_shapes;
@@ -15,9 +15,9 @@ use std::alloc::AllocError;
 /// What a run answered and took.
 pub type RunOutcome = Ran;
 
-/// Whether the context has the length of the program's hook and version, and the maps have its shapes.
+/// Answers whether the context has the length of the program's hook and version, and the maps have its shapes.
 fn fits(verified: &Verified, inputs: &Inputs) -> bool
-    ensures { IsTrue result ↔ Fits verified.now inputs.now }
+    ensures { IsTrue result ↔ FitsProgram verified.now inputs.now }
 {
     let length = context_length(verified.hook(), verified.version());
     inputs.context.len() == length && same_shapes(inputs.maps.shapes(), verified.shapes())
@@ -27,8 +27,8 @@ fn fits(verified: &Verified, inputs: &Inputs) -> bool
 /// of the program's hook and version, or the maps are of other shapes: then all is left as it was.
 pub fn run_once(verified: &Verified, inputs: &mut Inputs) -> Option<RunOutcome>
     ensures run { IfSome result (λ r. IsRunOn verified.now inputs.old r inputs.new) }
-    ensures fits { IfSome result (λ _. Fits verified.now inputs.old) }
-    ensures none { IfNone result (¬ Fits verified.now inputs.old) }
+    ensures fits { IfSome result (λ _. FitsProgram verified.now inputs.old) }
+    ensures none { IfNone result (¬ FitsProgram verified.now inputs.old) }
     ensures left { IfNone result (inputs.new ≡ inputs.old) }
     ensures shapes { inputs.new.maps.shapes ≡ inputs.old.maps.shapes }
     ensures context { inputs.new.context ≡ inputs.old.context }
@@ -48,12 +48,12 @@ pub fn run_once(verified: &Verified, inputs: &mut Inputs) -> Option<RunOutcome>
     ))
 }
 
-/// Runs the program this many times: each run begins with the maps and counters that the one before it left. None for the causes for
-/// which `run_once` answers None: then all is left as it was.
+/// Runs the program this many times; each run begins with the maps and counters that the one before it left. None if `run_once`
+/// answers None; then nothing changes.
 pub fn run_often(verified: &Verified, inputs: &mut Inputs, count: u32) -> Option<()>
     ensures runs { IfSome result (λ _. AreRuns verified.now inputs.old.context.items inputs.old.env.now inputs.old.env.processor count (kept_in inputs.old) (kept_in inputs.new)) }
-    ensures fits { IfSome result (λ _. 0 < count → Fits verified.now inputs.old) }
-    ensures none { IfNone result ((0 < count) × ¬ Fits verified.now inputs.old) }
+    ensures fits { IfSome result (λ _. 0 < count → FitsProgram verified.now inputs.old) }
+    ensures none { IfNone result ((0 < count) × ¬ FitsProgram verified.now inputs.old) }
     ensures left { IfNone result (inputs.new ≡ inputs.old) }
     ensures shapes { inputs.new.maps.shapes ≡ inputs.old.maps.shapes }
     ensures context { inputs.new.context ≡ inputs.old.context }
@@ -67,9 +67,9 @@ pub fn run_often(verified: &Verified, inputs: &mut Inputs, count: u32) -> Option
     Some(())
 }
 
-/// Runs the program as `run_once` does, and keeps what each instruction began from. `snapshots`, empty before, has one for each step
-/// afterwards: the machine's chain of the steps before it, with the run's calls so far, leads to it. If memory runs out the context, the
-/// time and the processor are left as they were; of maps and counters nothing is said.
+/// Runs the program as `run_once` does, and keeps a snapshot of the machine before each instruction. `snapshots` must be empty,
+/// and has one for each step afterwards: the machine's steps before it, with the run's calls until then, lead to it. If memory
+/// runs out, the context, the time and the processor are unchanged; of maps and counters nothing is said.
 pub fn trace_once(
     verified: &Verified,
     inputs: &mut Inputs,
@@ -80,7 +80,7 @@ pub fn trace_once(
     ensures snapshots { IfOk result (λ o. IfSome o (λ r. AreSnapshots (setting_on verified.now inputs.old) (start inputs.old.maps.bytes) r.calls.items 0 snapshots.new.items)) }
     ensures each { IfOk result (λ o. IfSome o (λ r. length snapshots.new.items ≡ r.steps)) }
     ensures whole { IfOk result (λ o. IfSome o (λ _. length inputs.old.context.items ≡ context_length_of verified.now.hook verified.now.version)) }
-    ensures none { IfOk result (λ o. IfNone o (¬ Fits verified.now inputs.old)) }
+    ensures none { IfOk result (λ o. IfNone o (¬ FitsProgram verified.now inputs.old)) }
     ensures left { IfOk result (λ o. IfNone o (inputs.new ≡ inputs.old)) }
     ensures shapes { IfOk result (λ _. inputs.new.maps.shapes ≡ inputs.old.maps.shapes) }
     ensures kept { IfOk result (λ o. IfNone o (snapshots.new ≡ snapshots.old)) }

@@ -1,4 +1,4 @@
-//! Whether the rule permits an answer, by what the context shows.
+//! Decides whether the rule permits an answer, by what the context shows.
 ghost use Rattle.std.specs.Prelude.{◌≡◌, ◌≤◌, ◌+◌, length, slice_range};
 ghost use Rattle.byteorder.specs.Endian.{little_number};
 ghost use Rattle.bq_policy_run.specs.Permitting.{hides_tasks, number_at, place_permits, place_word, preempt_word, pull_word, shows_task, word_of};
@@ -15,23 +15,23 @@ use byteorder::{ByteOrder, LittleEndian};
 /// The answer of a pull policy that takes no task.
 const NOBODY: u64 = bq_hooks::NOBODY as u64;
 
-/// How many movable tasks a pull context has room for.
+/// The number of movable tasks for which a pull context has room.
 const SHOWN: u32 = bq_hooks::SHOWN as u32;
 
-/// How many bytes of a place context say where the task may go: up to the number of processors.
+/// The number of bytes of a place context that say where the task may go: up to the number of processors.
 pub const PLACE_SHOWN: usize = PROCESSORS_AT + 4;
 
 /// What the rule says of an answer.
 #[derive(Clone, Copy)]
-pub enum Word {
+pub enum Permission {
     Permitted,
     NotPermitted,
     /// A task that the context does not show: it may be movable, or not.
     NotShown,
 }
 
-/// What the rule says of the answer, where the context was this one, of the length that the hook's contexts have.
-pub fn word_on(hook: Hook, context: &[u8], r0: u64) -> Word
+/// Answers what the rule says of the answer to this context, which has the length of the hook's contexts.
+pub fn word_on(hook: Hook, context: &[u8], r0: u64) -> Permission
     ensures { (version : OfVersion) → length context.now ≡ context_length_of hook version → result ≡ word_of hook context.now r0 }
 {
     match hook {
@@ -41,17 +41,17 @@ pub fn word_on(hook: Hook, context: &[u8], r0: u64) -> Word
     }
 }
 
-fn place_word(context: &[u8], r0: u64) -> Word
+fn place_word(context: &[u8], r0: u64) -> Permission
     ensures { 36 ≤ length context.now → result ≡ place_word context.now r0 }
 {
     if context.len() >= PLACE_SHOWN && place_permits(context, r0) {
-        Word::Permitted
+        Permission::Permitted
     } else {
-        Word::NotPermitted
+        Permission::NotPermitted
     }
 }
 
-/// Whether the answer is a processor of the machine, in the task's mask.
+/// Answers whether the answer is a processor of the machine, in the task's mask.
 fn place_permits(context: &[u8], r0: u64) -> bool
     requires { 36 ≤ length context.now }
     ensures { result ≡ place_permits context.now r0 }
@@ -60,7 +60,7 @@ fn place_permits(context: &[u8], r0: u64) -> bool
     r0 < u64::from(count) && r0 < u64::from(PROCESSORS) && allows(mask, r0 as u8)
 }
 
-/// How many processors a place context shows, and the task's mask.
+/// Answers how many processors a place context shows, and the task's mask.
 pub fn place_shown(context: &[u8]) -> (u32, u64)
     requires { 36 ≤ length context.now }
     ensures count { result.0 ≡ number_at context.now 32 }
@@ -73,32 +73,32 @@ pub fn place_shown(context: &[u8]) -> (u32, u64)
     )
 }
 
-fn preempt_word(r0: u64) -> Word
+fn preempt_word(r0: u64) -> Permission
     ensures { result ≡ preempt_word r0 }
 {
     if r0 < 2 {
-        Word::Permitted
+        Permission::Permitted
     } else {
-        Word::NotPermitted
+        Permission::NotPermitted
     }
 }
 
-fn pull_word(context: &[u8], r0: u64) -> Word
+fn pull_word(context: &[u8], r0: u64) -> Permission
     ensures { 160 ≤ length context.now → result ≡ pull_word context.now r0 }
 {
     if r0 == NOBODY {
-        return Word::Permitted;
+        return Permission::Permitted;
     }
     if context.len() < PULL_LENGTH {
-        return Word::NotPermitted;
+        return Permission::NotPermitted;
     }
     if shows_task(context, r0) {
-        return Word::Permitted;
+        return Permission::Permitted;
     }
     if hides_tasks(context) {
-        Word::NotShown
+        Permission::NotShown
     } else {
-        Word::NotPermitted
+        Permission::NotPermitted
     }
 }
 
@@ -110,7 +110,7 @@ fn number_at(context: &[u8], at: usize) -> u32
     LittleEndian::read_u32(&context[at..at + 4])
 }
 
-/// Whether one of the tasks that are shown has that number.
+/// Answers whether one of the tasks that are shown has that number.
 fn shows_task(context: &[u8], r0: u64) -> bool
     requires { 160 ≤ length context.now }
     ensures { result ≡ shows_task context.now r0 }
@@ -125,7 +125,7 @@ fn shows_task(context: &[u8], r0: u64) -> bool
     false
 }
 
-/// Whether more tasks are movable than are shown.
+/// Answers whether more tasks are movable than are shown.
 fn hides_tasks(context: &[u8]) -> bool
     requires { 160 ≤ length context.now }
     ensures { result ≡ hides_tasks context.now }

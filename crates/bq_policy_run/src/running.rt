@@ -2,9 +2,10 @@
 ghost use Rattle.std.specs.Prelude.{◌≡◌, ◌++◌, [], IfOk, IsNone, is_some, length, map, string_bytes};
 ghost use Rattle.bq_hooks.specs.Hooks.{context_length_of};
 ghost use Rattle.bq_policy_run.specs.Changes.{calls_text, changes_text, with_all};
-ghost use Rattle.bq_policy_run.specs.Runs.{Fits};
-ghost use Rattle.bq_policy_run.specs.Running.{HasRun, RunsFile, RunsPolicy, RunsProgram, RunsTo, TellsRun, TellsVerdict, answer_line};
+ghost use Rattle.bq_policy_run.specs.Runs.{FitsProgram};
+ghost use Rattle.bq_policy_run.specs.Running.{HasRun, RunsFile, RunsPolicy, RunsProgram, RunsTo, ReportsRun, BeginsWithVerdict, answer_line};
 
+use crate::explaining::explaining_line;
 use crate::naming::inputs_named;
 use crate::repeats::runs_before;
 use crate::timing::time_line;
@@ -13,14 +14,14 @@ use crate::word_text::word_text;
 use crate::{Inputs, RunOutcome, copied, run_often, trace_once, write_calls, write_changes};
 use bq_console::WordsFault;
 use bq_explain::{Verdict, verdict_line};
-use bq_policy_check::{Answered, RunWords, refused_file, said_by};
+use bq_policy_check::{Answered, RunWords, given_head, refused_file};
 use bq_policy_file::{Head, PolicySource, read_policy};
 use bq_verify::{Refused, Verified, verify};
 use std::alloc::{AllocError, Global};
 use std::time::Clock;
 
-/// The one run of the policy whose file has these bytes, on the inputs that the words name, or why it was not run. Where they say how
-/// often it is run, the clock tells how long that takes.
+/// Runs the policy whose file has these bytes, on the inputs that the words name, or says why it was not run. If the words say
+/// how often it is run, the clock tells how long that takes.
 pub fn run<C: Clock>(
     alloc: Global,
     clock: &C,
@@ -29,7 +30,7 @@ pub fn run<C: Clock>(
 ) -> Result<Answered, AllocError>
     ensures { IfOk result (RunsTo words.now bytes.now) }
 {
-    match said_by(alloc, &words.policy) {
+    match given_head(alloc, &words.policy) {
         Ok(head) => run_file(alloc, clock, words, bytes, &head),
         Err(WordsFault::Words(why)) => Ok(Answered::Words(why)),
         Err(WordsFault::OutOfMemory) => Err(AllocError),
@@ -67,22 +68,25 @@ fn run_policy<C: Clock>(
         Ok(verified) => run_verified(alloc, clock, words, policy, &verified),
         Err(Refused::OutOfMemory) => Err(AllocError),
         Err(Refused::At { slot, cause }) => {
-            let text = unaccepted_text(alloc, policy, Verdict::Refused { slot, cause })?;
+            let verdict = Verdict::Refused { slot, cause };
+            let text = unaccepted_text(alloc, words, policy, verdict)?;
             Ok(Answered::Refused(text))
         }
     }
 }
 
-/// The line that tells the verdict on a policy that is not accepted, and what tells more.
+/// The line that tells the verdict on a policy that is not accepted, and the line that names the command that explains it.
 fn unaccepted_text(
     alloc: Global,
+    words: &RunWords,
     policy: &PolicySource,
     verdict: Verdict,
 ) -> Result<String, AllocError>
-    ensures { IfOk result (λ text. TellsVerdict policy.now.form.hook verdict (string_bytes text)) }
+    ensures { IfOk result (λ text. BeginsWithVerdict policy.now.form.hook verdict (string_bytes text)) }
 {
     let line = verdict_line(alloc, policy.form.hook, verdict)?;
-    format!(in alloc; "{line}the program is not accepted; check --explain says why\n")
+    let more = explaining_line(alloc, &words.policy)?;
+    format!(in alloc; "{line}{more}")
 }
 
 /// The run of a program that is accepted.
@@ -95,7 +99,7 @@ fn run_verified<C: Clock>(
 ) -> Result<Answered, AllocError>
     ensures { IfOk result (RunsProgram words.now verified.now) }
 {
-    let before = match runs_before(alloc, &words.telling.repeat) {
+    let before = match runs_before(alloc, &words.report.repeat) {
         Ok(before) => before,
         Err(WordsFault::Words(why)) => return Ok(Answered::Words(why)),
         Err(WordsFault::OutOfMemory) => return Err(AllocError),
@@ -111,16 +115,16 @@ fn run_verified<C: Clock>(
     }
 }
 
-/// Runs one after another, on the same maps and counters.
+/// Runs that follow each other on one set of maps and counters.
 #[derive(Drop)]
 struct Series {
     /// The inputs of the first.
     inputs: Inputs,
-    /// How many go before the one that is shown.
+    /// The number of runs before the one that is shown.
     before: u32,
 }
 
-/// The last run of a series, on inputs of the program's hook; the line that says how long runs take stands last.
+/// Answers the last run of a series, on inputs of the program's hook; the line that says how long runs take comes last.
 fn run_on(
     alloc: Global,
     words: &RunWords,
@@ -129,9 +133,9 @@ fn run_on(
     series: &mut Series,
     line: &String,
 ) -> Result<Answered, AllocError>
-    requires fits { Fits verified.now series.old.inputs }
-    requires untimed { IsNone words.now.telling.repeat → string_bytes line.now ≡ [] }
-    ensures { IfOk result (HasRun words.now.telling.is_traced (is_some words.now.telling.repeat) series.old.before verified.now series.old.inputs) }
+    requires fits { FitsProgram verified.now series.old.inputs }
+    requires untimed { IsNone words.now.report.repeat → string_bytes line.now ≡ [] }
+    ensures { IfOk result (HasRun words.now.report.is_traced (is_some words.now.report.repeat) series.old.before verified.now series.old.inputs) }
 {
     let mut snapshots = Vec::new(alloc);
     let first = copied(alloc, &series.inputs.maps)?;
@@ -144,7 +148,7 @@ fn run_on(
         )?));
     };
     let inputs = &series.inputs;
-    let is_traced = words.telling.is_traced;
+    let is_traced = words.report.is_traced;
     let executed = executed_text(alloc, is_traced, policy, verified, snapshots.as_slice())?;
     let changes = changed_text(alloc, first.as_slice(), inputs, &ran)?;
     let behind = Behind {
@@ -152,7 +156,7 @@ fn run_on(
         changes: &changes,
         line,
     };
-    let text = told(alloc, verified, inputs, &ran, &behind)?;
+    let text = reported(alloc, verified, inputs, &ran, &behind)?;
     Ok(Answered::Done(text))
 }
 
@@ -174,16 +178,16 @@ fn changed_text(
 /// What is shown after the answer of a run.
 #[derive(Clone, Copy)]
 struct Behind<'a> {
-    /// Which instructions it took, where that is asked for.
+    /// The instructions that it executed, if that is asked for.
     executed: &'a String,
     /// What it changed.
     changes: &'a String,
-    /// How long runs take, where that is asked for.
+    /// How long runs take, if that is asked for.
     line: &'a String,
 }
 
 /// What the run answered, what the rule says of that, and how many instructions it took; and what is shown after that.
-fn told(
+fn reported(
     alloc: Global,
     verified: &Verified,
     inputs: &Inputs,
@@ -191,7 +195,7 @@ fn told(
     behind: &Behind,
 ) -> Result<String, AllocError>
     requires { length inputs.now.context.items ≡ context_length_of verified.now.hook verified.now.version }
-    ensures { IfOk result (λ text. TellsRun verified.now inputs.now.context.items ran.now.r0 ran.now.steps
+    ensures { IfOk result (λ text. ReportsRun verified.now inputs.now.context.items ran.now.r0 ran.now.steps
         (string_bytes behind.now.executed.now) (string_bytes behind.now.changes.now) (string_bytes behind.now.line.now) (string_bytes text)) }
 {
     let r0 = ran.r0;
@@ -205,7 +209,7 @@ fn told(
     format!(in alloc; "{first}{executed}{changes}{line}")
 }
 
-/// What the run answered, that word on it, and how many instructions it took.
+/// Says what the run answered, that word on it, and how many instructions it took.
 fn answer_line(
     alloc: Global,
     verified: &Verified,

@@ -1,21 +1,21 @@
 //! Fields of the context from the words of a command.
 ghost use Rattle.std.specs.Prelude.{◌≡◌, ◌<◌, ◌↔◌, ◌^◌, ℕ, [], IfErr, IfNone, IfSome, IsOk, IsTrue, codes, true};
 ghost use Rattle.std.specs.Result.{OnOk};
-ghost use Rattle.bq_console.specs.Words.{SaysNone};
+ghost use Rattle.bq_console.specs.Words.{GivesNone};
 ghost use Rattle.bq_policy_run.specs.Naming.{IsFieldWord, SetsField, SetsFields, TextsInTurn, shows_nobody};
 
 use crate::faults::refused;
-use crate::fields::{field_named, field_names, put};
+use crate::fields::{Field, field_named, field_names, put};
 use crate::inputs::Inputs;
 use bq_console::words::{cut, value};
-use bq_console::{Quoted, WordsFault, words_fault};
+use bq_console::{WordsFault, value_words, words_fault};
 use bq_hooks::{Hook, NOBODY, Version};
 use std::alloc::Global;
 
 impl Inputs {
-    /// Sets the fields that texts name, one after another. Texts are refused only where one of them names no fields, or what does not
-    /// fit, and where there are none nothing is. What texts before a refused one set stands, and so do its own fields before the
-    /// refused one.
+    /// Sets the fields that texts name, one after another. Texts are refused only if one of them names no fields, or a value
+    /// that does not fit; if there is no text, nothing is refused. What texts before a refused one set stays, and so do its own
+    /// fields before the refused one.
     pub fn set_all_fields(
         &mut self,
         alloc: Global,
@@ -24,7 +24,7 @@ impl Inputs {
         texts: &[String],
     ) -> Result<(), WordsFault>
         ensures context { OnOk result (TextsInTurn (SetsFields hook version) texts.now self.old.context.items self.new.context.items) }
-        ensures refused { IfErr result (SaysNone (TextsInTurn (SetsFields hook version) texts.now self.old.context.items)) }
+        ensures refused { IfErr result (GivesNone (TextsInTurn (SetsFields hook version) texts.now self.old.context.items)) }
         ensures maps { self.new.maps ≡ self.old.maps }
         ensures env { self.new.env ≡ self.old.env }
         ensures board { self.new.board ≡ self.old.board }
@@ -36,8 +36,8 @@ impl Inputs {
         Ok(())
     }
 
-    /// Sets the fields that a text names, as `task=3,mask=0x6,load.1=2` does. A text is refused only where it names none. What its
-    /// fields before a refused one set stands.
+    /// Sets the fields that a text names, as `task=3,mask=0x6,load.1=2` does. A text is refused only if it names none. What its
+    /// fields before a refused one set stays.
     pub fn set_fields(
         &mut self,
         alloc: Global,
@@ -46,7 +46,7 @@ impl Inputs {
         text: &str,
     ) -> Result<(), WordsFault>
         ensures context { OnOk result (SetsFields hook version text.now self.old.context.items self.new.context.items) }
-        ensures refused { IfErr result (SaysNone (SetsFields hook version text.now self.old.context.items)) }
+        ensures refused { IfErr result (GivesNone (SetsFields hook version text.now self.old.context.items)) }
         ensures maps { self.new.maps ≡ self.old.maps }
         ensures env { self.new.env ≡ self.old.env }
         ensures board { self.new.board ≡ self.old.board }
@@ -65,7 +65,7 @@ impl Inputs {
         part: &str,
     ) -> Result<(), WordsFault>
         ensures context { OnOk result (SetsField hook version part.now self.old.context.items self.new.context.items) }
-        ensures refused { IfErr result (SaysNone (SetsField hook version part.now self.old.context.items)) }
+        ensures refused { IfErr result (GivesNone (SetsField hook version part.now self.old.context.items)) }
         ensures maps { self.new.maps ≡ self.old.maps }
         ensures env { self.new.env ≡ self.old.env }
         ensures board { self.new.board ≡ self.old.board }
@@ -83,24 +83,25 @@ fn put_field(
     part: &str,
 ) -> Result<(), WordsFault>
     ensures context { OnOk result (SetsField hook version part.now context.old context.new) }
-    ensures refused { IfErr result (SaysNone (SetsField hook version part.now context.old)) }
+    ensures refused { IfErr result (GivesNone (SetsField hook version part.now context.old)) }
 {
     let Some((name, text)) = cut(part, '=') else {
         return Err(refused(alloc, "set", part, "a field is set as task=3"));
     };
     let Some(word) = field_word(hook, name, text) else {
-        return Err(unfit(alloc, part, text, "is no number of 64 bits"));
+        return Err(wrong_field(alloc, hook, version, part, name));
     };
     let Some(field) = field_named(hook, version, name) else {
-        return Err(unknown(alloc, part, name, hook));
+        return Err(unknown(alloc, name, hook));
     };
     if !put(context, field, word) {
-        return Err(unfit(alloc, part, text, "does not fit the field"));
+        return Err(unfit(alloc, hook, part, name, field));
     }
     Ok(())
 }
 
-/// The word that a text writes for the field of that name: a number, or `none` where the field may show that there is nobody.
+/// Answers the word that a text writes for the field of that name: a number, or `none` if the field may show that there is no
+/// such task or processor.
 fn field_word(hook: Hook, name: &str, text: &str) -> Option<u64>
     ensures some { IfSome result (IsFieldWord hook name.now text.now) }
     ensures none { IfNone result ((word : ℕ) → word < 2 ^ 64 → ¬ IsFieldWord hook name.now text.now word) }
@@ -112,14 +113,14 @@ fn field_word(hook: Hook, name: &str, text: &str) -> Option<u64>
     }
 }
 
-/// Whether a text is `none`, and the field of that name may show that there is nobody.
+/// Answers whether a text is `none`, and the field of that name may show that there is no such task or processor.
 fn is_nobody(hook: Hook, name: &str, text: &str) -> bool
     ensures { IsTrue result ↔ ((text.now ≡ codes "none") × (shows_nobody hook name.now ≡ true)) }
 {
     text == "none" && shows_nobody(hook, name)
 }
 
-/// Whether the field of that name may show that there is nobody.
+/// Answers whether the field of that name may show that there is no such task or processor.
 fn shows_nobody(hook: Hook, name: &str) -> bool
     ensures { result ≡ shows_nobody hook name.now }
 {
@@ -130,15 +131,38 @@ fn shows_nobody(hook: Hook, name: &str) -> bool
     }
 }
 
-/// The fault of a part whose value is of no use, with what is wrong with that.
-fn unfit(alloc: Global, part: &str, value: &str, why: &str) -> WordsFault {
-    let (part, value) = (Quoted(part), Quoted(value));
-    words_fault(format!(in alloc; "--set {part}: {value} {why}"))
+/// The fault of a part whose value is no word: its field is unknown, or takes another value.
+fn wrong_field(alloc: Global, hook: Hook, version: Version, part: &str, name: &str) -> WordsFault {
+    match field_named(hook, version, name) {
+        Some(field) => unfit(alloc, hook, part, name, field),
+        None => unknown(alloc, name, hook),
+    }
 }
 
-/// The fault of a part that names no field of the hook, with the names that there are.
-fn unknown(alloc: Global, part: &str, name: &str, hook: Hook) -> WordsFault {
+/// The fault of a part whose value the field does not take.
+fn unfit(alloc: Global, hook: Hook, part: &str, name: &str, field: Field) -> WordsFault {
+    let bits = field.width.bits();
+    let nobody = if shows_nobody(hook, name) {
+        ", or none"
+    } else {
+        ""
+    };
+    let right = format!(in alloc; "{name} is a whole number of at most {bits} bits{nobody}");
+    match right {
+        Ok(right) => refused(alloc, "set", part, &right),
+        Err(_) => WordsFault::OutOfMemory,
+    }
+}
+
+/// The fault of a name that no field of the hook has, with the names that there are.
+fn unknown(alloc: Global, name: &str, hook: Hook) -> WordsFault {
     let names = field_names(hook);
-    let (part, name) = (Quoted(part), Quoted(name));
-    words_fault(format!(in alloc; "--set {part}: there is no field {name}; the fields are {names}"))
+    let known = match names.split_once(" to ") {
+        Some((known, _)) => known,
+        None => names,
+    };
+    match format!(in alloc; "there is no such field; the fields are {names}") {
+        Ok(right) => words_fault(value_words(alloc, "set", name, &right, known)),
+        Err(_) => WordsFault::OutOfMemory,
+    }
 }

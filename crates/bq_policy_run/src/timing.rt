@@ -1,4 +1,4 @@
-//! How long runs of a policy take.
+//! The time that runs of a policy take.
 ghost use Rattle.std.specs.Prelude.{◌≡◌, [], IfOk, IsNone, string_bytes};
 
 use crate::naming::inputs_named;
@@ -9,20 +9,20 @@ use bq_verify::Verified;
 use std::alloc::{AllocError, Global};
 use std::time::Clock;
 
-/// The line that says how often the policy is run and how long a run takes on average, where the words say how often; nothing
-/// where they do not.
+/// Answers the line that says how often the policy is run and how long a run takes on average, if the words say how often; empty
+/// otherwise.
 pub(crate) fn time_line<C: Clock>(
     alloc: Global,
     clock: &C,
     words: &RunWords,
     verified: &Verified,
 ) -> Result<String, AllocError>
-    ensures untimed { IsNone words.now.telling.repeat → IfOk result (λ text. string_bytes text ≡ []) }
+    ensures untimed { IsNone words.now.report.repeat → IfOk result (λ text. string_bytes text ≡ []) }
 {
-    if words.telling.repeat.is_none() {
+    if words.report.repeat.is_none() {
         return Ok(String::new(alloc));
     }
-    let Ok(others) = runs_before(alloc, &words.telling.repeat) else {
+    let Ok(others) = runs_before(alloc, &words.report.repeat) else {
         return Ok(String::new(alloc));
     };
     let count = others.saturating_add(1);
@@ -35,7 +35,7 @@ pub(crate) fn time_line<C: Clock>(
     }
 }
 
-/// How long this many runs take on inputs of their own, which are those that the words name. None where the clock fails or goes back.
+/// Answers how long this many runs take on inputs of their own, which the words name. None if the clock fails or goes back.
 fn nanoseconds<C: Clock>(
     alloc: Global,
     clock: &C,
@@ -49,7 +49,7 @@ fn nanoseconds<C: Clock>(
     }
 }
 
-/// How long this many runs take on these inputs. None where the clock fails or goes back.
+/// Answers how long this many runs take on these inputs. None if the clock fails or goes back.
 fn time_on<C: Clock>(
     clock: &C,
     verified: &Verified,

@@ -1,6 +1,6 @@
 //! The instructions of a run, one after another, in words.
 ghost use Rattle.std.specs.Prelude.{◌≡◌, IfOk, string_bytes};
-ghost use Rattle.bq_policy_run.specs.Tracing.{AreSteps, TellsSteps, changes_below, changes_to, slot_text, step_text};
+ghost use Rattle.bq_policy_run.specs.Tracing.{AreSteps, ReportsSteps, changes_below, changes_to, slot_text, step_text};
 
 use bq_asm::listing;
 use bq_explain::index_at;
@@ -10,7 +10,7 @@ use bq_policy_file::PolicySource;
 use bq_verify::Verified;
 use std::alloc::{AllocError, Global};
 
-/// The instructions that the run executed, where that is asked for; else nothing.
+/// Answers the instructions that the run executed, if that is asked for; empty otherwise.
 pub(crate) fn executed_text(
     alloc: Global,
     is_traced: bool,
@@ -18,7 +18,7 @@ pub(crate) fn executed_text(
     verified: &Verified,
     snapshots: &[Snapshot],
 ) -> Result<String, AllocError>
-    ensures { IfOk result (λ text. TellsSteps is_traced verified.now snapshots.now (string_bytes text)) }
+    ensures { IfOk result (λ text. ReportsSteps is_traced verified.now snapshots.now (string_bytes text)) }
 {
     if is_traced {
         steps_text(alloc, policy, verified, snapshots)
@@ -27,7 +27,7 @@ pub(crate) fn executed_text(
     }
 }
 
-/// For each instruction where it stands, itself, and a line for each register that it changed.
+/// Answers the place of each instruction, the instruction, and a line for each register that it changed.
 fn steps_text(
     alloc: Global,
     policy: &PolicySource,
@@ -57,9 +57,9 @@ fn step_text(
     ensures { IfOk result (λ text. string_bytes text ≡ step_text verified.now snapshot.now after.now) }
 {
     let slot = snapshot.slot;
-    let said = slot_text(alloc, verified.at(slot).copied())?;
+    let spelled = slot_text(alloc, verified.at(slot).copied())?;
     let changes = changes_to(alloc, snapshot, after)?;
-    format!(in alloc; "slot {slot}: {said}{changes}")
+    format!(in alloc; "slot {slot}: {spelled}{changes}")
 }
 
 /// An instruction as it is listed, with the line's end.
@@ -72,7 +72,7 @@ fn slot_text(alloc: Global, insn: Option<Insn>) -> Result<String, AllocError>
     }
 }
 
-/// The registers that differ where the next instruction begins.
+/// Answers the registers that an instruction changed, by the snapshot at the next one.
 fn changes_to(alloc: Global, snapshot: &Snapshot, after: &[Snapshot]) -> Result<String, AllocError>
     ensures { IfOk result (λ text. string_bytes text ≡ changes_to snapshot.now after.now) }
 {
@@ -96,7 +96,7 @@ fn changes_text(alloc: Global, before: &Snapshot, now: &Snapshot) -> Result<Stri
     Ok(text)
 }
 
-/// The line of the instruction at a slot and a comma, where the policy is a text.
+/// Answers the line of the instruction at a slot and a comma, if the policy is a text.
 fn place_of(alloc: Global, policy: &PolicySource, slot: usize) -> Result<String, AllocError> {
     let line = match index_at(policy.insns.as_slice(), slot) {
         Some(index) => policy.lines.get(index),

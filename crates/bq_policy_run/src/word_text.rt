@@ -1,23 +1,23 @@
 //! The rule's word on the answer of a run.
 ghost use Rattle.std.specs.Prelude.{◌≡◌, ◌≢◌, ◌≤◌, length, IfOk, string_bytes};
 ghost use Rattle.bq_policy_run.specs.Permitting.{word_of};
-ghost use Rattle.bq_policy_run.specs.declared.permitted.Word.TheVariants.{NotPermitted, NotShown, Permitted};
-ghost use Rattle.bq_policy_run.specs.Judging.{TellsWord};
+ghost use Rattle.bq_policy_run.specs.declared.permitted.Permission.TheVariants.{NotPermitted, NotShown, Permitted};
+ghost use Rattle.bq_policy_run.specs.Judging.{BeginsWithWord};
 ghost use Rattle.bq_hooks.specs.Hooks.{context_length_of};
 ghost use Rattle.bq_hooks.specs.declared.hook.Version.{Version};
 
-use crate::{PLACE_SHOWN, Word, place_shown, word_on};
+use crate::{PLACE_SHOWN, Permission, place_shown, word_on};
 use bq_hooks::Hook;
 use std::alloc::{AllocError, Global};
 
-/// What the rule says of the answer, where the context was this one, and why.
+/// Says what the rule says of the answer to this context, and why.
 pub(crate) fn word_text(
     alloc: Global,
     hook: Hook,
     context: &[u8],
     r0: u64,
 ) -> Result<String, AllocError>
-    ensures { IfOk result (λ text. (version : Version) → length context.now ≡ context_length_of hook version → TellsWord (word_of hook context.now r0) (string_bytes text)) }
+    ensures { IfOk result (λ text. (version : Version) → length context.now ≡ context_length_of hook version → BeginsWithWord (word_of hook context.now r0) (string_bytes text)) }
 {
     let word = word_on(hook, context, r0);
     match hook {
@@ -27,30 +27,35 @@ pub(crate) fn word_text(
     }
 }
 
-/// Of a place, which the context shows or does not.
-fn place_text(alloc: Global, context: &[u8], r0: u64, word: Word) -> Result<String, AllocError>
-    ensures { IfOk result (λ text. 36 ≤ length context.now → word ≢ NotShown → TellsWord word (string_bytes text)) }
+/// Says what the rule says of a place, which the context may show.
+fn place_text(
+    alloc: Global,
+    context: &[u8],
+    r0: u64,
+    word: Permission,
+) -> Result<String, AllocError>
+    ensures { IfOk result (λ text. 36 ≤ length context.now → word ≢ NotShown → BeginsWithWord word (string_bytes text)) }
 {
     if context.len() < PLACE_SHOWN {
         return String::from_str(alloc, "not permitted: the context shows no processors");
     }
     let (count, mask) = place_shown(context);
     match word {
-        Word::Permitted => in_mask_text(alloc, r0, mask),
-        Word::NotPermitted | Word::NotShown => no_place_text(alloc, r0, count, mask),
+        Permission::Permitted => in_mask_text(alloc, r0, mask),
+        Permission::NotPermitted | Permission::NotShown => no_place_text(alloc, r0, count, mask),
     }
 }
 
-/// Of a place in the mask.
+/// Says that a place is in the mask.
 fn in_mask_text(alloc: Global, r0: u64, mask: u64) -> Result<String, AllocError>
-    ensures { IfOk result (λ text. TellsWord Permitted (string_bytes text)) }
+    ensures { IfOk result (λ text. BeginsWithWord Permitted (string_bytes text)) }
 {
     format!(in alloc; "permitted: processor {r0} is in mask 0x{mask:x}")
 }
 
-/// Of a place that is not one of this many processors, or not in the mask.
+/// Says that a place is not one of this many processors, or not in the mask.
 fn no_place_text(alloc: Global, r0: u64, count: u32, mask: u64) -> Result<String, AllocError>
-    ensures { IfOk result (λ text. TellsWord NotPermitted (string_bytes text)) }
+    ensures { IfOk result (λ text. BeginsWithWord NotPermitted (string_bytes text)) }
 {
     if r0 >= u64::from(count) {
         return format!(in alloc; "not permitted: the machine has {count} processors");
@@ -58,21 +63,22 @@ fn no_place_text(alloc: Global, r0: u64, count: u32, mask: u64) -> Result<String
     format!(in alloc; "not permitted: processor {r0} is not in mask 0x{mask:x}")
 }
 
-fn preempt_text(word: Word) -> &'static str
-    ensures { word ≢ NotShown → TellsWord word result.now }
+fn preempt_text(word: Permission) -> &'static str
+    ensures { word ≢ NotShown → BeginsWithWord word result.now }
 {
     match word {
-        Word::Permitted => "permitted: 0 stays, 1 gives way",
-        Word::NotPermitted | Word::NotShown => "not permitted: an answer is 0 or 1",
+        Permission::Permitted => "permitted: 0 stays, 1 gives way",
+        Permission::NotPermitted | Permission::NotShown => "not permitted: an answer is 0 or 1",
     }
 }
 
-fn pull_text(word: Word) -> &'static str
-    ensures { TellsWord word result.now }
+fn pull_text(word: Permission) -> &'static str
+    ensures { BeginsWithWord word result.now }
 {
     match word {
-        Word::Permitted => "permitted: none, or a movable task that is shown",
-        Word::NotShown => "permitted only if it is a movable task that the context does not show",
-        Word::NotPermitted => "not permitted: no movable task",
+        Permission::Permitted => "permitted: none, or a movable task that is shown",
+        Permission::NotShown =>
+            "permitted only if it is a movable task that the context does not show",
+        Permission::NotPermitted => "not permitted: no movable task",
     }
 }

@@ -36,8 +36,9 @@ unfolding operate
 plain_shift W32 half x y s p = let small : x < 2 ^ 31 = omega arith in grind (arith, ints)
 plain_shift W64 half x y s p = let small : x < 2 ^ 63 = omega arith in grind (arith, ints)
 
--- and of one with it
-pub sign_shift : (w : Width) (half most x y : ℕ) → 2 * half ≡ modulus w → most + 1 ≡ modulus w → half ≤ x → x ≤ most → operate w op.Arsh x y ≡ most - (most - x) / 2 ^ (y % bit_count w)
+-- a signed shift of a word with the sign bit
+pub sign_shift : (w : Width) (half most x y : ℕ) → 2 * half ≡ modulus w → most + 1 ≡ modulus w → half ≤ x → x ≤ most
+    → operate w op.Arsh x y ≡ most - (most - x) / 2 ^ (y % bit_count w)
 unfolding operate
 sign_shift W32 half most x y s t p q = let great : 2 ^ 31 ≤ x = omega arith in grind (arith, ints)
 sign_shift W64 half most x y s t p q = let great : 2 ^ 63 ≤ x = omega arith in grind (arith, ints)
@@ -56,10 +57,16 @@ apart_below W64 a b p q h =
     let word = or_lt 64 a b p q in
     omega arith
 
--- so do the ends of a range of words with the sign bit
-pub sign_shifts : (w : Width) (half most : ℕ) (a : Range) (amount x y : ℕ) → 2 * half ≡ modulus w → most + 1 ≡ modulus w → half ≤ a.lo → a.hi ≤ most → y ≡ amount → Within a x
-    → (most - (most - a.lo) / 2 ^ (amount % bit_count w) ≤ operate w op.Arsh x y % modulus w) × (operate w op.Arsh x y % modulus w ≤ most - (most - a.hi) / 2 ^ (amount % bit_count w))
+-- the ends of a range of words with the sign bit, shifted, make no more than a word
+pub sign_shifts : (w : Width) (half most : ℕ) (a : Range) (amount x y : ℕ)
+    → 2 * half ≡ modulus w → most + 1 ≡ modulus w → half ≤ a.lo → a.hi ≤ most → y ≡ amount → Within a x
+    → (most - (most - a.lo) / 2 ^ (amount % bit_count w) ≤ operate w op.Arsh x y % modulus w)
+    × (operate w op.Arsh x y % modulus w ≤ most - (most - a.hi) / 2 ^ (amount % bit_count w))
 sign_shifts w half most a amount x y s t low high same p =
     let n : ℕ = 2 ^ (amount % bit_count w) in
     let order = quotients_between (most - a.hi) (most - x) (most - a.lo) n (pow_pos (amount % bit_count w)) (omega arith) (omega arith) in
-    rw (sign_shift w half most x y s t (omega arith) (omega arith), same, word_is_its_remainder w (most - (most - x) / 2 ^ (amount % bit_count w)) (omega arith)) (omega (arith, order), omega (arith, order))
+    rw (
+      sign_shift w half most x y s t (omega arith) (omega arith),
+      same,
+      word_is_its_remainder w (most - (most - x) / 2 ^ (amount % bit_count w)) (omega arith),
+    ) (omega (arith, order), omega (arith, order))

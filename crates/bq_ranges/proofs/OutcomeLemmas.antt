@@ -43,19 +43,26 @@ pub as_word : (w : Width) (r z : ℕ) → r ≡ z → r < modulus w → r ≡ z 
 as_word w r z same fits = same ∙ sym (word_is_its_remainder w z (omega arith))
 
 -- a quotient by zero is 0
-pub quotient_held : (w : Width) (a b r : Range) → r.hi < modulus w → ((x : ℕ) → Within a x → Within b 0 → Within r 0) → ((x y : ℕ) → Within a x → Within b y → 0 < y → Within r (x / y)) → (x y : ℕ) → Within a x → Within b y → Within r (operate w op.Div x y % modulus w)
+pub quotient_held : (w : Width) (a b r : Range) → r.hi < modulus w → ((x : ℕ) → Within a x → Within b 0 → Within r 0)
+    → ((x y : ℕ) → Within a x → Within b y → 0 < y → Within r (x / y)) → (x y : ℕ) → Within a x → Within b y
+    → Within r (operate w op.Div x y % modulus w)
 unfolding operate
 quotient_held w a b r fits none some x zero p q = holds_low_word w r 0 fits (none x p q)
-quotient_held w a b r fits none some x (suc k) p q = rw (if_some k 0 (x / suc k)) (holds_low_word w r (x / suc k) fits (some x (suc k) p q (omega arith)))
+quotient_held w a b r fits none some x (suc k) p q =
+    rw (if_some k 0 (x / suc k)) (holds_low_word w r (x / suc k) fits (some x (suc k) p q (omega arith)))
 
 -- a remainder by zero is the dividend
-pub remainder_held : (w : Width) (a b r : Range) → r.hi < modulus w → ((x : ℕ) → Within a x → Within b 0 → Within r x) → ((x y : ℕ) → Within a x → Within b y → 0 < y → Within r (x % y)) → (x y : ℕ) → Within a x → Within b y → Within r (operate w op.Rem x y % modulus w)
+pub remainder_held : (w : Width) (a b r : Range) → r.hi < modulus w → ((x : ℕ) → Within a x → Within b 0 → Within r x)
+    → ((x y : ℕ) → Within a x → Within b y → 0 < y → Within r (x % y)) → (x y : ℕ) → Within a x → Within b y
+    → Within r (operate w op.Rem x y % modulus w)
 unfolding operate
 remainder_held w a b r fits none some x zero p q = holds_low_word w r x fits (none x p q)
-remainder_held w a b r fits none some x (suc k) p q = rw (if_some k x (x % suc k)) (holds_low_word w r (x % suc k) fits (some x (suc k) p q (omega arith)))
+remainder_held w a b r fits none some x (suc k) p q =
+    rw (if_some k x (x % suc k)) (holds_low_word w r (x % suc k) fits (some x (suc k) p q (omega arith)))
 
 -- the union of bits is no less than each, no more than the sum, and a word of the width
-pub union_between : (w : Width) (x y : ℕ) → x < modulus w → y < modulus w → (x ≤ bit_or x y) × (y ≤ bit_or x y) × (bit_or x y ≤ x + y) × (bit_or x y < modulus w)
+pub union_between : (w : Width) (x y : ℕ) → x < modulus w → y < modulus w
+    → (x ≤ bit_or x y) × (y ≤ bit_or x y) × (bit_or x y ≤ x + y) × (bit_or x y < modulus w)
 union_between W32 x y p q =
     let whole = or_add_and x y in
     let left = and_le_l x y in
@@ -84,8 +91,10 @@ pub products_between : (lo x hi n : ℕ) → lo ≤ x → x ≤ hi → (lo * n �
 products_between lo x hi n p q = (mul-le lo n x n p (omega arith), mul-le x n hi n q (omega arith))
 
 -- a shift to the right by one amount keeps the order
-pub shifts_down : (w : Width) (a : Range) (amount x y : ℕ) → y ≡ amount → Within a x → (a.lo / 2 ^ (amount % bit_count w) ≤ x / 2 ^ (y % bit_count w)) × (x / 2 ^ (y % bit_count w) ≤ a.hi / 2 ^ (amount % bit_count w))
-shifts_down w a amount x y same p = rw same (quotients_between a.lo x a.hi (2 ^ (amount % bit_count w)) (pow_pos (amount % bit_count w)) p.0 p.1)
+pub shifts_down : (w : Width) (a : Range) (amount x y : ℕ) → y ≡ amount → Within a x
+    → (a.lo / 2 ^ (amount % bit_count w) ≤ x / 2 ^ (y % bit_count w)) × (x / 2 ^ (y % bit_count w) ≤ a.hi / 2 ^ (amount % bit_count w))
+shifts_down w a amount x y same p =
+    rw same (quotients_between a.lo x a.hi (2 ^ (amount % bit_count w)) (pow_pos (amount % bit_count w)) p.0 p.1)
 
 -- what is at most the greatest word divided by a number is, that many times, still a word
 fits_times : (most a n : ℕ) → a ≤ most / n → a * n ≤ most
@@ -95,7 +104,8 @@ fits_times most a n h =
     omega arith
 
 -- a shift to the left by one amount that loses nothing keeps the order
-pub shifts_up : (w : Width) (a : Range) (most n x : ℕ) → most + 1 ≡ modulus w → a.hi ≤ most / n → Within a x → (a.lo * n % 2 ^ 64 ≤ x * n % modulus w) × (x * n % modulus w ≤ a.hi * n % 2 ^ 64)
+pub shifts_up : (w : Width) (a : Range) (most n x : ℕ) → most + 1 ≡ modulus w → a.hi ≤ most / n → Within a x
+    → (a.lo * n % 2 ^ 64 ≤ x * n % modulus w) × (x * n % modulus w ≤ a.hi * n % 2 ^ 64)
 shifts_up w a most n x greatest h p =
     let top : a.hi * n ≤ most = fits_times most a.hi n h in
     let order = products_between a.lo x a.hi n p.0 p.1 in
@@ -110,7 +120,8 @@ shifts_up w a most n x greatest h p =
     least_word W64 = omega arith
 
 -- a product of members lies between the products of the ends
-pub products_held : (w : Width) (a b : Range) (x y : ℕ) → a.hi * b.hi < modulus w → Within a x → Within b y → (a.lo * b.lo ≤ x * y % modulus w) × (x * y % modulus w ≤ a.hi * b.hi)
+pub products_held : (w : Width) (a b : Range) (x y : ℕ) → a.hi * b.hi < modulus w → Within a x → Within b y
+    → (a.lo * b.lo ≤ x * y % modulus w) × (x * y % modulus w ≤ a.hi * b.hi)
 products_held w a b x y fits p q =
     let least : a.lo * b.lo ≤ x * y = mul-le a.lo b.lo x y p.0 q.0 in
     let most : x * y ≤ a.hi * b.hi = mul-le x y a.hi b.hi p.1 q.1 in

@@ -65,7 +65,9 @@ SignedMeets half cond.SignedLessEqual false a b = IsSignedBelow half b a
 SignedMeets half _ goes a b = Unit {0}
 
 -- a signed test that goes that way says so
-pub signed_meets : (w : Width) (half : ℕ) (c : Condition) (goes : Bool) (a b : ℕ) → 2 * half ≡ modulus w → a < modulus w → b < modulus w → compares w c a b ≡ goes → SignedMeets half c goes a b
+pub signed_meets : (w : Width) (half : ℕ) (c : Condition) (goes : Bool) (a b : ℕ)
+    → 2 * half ≡ modulus w → a < modulus w → b < modulus w → compares w c a b ≡ goes
+    → SignedMeets half c goes a b
 unfolding compares
 signed_meets w half cond.SignedGreater true a b s p q h = lt_true w half b a s q p h
 signed_meets w half cond.SignedGreater false a b s p q h = lt_false w half b a s q p h
@@ -77,8 +79,10 @@ signed_meets w half cond.SignedLessEqual true a b s p q h = le_true w half a b s
 signed_meets w half cond.SignedLessEqual false a b s p q h = le_false w half a b s p q h
 signed_meets w half _ goes a b s p q h = tt
 
--- and what it says makes it go that way
-pub goes_signed : (w : Width) (half : ℕ) (c : Condition) (goes : Bool) (a b : ℕ) → 2 * half ≡ modulus w → a < modulus w → b < modulus w → IsSigned c → SignedMeets half c goes a b → compares w c a b ≡ goes
+-- what a signed test says makes it go that way
+pub goes_signed : (w : Width) (half : ℕ) (c : Condition) (goes : Bool) (a b : ℕ)
+    → 2 * half ≡ modulus w → a < modulus w → b < modulus w → IsSigned c → SignedMeets half c goes a b
+    → compares w c a b ≡ goes
 unfolding compares
 goes_signed w half cond.SignedGreater true a b s p q u h = true_lt w half b a s q p h
 goes_signed w half cond.SignedGreater false a b s p q u h = false_lt w half b a s q p h
@@ -91,12 +95,15 @@ goes_signed w half cond.SignedLessEqual false a b s p q u h = false_le w half a 
 goes_signed w half _ goes a b s p q u h = absurd u
 
 -- ends of which the test holds go that way
-pub ends_meet : (w : Width) (half : ℕ) (c : Condition) (goes : Bool) (a : Range) (b : ℕ) (P : ℕ → Type 0) (r : Option Range) → 2 * half ≡ modulus w → IsSigned c → a.hi < modulus w → b < modulus w → ((x : ℕ) → P x → Within a x × SignedMeets half c goes x b) → EndsAre P r → EndsMeet w c a b goes r
-ends_meet w half c goes a b P None s u p q says ends = tt
-ends_meet w half c goes a b P (Some r) s u p q says ends = (at r.lo ends.0, at r.hi ends.1)
+pub ends_meet : (w : Width) (half : ℕ) (c : Condition) (goes : Bool) (a : Range) (b : ℕ) (P : ℕ → Type 0) (r : Option Range)
+    → 2 * half ≡ modulus w → IsSigned c → a.hi < modulus w → b < modulus w
+    → ((x : ℕ) → P x → Within a x × SignedMeets half c goes x b) → EndsAre P r
+    → EndsMeet w c a b goes r
+ends_meet w half c goes a b P None s u p q shows ends = tt
+ends_meet w half c goes a b P (Some r) s u p q shows ends = (at r.lo ends.0, at r.hi ends.1)
   where
     at : (x : ℕ) → P x → Within a x × (compares w c x b ≡ goes)
-    at x h = let here = says x h in (here.0, goes_signed w half c goes x b s (omega arith) q u here.1)
+    at x h = let here = shows x h in (here.0, goes_signed w half c goes x b s (omega arith) q u here.1)
 
 -- a word that is at most another, by sign, is at most what that one is at most
 pub at_most_trans : (half a b c : ℕ) → IsSignedAtMost half a b → IsSignedAtMost half b c → IsSignedAtMost half a c

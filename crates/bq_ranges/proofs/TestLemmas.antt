@@ -10,7 +10,7 @@ use Rattle.bq_insn.specs.declared.Condition.{Condition}
 use Rattle.bq_insn.specs.declared.Condition.TheVariants as cond
 use Rattle.bq_ranges.specs.declared.range.Range.{Range}
 use Rattle.bq_ranges.specs.Within.{Within, EndsAre}
-use Rattle.bq_ranges.specs.Tight.{EndsGo, Goes, IsByOrder, IsSigned}
+use Rattle.bq_ranges.specs.Tight.{EndsTestAs, TestsAs, IsByOrder, IsSigned}
 
 -- what a test by order says when it goes that way
 abbrev pub Meets : Condition → Bool → ℕ → ℕ → Type 0
@@ -45,7 +45,7 @@ test_meets_side cond.LessEqual true a b p q h = grind (arith, nat_tests)
 test_meets_side cond.LessEqual false a b p q h = grind (arith, nat_tests)
 test_meets_side _ goes a b p q h = tt
 
--- and what it says makes it go that way
+-- what a test says makes it go that way
 pub goes_where : (c : Condition) (goes : Bool) (a b : ℕ) → IsByOrder c → a < 2 ^ 64 → b < 2 ^ 64 → Meets c goes a b → taken W64 c a b ≡ goes
 unfolding compares
 goes_where cond.Equal true a b u p q h = grind (arith, nat_tests)
@@ -63,12 +63,14 @@ goes_where cond.LessEqual false a b u p q h = grind (arith, nat_tests)
 goes_where _ goes a b u p q h = absurd u
 
 -- ends of which the test holds go that way
-pub ends_go : (c : Condition) (goes : Bool) (a : Range) (b : ℕ) (P : ℕ → Type 0) (r : Option Range) → IsByOrder c → b < 2 ^ 64 → ((x : ℕ) → P x → Within a x × Meets c goes x b) → EndsAre P r → EndsGo c a b goes r
-ends_go c goes a b P None u q says ends = tt
-ends_go c goes a b P (Some r) u q says ends = (at r.lo (omega arith) ends.0, at r.hi (omega arith) ends.1)
+pub ends_go : (c : Condition) (goes : Bool) (a : Range) (b : ℕ) (P : ℕ → Type 0) (r : Option Range)
+    → IsByOrder c → b < 2 ^ 64 → ((x : ℕ) → P x → Within a x × Meets c goes x b) → EndsAre P r
+    → EndsTestAs c a b goes r
+ends_go c goes a b P None u q shows ends = tt
+ends_go c goes a b P (Some r) u q shows ends = (at r.lo (omega arith) ends.0, at r.hi (omega arith) ends.1)
   where
-    at : (x : ℕ) → x < 2 ^ 64 → P x → Goes c a b goes x
-    at x p h = let here = says x h in (here.0, goes_where c goes x b u p q here.1)
+    at : (x : ℕ) → x < 2 ^ 64 → P x → TestsAs c a b goes x
+    at x p h = let here = shows x h in (here.0, goes_where c goes x b u p q here.1)
 
 -- a test by no sign is the same on low halves and on whole words where the words have no upper half
 pub same_on_low_halves : (c : Condition) (a b : ℕ) → (IsSigned c → ⊥) → a < 2 ^ 32 → b < 2 ^ 32 → taken W32 c a b ≡ taken W64 c a b

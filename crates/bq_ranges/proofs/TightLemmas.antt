@@ -12,7 +12,11 @@ use Rattle.bq_ranges.specs.Within.{Within}
 use Rattle.bq_ranges.specs.Tight.{IsTightAt, IsTightWithin, Reaches, greatest_by, least_by}
 
 -- what is promised on all words is promised on their low bits
-pub tight_within : (w : Width) (o : Operation) (a b low_a low_b : Range) → ((x : ℕ) × Within a x × (x % modulus w ≡ low_a.lo)) → ((x : ℕ) × Within a x × (x % modulus w ≡ low_a.hi)) → ((y : ℕ) × Within b y × (y % modulus w ≡ low_b.lo)) → ((y : ℕ) × Within b y × (y % modulus w ≡ low_b.hi)) → IsTightAt w o a b → IsTightWithin w o low_a low_b
+pub tight_within : (w : Width) (o : Operation) (a b low_a low_b : Range)
+    → ((x : ℕ) × Within a x × (x % modulus w ≡ low_a.lo)) → ((x : ℕ) × Within a x × (x % modulus w ≡ low_a.hi))
+    → ((y : ℕ) × Within b y × (y % modulus w ≡ low_b.lo)) → ((y : ℕ) × Within b y × (y % modulus w ≡ low_b.hi))
+    → IsTightAt w o a b
+    → IsTightWithin w o low_a low_b
 tight_within w op.Add a b low_a low_b least (x, p, e) (z, s, g) (y, q, f) promised = rw (← e, ← f) (promised x y p q)
 tight_within w op.Sub a b low_a low_b (u, r, d) (x, p, e) (z, s, g) (y, q, f) promised = rw (← f, ← d) (promised u y r q)
 tight_within w op.Mul a b low_a low_b least (x, p, e) (z, s, g) (y, q, f) promised = rw (← e, ← f) (promised x y p q)
@@ -22,16 +26,23 @@ tight_within w op.Mov a b low_a low_b least (x, p, e) (z, s, g) (y, q, f) promis
 tight_within w _ a b low_a low_b least (x, p, e) (z, s, g) (y, q, f) promised = promised
 
 -- an outcome of low bits is an outcome of the words that have them
-pub low_bits_reach : (w : Width) (o : Operation) (a b : Range) (low_x low_y z : ℕ) → ((x : ℕ) × Within a x × (x % modulus w ≡ low_x)) → ((y : ℕ) × Within b y × (y % modulus w ≡ low_y)) → z ≡ operate w o low_x low_y % modulus w → Reaches w o a b z
+pub low_bits_reach : (w : Width) (o : Operation) (a b : Range) (low_x low_y z : ℕ)
+    → ((x : ℕ) × Within a x × (x % modulus w ≡ low_x)) → ((y : ℕ) × Within b y × (y % modulus w ≡ low_y))
+    → z ≡ operate w o low_x low_y % modulus w
+    → Reaches w o a b z
 low_bits_reach w o a b low_x low_y z (x, p, e) (y, q, f) is = (x, y, p, q, rw (e, f) (sym is))
 
 -- both ends of the low bits are reached, so also the one that gives the least outcome
-pub least_reached : (w : Width) (o : Operation) (b low_b : Range) → ((y : ℕ) × Within b y × (y % modulus w ≡ low_b.lo)) → ((y : ℕ) × Within b y × (y % modulus w ≡ low_b.hi)) → (y : ℕ) × Within b y × (y % modulus w ≡ least_by o low_b)
+pub least_reached : (w : Width) (o : Operation) (b low_b : Range)
+    → ((y : ℕ) × Within b y × (y % modulus w ≡ low_b.lo)) → ((y : ℕ) × Within b y × (y % modulus w ≡ low_b.hi))
+    → (y : ℕ) × Within b y × (y % modulus w ≡ least_by o low_b)
 least_reached w op.Sub b low_b low high = high
 least_reached w _ b low_b low high = low
 
--- and the one that gives the greatest
-pub greatest_reached : (w : Width) (o : Operation) (b low_b : Range) → ((y : ℕ) × Within b y × (y % modulus w ≡ low_b.lo)) → ((y : ℕ) × Within b y × (y % modulus w ≡ low_b.hi)) → (y : ℕ) × Within b y × (y % modulus w ≡ greatest_by o low_b)
+-- both ends of the low bits are reached, so also the one that gives the greatest outcome
+pub greatest_reached : (w : Width) (o : Operation) (b low_b : Range)
+    → ((y : ℕ) × Within b y × (y % modulus w ≡ low_b.lo)) → ((y : ℕ) × Within b y × (y % modulus w ≡ low_b.hi))
+    → (y : ℕ) × Within b y × (y % modulus w ≡ greatest_by o low_b)
 greatest_reached w op.Sub b low_b low high = low
 greatest_reached w _ b low_b low high = high
 

@@ -1,4 +1,4 @@
--- The order of words as signed numbers: those of the upper half of a width, which have its sign bit, are below zero.
+-- The order of words as signed numbers. Words in the upper half of a width have its sign bit and are below zero.
 use Rattle.std.specs.Prelude.{◌≡◌, ℕ, ◌<◌, ◌≤◌, ◌⊎◌, Bool, Option, Some, None}
 use Rattle.bq_insn.specs.declared.Width.{Width}
 use Rattle.bq_insn.specs.declared.Condition.{Condition}
@@ -6,14 +6,16 @@ use Rattle.bq_bpf.specs.Meaning.{compares}
 use Rattle.bq_ranges.specs.declared.range.Range.{Range}
 use Rattle.bq_ranges.specs.Within.{Within}
 
--- the one has the sign and the other has not, or they are of one half, or neither is the only one with it, and go by their order
+-- `a` is at most `b` as a signed number: only `a` has the sign bit, or `b` is not the only one to have it and the words
+-- compare so
 abbrev pub IsSignedAtMost : ℕ → ℕ → ℕ → Type 0
 IsSignedAtMost half a b = ((half ≤ a) × (b < half)) ⊎ (((half ≤ a) ⊎ (b < half)) × (a ≤ b))
 
+-- `a` is below `b` as a signed number
 abbrev pub IsSignedBelow : ℕ → ℕ → ℕ → Type 0
 IsSignedBelow half a b = ((half ≤ a) × (b < half)) ⊎ (((half ≤ a) ⊎ (b < half)) × (a < b))
 
--- both ends of what is left are members for which the test against that number goes that way
+-- both ends of the range that is left are members for which the test against `b` comes out as `goes` says
 abbrev pub EndsMeet : Width → Condition → Range → ℕ → Bool → Option Range → Type 0
 EndsMeet w cond a b goes None = Unit {0}
 EndsMeet w cond a b goes (Some r) = (Within a r.lo × (compares w cond r.lo b ≡ goes)) × (Within a r.hi × (compares w cond r.hi b ≡ goes))

@@ -6,12 +6,12 @@ use Rattle.bq_ranges.specs.declared.range.Range.{Range}
 abbrev pub Within : Range → ℕ → Type 0
 Within r x = (r.lo ≤ x) × (x ≤ r.hi)
 
--- the word is in the range that is left, so one is left
+-- a range is left, and the word is in it
 abbrev pub NarrowsTo : Option Range → ℕ → Type 0
 NarrowsTo None x = ⊥
 NarrowsTo (Some r) x = Within r x
 
--- both ends of the range that is left are such words
+-- both ends of the range that is left have the property; nothing is said if none is left
 abbrev pub EndsAre : (ℕ → Type 0) → Option Range → Type 0
 EndsAre P None = Unit {0}
 EndsAre P (Some r) = P r.lo × P r.hi

@@ -9,10 +9,11 @@ use crate::range::{Range, greatest, sign};
 use bq_bpf::words;
 use bq_insn::{Operation, Width};
 
-/// The results of an arithmetic instruction (RFC 9669 section 4.1) on members of the two ranges.
+/// Answers a range that has all results of an arithmetic instruction (RFC 9669 section 4.1) on members of the two
+/// ranges.
 ///
-/// Single words give a single word, AND goes no higher than its lesser operand, and the least range
-/// is answered for sums, differences and products that cannot wrap, shifts to the right by one amount, and copies.
+/// Single words give a single word, and AND goes no higher than its lesser operand. The answer is the least such range
+/// for sums, differences and products that cannot wrap, shifts to the right by one amount, and copies.
 pub fn alu(width: Width, op: Operation, a: Range, b: Range) -> Range
     ensures holds { (x y : ℕ) → Within a x → Within b y → Within result (alu_result width op x y) }
     ensures single_low { a.lo ≡ a.hi → b.lo ≡ b.hi → result.lo ≡ alu_result width op a.lo b.lo }
@@ -27,7 +28,7 @@ pub fn alu(width: Width, op: Operation, a: Range, b: Range) -> Range
     outcomes(width, op, a.low(width), b.low(width))
 }
 
-// The results on operands of the width.
+// The results on operands that fit the width.
 fn outcomes(width: Width, op: Operation, a: Range, b: Range) -> Range
     requires left { a.hi < modulus width }
     requires right { b.hi < modulus width }
@@ -54,7 +55,7 @@ fn outcomes(width: Width, op: Operation, a: Range, b: Range) -> Range
     }
 }
 
-/// The wrapping sums; the least range where none wraps.
+/// The wrapping sums of members; the least range if none wraps.
 pub fn add(width: Width, a: Range, b: Range) -> Range
     requires left { a.hi < modulus width }
     requires right { b.hi < modulus width }
@@ -78,7 +79,7 @@ pub fn add(width: Width, a: Range, b: Range) -> Range
     }
 }
 
-/// The wrapping differences; the least range where none wraps.
+/// The wrapping differences of members; the least range if none wraps.
 pub fn sub(width: Width, a: Range, b: Range) -> Range
     requires left { a.hi < modulus width }
     requires right { b.hi < modulus width }
@@ -157,7 +158,7 @@ fn xor(width: Width, a: Range, b: Range) -> Range
     }
 }
 
-// No union of bits is above the sum, or has a bit above those of both.
+// The union of the bits of two words is not above their sum, and has no bit above the highest bit of both.
 fn highest(width: Width, a: Range, b: Range) -> u64
     requires left { a.hi < modulus width }
     requires right { b.hi < modulus width }
@@ -211,7 +212,8 @@ fn rsh(width: Width, a: Range, b: Range) -> Range
     Range { lo: 0, hi: a.hi }
 }
 
-// Words without the sign bit shift as numbers do, and so do those with it, counted down from the greatest.
+// Words without the sign bit shift like numbers. Words with the sign bit shift like numbers that count down from the
+// greatest word.
 fn arsh(width: Width, a: Range, b: Range) -> Range
     requires left { a.hi < modulus width }
     ensures { (x y : ℕ) → Within a x → Within b y → Within result (operate width Operation.Arsh x y % modulus width) }

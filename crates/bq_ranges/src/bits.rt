@@ -1,10 +1,10 @@
-//! What the bits of words say of their size.
+//! What the bits of words say about their size.
 ghost use Rattle.std.specs.Prelude.{◌≡◌, ◌+◌, ◌*◌, ◌^◌, ◌≤◌, ℕ, bit_and};
 ghost use Rattle.bq_ranges.specs.Within.{Within};
 
 use crate::range::Range;
 
-/// The least number that has no bit unset below a set one, and is not below the word.
+/// The least number that is not below the word and has no unset bit below a set one.
 pub fn ones(word: u64) -> u64
     ensures ones { (k : ℕ) × (result + 1 ≡ 2 ^ k) × (2 ^ k ≤ 2 * word + 1) }
     ensures above { word ≤ result }
@@ -16,7 +16,8 @@ pub fn ones(word: u64) -> u64
     (1 << (64 - zeros)) - 1
 }
 
-/// The greatest number up to `most` that a word can leave of a mask, where the low bits of the mask are known not to be set.
+/// A bound on what an AND with a word of `mask` gives, if the AND is at most `most`. If `mask` is a single word, its
+/// low zero bits make the bound smaller.
 pub fn multiple_within(most: u64, mask: Range) -> u64
     ensures below { result ≤ most }
     ensures holds { (x y : ℕ) → Within mask y → bit_and x y ≤ most → bit_and x y ≤ result }

@@ -1,7 +1,7 @@
 //! Intervals of words: one abstract domain, and what each instruction does to it.
 //!
-//! Every answer holds all possible results for possible values of the operands. The layer stands on
-//! the meaning of the instructions in `bq_bpf`, and the verifier stands on it.
+//! Every answer has all results that are possible for the possible values of the operands. This layer uses the meaning
+//! of the instructions in `bq_bpf`, and the verifier uses this layer.
 #![tactic(auto)]
 
 pub mod arithmetic;

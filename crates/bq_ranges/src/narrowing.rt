@@ -1,20 +1,21 @@
-//! What a branch says of its operand.
+//! What a branch says about its operands.
 ghost use Rattle.std.specs.Prelude.{◌≡◌, ◌≤◌, ◌<◌, ◌≢◌, ◌↔◌, ◌⊎◌, ℕ, IsTrue};
 ghost use Rattle.bq_bpf.specs.Meaning.{compares, modulus, taken};
 ghost use Rattle.bq_ranges.specs.Within.{Within, NarrowsTo, EndsAre};
 ghost use Rattle.bq_insn.specs.declared.Width.{Width as Wide};
-ghost use Rattle.bq_ranges.specs.Tight.{EndsGo, IsByOrder, IsSigned};
+ghost use Rattle.bq_ranges.specs.Tight.{EndsTestAs, IsByOrder, IsSigned};
 
 use crate::range::{Range, greatest};
 use crate::signed::narrow_signed;
 use bq_insn::{Condition, Width};
 
-/// The members of `x` that go that way with some member of `y`, at least; `None` where no pair does.
+/// Answers a range that has every member of `x` for which the test against some member of `y` comes out as `goes` says;
+/// `None` only if no member does.
 ///
-/// For tests by order in 64 bits against a single word, signed or not, it is the least such range.
+/// For tests by order or equality in 64 bits against a single word, signed or not, the answer is the least such range.
 pub fn narrow(cond: Condition, width: Width, x: Range, y: Range, goes: bool) -> Option<Range>
     ensures holds { (a b : ℕ) → Within x a → Within y b → taken width cond a b ≡ goes → NarrowsTo result a }
-    ensures least { width ≡ Width.W64 → IsByOrder cond ⊎ IsSigned cond → y.lo ≡ y.hi → EndsGo cond x y.lo goes result }
+    ensures least { width ≡ Width.W64 → IsByOrder cond ⊎ IsSigned cond → y.lo ≡ y.hi → EndsTestAs cond x y.lo goes result }
 {
     if x.hi > greatest(width) {
         return Some(x);
@@ -29,7 +30,8 @@ pub fn narrow(cond: Condition, width: Width, x: Range, y: Range, goes: bool) -> 
     }
 }
 
-/// The members of `y` that some member of `x` goes that way with, at least; all where no pair does.
+/// Answers a range that has every member of `y` for which the test of some member of `x` against it comes out as `goes`
+/// says; all of `y` if `narrow` finds none.
 pub fn narrow_right(cond: Condition, width: Width, x: Range, y: Range, goes: bool) -> Range
     ensures { (a b : ℕ) → Within x a → Within y b → taken width cond a b ≡ goes → Within result b }
 {
@@ -39,7 +41,7 @@ pub fn narrow_right(cond: Condition, width: Width, x: Range, y: Range, goes: boo
     }
 }
 
-// The test of turned operands.
+// The test that answers the same with its operands exchanged.
 fn turned(cond: Condition) -> Condition
     ensures { (width : Wide) (a b : ℕ) → taken width cond a b ≡ taken width result b a }
 {
@@ -58,7 +60,7 @@ fn turned(cond: Condition) -> Condition
     }
 }
 
-// Words that have no bit in common make no more than the greatest word.
+// If two words have no bit in common, their sum is at most the greatest word of the width.
 fn narrow_bits(width: Width, x: Range, y: Range, goes: bool) -> Option<Range>
     requires left { x.hi < modulus width }
     requires right { y.hi < modulus width }
@@ -84,7 +86,7 @@ fn is_signed(cond: Condition) -> bool
 
 fn narrow_words(cond: Condition, x: Range, y: Range, goes: bool) -> Option<Range>
     ensures holds { (a b : ℕ) → Within x a → Within y b → taken Width.W64 cond a b ≡ goes → NarrowsTo result a }
-    ensures least { IsByOrder cond → y.lo ≡ y.hi → EndsGo cond x y.lo goes result }
+    ensures least { IsByOrder cond → y.lo ≡ y.hi → EndsTestAs cond x y.lo goes result }
 {
     match (cond, goes) {
         (Condition::Equal, true) => common(x, y),
@@ -115,7 +117,7 @@ pub(crate) fn common(x: Range, y: Range) -> Option<Range>
     Some(Range { lo, hi })
 }
 
-// Only an end can be left out.
+// If the words differ, a range can lose only one of its ends.
 fn apart(x: Range, y: Range) -> Option<Range>
     ensures holds { (a b : ℕ) → Within x a → Within y b → a ≢ b → NarrowsTo result a }
     ensures ends { y.lo ≡ y.hi → EndsAre (λ a. Within x a × (a ≢ y.lo)) result }

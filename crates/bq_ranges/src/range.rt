@@ -1,4 +1,4 @@
-//! The interval, and the intervals that need no instruction.
+//! Intervals of words, and those that come from no instruction.
 ghost use Rattle.std.specs.Prelude.{◌≤◌, ◌<◌, ◌^◌, ◌+◌, ◌*◌, ◌≡◌};
 ghost use Rattle.bq_bpf.specs.Meaning.{modulus};
 
@@ -18,7 +18,7 @@ impl Range {
     ghost use Rattle.bq_bpf.specs.Meaning.{modulus_of_bits};
     ghost use Rattle.bq_ranges.specs.Within.{Within};
 
-    /// One word.
+    /// The range of one word.
     pub fn single(word: u64) -> Range
         ensures lo { result.lo ≡ word }
         ensures hi { result.hi ≡ word }
@@ -26,7 +26,7 @@ impl Range {
         Range { lo: word, hi: word }
     }
 
-    /// All words of a width.
+    /// The range of all words of a width.
     pub fn full(width: Width) -> Range
         ensures lo { result.lo ≡ 0 }
         ensures hi { result.hi + 1 ≡ modulus width }
@@ -37,7 +37,7 @@ impl Range {
         }
     }
 
-    /// All words of that many low bits.
+    /// The range of all words of this many low bits.
     pub fn of_bits(bits: Bits) -> Range
         ensures lo { result.lo ≡ 0 }
         ensures hi { result.hi + 1 ≡ modulus_of_bits bits }
@@ -51,14 +51,14 @@ impl Range {
         Range { lo: 0, hi }
     }
 
-    /// Whether it has one word only.
+    /// Whether the range has only one word.
     pub fn is_single(self) -> bool
         ensures { IsTrue result ↔ (self.lo ≡ self.hi) }
     {
         self.lo == self.hi
     }
 
-    /// The least range that has all words of both.
+    /// The least range that has all words of both ranges.
     pub fn hull(self, other: Range) -> Range
         ensures left { (x : ℕ) → Within self x → Within result x }
         ensures right { (x : ℕ) → Within other x → Within result x }
@@ -71,7 +71,7 @@ impl Range {
         }
     }
 
-    /// Its words that the other has too, and no more; all of its own where there are none.
+    /// The words that both ranges have; the whole range itself if there are none.
     pub fn meet(self, other: Range) -> Range
         ensures both { (x : ℕ) → Within self x → Within other x → Within result x }
         ensures lo { self.lo ≤ result.lo }
@@ -100,7 +100,7 @@ impl Range {
         }
     }
 
-    // Words on both sides of a multiple of 2^32 have the low halves ffffffff and 0 among them.
+    // If the range crosses a multiple of 2^32, the low halves of its words include ffffffff and 0.
     fn low_half(self) -> Range
         ensures holds { (x : ℕ) → Within self x → Within result (x % 2 ^ 32) }
         ensures fits { result.hi < 2 ^ 32 }

@@ -1,4 +1,4 @@
-//! What a signed comparison says of its operand: the words with the sign bit lie below all others.
+//! What a signed comparison says about its operands. Words with the sign bit are below all others.
 ghost use Rattle.std.specs.Prelude.{◌≡◌, ◌≤◌, ◌<◌, ◌⊎◌, ℕ};
 ghost use Rattle.bq_bpf.specs.Meaning.{compares, modulus};
 ghost use Rattle.bq_ranges.specs.Within.{EndsAre, NarrowsTo, Within};
@@ -9,9 +9,10 @@ use crate::narrowing::common;
 use crate::range::{Range, sign};
 use bq_insn::{Condition, Width};
 
-/// The members of `x` that go that way with some member of `y`, at least, where both have words of the width.
+/// Answers a range that has every member of `x` for which the test against some member of `y` comes out as `goes` says,
+/// if both ranges fit the width; `None` only if no member does.
 ///
-/// Against a single word it is the least such range.
+/// Against a single word the answer is the least such range.
 pub fn narrow_signed(cond: Condition, width: Width, x: Range, y: Range, goes: bool) -> Option<Range>
     requires left { x.hi < modulus width }
     requires right { y.hi < modulus width }
@@ -32,7 +33,7 @@ pub fn narrow_signed(cond: Condition, width: Width, x: Range, y: Range, goes: bo
     }
 }
 
-// The greatest member as a signed number.
+// The member that is greatest as a signed number.
 fn highest(y: Range, half: u64) -> u64
     requires { 0 < half }
     ensures above { (b : ℕ) → Within y b → IsSignedAtMost half b result }
@@ -44,7 +45,7 @@ fn highest(y: Range, half: u64) -> u64
     y.hi
 }
 
-// The least member as a signed number.
+// The member that is least as a signed number.
 fn lowest(y: Range, half: u64) -> u64
     ensures below { (b : ℕ) → Within y b → IsSignedAtMost half result b }
     ensures within { Within y result }
@@ -138,7 +139,7 @@ fn above(x: Range, bound: u64, half: u64) -> Option<Range>
     )
 }
 
-// The words below `from`, and those from `to` on.
+// A range that has the members below `from` and the members from `to` on.
 fn outside(x: Range, from: u64, to: u64) -> Option<Range>
     ensures holds { (a : ℕ) → Within x a → (a < from) ⊎ (to ≤ a) → NarrowsTo result a }
     ensures ends { EndsAre (λ a. Within x a × ((a < from) ⊎ (to ≤ a))) result }

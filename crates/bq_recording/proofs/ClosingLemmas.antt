@@ -26,15 +26,20 @@ parts_back [] = refl
 parts_back (p ∷ ps) = ap (λ xs. p ∷ xs) (parts_back ps)
 
 module _ {A B : Type 0} (f : A → WorldPart) (h : B → WorldPart) where
-  items_two : (xs : List A) (ys : List B) → let l : List ItemOf = map (λ x. part_item (f x)) xs in let m : List ItemOf = map (λ y. part_item (h y)) ys in l ++ m ≡ map part_item (map f xs ++ map h ys)
+  items_two : (xs : List A) (ys : List B)
+      → let l : List ItemOf = map (λ x. part_item (f x)) xs in
+      let m : List ItemOf = map (λ y. part_item (h y)) ys in l ++ m ≡ map part_item (map f xs ++ map h ys)
   items_two [] [] = refl
   items_two [] (y ∷ ys) = ap (λ (zs : List ItemOf). part_item (h y) ∷ zs) (items_two [] ys)
   items_two (x ∷ xs) ys = ap (λ (zs : List ItemOf). part_item (f x) ∷ zs) (items_two xs ys)
 
   -- what a holder of the lobby has that got the others in this order
-  pub gathered : (s : List LobbyEntry) (v u t : List ItemOf) (xs : List A) (ys : List B) → t ≡ part_item (lobby_part s) ∷ [] → u ≡ t ++ map (λ x. part_item (f x)) xs → v ≡ u ++ map (λ y. part_item (h y)) ys → v ≡ map part_item (all_parts s xs ys f h)
+  pub gathered : (s : List LobbyEntry) (v u t : List ItemOf) (xs : List A) (ys : List B)
+      → t ≡ part_item (lobby_part s) ∷ [] → u ≡ t ++ map (λ x. part_item (f x)) xs → v ≡ u ++ map (λ y. part_item (h y)) ys
+      → v ≡ map part_item (all_parts s xs ys f h)
   gathered s v u t xs ys first second third =
-      third ∙ (ap (λ (zs : List ItemOf). zs ++ map (λ y. part_item (h y)) ys) (second ∙ ap (λ (zs : List ItemOf). zs ++ map (λ x. part_item (f x)) xs) first)
+      third ∙ (ap (λ (zs : List ItemOf). zs ++ map (λ y. part_item (h y)) ys)
+      (second ∙ ap (λ (zs : List ItemOf). zs ++ map (λ x. part_item (f x)) xs) first)
       ∙ ap (λ (zs : List ItemOf). part_item (lobby_part s) ∷ zs) (items_two xs ys))
 
 module _ {A : Type 0} (P : WorldPart → Type 0) (f : A → WorldPart) where
@@ -51,15 +56,18 @@ module _ {A : Type 0} (P : WorldPart → Type 0) (f : A → WorldPart) where
   each_only (x ∷ xs) h = (h.0, each_only xs h.1)
 
 module _ {A : Type 0} (number : A → ℕ) where
-  cpus_counted : (s : ℕ) (p : Processor) (state : A → Processor) (xs : List A) → count (same_part (part.Cpu s p)) (map (λ (x : A). cpu_part (number x) (state x)) xs) ≡ count (λ (x : A). eqb s (number x)) xs
+  cpus_counted : (s : ℕ) (p : Processor) (state : A → Processor) (xs : List A)
+      → count (same_part (part.Cpu s p)) (map (λ (x : A). cpu_part (number x) (state x)) xs) ≡ count (λ (x : A). eqb s (number x)) xs
   cpus_counted s p state [] = refl
   cpus_counted s p state (x ∷ xs) = ap (λ (n : ℕ). cond {A = ℕ} (eqb s (number x)) 1 0 + n) (cpus_counted s p state xs)
 
-  inboxes_counted : (s : ℕ) (i : List Task) (tasks : A → List Task) (xs : List A) → count (same_part (part.Inbox s i)) (map (λ (x : A). inbox_part (number x) (tasks x)) xs) ≡ count (λ (x : A). eqb s (number x)) xs
+  inboxes_counted : (s : ℕ) (i : List Task) (tasks : A → List Task) (xs : List A)
+      → count (same_part (part.Inbox s i)) (map (λ (x : A). inbox_part (number x) (tasks x)) xs) ≡ count (λ (x : A). eqb s (number x)) xs
   inboxes_counted s i tasks [] = refl
   inboxes_counted s i tasks (x ∷ xs) = ap (λ (n : ℕ). cond {A = ℕ} (eqb s (number x)) 1 0 + n) (inboxes_counted s i tasks xs)
 
-module _ {A B : Type 0} (s : List LobbyEntry) (xs : List A) (ys : List B) (at : A → ℕ) (state : A → Processor) (place : B → ℕ) (tasks : B → List Task) where
+module _ {A B : Type 0} (s : List LobbyEntry) (xs : List A) (ys : List B) (at : A → ℕ) (state : A → Processor)
+    (place : B → ℕ) (tasks : B → List Task) where
   abbrev as_cpu : A → WorldPart
   as_cpu x = cpu_part (at x) (state x)
 
@@ -73,7 +81,7 @@ module _ {A B : Type 0} (s : List LobbyEntry) (xs : List A) (ys : List B) (at : 
   pub cpus_there : (w : World) → Each (HasPart w) parts → Each (λ (x : A). HasPart w (as_cpu x)) xs
   cpus_there w h = each_first (HasPart w) as_cpu xs (map as_inbox ys) h.1
 
-  -- and each inbox
+  -- the world has each inbox at its number
   pub inboxes_there : (w : World) → Each (HasPart w) parts → Each (λ (y : B). HasPart w (as_inbox y)) ys
   inboxes_there w h = each_only (HasPart w) as_inbox ys (each_rest (HasPart w) as_cpu xs (map as_inbox ys) h.1)
 
@@ -86,7 +94,7 @@ module _ {A B : Type 0} (s : List LobbyEntry) (xs : List A) (ys : List B) (at : 
       let c = times_turned at n xs in
       omega (arith, o, a, b, c)
 
-  -- nor of two inboxes
+  -- no number is that of two inboxes
   pub inboxes_few : ((p : WorldPart) → count (same_part p) parts ≤ 1) → (n : ℕ) → times place n ys ≤ 1
   inboxes_few once n =
       let o = once (part.Inbox n []) in
@@ -96,8 +104,11 @@ module _ {A B : Type 0} (s : List LobbyEntry) (xs : List A) (ys : List B) (at : 
       omega (arith, o, a, b, c)
 
   -- the world is what its parts make
-  pub is_world : (w : World) (cs : List Processor) (is : List (List Task)) (drawn : ℕ) → Each (HasPart w) parts → cs ≡ w.processors → is ≡ w.inboxes → w.drawn ≡ drawn → record { processors = cs; inboxes = is; lobby = s; drawn = drawn } ≡ w
-  is_world w cs is drawn h processors inboxes last = λ i. record { processors = processors i; inboxes = inboxes i; lobby = sym h.0 i; drawn = sym last i }
+  pub is_world : (w : World) (cs : List Processor) (is : List (List Task)) (drawn : ℕ)
+      → Each (HasPart w) parts → cs ≡ w.processors → is ≡ w.inboxes → w.drawn ≡ drawn
+      → record { processors = cs; inboxes = is; lobby = s; drawn = drawn } ≡ w
+  is_world w cs is drawn h processors inboxes last =
+      λ i. record { processors = processors i; inboxes = inboxes i; lobby = sym h.0 i; drawn = sym last i }
 
 -- a holder of the items of some parts has no other items
 pub parts_are : (v : List ItemOf) (ps : List WorldPart) → v ≡ map part_item ps → parts_of v ≡ ps
@@ -108,15 +119,20 @@ pub only_parts : (v : List ItemOf) (ps : List WorldPart) → v ≡ map part_item
 only_parts v ps is = is ∙ ap (λ (l : List WorldPart). map part_item l) (sym (parts_are v ps is))
 
 -- no place is that of two of them
-pub once_known : (v : List ItemOf) (ps : List WorldPart) → v ≡ map part_item ps → ((p : WorldPart) → count (same_part p) (parts_of v) ≤ 1) → (p : WorldPart) → count (same_part p) ps ≤ 1
+pub once_known : (v : List ItemOf) (ps : List WorldPart) → v ≡ map part_item ps
+    → ((p : WorldPart) → count (same_part p) (parts_of v) ≤ 1)
+    → (p : WorldPart) → count (same_part p) ps ≤ 1
 once_known v ps is once p = subst (λ (l : List WorldPart). count (same_part p) l ≤ 1) (parts_are v ps is) (once p)
 
 -- the world to which a history leads is in order, and has the parts
-pub world_has_parts : (d : Discipline) (n about : ℕ) (log : List Record) (v : List ItemOf) (ps : List WorldPart) (kept : JournalState) → about ≡ n → v ≡ map part_item ps
+pub world_has_parts : (d : Discipline) (n about : ℕ) (log : List Record) (v : List ItemOf) (ps : List WorldPart)
+    (kept : JournalState)
+    → about ≡ n → v ≡ map part_item ps
     → ((w : World) × IsHistory (RecordStep d) (opening_world about) log w × (kept_of w ≡ kept) × Each (HasPart w) (parts_of v))
     → (w : World) × IsHistory (RecordStep d) (opening_world n) log w × IsSound n w × (w.drawn ≡ kept.drawn) × Each (HasPart w) ps
 world_has_parts d n about log v ps kept same is k =
-    let leads : IsHistory (RecordStep d) (opening_world n) log k.0 = subst (λ (m : ℕ). IsHistory (RecordStep d) (opening_world m) log k.0) same k.1 in (
+    let leads : IsHistory (RecordStep d) (opening_world n) log k.0 =
+    subst (λ (m : ℕ). IsHistory (RecordStep d) (opening_world m) log k.0) same k.1 in (
       k.0,
       leads,
       reached_sound d n k.0 (log, leads),

@@ -1,4 +1,4 @@
--- All parts of a world, out of their locks.
+-- All parts of a world, taken out of their locks.
 use Rattle.std.specs.Prelude.{◌≡◌, ℕ, List, ◌∷◌, ◌++◌, map, length}
 use Rattle.bq_history.specs.Whole.{Each}
 use Rattle.bq_parts.specs.declared.lobby_entry.LobbyEntry.{LobbyEntry}
@@ -8,11 +8,11 @@ use Rattle.bq_shared.specs.declared.cells.NumberedCpu.{NumberedCpu}
 use Rattle.bq_shared.specs.declared.cells.NumberedInbox.{NumberedInbox}
 use Rattle.bq_shared.specs.declared.law.WorldPart.{WorldPart}
 
--- the lobby, what is as f says of each of the first list, and what is as h says of each of the second
+-- the lobby, the part that f makes of each of the first list, and the part that h makes of each of the second
 abbrev pub all_parts : {A B : Type 0} → List LobbyEntry → List A → List B → (A → WorldPart) → (B → WorldPart) → List WorldPart
 all_parts seats xs ys f h = lobby_part seats ∷ (map f xs ++ map h ys)
 
--- the parts of what came out of the locks
+-- the parts that came out of the locks
 abbrev pub parts_out : {Q R : Type 0} → List LobbyEntry → List (NumberedCpu Q R) → List NumberedInbox → List WorldPart
 parts_out lobby cpus inboxes = all_parts lobby cpus inboxes (λ c. cpu_part c.number c.state) (λ i. inbox_part i.number i.state)
 

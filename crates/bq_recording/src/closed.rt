@@ -3,7 +3,7 @@ ghost use Rattle.std.specs.Prelude.{◌≡◌, ◌↔◌, IsTrue, length, slice_
 ghost use Rattle.std.specs.Option.{option_map};
 ghost use Rattle.bq_history.specs.History.{IsConfirmed};
 
-use bq_bpf::Call;
+use bq_bpf::CounterCall;
 use bq_bpf::board::COUNTERS;
 use bq_core::Core;
 use bq_disc::RunQueue;
@@ -11,7 +11,7 @@ use bq_history::{ClosedRecords as History, Receipt};
 use bq_parts::{Event, Refusal, Reply};
 use bq_shared::Record;
 
-/// The history of a machine, the world that it leaves, and its counters.
+/// The history of a machine, the world that it leads to, and the machine's counters.
 #[derive(Drop)]
 pub struct Closed<Q: RunQueue + Drop, const P: usize> {
     pub history: History<Record>,
@@ -20,20 +20,23 @@ pub struct Closed<Q: RunQueue + Drop, const P: usize> {
 }
 
 impl<Q: RunQueue + Drop, const P: usize> Closed<Q, P> {
-    /// How many events the history has.
+    /// Answers how many events the history has.
     pub fn len(&self) -> u64
         ensures { result ≡ length self.now.history }
     {
         self.history.len()
     }
 
-    /// The event at a place, counted from 0, with what it was answered and its calls of counters, or none where the history
-    /// is not that long.
-    pub fn logged(&self, place: u64) -> Option<(&Event, Result<Reply, Refusal>, &[Call])>
+    /// The event at a place, counted from 0, with its answer and its calls of counters; None if the history is not that long.
+    pub fn logged(&self, place: u64) -> Option<(&Event, Result<Reply, Refusal>, &[CounterCall])>
         ensures { option_map (λ r. record { event = r.0.now; reply = r.1; calls = r.2.now }) result ≡ slice_get self.now.history place }
     {
         let record = self.history.logged(place)?;
-        Some((&record.event, record.reply.told(), record.calls.as_slice()))
+        Some((
+            &record.event,
+            record.reply.reported(),
+            record.calls.as_slice(),
+        ))
     }
 
     /// Whether the history has the receipt's event at the receipt's place, with the same answer and the same calls of

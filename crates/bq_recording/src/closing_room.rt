@@ -1,4 +1,4 @@
-//! Room for what the locks have, so that the end takes no memory.
+//! Room for the contents of the locks, so that the end takes no memory.
 ghost use Rattle.std.specs.Prelude.{◌≡◌, ◌≤◌, vec_len, vec_capacity};
 
 use bq_disc::RunQueue;
@@ -6,7 +6,7 @@ use bq_parts::{Cpu, Inbox};
 use bq_shared::{NumberedCpu, NumberedInbox};
 use std::alloc::{AllocError, Global};
 
-/// Room for the contents of the locks of `P` processors and their inboxes, and for the same without their numbers.
+/// Room for the contents of the locks of `P` processors and their inboxes, with their numbers and without.
 #[derive(Drop)]
 pub struct ClosingRoom<Q: RunQueue + Drop, const P: usize> {
     pub(crate) numbered_cpus: Vec<NumberedCpu<Q>>,

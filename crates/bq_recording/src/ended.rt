@@ -1,4 +1,4 @@
-//! The locks are opened for good, and what they have becomes the history and the core.
+//! The locks are taken apart, and their contents become the history and the core.
 ghost use Rattle.std.specs.Prelude.{◌≡◌, ◌≤◌, map, length, vec_len, vec_capacity};
 ghost use Rattle.bq_history.specs.Whole.{count};
 ghost use Rattle.bq_history.specs.Items.{part_item};
@@ -7,7 +7,7 @@ ghost use Rattle.bq_shared.specs.Sums.{AreSumsOf};
 ghost use Rattle.bq_shared.specs.Calls.{calls_in};
 ghost use Rattle.bq_parts.specs.World.{World, opening_world};
 ghost use Rattle.bq_parts.specs.StandsOnce.{IsOrderly};
-ghost use Rattle.bq_shared.specs.Parts.{RecordStep, told_calls, same_part};
+ghost use Rattle.bq_shared.specs.Parts.{RecordStep, reported_calls, same_part};
 ghost use Rattle.bq_shared.specs.declared.law.WorldPart.{WorldPart as PartOf};
 ghost use Rattle.bq_recording.specs.AllParts.{parts_out, IsMadeOf};
 
@@ -41,9 +41,9 @@ pub struct Locks<Q: RunQueue + Drop, N: Naming + Counting, const P: usize> {
     pub ghost same: { counters ≡ history.callers },
 }
 
-/// The end of a machine, whose seats all stand there, each once. Each event of the history is a step of the world, from the
-/// opening world to the core's; none is one whose arguments were refused or for which memory was wanting. The receipts of
-/// the seats share the history out, and each counter is the sum of the adds that it tells. No memory is taken.
+/// Ends a machine. `seats` must be all its seats, each once. Each event of the history is a step of the world, from the
+/// opening world to the core's. No event in it has refused arguments or ran out of memory. The receipts of the seats share
+/// the history out. Each counter is the sum of the adds in the history, modulo 2^64. It takes no memory.
 pub fn close<Q: RunQueue + Drop, N: Naming + Counting, const P: usize>(
     locks: Locks<Q, N, P>,
     seats: Vec<Seat<Record, WorldPart, JournalState, N>>,
@@ -51,7 +51,7 @@ pub fn close<Q: RunQueue + Drop, N: Naming + Counting, const P: usize>(
     requires { EachOnce locks.history.callers seats.items }
     ensures history { IsHistory (RecordStep Q.R.discipline) (opening_world P) result.history result.core }
     ensures receipts { AreReceiptsOf result.history seats.items }
-    ensures counters { AreSumsOf (calls_in told_calls result.history) result.counters }
+    ensures counters { AreSumsOf (calls_in reported_calls result.history) result.counters }
 {
     let Locks {
         history,
@@ -73,7 +73,7 @@ pub fn close<Q: RunQueue + Drop, N: Naming + Counting, const P: usize>(
     }
 }
 
-/// What the locks had, and room for the contents of the processors and inboxes without their numbers.
+/// The contents of the locks, and room for the processors and inboxes without their numbers.
 #[derive(Drop)]
 struct Contents<Q: RunQueue + Drop, const P: usize> {
     cpus: Vec<NumberedCpu<Q>>,
@@ -86,7 +86,7 @@ struct Contents<Q: RunQueue + Drop, const P: usize> {
     ghost for_inboxes: { (vec_len room_for_inboxes ≡ 0) × (P ≤ vec_capacity room_for_inboxes) },
 }
 
-/// All contents come out of their locks, and their parts to one holder.
+/// Takes all contents out of their locks. One holder gets their parts.
 fn all_out<Q: RunQueue + Drop, N: Naming + Counting, const P: usize>(
     history: &Shared<Q, N>,
     cpus: Vec<Mutex<UnderLock<NumberedCpu<Q>, N>>>,

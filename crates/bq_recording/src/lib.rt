@@ -1,7 +1,7 @@
-//! The start and the end of a machine that many callers share: its parts under their locks, its history, its counters and its
-//! seats; and at the end the history, the world that it leaves and the counters.
-//! Promises that at the end each event of the history is a step of the world, that the seats' receipts share it out, and that
-//! each counter is the sum of its adds. Stands on bq_shared for the law, the cells, the seats and the counters.
+//! The start and the end of a machine that many callers share. It starts as parts under their locks, a history, counters and
+//! seats. It ends as the history, the world that the history leads to, and the counters.
+//! Promises that at the end each event of the history is a step of the world, that the seats' receipts share it out, and
+//! that each counter is the sum of its adds. Builds on bq_shared for the law, the cells, the seats and the counters.
 #![tactic(auto)]
 
 pub mod closed;

@@ -23,7 +23,8 @@ pub struct PartLocks<Q: RunQueue + Drop, N: Naming> {
     pub inboxes: Vec<Mutex<UnderLock<NumberedInbox, N>>>,
 }
 
-/// A lock for each part, from the parts at the start; what the callers hold is left. It takes memory for the locks and the lobby.
+/// Makes a lock for each part, from the parts at the start. The items of the callers remain with the holder. It takes memory
+/// for the locks and the lobby.
 pub fn part_locks<Q: RunQueue + Drop, N: Naming>(
     alloc: Global,
     history: &Shared<Q, N>,

@@ -19,8 +19,8 @@ use bq_shared::{
 use std::alloc::{AllocError, Global};
 use std::sync::Mutex;
 
-/// What the machine that `N` names is made of, of `P` processors: what records its events, a lock for each part, the room
-/// that its end needs, and how many seats it has.
+/// The machine that `N` names, of `P` processors, in pieces: the recorder of its events, a lock for each part, the room that
+/// its end needs, and its number of seats.
 #[derive(Drop)]
 pub struct Opening<Q: RunQueue + Drop, N: Naming + Counting, const P: usize> {
     pub recorder: Recorder<Q, N>,
@@ -37,8 +37,8 @@ pub struct Opening<Q: RunQueue + Drop, N: Naming + Counting, const P: usize> {
 }
 
 impl<Q: RunQueue + Drop, N: Naming + Counting, const P: usize> Opening<Q, N, P> {
-    /// Over queues that are handed in, one for each processor, without tasks and at the first mark; and the seats, numbered
-    /// from 0. It takes memory for all locks and seats.
+    /// Opens a machine over `queues`, one for each processor, without tasks and at the first mark. Answers it with its
+    /// seats, numbered from 0. It takes memory for all locks and seats.
     pub fn over(
         alloc: Global,
         queues: Vec<Q>,
@@ -83,7 +83,7 @@ impl<Q: RunQueue + Drop, N: Naming + Counting, const P: usize> Opening<Q, N, P> 
     }
 }
 
-/// What records the events of a machine of this many processors, with one holder of all its parts and seats, and the account of
+/// The recorder of a machine of `count` processors at the start, one holder of all its parts and callers, and the account of
 /// all seats.
 fn recorder_at_start<Q: RunQueue + Drop, N: Naming + Counting>(
     prepared: Prepared<Q>,
@@ -117,7 +117,7 @@ fn recorder_at_start<Q: RunQueue + Drop, N: Naming + Counting>(
     (recorder, all, account)
 }
 
-/// The loads of processors that have no task.
+/// The loads of processors without tasks: all 0.
 fn no_loads(count: usize) -> Loads
     requires { count ≤ PROCESSORS }
     ensures { result ≡ replicate count 0 }

@@ -3,11 +3,11 @@ ghost use Rattle.std.specs.Prelude.{◌≡◌, IfOk};
 
 use bq_disc::RunQueue;
 use bq_history::{FixedAtStart, Opened, open};
-use bq_shared::{Sched, UnnamedCounters};
+use bq_shared::{SchedulerLaw, UnnamedCounters};
 use std::alloc::{AllocError, Global};
 
 /// A world with an empty history, which has no name yet.
-pub type Prepared<Q> = Opened<Sched<Q>>;
+pub type Prepared<Q> = Opened<SchedulerLaw<Q>>;
 
 /// The world at the start, and its counters, for a machine of this many processors and seats.
 pub fn prepare<Q: RunQueue>(
@@ -18,7 +18,7 @@ pub fn prepare<Q: RunQueue>(
     ensures world { IfOk result (λ p. (p.0.1.about ≡ processors) × (p.0.1.callers ≡ seats)) }
     ensures counters { IfOk result (λ p. p.1.1 ≡ seats) }
 {
-    let prepared = open::<Sched<Q>>(
+    let prepared = open::<SchedulerLaw<Q>>(
         alloc,
         &FixedAtStart {
             about: processors,

@@ -4,7 +4,7 @@ ghost use Rattle.std.specs.Prelude.{◌≡◌, ◌^◌, [], All, IfOk, vec_len};
 use bq_disc::RunQueue;
 use std::alloc::{AllocError, Global};
 
-/// This many queues without tasks, each at the first mark. It takes memory for their list.
+/// A list of `count` queues without tasks, each at the first mark. It takes memory for the list.
 pub fn no_tasks<Q: RunQueue + Drop>(alloc: Global, count: usize) -> Result<Vec<Q>, AllocError>
     ensures many { IfOk result (λ v. vec_len v ≡ count) }
     ensures empty { IfOk result (λ v. All (λ q. (Q.members q ≡ []) × (Q.kept_mark q ≡ 2 ^ 32)) v.items) }

@@ -1,4 +1,4 @@
-//! What all callers share beside the locks of the world's parts.
+//! What all callers share besides the locks of the world's parts.
 ghost use Rattle.std.specs.Prelude.{◌≡◌, ◌≤◌, ◌<◌, ◌+◌, ◌^◌, length};
 ghost use Rattle.std.specs.Sync.Mutex.{mutex_guard_value};
 
@@ -9,13 +9,13 @@ use bq_shared::{
 };
 use std::sync::{Mutex, MutexGuard, Wait};
 
-/// A caller's end of a machine. Contracts see it as its number and its receipts, in order.
+/// A caller's end of a machine. Contracts see its number and its receipts, in order.
 pub type Seat<N> = bq_shared::Seat<Record, WorldPart, JournalState, N>;
 
 /// What a seat has while an event is under way.
 pub type WorkingSeat<N> = Working<Record, WorldPart, JournalState, N>;
 
-/// A processor whose lock is held: its hand may be full.
+/// A processor whose lock is held. Its hand may be full.
 pub type CpuCell<Q, N> = Cell<NumberedCpu<Q>, Record, WorldPart, JournalState, N>;
 
 /// The journal, whose lock is held.
@@ -33,7 +33,7 @@ pub struct Recorder<Q: RunQueue + Drop, N: Naming + Counting> {
 }
 
 impl<Q: RunQueue + Drop, N: Naming + Counting> Recorder<Q, N> {
-    /// Locks the journal, and waits for ever where no record fits any more.
+    /// Locks the journal. Waits for ever if there is no room for another record.
     #[inline(always)]
     pub fn lock_journal<R: Wait>(&self, rt: &R) -> LockedJournal<'_, N>
         ensures { length (mutex_guard_value result).0 + 1 < 2 ^ 64 }
@@ -44,7 +44,7 @@ impl<Q: RunQueue + Drop, N: Naming + Counting> Recorder<Q, N> {
     }
 }
 
-/// Takes a lock that is mostly free: then it is taken in place, and a call is made only to wait for it.
+/// Takes a lock that is mostly free. If it is free, it is taken in place; a call is made only to wait for it.
 #[inline(always)]
 pub fn lock<'a, R: Wait, T>(rt: &R, of: &'a Mutex<T>) -> MutexGuard<'a, T> {
     match of.try_lock() {
@@ -53,7 +53,7 @@ pub fn lock<'a, R: Wait, T>(rt: &R, of: &'a Mutex<T>) -> MutexGuard<'a, T> {
     }
 }
 
-/// Waits for ever where a lock holds another's content.
+/// Waits for ever if a lock has the content of another number.
 pub fn need_own<R: Wait>(rt: &R, number: u8, wanted: u8)
     ensures { number ≡ wanted }
 {

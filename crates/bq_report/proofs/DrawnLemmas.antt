@@ -21,29 +21,36 @@ pub rows_none : (rows : List Row) → rows ≡ rows ++ replicate 0 empty_row
 rows_none rows = sym (append-nil rows)
 
 -- one more row without a run is added
-pub rows_more : (old now next : List Row) (n : ℕ) (row : Row) → now ≡ old ++ replicate n empty_row → row ≡ empty_row → next ≡ now ++ (row ∷ [])
+pub rows_more : (old now next : List Row) (n : ℕ) (row : Row)
+    → now ≡ old ++ replicate n empty_row → row ≡ empty_row → next ≡ now ++ (row ∷ [])
     → next ≡ old ++ replicate (n + 1) empty_row
 rows_more old now next n row before is more =
     more ∙ ap (λ rows. rows ++ (row ∷ [])) before ∙ append_assoc old (replicate n empty_row) (row ∷ [])
     ∙ ap (λ own. old ++ (replicate n empty_row ++ (own ∷ []))) is ∙ ap (λ rows. old ++ rows) (replicate_more n empty_row)
 
 -- what was found by these figures is the step over the extent
-pub step_is : (e : Extent) (width span count : ℕ) (found : Option ℕ) → found ≡ find (λ (step : ℕ). covers span count step) round_steps → span ≡ e.to - e.from
-    → count ≡ columns_in width → found ≡ step_over e width
+pub step_is : (e : Extent) (width span count : ℕ) (found : Option ℕ)
+    → found ≡ find (λ (step : ℕ). covers span count step) round_steps → span ≡ e.to - e.from → count ≡ columns_in width
+    → found ≡ step_over e width
 step_is e width span count found is long wide =
-    is ∙ ap (λ n. find (λ (step : ℕ). covers n count step) round_steps) long ∙ ap (λ n. find (λ (step : ℕ). covers (e.to - e.from) n step) round_steps) wide
+    is ∙ ap (λ n. find (λ (step : ℕ). covers n count step) round_steps) long
+    ∙ ap (λ n. find (λ (step : ℕ). covers (e.to - e.from) n step) round_steps) wide
 
 -- a map by the step that was found
-pub drawn_by_step : (w : Window) (names : NamedTasks) (tasks : List ℕ) (rows : List Row) (e : Extent) (found wanted : Option ℕ) (step : ℕ) (g : Grid) (old new : List ℕ)
-    → found ≡ wanted → found ≡ Some step → g ≡ grid_over e step → Adds (IsDrawn w names tasks rows g) old new → Adds (IsDrawnBy w names tasks rows e wanted) old new
+pub drawn_by_step : (w : Window) (names : NamedTasks) (tasks : List ℕ) (rows : List Row) (e : Extent)
+    (found wanted : Option ℕ) (step : ℕ) (g : Grid) (old new : List ℕ)
+    → found ≡ wanted → found ≡ Some step → g ≡ grid_over e step → Adds (IsDrawn w names tasks rows g) old new
+    → Adds (IsDrawnBy w names tasks rows e wanted) old new
 drawn_by_step w names tasks rows e found wanted step g old new are is over drawn = (
   drawn.0,
-  subst (λ o. IsDrawnBy w names tasks rows e o drawn.0) (sym is ∙ are) (subst (λ grid. IsDrawn w names tasks rows grid drawn.0) over drawn.1),
+  subst (λ o. IsDrawnBy w names tasks rows e o drawn.0) (sym is ∙ are)
+      (subst (λ grid. IsDrawn w names tasks rows grid drawn.0) over drawn.1),
   drawn.2,
 )
 
 -- nothing is drawn where no step was found
-pub drawn_by_none : (w : Window) (names : NamedTasks) (tasks : List ℕ) (rows : List Row) (e : Extent) (found wanted : Option ℕ) (text : List ℕ)
+pub drawn_by_none : (w : Window) (names : NamedTasks) (tasks : List ℕ) (rows : List Row) (e : Extent)
+    (found wanted : Option ℕ) (text : List ℕ)
     → found ≡ wanted → found ≡ None → Adds (IsDrawnBy w names tasks rows e wanted) text text
 drawn_by_none w names tasks rows e found wanted text are is =
     ([], subst (λ o. IsDrawnBy w names tasks rows e o []) (sym is ∙ are) refl, sym (append-nil text))
@@ -52,9 +59,11 @@ regroup : (old a b c : List ℕ) → ((old ++ a) ++ b) ++ c ≡ old ++ (a ++ (b 
 regroup old a b c = simp append_assoc
 
 -- the ruler, the rows and the legend, in order, are a map
-pub map_added : (w : Window) (names : NamedTasks) (tasks : List ℕ) (rows : List Row) (g : Grid) (first last : Legend) (old ruled drawn next : List ℕ)
+pub map_added : (w : Window) (names : NamedTasks) (tasks : List ℕ) (rows : List Row) (g : Grid) (first last : Legend)
+    (old ruled drawn next : List ℕ)
     → ruled ≡ old ++ ruler_text g → Notes [] first → Draws w rows tasks g (length rows) first last ruled drawn
-    → ((columns : List Column) → Notes columns last → Adds (IsLegend names tasks g.step columns) drawn next) → Adds (IsDrawn w names tasks rows g) old next
+    → ((columns : List Column) → Notes columns last → Adds (IsLegend names tasks g.step columns) drawn next)
+    → Adds (IsDrawn w names tasks rows g) old next
 map_added w names tasks rows g first last old ruled drawn next ruler none draws below =
     let legend = below (all_columns draws.drawn) (draws.noted [] none) in (
       _,
@@ -64,8 +73,10 @@ map_added w names tasks rows g first last old ruled drawn next ruler none draws 
     )
 
 -- what is drawn over the time that passes is the map; the window, the width and the tasks are as they were
-pub map_of_time : (w u : Window) (names : NamedTasks) (s : Figures) (tasks others : List ℕ) (width breadth : ℕ) (rows : List Row) (e : Extent) (old new : List ℕ)
-    → (u ≡ w) × (breadth ≡ width) × (others ≡ tasks) → IsInWindow u e → Spans u s e → Adds (IsDrawnBy u names others rows e (step_over e breadth)) old new
+pub map_of_time : (w u : Window) (names : NamedTasks) (s : Figures) (tasks others : List ℕ) (width breadth : ℕ)
+    (rows : List Row) (e : Extent) (old new : List ℕ)
+    → (u ≡ w) × (breadth ≡ width) × (others ≡ tasks) → IsInWindow u e → Spans u s e
+    → Adds (IsDrawnBy u names others rows e (step_over e breadth)) old new
     → Adds (IsMap w names s tasks width rows) old new
 map_of_time w u names s tasks others width breadth rows e old new same within spans drawn = (
   drawn.0,
@@ -81,7 +92,8 @@ map_of_time w u names s tasks others width breadth rows e old new same within sp
 )
 
 -- what is appended, where memory does not run out
-pub pushed : {T E : Type 0} (r : Result T E) (old part new : List ℕ) → new ≡ (if is_ok r then old ++ part else old) → OnOk r (new ≡ old ++ part)
+pub pushed : {T E : Type 0} (r : Result T E) (old part new : List ℕ)
+    → new ≡ (if is_ok r then old ++ part else old) → OnOk r (new ≡ old ++ part)
 pushed (Ok done) old part new is = is
 pushed (Err error) old part new is = tt
 
@@ -89,5 +101,8 @@ pushed (Err error) old part new is = tt
 pub map_of_no_time : (w u : Window) (names : NamedTasks) (s : Figures) (tasks : List ℕ) (width : ℕ) (rows : List Row) (old new : List ℕ)
     → u ≡ w → ((e : Extent) → Spans u s e → e.to ≤ e.from) → new ≡ old ++ codes "no time passes in what is shown\n"
     → Adds (IsMap w names s tasks width rows) old new
-map_of_no_time w u names s tasks width rows old new same none says =
-    (codes "no time passes in what is shown\n", inr (record { none = λ e spans. none e (subst (λ v. Spans v s e) (sym same) spans); says = refl }), says)
+map_of_no_time w u names s tasks width rows old new same none shows = (
+  codes "no time passes in what is shown\n",
+  inr (record { none = λ e spans. none e (subst (λ v. Spans v s e) (sym same) spans); shows = refl }),
+  shows,
+)

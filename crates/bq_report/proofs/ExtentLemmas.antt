@@ -53,9 +53,12 @@ read_more : (w : Window) (s : Figures) (count first last reading : ℕ) → Show
     → Read w s count first last → Read w s (count + 1) (min first reading) (max last (processor_of s count).last)
 read_more w s count first last reading shows known r = record {
   is_first = first_of_both w s first reading r.is_first (record { processor = count; shown = shows; first = known });
-  is_last = last_of_both w s last (processor_of s count).last r.is_last (record { processor = count; shown = shows; was_read = ap is_some known; last = refl });
+  is_last = last_of_both w s last (processor_of s count).last r.is_last
+      (record { processor = count; shown = shows; was_read = ap is_some known; last = refl });
   least = λ p at h shown e. elim (cases_eq p count) [
-    | inl same ↦ let own : reading ≡ at = ap (λ o. unwrap_or o 0) (sym known ∙ ap (λ q. (processor_of s q).first) (sym same) ∙ e) in omega arith
+    | inl same ↦
+        let own : reading ≡ at = ap (λ o. unwrap_or o 0) (sym known ∙ ap (λ q. (processor_of s q).first) (sym same) ∙ e) in
+        omega arith
     | inr other ↦ omega (arith, r.least p at (omega arith) shown e)
   ];
   most = λ p h shown e. elim (cases_eq p count) [
@@ -67,7 +70,7 @@ read_more w s count first last reading shows known r = record {
 greater : (a b : ℕ) → ord_max nat_cmp a b ≡ max a b
 greater a b = grind (arith, nat_tests)
 
--- the same of its figures, as they were read
+-- one more processor that is shown counts, by its figures as they were read
 pub read_shown : (w : Window) (s : Figures) (count first last reading : ℕ) (figures : ProcessorFigures) (first_now last_now : ℕ)
     → figures ≡ processor_of s count → ShowsProcessor w count → figures.first ≡ Some reading → first_now ≡ min first reading
     → last_now ≡ ord_max nat_cmp last figures.last → Read w s count first last → Read w s (count + 1) first_now last_now
@@ -87,14 +90,17 @@ spans w s first last e fits r from to lasts = elim r.is_first [
       earliest = first;
       latest = last;
       is_earliest = record { holds = some_first; least = λ other h. r.least h.processor other h.shown.is_number h.shown h.first };
-      is_latest = record { holds = some_last; bounds = λ other h. subst (λ n. n ≤ last) h.last (r.most h.processor h.shown.is_number h.shown h.was_read) };
+      is_latest = record {
+        holds = some_last;
+        bounds = λ other h. subst (λ n. n ≤ last) h.last (r.most h.processor h.shown.is_number h.shown h.was_read);
+      };
       begins = omega (arith, from);
       ends = omega (arith, to);
     }
   ]
 ]
 
--- and where that does not last, no extent does
+-- there is no extent where the earliest first reading is not before the latest last one within the window
 spans_none : (w : Window) (s : Figures) (first last : ℕ) → Read w s 64 first last → min last w.to ≤ max first w.from
     → (e : Extent) → Spans w s e → e.to ≤ e.from
 spans_none w s first last r short e h =

@@ -20,7 +20,7 @@ use Rattle.bq_report.specs.declared.window.Window.{Window}
 use Rattle.bq_report.specs.Amounts.{moment_text}
 use Rattle.bq_report.specs.Legends.{Draws, Notes, NotesMore}
 use Rattle.bq_report.specs.MapRows.{Row}
-use Rattle.bq_report.specs.Maps.{AreColumns, DrawnRow, Holds, HoldsLast, IsDrawnRow, IsHiddenNote, IsLegend, IsLegendLine, all_columns, empty_row, letter_at, letters, row_of, row_text, rows_text, unit_for}
+use Rattle.bq_report.specs.Maps.{AreColumns, DrawnRow, RowsHold, HoldsLast, IsDrawnRow, IsHiddenNote, IsLegend, IsLegendLine, all_columns, empty_row, letter_at, letters, row_of, row_text, rows_text, unit_for}
 use Rattle.bq_report.specs.Names.{NamedTasks}
 use Rattle.bq_report.specs.Reports.{Adds, AreParts}
 use Rattle.bq_report.specs.Windows.{ShowsProcessor}
@@ -44,17 +44,19 @@ pub notes_none : (l : Legend) → NotesMore [] l l
 notes_none l before known = subst (λ columns. Notes columns l) (sym (append-nil before)) known
 
 -- columns are noted, and then others
-pub notes_joined : (a b : List Column) (first then last : Legend) → NotesMore a first then → NotesMore b then last → NotesMore (a ++ b) first last
+pub notes_joined : (a b : List Column) (first then last : Legend)
+    → NotesMore a first then → NotesMore b then last → NotesMore (a ++ b) first last
 notes_joined a b first then last one two before known =
     subst (λ columns. Notes columns last) (append_assoc before a b) (two (before ++ a) (one before known))
 
--- the same columns
+-- columns that are equal are noted alike
 pub notes_of : (a b : List Column) (old new : Legend) → a ≡ b → NotesMore a old new → NotesMore b old new
 notes_of a b old new same noted = subst (λ columns. NotesMore columns old new) same noted
 
 -- one more column is noted
-pub notes_next : (columns : List Column) (i : ℕ) (d : Column) (first then last : Legend) → i < length columns → NotesMore (take i columns) first then
-    → NotesMore (get_or columns i d ∷ []) then last → NotesMore (take (i + 1) columns) first last
+pub notes_next : (columns : List Column) (i : ℕ) (d : Column) (first then last : Legend)
+    → i < length columns → NotesMore (take i columns) first then → NotesMore (get_or columns i d ∷ []) then last
+    → NotesMore (take (i + 1) columns) first last
 notes_next columns i d first then last lt before one =
     notes_of (take i columns ++ (get_or columns i d ∷ [])) (take (i + 1) columns) first last (sym (take_more columns i d lt))
     (notes_joined (take i columns) (get_or columns i d ∷ []) first then last before one)
@@ -65,14 +67,16 @@ here a b is = grind (arith, nat_tests)
 apart : (a b : ℕ) → a ≢ b → is_at (nat_cmp a) b ≡ false
 apart a b not = grind (arith, nat_tests)
 
-other_column : (before : List Column) (column wanted : Column) → ¬ (column ≡ wanted) → Contains (before ++ (column ∷ [])) wanted → Contains before wanted
+other_column : (before : List Column) (column wanted : Column)
+    → ¬ (column ≡ wanted) → Contains (before ++ (column ∷ [])) wanted → Contains before wanted
 other_column before column wanted not stands = elim (Contains-push_cases before column wanted stands) [
   | inl there ↦ there
   | inr is ↦ absurd (not is)
 ]
 
 -- a column of another kind changes nothing of what is known of this one
-same_known : (b c : Bool) (before : List Column) (column wanted : Column) → c ≡ b → ¬ (column ≡ wanted) → (IsTrue b ↔ Contains before wanted)
+same_known : (b c : Bool) (before : List Column) (column wanted : Column)
+    → c ≡ b → ¬ (column ≡ wanted) → (IsTrue b ↔ Contains before wanted)
     → (IsTrue c ↔ Contains (before ++ (column ∷ [])) wanted)
 same_known b c before column wanted is not known = (
   λ h. Contains-append_left before (column ∷ []) wanted (known.0 (sym is ∙ h)),
@@ -104,7 +108,8 @@ notes_task old new column task is sets rest before known = subst (λ own. Notes 
 })
 
 -- a column of hidden tasks is noted
-pub notes_hidden : (old new : Legend) (column : Column) → column ≡ Hidden → new.tasks ≡ old.tasks → new.has_hidden ≡ true → NotesMore (column ∷ []) old new
+pub notes_hidden : (old new : Legend) (column : Column) → column ≡ Hidden → new.tasks ≡ old.tasks → new.has_hidden ≡ true
+    → NotesMore (column ∷ []) old new
 notes_hidden old new column is rest has before known = subst (λ own. Notes (before ++ (own ∷ [])) new) (sym is) (record {
   tasks = λ q. same_known (contains nat_cmp old.tasks q) (contains nat_cmp new.tasks q) before Hidden (Task q)
       (ap (λ t. contains nat_cmp t q) rest) (λ e. cc) (known.tasks q);
@@ -115,13 +120,16 @@ regroup : (old a m b n e l : List ℕ) → (((old ++ (a ++ (m ++ b))) ++ n) ++ e
 regroup old a m b n e l = simp append_assoc
 
 -- the parts of a legend, in order, are a legend
-pub legend_added : (names : NamedTasks) (tasks own : List ℕ) (step : ℕ) (unit : Unit) (old headed noted ended next : List ℕ) (columns : List Column)
+pub legend_added : (names : NamedTasks) (tasks own : List ℕ) (step : ℕ) (unit : Unit) (old headed noted ended next : List ℕ)
+    (columns : List Column)
     → own ≡ tasks → unit ≡ unit_for step → headed ≡ old ++ (codes "\na column is " ++ (moment_text step unit ++ codes "; . is idle"))
-    → Adds (IsHiddenNote columns) headed noted → ended ≡ noted ++ codes "\n" → Adds (AreParts (IsLegendLine names own columns) (length own)) ended next
+    → Adds (IsHiddenNote columns) headed noted → ended ≡ noted ++ codes "\n"
+    → Adds (AreParts (IsLegendLine names own columns) (length own)) ended next
     → Adds (IsLegend names tasks step columns) old next
 legend_added names tasks own step unit old headed noted ended next columns are is head note end lines =
-    let all : next ≡ (((old ++ (codes "\na column is " ++ (moment_text step (unit_for step) ++ codes "; . is idle"))) ++ note.0) ++ codes "\n") ++ lines.0
-    = lines.2 ∙ ap (λ t. t ++ lines.0) (end ∙ ap (λ t. t ++ codes "\n") (note.2 ∙ ap (λ t. t ++ note.0)
+    let all : next
+    ≡ (((old ++ (codes "\na column is " ++ (moment_text step (unit_for step) ++ codes "; . is idle"))) ++ note.0) ++ codes "\n")
+    ++ lines.0 = lines.2 ∙ ap (λ t. t ++ lines.0) (end ∙ ap (λ t. t ++ codes "\n") (note.2 ∙ ap (λ t. t ++ note.0)
     (head ∙ ap (λ u. old ++ (codes "\na column is " ++ (moment_text step u ++ codes "; . is idle"))) is))) in (
       _,
       record {
@@ -135,7 +143,8 @@ legend_added names tasks own step unit old headed noted ended next columns are i
     )
 
 -- no row is drawn yet
-pub draws_none : (w : Window) (rows : List Row) (tasks : List ℕ) (g : Grid) (l : Legend) (text : List ℕ) → Draws w rows tasks g 0 l l text text
+pub draws_none : (w : Window) (rows : List Row) (tasks : List ℕ) (g : Grid) (l : Legend) (text : List ℕ)
+    → Draws w rows tasks g 0 l l text text
 draws_none w rows tasks g l text = record {
   drawn = [];
   shown = AreParts-none (IsDrawnRow w rows g);
@@ -143,31 +152,42 @@ draws_none w rows tasks g l text = record {
   added = sym (append-nil text);
 }
 
--- the same of a legend and a text that are those
-pub draws_at : (w : Window) (rows : List Row) (tasks : List ℕ) (g : Grid) (number : ℕ) (first last next : Legend) (old now then : List ℕ) → next ≡ last → then ≡ now
-    → Draws w rows tasks g number first last old now → Draws w rows tasks g number first next old then
+-- no row is drawn yet, by an equal legend and an equal text
+pub draws_at : (w : Window) (rows : List Row) (tasks : List ℕ) (g : Grid) (number : ℕ) (first last next : Legend)
+    (old now then : List ℕ)
+    → next ≡ last → then ≡ now → Draws w rows tasks g number first last old now
+    → Draws w rows tasks g number first next old then
 draws_at w rows tasks g number first last next old now then is reads draws =
-    subst (λ l. Draws w rows tasks g number first l old then) (sym is) (subst (λ t. Draws w rows tasks g number first last old t) (sym reads) draws)
+    subst (λ l. Draws w rows tasks g number first l old then) (sym is)
+    (subst (λ t. Draws w rows tasks g number first last old t) (sym reads) draws)
 
 -- a row that is shown is drawn
-pub draws_more : (w : Window) (rows : List Row) (tasks : List ℕ) (g : Grid) (number : ℕ) (first l last : Legend) (old now next : List ℕ) (row : Row) (columns a b : List Column)
-    → Draws w rows tasks g number first l old now → ShowsProcessor w number → row ≡ row_of rows number → AreColumns row g columns → a ≡ columns → b ≡ columns
+pub draws_more : (w : Window) (rows : List Row) (tasks : List ℕ) (g : Grid) (number : ℕ) (first l last : Legend)
+    (old now next : List ℕ) (row : Row) (columns a b : List Column)
+    → Draws w rows tasks g number first l old now → ShowsProcessor w number
+    → row ≡ row_of rows number → AreColumns row g columns → a ≡ columns → b ≡ columns
     → next ≡ now ++ row_text tasks (record { number = number; columns = a }) → NotesMore b l last
     → Draws w rows tasks g (number + 1) first last old next
 draws_more w rows tasks g number first l last old now next row columns a b draws shown is are written read line noted =
     let own : DrawnRow = record { number = number; columns = columns } in
-    let part : IsDrawnRow w rows g number (own ∷ [])
-    = part_there (ShowsProcessor w number) (λ part. (cs : List Column) × AreColumns (row_of rows number) g cs × (part ≡ record { number = number; columns = cs } ∷ []))
+    let part : IsDrawnRow w rows g number (own ∷ []) =
+    part_there (ShowsProcessor w number)
+    (λ part. (cs : List Column) × AreColumns (row_of rows number) g cs × (part ≡ record { number = number; columns = cs } ∷ []))
     (own ∷ []) shown (columns, subst (λ r. AreColumns r g columns) is are, refl) in
     record {
       drawn = draws.drawn ++ (own ∷ []);
       shown = AreParts-more (IsDrawnRow w rows g) number draws.drawn (own ∷ []) draws.shown part;
-      noted = notes_of (all_columns draws.drawn ++ columns) (all_columns (draws.drawn ++ (own ∷ []))) first last
-          (ap (λ cs. all_columns draws.drawn ++ cs) (sym (append-nil columns)) ∙ sym (flat_map-append (λ (r : DrawnRow). r.columns) draws.drawn (own ∷ [])))
+      noted =
+          notes_of (all_columns draws.drawn ++ columns) (all_columns (draws.drawn ++ (own ∷ []))) first last
+          (ap (λ cs. all_columns draws.drawn ++ cs) (sym (append-nil columns))
+          ∙ sym (flat_map-append (λ (r : DrawnRow). r.columns) draws.drawn (own ∷ [])))
           (notes_joined (all_columns draws.drawn) columns first l last draws.noted (notes_of b columns l last read noted));
-      added = line ∙ ap (λ cs. now ++ row_text tasks (record { number = number; columns = cs })) written
-          ∙ ap (λ t. t ++ row_text tasks own) draws.added ∙ append_assoc old (rows_text tasks draws.drawn) (row_text tasks own)
-          ∙ ap (λ t. old ++ t) (ap (λ t. rows_text tasks draws.drawn ++ t) (sym (append-nil (row_text tasks own))) ∙ sym (flat_map-append (row_text tasks) draws.drawn (own ∷ [])));
+      added =
+          line ∙ ap (λ cs. now ++ row_text tasks (record { number = number; columns = cs })) written
+          ∙ ap (λ t. t ++ row_text tasks own) draws.added
+          ∙ append_assoc old (rows_text tasks draws.drawn) (row_text tasks own)
+          ∙ ap (λ t. old ++ t) (ap (λ t. rows_text tasks draws.drawn ++ t) (sym (append-nil (row_text tasks own)))
+          ∙ sym (flat_map-append (row_text tasks) draws.drawn (own ∷ [])));
     }
 
 -- a row that is not shown is not drawn
@@ -175,15 +195,18 @@ pub draws_same : (w : Window) (rows : List Row) (tasks : List ℕ) (g : Grid) (n
     → Draws w rows tasks g number first last old now → ¬ (ShowsProcessor w number) → Draws w rows tasks g (number + 1) first last old now
 draws_same w rows tasks g number first last old now draws not = record {
   drawn = draws.drawn;
-  shown = AreParts-same (IsDrawnRow w rows g) number draws.drawn draws.shown
-      (part_missing (ShowsProcessor w number) (λ part. (cs : List Column) × AreColumns (row_of rows number) g cs × (part ≡ record { number = number; columns = cs } ∷ [])) not);
+  shown =
+      AreParts-same (IsDrawnRow w rows g) number draws.drawn draws.shown
+      (part_missing (ShowsProcessor w number)
+      (λ part. (cs : List Column) × AreColumns (row_of rows number) g cs × (part ≡ record { number = number; columns = cs } ∷ [])) not);
   noted = draws.noted;
   added = draws.added;
 }
 
 -- where one row changes, there are as many, and those behind it stay
-pub rows_behind : (old now next : List Row) (number : ℕ) (row : Row) → next ≡ set now number row → length now ≡ length old
-    → ((p : ℕ) → number ≤ p → row_of now p ≡ row_of old p) → (length next ≡ length old) × ((p : ℕ) → number + 1 ≤ p → row_of next p ≡ row_of old p)
+pub rows_behind : (old now next : List Row) (number : ℕ) (row : Row)
+    → next ≡ set now number row → length now ≡ length old → ((p : ℕ) → number ≤ p → row_of now p ≡ row_of old p)
+    → (length next ≡ length old) × ((p : ℕ) → number + 1 ≤ p → row_of next p ≡ row_of old p)
 rows_behind old now next number row is count same = (
   ap length is ∙ length-set now number row ∙ count,
   λ p h. ap (λ rows. row_of rows p) is ∙ get_or-set_other now number p row empty_row (omega (arith, h)) ∙ same p (omega (arith, h)),
@@ -196,7 +219,7 @@ last_none w s rows = refl
 
 -- the last run of one more processor is held
 pub last_more : (w : Window) (s : Figures) (number : ℕ) (old now next : List Row) (run : Option Slice) → HoldsLast w s number old now
-    → run ≡ (processor_of s number).run → Holds w run now next → HoldsLast w s (number + 1) old next
+    → run ≡ (processor_of s number).run → RowsHold w run now next → HoldsLast w s (number + 1) old next
 unfolding HoldsLast
 last_more w s number old now next run before is holds =
-    subst (λ n. HoldsLast w s n old next) (sym (add-one number)) (now, before, subst (λ r. Holds w r now next) is holds)
+    subst (λ n. HoldsLast w s n old next) (sym (add-one number)) (now, before, subst (λ r. RowsHold w r now next) is holds)

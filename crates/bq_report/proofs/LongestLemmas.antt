@@ -47,7 +47,7 @@ time_counted from to runs i d times k value task lt there own is known = elim (e
   )
 ]
 
--- and raises that place by less than 2^64
+-- a run raises the place of its task by less than 2^64
 pub bound_kept : (times : List ℕ) (k value time i task : ℕ) → k < length times → value ≡ get_or times k 0 + time → time < 2 ^ 64
     → get_or times k 0 ≤ i * 2 ^ 64 → get_or times task 0 ≤ i * 2 ^ 64 → get_or (set times k value) task 0 ≤ (i + 1) * 2 ^ 64
 bound_kept times k value time i task there is small own known = elim (eqb_tells k task) [

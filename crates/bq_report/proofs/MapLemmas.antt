@@ -70,7 +70,8 @@ pub left_times : (runs : List Slice) (at n : ℕ) → n ≡ prefix_len (λ (run 
 left_times runs at n is from to task after =
     let past : (k : ℕ) (d : Slice) → k < length (take n runs) → share from to task (get_or (take n runs) k d) ≡ 0 = λ k d lt.
     let under : k < n = omega (arith, lt, length-take n runs) in
-    let ends : (get_or runs k d).to ≤ at = le_true _ at (prefix_len_passes (λ (run : Slice). nat_le run.to at) runs k d (subst (λ m. k < m) is under)) in
+    let ends : (get_or runs k d).to ≤ at =
+    le_true _ at (prefix_len_passes (λ (run : Slice). nat_le run.to at) runs k d (subst (λ m. k < m) is under)) in
     rw (get_or-take n runs k d under) (if_zero _ _ (over_zero from to (get_or runs k d) (omega (arith, ends, after)))) in
     omega (arith, sum_by-take-drop (share from to task) runs n, all_zero (share from to task) (take n runs) past)
 
@@ -102,7 +103,8 @@ none_as from to a b same none task h = sym (same task) ∙ none task h
 pub column_as : (from to : ℕ) (a b a' b' : List Slice) (c : Column) → SameTimes from to a a' → SameTimes from to b b'
     → IsColumn (record { shown = a; hidden = b }) from to c → IsColumn (record { shown = a'; hidden = b' }) from to c
 column_as from to a b a' b' (Task task) shown hidden is = longest_as from to a a' task shown is
-column_as from to a b a' b' Hidden shown hidden is = (none_as from to a a' shown is.0, (is.1.0, longest_as from to b b' is.1.0 hidden is.1.1))
+column_as from to a b a' b' Hidden shown hidden is =
+    (none_as from to a a' shown is.0, (is.1.0, longest_as from to b b' is.1.0 hidden is.1.1))
 column_as from to a b a' b' Idle shown hidden is = (none_as from to a a' shown is.0, none_as from to b b' hidden is.1)
 
 -- one more column stands behind those before it
@@ -113,7 +115,8 @@ each_more Is columns number c count each is n lt = elim (cases_lt n number) [
   | inl h ↦ subst (Is n) (sym (get_or_append_left columns (c ∷ []) Idle n (omega (arith, h, count)))) (each n h)
   | inr h ↦
       let same : n ≡ number = omega (arith, h, lt) in
-      subst (λ m. Is m (get_or (columns ++ (c ∷ [])) m Idle)) (sym same) (subst (Is number) (sym (get_or_push columns c Idle number count)) is)
+      subst (λ m. Is m (get_or (columns ++ (c ∷ [])) m Idle)) (sym same)
+      (subst (Is number) (sym (get_or_push columns c Idle number count)) is)
 ]
 
 -- a column begins no earlier than the one before it
@@ -143,9 +146,10 @@ left_fewer g n all left next are order fewer = record {
 -- the columns before this one
 pub record ColumnsBelow (shown hidden : List Slice) (g : Grid) (number : ℕ) (columns : List Column) : Type 0 where
   pub count : length columns ≡ number
-  pub each : (n : ℕ) → n < number → IsColumn (record { shown = shown; hidden = hidden }) (moment_at g n) (moment_at g (n + 1)) (get_or columns n Idle)
+  pub each : (n : ℕ) → n < number
+      → IsColumn (record { shown = shown; hidden = hidden }) (moment_at g n) (moment_at g (n + 1)) (get_or columns n Idle)
 
--- before the first column there is none
+-- below column 0 there is no column
 pub below_none : (shown hidden : List Slice) (g : Grid) → ColumnsBelow shown hidden g 0 []
 below_none shown hidden g = record { count = refl; each = λ n lt. absurd (omega (arith, lt)) }
 
@@ -161,28 +165,37 @@ below_more shown hidden g number columns left others c below one two is =
     = column_as from to left others shown hidden c (one.times from to (omega arith)) (two.times from to (omega arith)) is in
     record {
       count = length_push columns c ∙ ap (λ n. n + 1) below.count;
-      each = each_more (λ n column. IsColumn (record { shown = shown; hidden = hidden }) (moment_at g n) (moment_at g (n + 1)) column) columns number c
-          below.count below.each all;
+      each =
+          each_more (λ n column. IsColumn (record { shown = shown; hidden = hidden }) (moment_at g n) (moment_at g (n + 1)) column)
+          columns number c below.count below.each all;
     }
 
 -- as many columns as there are
-pub below_all : (shown hidden : List Slice) (g : Grid) (number : ℕ) (columns : List Column) → number ≡ g.count → ColumnsBelow shown hidden g number columns
+pub below_all : (shown hidden : List Slice) (g : Grid) (number : ℕ) (columns : List Column)
+    → number ≡ g.count → ColumnsBelow shown hidden g number columns
     → AreColumns (record { shown = shown; hidden = hidden }) g columns
 below_all shown hidden g number columns is below = record {
   count = below.count ∙ is;
   each = λ n lt. below.each n (omega (arith, lt, is));
 }
 
-columns_sorted : (shown hidden shown' hidden' : List Slice) (g : Grid) (columns : List Column) → IsPermutation shown shown' → IsPermutation hidden hidden'
-    → AreColumns (record { shown = shown'; hidden = hidden' }) g columns → AreColumns (record { shown = shown; hidden = hidden }) g columns
+columns_sorted : (shown hidden shown' hidden' : List Slice) (g : Grid) (columns : List Column)
+    → IsPermutation shown shown' → IsPermutation hidden hidden'
+    → AreColumns (record { shown = shown'; hidden = hidden' }) g columns
+    → AreColumns (record { shown = shown; hidden = hidden }) g columns
 columns_sorted shown hidden shown' hidden' g columns one two are = record {
   count = are.count;
-  each = λ n lt. column_as (moment_at g n) (moment_at g (n + 1)) shown' hidden' shown hidden (get_or columns n Idle)
-      (sorted_times shown shown' one (moment_at g n) (moment_at g (n + 1))) (sorted_times hidden hidden' two (moment_at g n) (moment_at g (n + 1))) (are.each n lt);
+  each = λ n lt.
+      column_as (moment_at g n) (moment_at g (n + 1)) shown' hidden' shown hidden
+      (get_or columns n Idle) (sorted_times shown shown' one (moment_at g n) (moment_at g (n + 1)))
+      (sorted_times hidden hidden' two (moment_at g n) (moment_at g (n + 1))) (are.each n lt);
 }
 
 -- the columns of sorted runs are those of the runs as they came
-pub columns_as_sorted : (shown hidden shown' hidden' a b : List Slice) (g : Grid) (columns : List Column) → IsPermutation shown shown' → IsPermutation hidden hidden'
-    → a ≡ shown' → b ≡ hidden' → AreColumns (record { shown = a; hidden = b }) g columns → AreColumns (record { shown = shown; hidden = hidden }) g columns
+pub columns_as_sorted : (shown hidden shown' hidden' a b : List Slice) (g : Grid) (columns : List Column)
+    → IsPermutation shown shown' → IsPermutation hidden hidden' → a ≡ shown' → b ≡ hidden'
+    → AreColumns (record { shown = a; hidden = b }) g columns
+    → AreColumns (record { shown = shown; hidden = hidden }) g columns
 columns_as_sorted shown hidden shown' hidden' a b g columns one two ea eb are =
-    columns_sorted shown hidden a b g columns (subst (λ l. IsPermutation shown l) (sym ea) one) (subst (λ l. IsPermutation hidden l) (sym eb) two) are
+    columns_sorted shown hidden a b g columns (subst (λ l. IsPermutation shown l) (sym ea) one)
+    (subst (λ l. IsPermutation hidden l) (sym eb) two) are

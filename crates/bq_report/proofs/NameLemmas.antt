@@ -24,12 +24,13 @@ module _ {A : Type 0} where
   abbrev pub names_in : BTreeMap ℕ (String A) → NamedTasks
   names_in m = map (λ e. (e.0, string_bytes e.1)) m.entries
 
-  first : (e : ℕ × String A) (told : Option (List ℕ)) (rest : Option (String A)) → told ≡ option_map string_bytes rest → (b : Bool)
-      → cond b (Some (string_bytes e.1)) told ≡ option_map string_bytes (cond b (Some e.1) rest)
-  first e told rest same true = refl
-  first e told rest same false = same
+  first : (e : ℕ × String A) (reported : Option (List ℕ)) (rest : Option (String A)) → reported ≡ option_map string_bytes rest → (b : Bool)
+      → cond b (Some (string_bytes e.1)) reported ≡ option_map string_bytes (cond b (Some e.1) rest)
+  first e reported rest same true = refl
+  first e reported rest same false = same
 
-  read : (test : ℕ → Bool) (es : List (ℕ × String A)) → lookup test (map (λ e. (e.0, string_bytes e.1)) es) ≡ option_map string_bytes (lookup test es)
+  read : (test : ℕ → Bool) (es : List (ℕ × String A))
+      → lookup test (map (λ e. (e.0, string_bytes e.1)) es) ≡ option_map string_bytes (lookup test es)
   read test [] = refl
   read test (e ∷ es) = first e _ _ (read test es) (test e.0)
 
@@ -38,10 +39,12 @@ module _ {A : Type 0} where
   name_in m task = read (is_at (nat_cmp task)) m.entries
 
   -- a map with the same entries has the same names
-  pub same_names : (old new : BTreeMap ℕ (String A)) → IsUnchanged old new → (task : ℕ) → name_of (names_in new) task ≡ name_of (names_in old) task
+  pub same_names : (old new : BTreeMap ℕ (String A)) → IsUnchanged old new
+      → (task : ℕ) → name_of (names_in new) task ≡ name_of (names_in old) task
   same_names old new is task = ap (λ es. name_of (map (λ e. (e.0, string_bytes e.1)) es) task) is
 
-  given : (b : Bool) (s : String A) (o : Option (String A)) → option_map string_bytes (cond b (Some s) o) ≡ cond b (Some (string_bytes s)) (option_map string_bytes o)
+  given : (b : Bool) (s : String A) (o : Option (String A))
+      → option_map string_bytes (cond b (Some s) o) ≡ cond b (Some (string_bytes s)) (option_map string_bytes o)
   given true s o = refl
   given false s o = refl
 
@@ -63,5 +66,6 @@ module _ {A : Type 0} where
           ∙ ap (cond (is_at (nat_cmp task) q) (Some (string_bytes s))) (sym (name_in old q))
 
 -- a comment that names no task teaches nothing
-pub learns_nothing : (comment : List ℕ) (names : NamedTasks) → ((task : ℕ) (name : List ℕ) → IsNaming comment task name → ⊥) → Learns comment names names
+pub learns_nothing : (comment : List ℕ) (names : NamedTasks) → ((task : ℕ) (name : List ℕ) → IsNaming comment task name → ⊥)
+    → Learns comment names names
 learns_nothing comment names none = record { named = λ t a n. absurd (none t a n); others = λ t same. refl }

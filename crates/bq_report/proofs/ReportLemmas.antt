@@ -31,19 +31,23 @@ AreParts-none Is = refl
 pub AreParts-more : {A : Type 0} (Is : ℕ → List A → Type 0) (number : ℕ) (before own : List A)
     → AreParts Is number before → Is number own → AreParts Is (number + 1) (before ++ own)
 unfolding AreParts
-AreParts-more {A} Is number before own are is = subst (λ n. AreParts Is n (before ++ own)) (sym (add-one number)) (before, own, are, is, refl)
+AreParts-more {A} Is number before own are is =
+    subst (λ n. AreParts Is n (before ++ own)) (sym (add-one number)) (before, own, are, is, refl)
 
 -- a number has no part: the parts are those before it
 pub AreParts-same : {A : Type 0} (Is : ℕ → List A → Type 0) (number : ℕ) (before : List A)
     → AreParts Is number before → Is number [] → AreParts Is (number + 1) before
-AreParts-same {A} Is number before are is = subst (λ parts. AreParts Is (number + 1) parts) (append-nil before) (AreParts-more Is number before [] are is)
+AreParts-same {A} Is number before are is =
+    subst (λ parts. AreParts Is (number + 1) parts) (append-nil before) (AreParts-more Is number before [] are is)
 
 -- the parts of as many numbers as there are
-pub AreParts-end : {A : Type 0} (Is : ℕ → List A → Type 0) (number end : ℕ) (parts : List A) → number ≡ end → AreParts Is number parts → AreParts Is end parts
+pub AreParts-end : {A : Type 0} (Is : ℕ → List A → Type 0) (number end : ℕ) (parts : List A)
+    → number ≡ end → AreParts Is number parts → AreParts Is end parts
 AreParts-end {A} Is number end parts is are = subst (λ n. AreParts Is n parts) is are
 
 -- the part that is there
-pub part_there : {A : Type 0} (Holds : Type 0) (IsLike : List A → Type 0) (part : List A) → Holds → IsLike part → IsPartIf A Holds IsLike part
+pub part_there : {A : Type 0} (Holds : Type 0) (IsLike : List A → Type 0) (part : List A)
+    → Holds → IsLike part → IsPartIf A Holds IsLike part
 part_there {A} Holds IsLike part holds is = record { there = λ _. is; nothing = λ none. absurd (none holds) }
 
 -- no part, as its condition does not hold
@@ -52,10 +56,11 @@ part_missing {A} Holds IsLike none = record { there = λ holds. absurd (none hol
 
 -- a test that fails tells that its condition does not hold
 pub test_fails : (b : Bool) (P : Type 0) → (IsTrue b ↔ P) → b ≡ false → ¬ P
-test_fails b P tells is holds = true≢false (sym (tells.1 holds) ∙ is)
+test_fails b P decides is holds = true≢false (sym (decides.1 holds) ∙ is)
 
 -- a text to which a part is added that is there
-pub adds_part : (Holds : Type 0) (IsLike : List ℕ → Type 0) (old new own : List ℕ) → Holds → IsLike own → new ≡ old ++ own → Adds (IsPartIf ℕ Holds IsLike) old new
+pub adds_part : (Holds : Type 0) (IsLike : List ℕ → Type 0) (old new own : List ℕ)
+    → Holds → IsLike own → new ≡ old ++ own → Adds (IsPartIf ℕ Holds IsLike) old new
 adds_part Holds IsLike old new own holds is e = (own, part_there Holds IsLike own holds is, e)
 
 -- a text to which no part is added
@@ -67,19 +72,28 @@ pub lines_none : (Is : ℕ → List ℕ → Type 0) (text : List ℕ) → Adds (
 lines_none Is text = ([], AreParts-none Is, sym (append-nil text))
 
 -- one more line
-pub lines_more : (Is : ℕ → List ℕ → Type 0) (number : ℕ) (old now next : List ℕ) → Adds (AreParts Is number) old now → Adds (Is number) now next → Adds (AreParts Is (number + 1)) old next
-lines_more Is number old now next lines line =
-    (lines.0 ++ line.0, AreParts-more Is number lines.0 line.0 lines.1 line.1, line.2 ∙ ap (λ l. l ++ line.0) lines.2 ∙ append_assoc old lines.0 line.0)
+pub lines_more : (Is : ℕ → List ℕ → Type 0) (number : ℕ) (old now next : List ℕ)
+    → Adds (AreParts Is number) old now → Adds (Is number) now next
+    → Adds (AreParts Is (number + 1)) old next
+lines_more Is number old now next lines line = (
+  lines.0 ++ line.0,
+  AreParts-more Is number lines.0 line.0 lines.1 line.1,
+  line.2 ∙ ap (λ l. l ++ line.0) lines.2 ∙ append_assoc old lines.0 line.0,
+)
 
 -- the lines of as many numbers as there are
-pub lines_end : (Is : ℕ → List ℕ → Type 0) (number count : ℕ) (old next : List ℕ) → number ≡ count → Adds (AreParts Is number) old next → Adds (AreParts Is count) old next
+pub lines_end : (Is : ℕ → List ℕ → Type 0) (number count : ℕ) (old next : List ℕ)
+    → number ≡ count → Adds (AreParts Is number) old next → Adds (AreParts Is count) old next
 lines_end Is number count old next is lines = (lines.0, AreParts-end Is number count lines.0 is lines.1, lines.2)
 
 -- the lines of as many numbers as there are, under the head: a table
 pub table : (head : List ℕ) (Is : ℕ → List ℕ → Type 0) (number count : ℕ) (old now next : List ℕ) → number ≡ count → now ≡ old ++ head
     → Adds (AreParts Is number) now next → Adds (IsTable head Is count) old next
-table head Is number count old now next is under lines =
-    (head ++ lines.0, (lines.0, AreParts-end Is number count lines.0 is lines.1, refl), lines.2 ∙ ap (λ l. l ++ lines.0) under ∙ append_assoc old head lines.0)
+table head Is number count old now next is under lines = (
+  head ++ lines.0,
+  (lines.0, AreParts-end Is number count lines.0 is lines.1, refl),
+  lines.2 ∙ ap (λ l. l ++ lines.0) under ∙ append_assoc old head lines.0,
+)
 
 -- ---- the table of the policies
 
@@ -104,11 +118,15 @@ hook_there p name h more =
 -- a policy that was asked has lines
 pub lines_there : (p : ℕ) (f : ProcessorFigures) → WasAsked f → is_there (hook_lines p f) ≡ true
 lines_there p f (inl asked) = there_before _ _ (hook_there p (codes "place") f.place asked)
-lines_there p f (inr (inl asked)) = there_behind (hook_line_if p (codes "place") f.place) _ (there_before _ _ (hook_there p (codes "preempt") f.preempt asked))
+lines_there p f (inr (inl asked)) =
+    there_behind (hook_line_if p (codes "place") f.place) _
+    (there_before _ _ (hook_there p (codes "preempt") f.preempt asked))
 lines_there p f (inr (inr asked)) =
-    there_behind (hook_line_if p (codes "place") f.place) _ (there_behind (hook_line_if p (codes "preempt") f.preempt) _ (hook_there p (codes "pull") f.pull asked))
+    there_behind (hook_line_if p (codes "place") f.place) _
+    (there_behind (hook_line_if p (codes "preempt") f.preempt) _ (hook_there p (codes "pull") f.pull asked))
 
-under_more : (lines own : List ℕ) → is_there own ≡ true → under_hook_head (lines ++ own) ≡ under_hook_head lines ++ (hook_head_unless (is_there lines) ++ own)
+under_more : (lines own : List ℕ) → is_there own ≡ true
+    → under_hook_head (lines ++ own) ≡ under_hook_head lines ++ (hook_head_unless (is_there lines) ++ own)
 under_more [] [] h = absurd (true≢false (sym h))
 under_more [] (x ∷ own) h = refl
 under_more (l ∷ lines) own h = sym (append_assoc hook_head (l ∷ lines) own)
@@ -130,35 +148,43 @@ hooks_more w s number f has old now headed next below is asked head lines =
     let there : WasAsked (processor_of s number) = subst WasAsked is asked.1 in
     let own = hook_lines number (processor_of s number) in
     let some : is_there own ≡ true = lines_there number (processor_of s number) there in
-    let part : AreHookLines w s number own = part_there (HasHooks w s number) (λ l. l ≡ own) own (record { shown = asked.0; asked = there }) refl in
-    let all : next ≡ ((old ++ under_hook_head below.0) ++ hook_head_unless (is_there below.0)) ++ own
-    = lines ∙ ap (λ g. headed ++ hook_lines number g) is ∙ ap (λ l. l ++ own) (head ∙ ap (λ b. now ++ hook_head_unless b) below.3 ∙ ap (λ l. l ++ hook_head_unless (is_there below.0)) below.2) in (
+    let part : AreHookLines w s number own =
+    part_there (HasHooks w s number) (λ l. l ≡ own) own (record { shown = asked.0; asked = there }) refl in
+    let all : next ≡ ((old ++ under_hook_head below.0) ++ hook_head_unless (is_there below.0)) ++ own =
+    lines ∙ ap (λ g. headed ++ hook_lines number g) is
+    ∙ ap (λ l. l ++ own)
+    (head ∙ ap (λ b. now ++ hook_head_unless b) below.3 ∙ ap (λ l. l ++ hook_head_unless (is_there below.0)) below.2) in (
       below.0 ++ own,
       AreParts-more (AreHookLines w s) number below.0 own below.1 part,
       all ∙ append_assoc (old ++ under_hook_head below.0) (hook_head_unless (is_there below.0)) own
-          ∙ append_assoc old (under_hook_head below.0) (hook_head_unless (is_there below.0) ++ own) ∙ ap (λ l. old ++ l) (sym (under_more below.0 own some)),
+          ∙ append_assoc old (under_hook_head below.0) (hook_head_unless (is_there below.0) ++ own)
+          ∙ ap (λ l. old ++ l) (sym (under_more below.0 own some)),
       sym (there_behind below.0 own some),
     )
 
 -- a processor without lines
 pub hooks_same : (w : Window) (s : Figures) (number : ℕ) (f : ProcessorFigures) (has : Bool) (old now : List ℕ)
-    → HooksBelow w s number has old now → f ≡ processor_of s number → ¬ (ShowsProcessor w number × WasAsked f) → HooksBelow w s (number + 1) has old now
+    → HooksBelow w s number has old now → f ≡ processor_of s number → ¬ (ShowsProcessor w number × WasAsked f)
+    → HooksBelow w s (number + 1) has old now
 hooks_same w s number f has old now below is none =
     let missing : ¬ (HasHooks w s number) = λ h. none (h.shown, subst WasAsked (sym is) h.asked) in (
       below.0,
-      AreParts-same (AreHookLines w s) number below.0 below.1 (part_missing (HasHooks w s number) (λ l. l ≡ hook_lines number (processor_of s number)) missing),
+      AreParts-same (AreHookLines w s) number below.0 below.1
+          (part_missing (HasHooks w s number) (λ l. l ≡ hook_lines number (processor_of s number)) missing),
       below.2,
       below.3,
     )
 
--- the same of a text and a mark that are those
-pub hooks_at : (w : Window) (s : Figures) (number : ℕ) (has has_now : Bool) (old now here : List ℕ) → has_now ≡ has → here ≡ now → HooksBelow w s number has old now
-    → HooksBelow w s number has_now old here
+-- the lines of a processor's hooks, by an equal text and an equal mark
+pub hooks_at : (w : Window) (s : Figures) (number : ℕ) (has has_now : Bool) (old now here : List ℕ)
+    → has_now ≡ has → here ≡ now → HooksBelow w s number has old now → HooksBelow w s number has_now old here
 hooks_at w s number has has_now old now here is same below = (below.0, below.1, same ∙ below.2, is ∙ below.3)
 
 -- the lines of all processors: the table
-pub hooks_table : (w : Window) (s : Figures) (number : ℕ) (has : Bool) (old now : List ℕ) → number ≡ 64 → HooksBelow w s number has old now → Adds (IsHookTable w s) old now
-hooks_table w s number has old now is below = (under_hook_head below.0, (below.0, AreParts-end (AreHookLines w s) number 64 below.0 is below.1, refl), below.2)
+pub hooks_table : (w : Window) (s : Figures) (number : ℕ) (has : Bool) (old now : List ℕ)
+    → number ≡ 64 → HooksBelow w s number has old now → Adds (IsHookTable w s) old now
+hooks_table w s number has old now is below =
+    (under_hook_head below.0, (below.0, AreParts-end (AreHookLines w s) number 64 below.0 is below.1, refl), below.2)
 
 -- ---- the elements of an array
 
@@ -175,8 +201,10 @@ elements_last : (first : Bool) (ds : List Data) (d : Data)
     → elements_text first (ds ++ d ∷ []) ≡ elements_text first ds ++ (separator_if (still_first first ds) ++ compact_text d)
 elements_last first [] d = ap (λ t. separator_if first ++ t) (append-nil (compact_text d))
 elements_last first (e ∷ ds) d =
-    ap (λ t. separator_if first ++ (compact_text e ++ t)) (elements_last false ds d ∙ ap (λ b. elements_text false ds ++ (separator_if b ++ compact_text d)) (still_later ds))
-    ∙ ap (λ t. separator_if first ++ t) (sym (append_assoc (compact_text e) (elements_text false ds) (separator_if false ++ compact_text d)))
+    ap (λ t. separator_if first ++ (compact_text e ++ t))
+    (elements_last false ds d ∙ ap (λ b. elements_text false ds ++ (separator_if b ++ compact_text d)) (still_later ds))
+    ∙ ap (λ t. separator_if first ++ t)
+    (sym (append_assoc (compact_text e) (elements_text false ds) (separator_if false ++ compact_text d)))
     ∙ sym (append_assoc (separator_if first) (compact_text e ++ elements_text false ds) (separator_if false ++ compact_text d))
 
 -- the text is an old one and the elements of the numbers below a number
@@ -194,11 +222,13 @@ not_first (e ∷ ds) d = refl
 
 -- a number's element stands behind those before it
 pub elements_more : (Is : ℕ → List Data → Type 0) (number : ℕ) (first : Bool) (old now next : List ℕ) (d : Data)
-    → ElementsBelow Is number first old now → Is number (d ∷ []) → next ≡ now ++ (separator_if first ++ compact_text d) → ElementsBelow Is (number + 1) false old next
+    → ElementsBelow Is number first old now → Is number (d ∷ []) → next ≡ now ++ (separator_if first ++ compact_text d)
+    → ElementsBelow Is (number + 1) false old next
 elements_more Is number first old now next d below is e = (
   below.0 ++ d ∷ [],
   AreParts-more Is number below.0 (d ∷ []) below.1 is,
-  e ∙ ap (λ b. now ++ (separator_if b ++ compact_text d)) below.3 ∙ ap (λ t. t ++ (separator_if (still_first true below.0) ++ compact_text d)) below.2
+  e ∙ ap (λ b. now ++ (separator_if b ++ compact_text d)) below.3
+      ∙ ap (λ t. t ++ (separator_if (still_first true below.0) ++ compact_text d)) below.2
       ∙ append_assoc old (elements_text true below.0) _ ∙ ap (λ t. old ++ t) (sym (elements_last true below.0 d)),
   not_first below.0 d,
 )
@@ -208,74 +238,92 @@ pub elements_same : (Is : ℕ → List Data → Type 0) (number : ℕ) (first : 
     → ElementsBelow Is number first old now → Is number [] → ElementsBelow Is (number + 1) first old now
 elements_same Is number first old now below is = (below.0, AreParts-same Is number below.0 below.1 is, below.2, below.3)
 
--- the same of a text and a mark that are those
-pub elements_at : (Is : ℕ → List Data → Type 0) (number : ℕ) (first first_now : Bool) (old now here : List ℕ) → first_now ≡ first → here ≡ now
-    → ElementsBelow Is number first old now → ElementsBelow Is number first_now old here
+-- the elements below a number, by an equal text and an equal mark
+pub elements_at : (Is : ℕ → List Data → Type 0) (number : ℕ) (first first_now : Bool) (old now here : List ℕ)
+    → first_now ≡ first → here ≡ now → ElementsBelow Is number first old now
+    → ElementsBelow Is number first_now old here
 elements_at Is number first first_now old now here is same below = (below.0, below.1, same ∙ below.2, is ∙ below.3)
 
 -- the elements of as many numbers as there are
-pub elements_all : (Is : ℕ → List Data → Type 0) (number count : ℕ) (first : Bool) (old now : List ℕ) → number ≡ count → ElementsBelow Is number first old now → Adds (AreElements Is count) old now
-elements_all Is number count first old now is below = (elements_text true below.0, (below.0, AreParts-end Is number count below.0 is below.1, refl), below.2)
+pub elements_all : (Is : ℕ → List Data → Type 0) (number count : ℕ) (first : Bool) (old now : List ℕ)
+    → number ≡ count → ElementsBelow Is number first old now → Adds (AreElements Is count) old now
+elements_all Is number count first old now is below =
+    (elements_text true below.0, (below.0, AreParts-end Is number count below.0 is below.1, refl), below.2)
 
 -- ---- single lines and objects
 
 -- the line of a task that has one
-pub task_line_added : (w : Window) (names : NamedTasks) (s : Figures) (id : ℕ) (old new : List ℕ) (b : Bool) (name : List ℕ) (f : TaskFigures) (wide fair : ℕ)
-    → (IsTrue b ↔ HasTask w s id) → b ≡ true → name ≡ name_text names id → f ≡ task_of s id → wide ≡ fair_of s id → fair ≡ nearest wide
-    → new ≡ old ++ task_line id name f fair → Adds (IsTaskLine w names s id) old new
-task_line_added w names s id old new b name f wide fair tells true_ is_name is_figures is_wide is_fair e =
+pub task_line_added : (w : Window) (names : NamedTasks) (s : Figures) (id : ℕ) (old new : List ℕ) (b : Bool)
+    (name : List ℕ) (f : TaskFigures) (wide fair : ℕ)
+    → (IsTrue b ↔ HasTask w s id) → b ≡ true → name ≡ name_text names id → f ≡ task_of s id → wide ≡ fair_of s id
+    → fair ≡ nearest wide → new ≡ old ++ task_line id name f fair
+    → Adds (IsTaskLine w names s id) old new
+task_line_added w names s id old new b name f wide fair decides true_ is_name is_figures is_wide is_fair e =
     let line = task_line id (name_text names id) (task_of s id) (nearest (fair_of s id)) in
-    adds_part (HasTask w s id) (λ own. own ≡ line) old new line (tells.0 true_) refl
+    adds_part (HasTask w s id) (λ own. own ≡ line) old new line (decides.0 true_) refl
     (e ∙ ap (λ n. old ++ task_line id n f fair) is_name ∙ ap (λ g. old ++ task_line id (name_text names id) g fair) is_figures
     ∙ ap (λ n. old ++ task_line id (name_text names id) (task_of s id) n) (is_fair ∙ ap nearest is_wide))
 
 -- percentiles of a task's latencies, which were sorted for them
-pub are_percentiles : (latencies now sorted : List ℕ) (p : Percentiles) → now ≡ latencies → p ≡ percentiles_of sorted → IsSorted nat_cmp sorted → IsPermutation now sorted
+pub are_percentiles : (latencies now sorted : List ℕ) (p : Percentiles)
+    → now ≡ latencies → p ≡ percentiles_of sorted → IsSorted nat_cmp sorted → IsPermutation now sorted
     → ArePercentiles latencies p
 are_percentiles latencies now sorted p is value in_order same =
     record { sorted = sorted; in_order = in_order; same = subst (λ l. IsPermutation l sorted) is same; value = value }
 
 -- the line of the latencies of a task that has one
-pub latency_line_added : (w : Window) (names : NamedTasks) (s : Figures) (latencies : List ℕ) (id : ℕ) (old new : List ℕ) (b : Bool) (name : List ℕ) (f : TaskFigures)
-    (p : Percentiles) (still : Option ℕ) → (IsTrue b ↔ HasTask w s id) → b ≡ true → name ≡ name_text names id → f ≡ task_of s id → ArePercentiles latencies p
-    → still ≡ still_waiting s id → new ≡ old ++ latency_line id name f.wakes p still → Adds (IsLatencyLine w names s latencies id) old new
-latency_line_added w names s latencies id old new b name f p still tells true_ is_name is_figures are is_still e =
+pub latency_line_added : (w : Window) (names : NamedTasks) (s : Figures) (latencies : List ℕ) (id : ℕ) (old new : List ℕ)
+    (b : Bool) (name : List ℕ) (f : TaskFigures) (p : Percentiles) (still : Option ℕ)
+    → (IsTrue b ↔ HasTask w s id) → b ≡ true → name ≡ name_text names id → f ≡ task_of s id → ArePercentiles latencies p
+    → still ≡ still_waiting s id → new ≡ old ++ latency_line id name f.wakes p still
+    → Adds (IsLatencyLine w names s latencies id) old new
+latency_line_added w names s latencies id old new b name f p still decides true_ is_name is_figures are is_still e =
     let line = latency_line id (name_text names id) (task_of s id).wakes p (still_waiting s id) in
-    adds_part (HasTask w s id)
-    (λ own. (q : Percentiles) × ArePercentiles latencies q × (own ≡ latency_line id (name_text names id) (task_of s id).wakes q (still_waiting s id)))
-    old new line (tells.0 true_) (p, are, refl)
-    (e ∙ ap (λ n. old ++ latency_line id n f.wakes p still) is_name ∙ ap (λ (g : TaskFigures). old ++ latency_line id (name_text names id) g.wakes p still) is_figures
+    adds_part (HasTask w s id) (λ own.
+    (q : Percentiles) × ArePercentiles latencies q
+    × (own ≡ latency_line id (name_text names id) (task_of s id).wakes q (still_waiting s id)))
+    old new line (decides.0 true_) (p, are, refl)
+    (e ∙ ap (λ n. old ++ latency_line id n f.wakes p still) is_name
+    ∙ ap (λ (g : TaskFigures). old ++ latency_line id (name_text names id) g.wakes p still) is_figures
     ∙ ap (λ t. old ++ latency_line id (name_text names id) (task_of s id).wakes p t) is_still)
 
 -- the line of the latencies of one more task, whose latencies are those that it had before the first
 pub latencies_more : (w : Window) (names : NamedTasks) (s : Figures) (first now_of : Tasks) (id : ℕ) (old now next : List ℕ)
-    → Adds (AreParts (λ i. IsLatencyLine w names s (latencies_of first i) i) id) old now → latencies_of now_of id ≡ latencies_of first id
-    → Adds (IsLatencyLine w names s (latencies_of now_of id) id) now next → Adds (AreParts (λ i. IsLatencyLine w names s (latencies_of first i) i) (id + 1)) old next
+    → Adds (AreParts (λ i. IsLatencyLine w names s (latencies_of first i) i) id) old now
+    → latencies_of now_of id ≡ latencies_of first id → Adds (IsLatencyLine w names s (latencies_of now_of id) id) now next
+    → Adds (AreParts (λ i. IsLatencyLine w names s (latencies_of first i) i) (id + 1)) old next
 latencies_more w names s first now_of id old now next lines is line =
-    lines_more (λ i. IsLatencyLine w names s (latencies_of first i) i) id old now next lines (subst (λ l. Adds (IsLatencyLine w names s l id) now next) is line)
+    lines_more (λ i. IsLatencyLine w names s (latencies_of first i) i) id old now next lines
+    (subst (λ l. Adds (IsLatencyLine w names s l id) now next) is line)
 
 -- the tasks behind this one have the latencies that they had
 pub others_kept : (first now next : Tasks) (id : ℕ) → ((other : ℕ) → id ≤ other → latencies_of now other ≡ latencies_of first other)
-    → ((other : ℕ) → ¬ (other ≡ id) → latencies_of next other ≡ latencies_of now other) → (other : ℕ) → id + 1 ≤ other → latencies_of next other ≡ latencies_of first other
+    → ((other : ℕ) → ¬ (other ≡ id) → latencies_of next other ≡ latencies_of now other) → (other : ℕ) → id + 1 ≤ other
+    → latencies_of next other ≡ latencies_of first other
 others_kept first now next id rest others other h = others other (λ e. absurd (omega (arith, e, h))) ∙ rest other (omega (arith, h))
 
 -- the line of a processor that has one
 pub processor_line_added : (w : Window) (s : Figures) (p : ℕ) (old new : List ℕ) (b : Bool) (f : ProcessorFigures)
-    → (IsTrue b ↔ HasProcessor w s p) → b ≡ true → f ≡ processor_of s p → new ≡ old ++ processor_line p f → Adds (IsProcessorLine w s p) old new
-processor_line_added w s p old new b f tells true_ is e =
+    → (IsTrue b ↔ HasProcessor w s p) → b ≡ true → f ≡ processor_of s p → new ≡ old ++ processor_line p f
+    → Adds (IsProcessorLine w s p) old new
+processor_line_added w s p old new b f decides true_ is e =
     let line = processor_line p (processor_of s p) in
-    adds_part (HasProcessor w s p) (λ own. own ≡ line) old new line (tells.0 true_) refl (e ∙ ap (λ g. old ++ processor_line p g) is)
+    adds_part (HasProcessor w s p) (λ own. own ≡ line) old new line (decides.0 true_) refl (e ∙ ap (λ g. old ++ processor_line p g) is)
 
 -- the object of a processor that has one
-pub processor_there : (w : Window) (s : Figures) (p : ℕ) (f : ProcessorFigures) → HasProcessor w s p → f ≡ processor_of s p → IsProcessorObject w s p (processor_object p f ∷ [])
+pub processor_there : (w : Window) (s : Figures) (p : ℕ) (f : ProcessorFigures)
+    → HasProcessor w s p → f ≡ processor_of s p → IsProcessorObject w s p (processor_object p f ∷ [])
 processor_there w s p f holds is =
-    part_there (HasProcessor w s p) (λ own. own ≡ processor_object p (processor_of s p) ∷ []) (processor_object p f ∷ []) holds (ap (λ g. processor_object p g ∷ []) is)
+    part_there (HasProcessor w s p) (λ own. own ≡ processor_object p (processor_of s p) ∷ []) (processor_object p f ∷ [])
+    holds (ap (λ g. processor_object p g ∷ []) is)
 
 -- the object of a task that has one
-pub task_there : (w : Window) (names : NamedTasks) (s : Figures) (latencies : List ℕ) (id : ℕ) (p : Percentiles) → HasTask w s id → ArePercentiles latencies p
+pub task_there : (w : Window) (names : NamedTasks) (s : Figures) (latencies : List ℕ) (id : ℕ) (p : Percentiles)
+    → HasTask w s id → ArePercentiles latencies p
     → IsTaskObject w names s latencies id (task_object names s id p ∷ [])
 task_there w names s latencies id p holds are =
-    part_there (HasTask w s id) (λ own. (q : Percentiles) × ArePercentiles latencies q × (own ≡ task_object names s id q ∷ [])) (task_object names s id p ∷ []) holds (p, are, refl)
+    part_there (HasTask w s id) (λ own. (q : Percentiles) × ArePercentiles latencies q × (own ≡ task_object names s id q ∷ []))
+    (task_object names s id p ∷ []) holds (p, are, refl)
 
 no_float_in_number : (o : Option ℕ) → has_float (number_or_null o) ≡ false
 no_float_in_number None = refl
@@ -298,16 +346,17 @@ four_false false false false true ea eb ec ed = absurd (true≢false ed)
 
 no_float_in_latency : (p : Percentiles) → has_float (latency_object p) ≡ false
 no_float_in_latency p =
-    four_false (has_float (number_or_null p.greatest)) (has_float (number_or_null p.p50)) (has_float (number_or_null p.p95)) (has_float (number_or_null p.p99))
-    (no_float_in_number p.greatest) (no_float_in_number p.p50) (no_float_in_number p.p95) (no_float_in_number p.p99)
+    four_false (has_float (number_or_null p.greatest)) (has_float (number_or_null p.p50)) (has_float (number_or_null p.p95))
+    (has_float (number_or_null p.p99)) (no_float_in_number p.greatest) (no_float_in_number p.p50) (no_float_in_number p.p95)
+    (no_float_in_number p.p99)
 
 -- no figure of a task is a float
 pub no_float_in_task : (names : NamedTasks) (s : Figures) (id : ℕ) (p : Percentiles) → has_float (task_object names s id p) ≡ false
 unfolding task_object
 no_float_in_task names s id p =
-    four_false (has_float (latency_object p)) (has_float (text_or_null (name_of names id))) (is_float (of_integer (task_of s id).nice))
-    (has_float (number_or_null (still_waiting s id)))
-    (no_float_in_latency p) (no_float_in_text (name_of names id)) (no_float_in_integer (task_of s id).nice) (no_float_in_number (still_waiting s id))
+    four_false (has_float (latency_object p)) (has_float (text_or_null (name_of names id)))
+    (is_float (of_integer (task_of s id).nice)) (has_float (number_or_null (still_waiting s id))) (no_float_in_latency p)
+    (no_float_in_text (name_of names id)) (no_float_in_integer (task_of s id).nice) (no_float_in_number (still_waiting s id))
 
 -- no figure of a processor is a float
 pub no_float_in_processor : (p : ℕ) (f : ProcessorFigures) → has_float (processor_object p f) ≡ false
@@ -317,24 +366,30 @@ no_float_in_processor p f = refl
 -- an element that is this object
 pub element_of : (v d : Data) (first : Bool) (old new : List ℕ) → v ≡ d → has_float d ≡ false
     → (has_float v ≡ false → new ≡ old ++ (separator_if first ++ compact_text v)) → new ≡ old ++ (separator_if first ++ compact_text d)
-element_of v d first old new is none added = subst (λ x. has_float x ≡ false → new ≡ old ++ (separator_if first ++ compact_text x)) is added none
+element_of v d first old new is none added =
+    subst (λ x. has_float x ≡ false → new ≡ old ++ (separator_if first ++ compact_text x)) is added none
 
 -- ---- the wholes
 
 regroup : (t a b c d e f g : List ℕ) → ((((((t ++ a) ++ b) ++ c) ++ d) ++ e) ++ f) ++ g ≡ t ++ (a ++ (b ++ (c ++ (d ++ (e ++ (f ++ g))))))
 regroup t a b c d e f g = simp append_assoc
 
-seven : (t0 t1 t2 t3 t4 t5 t6 t7 a b c d e f g : List ℕ) → t1 ≡ t0 ++ a → t2 ≡ t1 ++ b → t3 ≡ t2 ++ c → t4 ≡ t3 ++ d → t5 ≡ t4 ++ e → t6 ≡ t5 ++ f → t7 ≡ t6 ++ g
+seven : (t0 t1 t2 t3 t4 t5 t6 t7 a b c d e f g : List ℕ) → t1 ≡ t0 ++ a → t2 ≡ t1 ++ b → t3 ≡ t2 ++ c → t4 ≡ t3 ++ d
+    → t5 ≡ t4 ++ e → t6 ≡ t5 ++ f → t7 ≡ t6 ++ g
     → t7 ≡ t0 ++ (a ++ (b ++ (c ++ (d ++ (e ++ (f ++ g))))))
 seven t0 t1 t2 t3 t4 t5 t6 t7 a b c d e f g e1 e2 e3 e4 e5 e6 e7 =
-    e7 ∙ ap (λ t. t ++ g) (e6 ∙ ap (λ t. t ++ f) (e5 ∙ ap (λ t. t ++ e) (e4 ∙ ap (λ t. t ++ d) (e3 ∙ ap (λ t. t ++ c) (e2 ∙ ap (λ t. t ++ b) e1)))))
+    e7 ∙ ap (λ t. t ++ g)
+    (e6 ∙ ap (λ t. t ++ f) (e5 ∙ ap (λ t. t ++ e) (e4 ∙ ap (λ t. t ++ d) (e3 ∙ ap (λ t. t ++ c) (e2 ∙ ap (λ t. t ++ b) e1)))))
     ∙ regroup t0 a b c d e f g
 
 -- the parts of a report, in order, are a report
-pub report_added : (w : Window) (names : NamedTasks) (s : Figures) (latencies : Tasks) (missed : ℕ) (t0 t1 t2 t3 t4 t5 t6 t7 : List ℕ)
+pub report_added : (w : Window) (names : NamedTasks) (s : Figures) (latencies : Tasks) (missed : ℕ)
+    (t0 t1 t2 t3 t4 t5 t6 t7 : List ℕ)
     → Adds (IsTable task_head (IsTaskLine w names s) 1024) t0 t1 → t2 ≡ t1 ++ codes "\n"
-    → Adds (IsTable latency_head (λ id. IsLatencyLine w names s (latencies_of latencies id) id) 1024) t2 t3 → t4 ≡ t3 ++ missed_line missed → t5 ≡ t4 ++ codes "\n"
-    → Adds (IsTable processor_head (IsProcessorLine w s) 64) t5 t6 → Adds (IsHookTable w s) t6 t7 → Adds (IsReport w names s latencies missed) t0 t7
+    → Adds (IsTable latency_head (λ id. IsLatencyLine w names s (latencies_of latencies id) id) 1024) t2 t3
+    → t4 ≡ t3 ++ missed_line missed → t5 ≡ t4 ++ codes "\n" → Adds (IsTable processor_head (IsProcessorLine w s) 64) t5 t6
+    → Adds (IsHookTable w s) t6 t7
+    → Adds (IsReport w names s latencies missed) t0 t7
 report_added w names s latencies missed t0 t1 t2 t3 t4 t5 t6 t7 tasks e2 waits e4 e5 processors policies = (
   _,
   record {
@@ -348,17 +403,21 @@ report_added w names s latencies missed t0 t1 t2 t3 t4 t5 t6 t7 tasks e2 waits e
     policies = policies.1;
     whole = refl;
   },
-  seven t0 t1 t2 t3 t4 t5 t6 t7 tasks.0 (codes "\n") waits.0 (missed_line missed) (codes "\n") processors.0 policies.0 tasks.2 e2 waits.2 e4 e5 processors.2 policies.2,
+  seven t0 t1 t2 t3 t4 t5 t6 t7 tasks.0 (codes "\n") waits.0 (missed_line missed) (codes "\n") processors.0 policies.0 tasks.2
+      e2 waits.2 e4 e5 processors.2 policies.2,
 )
 
 -- the parts of the figures as JSON, in order, are these figures
-pub json_added : (w : Window) (names : NamedTasks) (s : Figures) (latencies : Tasks) (missed : ℕ) (t0 t1 t2 t3 t4 t5 t6 t7 : List ℕ)
-    → t1 ≡ t0 ++ codes "{\"schema\":1,\"tasks\":[" → Adds (AreElements (λ id. IsTaskObject w names s (latencies_of latencies id) id) 1024) t1 t2
-    → t3 ≡ t2 ++ codes "\n],\"processors\":[" → Adds (AreElements (IsProcessorObject w s) 64) t3 t4 → t5 ≡ t4 ++ codes "\n]" → t6 ≡ t5 ++ missed_member missed
-    → t7 ≡ t6 ++ codes "}\n" → Adds (IsJsonReport w names s latencies missed) t0 t7
+pub json_added : (w : Window) (names : NamedTasks) (s : Figures) (latencies : Tasks) (missed : ℕ)
+    (t0 t1 t2 t3 t4 t5 t6 t7 : List ℕ)
+    → t1 ≡ t0 ++ codes "{\"schema\":1,\"tasks\":["
+    → Adds (AreElements (λ id. IsTaskObject w names s (latencies_of latencies id) id) 1024) t1 t2
+    → t3 ≡ t2 ++ codes "\n],\"processors\":[" → Adds (AreElements (IsProcessorObject w s) 64) t3 t4 → t5 ≡ t4 ++ codes "\n]"
+    → t6 ≡ t5 ++ missed_member missed → t7 ≡ t6 ++ codes "}\n"
+    → Adds (IsJsonReport w names s latencies missed) t0 t7
 json_added w names s latencies missed t0 t1 t2 t3 t4 t5 t6 t7 e1 tasks e3 processors e5 e6 e7 = (
   _,
   record { first = tasks.0; second = processors.0; tasks = tasks.1; processors = processors.1; whole = refl },
-  seven t0 t1 t2 t3 t4 t5 t6 t7 (codes "{\"schema\":1,\"tasks\":[") tasks.0 (codes "\n],\"processors\":[") processors.0 (codes "\n]") (missed_member missed) (codes "}\n")
-      e1 tasks.2 e3 processors.2 e5 e6 e7,
+  seven t0 t1 t2 t3 t4 t5 t6 t7 (codes "{\"schema\":1,\"tasks\":[") tasks.0 (codes "\n],\"processors\":[") processors.0
+      (codes "\n]") (missed_member missed) (codes "}\n") e1 tasks.2 e3 processors.2 e5 e6 e7,
 )

@@ -37,10 +37,10 @@ one_byte b h zero = h
 one_byte b h (suc i) = search rules
 
 number_more : (n : ℕ) (rest : List ℕ) → n < 2 ^ 64 → IsUtf8 rest → IsUtf8 (decimal n ++ rest)
-number_more n rest h told = IsUtf8-append (decimal n) rest (IsUtf8-from_ascii (decimal n) (IsAscii-decimal n h)) told
+number_more n rest h reported = IsUtf8-append (decimal n) rest (IsUtf8-from_ascii (decimal n) (IsAscii-decimal n h)) reported
 
 byte_more : (b : ℕ) (rest : List ℕ) → b < 128 → IsUtf8 rest → IsUtf8 ((b ∷ []) ++ rest)
-byte_more b rest h told = IsUtf8-append (b ∷ []) rest (IsUtf8-from_ascii (b ∷ []) (one_byte b h)) told
+byte_more b rest h reported = IsUtf8-append (b ∷ []) rest (IsUtf8-from_ascii (b ∷ []) (one_byte b h)) reported
 
 -- the row of a slice is text
 IsUtf8-row : (a b c d : ℕ) → a < 2 ^ 64 → b < 2 ^ 64 → c < 2 ^ 64 → d < 2 ^ 64

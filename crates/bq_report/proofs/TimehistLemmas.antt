@@ -23,7 +23,8 @@ EndsIn-none w names s old = ([], refl, sym (append-nil old))
 
 -- a processor's line stands behind those before it
 pub EndsIn-more : (w : Window) (names : NamedTasks) (s : Figures) (number : ℕ) (p : ProcessorFigures) (old now next : List ℕ)
-    → EndsIn w names s number old now → p ≡ processor_of s number → AddsRunner w names number p now next → EndsIn w names s (number + 1) old next
+    → EndsIn w names s number old now → p ≡ processor_of s number → AddsRunner w names number p now next
+    → EndsIn w names s (number + 1) old next
 unfolding AreLastLines
 EndsIn-more w names s number p old now next h is step =
     let here : AddsRunner w names number (processor_of s number) now next = subst (λ q. AddsRunner w names number q now next) is step in
@@ -33,5 +34,6 @@ EndsIn-more w names s number p old now next h is step =
     (h.0 ++ own, there, here.2 ∙ ap (λ l. l ++ own) h.2 ∙ append_assoc old h.0 own)
 
 -- of as many processors as there are
-pub EndsIn-end : (w : Window) (names : NamedTasks) (s : Figures) (number end : ℕ) (old now : List ℕ) → number ≡ end → EndsIn w names s number old now → EndsIn w names s end old now
+pub EndsIn-end : (w : Window) (names : NamedTasks) (s : Figures) (number end : ℕ) (old now : List ℕ)
+    → number ≡ end → EndsIn w names s number old now → EndsIn w names s end old now
 EndsIn-end w names s number end old now is h = subst (λ n. EndsIn w names s n old now) is h

@@ -12,7 +12,7 @@ three_decimals n = decimal (n / 100 % 10) ++ (decimal (n / 10 % 10) ++ decimal (
 abbrev pub thousandths : ℕ → List ℕ
 thousandths n = decimal (n / 1000) ++ (codes "." ++ three_decimals n)
 
--- nanoseconds as milliseconds; what is less than a microsecond is cut off
+-- nanoseconds as milliseconds; a part of a microsecond is cut off
 abbrev pub millis_text : ℕ → List ℕ
 millis_text time = thousandths (time / 1000)
 
@@ -20,6 +20,7 @@ millis_text time = thousandths (time / 1000)
 abbrev pub micros_text : ℕ → List ℕ
 micros_text time = thousandths time
 
+-- a moment in this unit, and the unit
 abbrev pub moment_text : ℕ → Unit → List ℕ
 moment_text time Microseconds = micros_text time ++ codes " us"
 moment_text time Milliseconds = millis_text time ++ codes " ms"

@@ -11,16 +11,16 @@ use Rattle.bq_report.specs.MapRows.{Row}
 use Rattle.bq_report.specs.Maps.{DrawnRow, IsDrawnRow, all_columns, rows_text}
 use Rattle.bq_report.specs.Reports.{AreParts}
 
--- it has the tasks that stand in columns, and knows whether hidden ones do
+-- the legend has the tasks that columns show, and knows whether a column shows hidden ones
 pub record Notes (columns : List Column) (l : Legend) : Type 0 where
   pub tasks : (task : ℕ) → IsTrue (contains nat_cmp l.tasks task) ↔ Contains columns (Task task)
   pub hidden : IsTrue l.has_hidden ↔ Contains columns Hidden
 
--- what it knew, and what stands in these columns
+-- the legend has noted these columns too
 abbrev pub NotesMore : List Column → Legend → Legend → Type 0
 NotesMore columns old new = (before : List Column) → Notes before old → Notes (before ++ columns) new
 
--- the rows of the processors below a number are drawn, as far as they are shown: their lines are added, and their columns noted
+-- the rows of the processors below a number are drawn if they are shown: their lines are added, and their columns noted
 pub record Draws (w : Window) (rows : List Row) (tasks : List ℕ) (g : Grid) (number : ℕ) (old new : Legend) (before after : List ℕ) : Type 0 where
   pub drawn : List DrawnRow
   pub shown : AreParts (IsDrawnRow w rows g) number drawn

@@ -1,4 +1,4 @@
--- Who runs longest between two moments.
+-- Which task runs longest between two moments.
 use Rattle.std.specs.Prelude.{ℕ, ◌<◌, ◌≤◌, ◌-◌, ◌==◌, max, min, List, sum_by, if◌then◌else◌}
 use Rattle.bq_disc.specs.declared.limits.TheConstants.{TASKS}
 use Rattle.bq_schedule.specs.declared.slice.Slice.{Slice}
@@ -7,17 +7,17 @@ use Rattle.bq_schedule.specs.declared.slice.Slice.{Slice}
 abbrev pub time_in : ℕ → ℕ → Slice → ℕ
 time_in from to run = min run.to to - max run.from from
 
--- how long a task runs between two moments, of these runs
+-- how long a task runs between two moments, among these runs
 abbrev pub time_of : ℕ → ℕ → List Slice → ℕ → ℕ
 time_of from to runs task = sum_by (λ (run : Slice). if run.task == task then time_in from to run else 0) runs
 
--- the place of the greatest of the first n of these numbers, which is not 0; of equal ones the first
+-- the place of the greatest of the first n of these numbers: it is not 0, and the first of equal ones
 pub record IsFirstGreatest (n : ℕ) (number : ℕ → ℕ) (place : ℕ) : Type 0 where
   pub there : place < n
   pub some : 0 < number place
   pub most : (other : ℕ) → other < n → number other ≤ number place
   pub first : (other : ℕ) → other < place → number other < number place
 
--- the task runs, and no other runs longer; of equal ones it is the one of the least number
+-- the task runs, and no other runs longer; of equal ones it is the task of least number
 abbrev pub IsLongest : ℕ → ℕ → List Slice → ℕ → Type 0
 IsLongest from to runs task = IsFirstGreatest TASKS (time_of from to runs) task

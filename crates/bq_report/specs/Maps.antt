@@ -1,4 +1,4 @@
--- What a map holds of a schedule, and the text that it makes of that.
+-- What a map holds of a schedule, and the map's text.
 use Rattle.std.specs.Prelude.{◌≡◌, ◌↔◌, ℕ, zero, suc, ◌+◌, ◌-◌, ◌*◌, ◌/◌, ◌<◌, ◌≤◌, ◌^◌, ◌⊎◌, max, min, Bool, true, false, IsTrue, List, [], ◌∷◌, ◌++◌, map, flat_map, find, length, Contains, slice_index_or, slice_set, nat_lt, if◌then◌else◌, Option, Some, None, codes}
 use Rattle.std.specs.Fmt.{decimal, format_spec, styled_decimal, styled_text}
 use Rattle.std.specs.Int.{div_ceil}
@@ -25,12 +25,12 @@ use Rattle.bq_report.specs.Windows.{ShowsProcessor, ShowsTask, part_of}
 
 -- ---- what it holds
 
--- some of a run is held: it lasts within the window, and its processor is shown, whether its task is or not
+-- a part of a run is held: it is inside the window and its processor is shown, whether its task is shown or not
 pub record IsHeld (w : Window) (s : Slice) : Type 0 where
   pub lasts : (part_of w s).from < (part_of w s).to
   pub processor : ShowsProcessor w s.processor
 
--- the part of a run that is held, where there is a run and any of it is held
+-- the part of a run that is held, if there is a run and a part of it is held
 abbrev pub IsHeldPart : Window → Option Slice → Option Slice → Type 0
 IsHeldPart w None part = part ≡ None
 IsHeldPart w (Some s) part = SomeIff part (IsHeld w s) (part_of w s)
@@ -40,6 +40,7 @@ abbrev pub with_run : Bool → Slice → Row → Row
 with_run true run row = record row { shown = row.shown ++ (run ∷ []) }
 with_run false run row = record row { hidden = row.hidden ++ (run ∷ []) }
 
+-- a row without a run
 abbrev pub empty_row : Row
 empty_row = record { shown = []; hidden = [] }
 
@@ -51,19 +52,19 @@ row_of rows p = slice_index_or rows p empty_row
 abbrev pub rows_with : Bool → Slice → List Row → List Row
 rows_with is_shown run rows = slice_set rows run.processor (with_run is_shown run (row_of rows run.processor))
 
--- the rows hold one more part of a run, if there is one: among the shown ones if its task is shown, and else among the hidden ones
+-- the rows hold one more part of a run, if there is one: a shown one if its task is shown, otherwise a hidden one
 abbrev pub HoldsPart : Window → Option Slice → List Row → List Row → Type 0
 HoldsPart w None old new = new ≡ old
 HoldsPart w (Some run) old new = (is_shown : Bool) × (IsTrue is_shown ↔ ShowsTask w run.task) × (new ≡ rows_with is_shown run old)
 
--- the rows hold what of a run lies in the window, if there is a run
-abbrev pub Holds : Window → Option Slice → List Row → List Row → Type 0
-Holds w run old new = (part : Option Slice) × IsHeldPart w run part × HoldsPart w part old new
+-- the rows hold the part of a run that is inside the window, if there is one
+abbrev pub RowsHold : Window → Option Slice → List Row → List Row → Type 0
+RowsHold w run old new = (part : Option Slice) × IsHeldPart w run part × HoldsPart w part old new
 
--- the rows hold the last runs of the processors below a number too, which may go on where the schedule ends
+-- the rows also hold the last runs of the processors below a number, which may still go on when the schedule ends
 unfoldable pub HoldsLast : Window → Figures → ℕ → List Row → List Row → Type 0
 HoldsLast w s zero old new = new ≡ old
-HoldsLast w s (suc p) old new = (before : List Row) × HoldsLast w s p old before × Holds w (processor_of s p).run before new
+HoldsLast w s (suc p) old new = (before : List Row) × HoldsLast w s p old before × RowsHold w (processor_of s p).run before new
 
 -- ---- its columns
 
@@ -71,34 +72,34 @@ HoldsLast w s (suc p) old new = (before : List Row) × HoldsLast w s p old befor
 abbrev pub columns_in : ℕ → ℕ
 columns_in width = max (min (width - 8) (2 ^ 16 - 1)) 1
 
--- how long a column is: the least round step with which the columns reach over the extent
+-- how long a column is: the least round step with which the columns cover the extent
 abbrev pub step_over : Extent → ℕ → Option ℕ
 step_over e width = find (λ (step : ℕ). covers (e.to - e.from) (columns_in width) step) round_steps
 
--- as many columns of this length as the extent takes
+-- as many columns of this length as cover the extent
 abbrev pub grid_over : Extent → ℕ → Grid
 grid_over e step = record { extent = e; step = step; count = div_ceil (e.to - e.from) step }
 
--- where a column begins, and the one before it ends: so many steps after the extent begins, and no later than it ends
+-- the moment at which a column begins and the one before it ends; it is no later than the end of the extent
 abbrev pub moment_at : Grid → ℕ → ℕ
 moment_at g column = min (g.extent.from + column * g.step) g.extent.to
 
--- no task runs between two moments, of these runs
+-- no task runs between two moments, among these runs
 abbrev pub RunsNone : ℕ → ℕ → List Slice → Type 0
 RunsNone from to runs = (task : ℕ) → task < TASKS → time_of from to runs task ≡ 0
 
--- what stands between two moments: the shown task that ran longest; where none ran, that others did; or that none did
+-- what a column shows: the shown task that ran longest, that only hidden tasks ran, or that none ran
 abbrev pub IsColumn : Row → ℕ → ℕ → Column → Type 0
 IsColumn row from to (Task task) = IsLongest from to row.shown task
 IsColumn row from to Hidden = RunsNone from to row.shown × ((other : ℕ) × IsLongest from to row.hidden other)
 IsColumn row from to Idle = RunsNone from to row.shown × RunsNone from to row.hidden
 
--- the columns of a row
+-- the columns of a row, each between its two moments
 pub record AreColumns (row : Row) (g : Grid) (columns : List Column) : Type 0 where
   pub count : length columns ≡ g.count
   pub each : (n : ℕ) → n < g.count → IsColumn row (moment_at g n) (moment_at g (n + 1)) (slice_index_or columns n Idle)
 
--- a row that is drawn
+-- a row that is drawn: the processor's number, and the columns
 pub record DrawnRow : Type 0 where
   pub number : ℕ
   pub columns : List Column
@@ -110,34 +111,36 @@ IsDrawnRow w rows g p drawn =
     (λ own. (columns : List Column) × AreColumns (row_of rows p) g columns × (own ≡ record { number = p; columns = columns } ∷ []))
     drawn
 
--- the columns of all rows
+-- the columns of all drawn rows
 abbrev pub all_columns : List DrawnRow → List Column
 all_columns drawn = flat_map (λ (row : DrawnRow). row.columns) drawn
 
 -- ---- its text
 
+-- the letters of tasks, in the order in which tasks are admitted
 abbrev pub letters : List ℕ
 letters = codes "ABCDEFGHIJKLMNOPQRSTUVWXYZabcdefghijklmnopqrstuvwxyz0123456789"
 
--- the letter of the task at a place among all that are admitted: `*` for those after the letters
+-- the letter of the task at a place among all that are admitted: `*` if the letters are used up
 abbrev pub letter_at : ℕ → ℕ
 letter_at place = slice_index_or letters place 42
 
--- the letter of a task that may have no place: `*` for one without
+-- the letter of a task by its place: `*` if it has none
 abbrev pub letter_if : Option ℕ → ℕ
 letter_if None = 42
 letter_if (Some place) = letter_at place
 
--- what is written for a column: the letter of the task, `-` or `.`
+-- the sign of a column: the letter of the task, `-` or `.`
 abbrev pub sign_of : List ℕ → Column → ℕ
 sign_of tasks (Task task) = letter_if (place_in tasks task)
 sign_of tasks Hidden = 45
 sign_of tasks Idle = 46
 
--- text or a number at the left end of this many columns, and more where it is longer
+-- a text at the left end of this many columns, wider if needed
 abbrev pub left_text : ℕ → List ℕ → List ℕ
 left_text width text = styled_text (format_spec 32 1 0 width (2 ^ 64 - 1)) text
 
+-- a number at the left end of this many columns, wider if needed
 abbrev pub left_number : ℕ → ℕ → List ℕ
 left_number width n = styled_decimal (format_spec 32 1 0 width (2 ^ 64 - 1)) n
 
@@ -145,14 +148,15 @@ left_number width n = styled_decimal (format_spec 32 1 0 width (2 ^ 64 - 1)) n
 abbrev pub row_text : List ℕ → DrawnRow → List ℕ
 row_text tasks row = codes "cpu " ++ (left_number 4 row.number ++ (map (sign_of tasks) row.columns ++ codes "\n"))
 
+-- the lines of the drawn rows
 abbrev pub rows_text : List ℕ → List DrawnRow → List ℕ
 rows_text tasks drawn = flat_map (row_text tasks) drawn
 
--- the unit for moments that lie this far apart
+-- the unit for moments that are this far apart
 abbrev pub unit_for : ℕ → Unit
 unit_for step = if nat_lt step 1000 then Microseconds else Milliseconds
 
--- a mark of the ruler: where the column at 20 times its number begins
+-- a mark of the ruler: the moment at which the column at 20 times the mark's number begins
 abbrev pub mark_text : Grid → ℕ → List ℕ
 mark_text g mark = codes "|" ++ moment_text (moment_at g (mark * 20)) (unit_for g.step)
 
@@ -161,7 +165,7 @@ abbrev pub marks_text : Grid → ℕ → List ℕ
 marks_text g zero = []
 marks_text g (suc mark) = marks_text g mark ++ left_text 20 (mark_text g mark)
 
--- the last mark
+-- the number of the last mark
 abbrev pub last_mark : Grid → ℕ
 last_mark g = (g.count - 1) / 20
 
@@ -169,7 +173,7 @@ last_mark g = (g.count - 1) / 20
 abbrev pub ruler_text : Grid → List ℕ
 ruler_text g = codes "        " ++ (marks_text g (last_mark g) ++ (mark_text g (last_mark g) ++ codes "\n"))
 
--- a name behind a task, if it has one
+-- a task's name, if it has one
 abbrev pub behind_task : Option (List ℕ) → List ℕ
 behind_task None = []
 behind_task (Some name) = codes "  " ++ name
@@ -179,16 +183,16 @@ abbrev pub legend_line : NamedTasks → ℕ → ℕ → List ℕ
 legend_line names place task =
     (letter_at place ∷ []) ++ (codes "  task " ++ (decimal task ++ (behind_task (name_of names task) ++ codes "\n")))
 
--- that of the task at a place among all that are admitted, if it appears in a column
+-- the line of the task at a place among all that are admitted, if it appears in a column
 abbrev pub IsLegendLine : NamedTasks → List ℕ → List Column → ℕ → List ℕ → Type 0
 IsLegendLine names tasks columns place line =
     IsPartIf ℕ (Contains columns (Task (slice_index_or tasks place 0))) (λ own. own ≡ legend_line names place (slice_index_or tasks place 0)) line
 
--- what tells of columns in which only hidden tasks ran, if there are any
+-- the note on columns in which only hidden tasks ran, if there are any
 abbrev pub IsHiddenNote : List Column → List ℕ → Type 0
 IsHiddenNote columns note = IsPartIf ℕ (Contains columns Hidden) (λ own. own ≡ codes "; - runs a task that is not shown") note
 
--- the legend: how long a column is, what stands for no task and for hidden ones, and the tasks that appear, in the order of their letters
+-- the legend: how long a column is, the signs of no task and of hidden ones, and the tasks that appear, in the order of their letters
 pub record IsLegend (names : NamedTasks) (tasks : List ℕ) (step : ℕ) (columns : List Column) (text : List ℕ) : Type 0 where
   pub note : List ℕ
   pub lines : List ℕ
@@ -196,7 +200,7 @@ pub record IsLegend (names : NamedTasks) (tasks : List ℕ) (step : ℕ) (column
   pub each : AreParts (IsLegendLine names tasks columns) (length tasks) lines
   pub whole : text ≡ codes "\na column is " ++ (moment_text step (unit_for step) ++ (codes "; . is idle" ++ (note ++ (codes "\n" ++ lines))))
 
--- a map of these rows, whose tasks have places: the ruler, the rows that are shown, and the legend
+-- a map of these rows: the ruler, the shown rows, and the legend
 pub record IsDrawn (w : Window) (names : NamedTasks) (tasks : List ℕ) (rows : List Row) (g : Grid) (text : List ℕ) : Type 0 where
   pub drawn : List DrawnRow
   pub legend : List ℕ
@@ -204,22 +208,23 @@ pub record IsDrawn (w : Window) (names : NamedTasks) (tasks : List ℕ) (rows : 
   pub below : IsLegend names tasks g.step (all_columns drawn) legend
   pub whole : text ≡ ruler_text g ++ (rows_text tasks drawn ++ legend)
 
--- a map with this step. There is always one: a round step covers 48 bits
+-- a map with this step; there always is a step, because a round step covers 48 bits
 abbrev pub IsDrawnBy : Window → NamedTasks → List ℕ → List Row → Extent → Option ℕ → List ℕ → Type 0
 IsDrawnBy w names tasks rows e None text = text ≡ []
 IsDrawnBy w names tasks rows e (Some step) text = IsDrawn w names tasks rows (grid_over e step) text
 
--- a map over the time that passes in what is shown
+-- a map over the time that passes in the window
 pub record IsMapOfTime (w : Window) (names : NamedTasks) (s : Figures) (tasks : List ℕ) (width : ℕ) (rows : List Row) (text : List ℕ) : Type 0 where
   pub extent : Extent
   pub in_window : IsInWindow w extent
   pub spans : Spans w s extent
   pub drawn : IsDrawnBy w names tasks rows extent (step_over extent width) text
 
--- or that there is none
+-- no time passes in the window, and the text says so
 pub record IsMapOfNoTime (w : Window) (s : Figures) (text : List ℕ) : Type 0 where
   pub none : (e : Extent) → Spans w s e → e.to ≤ e.from
-  pub says : text ≡ codes "no time passes in what is shown\n"
+  pub shows : text ≡ codes "no time passes in what is shown\n"
 
+-- a map, or the line that no time passes in the window
 abbrev pub IsMap : Window → NamedTasks → Figures → List ℕ → ℕ → List Row → List ℕ → Type 0
 IsMap w names s tasks width rows text = IsMapOfTime w names s tasks width rows text ⊎ IsMapOfNoTime w s text

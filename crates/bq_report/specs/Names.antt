@@ -18,8 +18,8 @@ name_of names task = lookup (is_at (nat_cmp task)) names
 abbrev pub task_number : List ℕ → Option ℕ
 task_number word = below (2 ^ 16) (number_of 10 word)
 
--- a comment names a task: it is `# task N NAME`, a space behind `task` and behind the number, and more white space may stand around
--- each of the four; the name is all that stands behind the number
+-- a comment names a task: it is `# task N NAME`, with a space after `task` and after the number. More white space may be around each of
+-- these four parts. The name is all that follows the number
 pub record IsNaming (comment : List ℕ) (task : ℕ) (name : List ℕ) : Type 0 where
   pub behind_mark : List ℕ
   pub behind_word : List ℕ
@@ -33,7 +33,7 @@ pub record IsNaming (comment : List ℕ) (task : ℕ) (name : List ℕ) : Type 0
   pub is_text : IsUtf8 text
   pub is_name : name ≡ trim text
 
--- the task that a comment names, if it names one, has that name, and every other task has the name that it had
+-- if a comment names a task, the task has that name, and every other task has the same name as before
 pub record Learns (comment : List ℕ) (old new : NamedTasks) : Type 0 where
   pub named : (task : ℕ) (name : List ℕ) → IsNaming comment task name → name_of new task ≡ Some name
   pub others : (task : ℕ) → ((name : List ℕ) → ¬ (IsNaming comment task name)) → name_of new task ≡ name_of old task

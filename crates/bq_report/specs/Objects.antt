@@ -14,16 +14,19 @@ use Rattle.bq_report.specs.Columns.{nearest}
 use Rattle.bq_report.specs.Names.{NamedTasks, name_of}
 use Rattle.bq_report.specs.Waits.{still_waiting, waited_in_all}
 
+-- a number, or null
 abbrev pub number_or_null : Option ℕ → Data
 number_or_null None = null
 number_or_null (Some n) = number (unsigned n)
 
+-- the figures of a hook
 abbrev pub hook_object : HookFigures → Data
 hook_object h =
     object (member (codes "asked") (number (unsigned h.asked))
     (member (codes "overruled") (number (unsigned h.overruled))
     (member (codes "steps") (number (unsigned h.steps)) no_members)))
 
+-- the percentiles of a task's latencies, and the greatest
 abbrev pub latency_object : Percentiles → Data
 latency_object p =
     object (member (codes "max") (number_or_null p.greatest)
@@ -31,11 +34,12 @@ latency_object p =
     (member (codes "p95") (number_or_null p.p95)
     (member (codes "p99") (number_or_null p.p99) no_members))))
 
+-- a text, or null
 abbrev pub text_or_null : Option (List ℕ) → Data
 text_or_null None = null
 text_or_null (Some text) = string text
 
--- how often a task began to run, gave way, migrated and was woken
+-- how often a task started, was preempted, migrated and was woken
 abbrev pub counts_object : TaskFigures → Data
 counts_object t =
     object (member (codes "migrated") (number (unsigned t.migrations))
@@ -68,6 +72,6 @@ processor_object processor p =
     (member (codes "pull") (hook_object p.pull)
     (member (codes "switches") (number (unsigned p.switches)) no_members)))))))
 
--- how many wakes did nothing since their task did not wait, if any did
+-- how many wakes did nothing because their task did not wait, if any did
 abbrev pub missed_member : ℕ → List ℕ
 missed_member n = if n == 0 then [] else codes ",\"missed_wakes\":" ++ decimal n

@@ -1,4 +1,4 @@
--- The report and its figures as JSON, each as a whole: which tasks and processors have a part in it, and what the part says.
+-- The report and its figures as JSON, each as a whole: which tasks and processors are in it, and what it says of them.
 use Rattle.std.specs.Prelude.{◌≡◌, ℕ, zero, suc, ◌<◌, ◌⊎◌, Bool, true, false, List, [], ◌∷◌, ◌++◌, length, if◌then◌else◌, IsTrue, IsPermutation, IsSorted, codes}
 use Rattle.std.specs.Ordering.{nat_cmp}
 use Rattle.bq_disc.specs.declared.limits.TheConstants.{PROCESSORS, TASKS}
@@ -17,12 +17,12 @@ use Rattle.bq_report.specs.Timehist.{name_text}
 use Rattle.bq_report.specs.Waits.{still_waiting}
 use Rattle.bq_report.specs.Windows.{ShowsProcessor, ShowsTask}
 
--- what is there, if something holds: a part like this; and nothing otherwise
+-- if a condition holds the part is like this, and otherwise it is empty
 pub record IsPartIf (A : Type 0) (Holds : Type 0) (IsLike : List A → Type 0) (part : List A) : Type 0 where
   pub there : Holds → IsLike part
   pub nothing : ¬ Holds → part ≡ []
 
--- the parts of the numbers below a number, one behind another
+-- the parts of the numbers below a number, one after another
 unfoldable pub AreParts : {A : Type 0} → (ℕ → List A → Type 0) → ℕ → List A → Type 0
 AreParts {A} Is zero parts = parts ≡ []
 AreParts {A} Is (suc number) parts =
@@ -32,17 +32,17 @@ AreParts {A} Is (suc number) parts =
 abbrev pub Adds : (List ℕ → Type 0) → List ℕ → List ℕ → Type 0
 Adds IsLike old new = (part : List ℕ) × IsLike part × (new ≡ old ++ part)
 
--- a task has a part: it was admitted, and is shown
+-- a task is in the report: it was admitted, and is shown
 pub record HasTask (w : Window) (s : Figures) (id : ℕ) : Type 0 where
   pub admitted : IsTrue (task_of s id).is_admitted
   pub shown : ShowsTask w id
 
--- a processor has a part: it is there, and is shown
+-- a processor is in the report: it exists, and is shown
 pub record HasProcessor (w : Window) (s : Figures) (p : ℕ) : Type 0 where
   pub exists : p < length s.processors
   pub shown : ShowsProcessor w p
 
--- the percentiles of latencies, in whatever order these came
+-- the percentiles of latencies, whatever their order
 pub record ArePercentiles (latencies : List ℕ) (p : Percentiles) : Type 0 where
   pub sorted : List ℕ
   pub in_order : IsSorted nat_cmp sorted
@@ -83,24 +83,28 @@ AreHookLines w s p lines = IsPartIf ℕ (HasHooks w s p) (λ own. own ≡ hook_l
 abbrev pub IsTable : List ℕ → (ℕ → List ℕ → Type 0) → ℕ → List ℕ → Type 0
 IsTable head Is count text = (lines : List ℕ) × AreParts Is count lines × (text ≡ head ++ lines)
 
+-- the head of the table of tasks
 abbrev pub task_head : List ℕ
 task_head = codes " task name            nice       cpu ms      fair ms switches preempted migrated\n"
 
+-- the head of the table of latencies
 abbrev pub latency_head : List ℕ
 latency_head = codes " task name               wakes      p50 us      p95 us      p99 us      max us\n"
 
+-- the head of the table of processors
 abbrev pub processor_head : List ℕ
 processor_head = codes "  cpu  busy %      busy ms      idle ms switches\n"
 
+-- the head of the table of policies, after an empty line
 abbrev pub hook_head : List ℕ
 hook_head = codes "\n  cpu hook            asked  overruled          steps\n"
 
--- lines under the head of the policies; no head where there are no lines
+-- lines under the head of the policies; no head if there are no lines
 abbrev pub under_hook_head : List ℕ → List ℕ
 under_hook_head [] = []
 under_hook_head (byte ∷ lines) = hook_head ++ (byte ∷ lines)
 
--- that head, unless it stands there already
+-- the head of the policies, unless the text has it already
 abbrev pub hook_head_unless : Bool → List ℕ
 hook_head_unless has_head = if has_head then [] else hook_head
 
@@ -108,7 +112,7 @@ hook_head_unless has_head = if has_head then [] else hook_head
 abbrev pub IsHookTable : Window → Figures → List ℕ → Type 0
 IsHookTable w s text = (lines : List ℕ) × AreParts (AreHookLines w s) PROCESSORS lines × (text ≡ under_hook_head lines)
 
--- the report: the tables of tasks, of their latencies, of processors and of policies; the wakes that did nothing stand behind the second
+-- the report: the tables of tasks, of latencies, of processors and of policies; the wakes that did nothing follow the second table
 pub record IsReport (w : Window) (names : NamedTasks) (s : Figures) (latencies : Tasks) (missed : ℕ) (text : List ℕ) : Type 0 where
   pub first : List ℕ
   pub second : List ℕ
@@ -132,11 +136,11 @@ abbrev pub IsProcessorObject : Window → Figures → ℕ → List Data → Type
 IsProcessorObject w s p objects =
     IsPartIf Data (HasProcessor w s p) (λ own. own ≡ processor_object p (processor_of s p) ∷ []) objects
 
--- what stands before an element of an array: a line feed, and a comma before that unless the element is the first
+-- what precedes an element of an array: a line feed, and a comma before that unless the element is the first
 abbrev pub separator_if : Bool → List ℕ
 separator_if is_first = if is_first then codes "\n" else codes ",\n"
 
--- the elements of an array, or those behind the first, each on a line of its own
+-- the elements of an array, each on a line of its own; the first may be left out
 abbrev pub elements_text : Bool → List Data → List ℕ
 elements_text is_first [] = []
 elements_text is_first (here ∷ later) = separator_if is_first ++ (compact_text here ++ elements_text false later)

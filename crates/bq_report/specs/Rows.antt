@@ -3,7 +3,7 @@ use Rattle.std.specs.Prelude.{ℕ, List, [], ◌++◌, Option, Some, None, codes
 use Rattle.std.specs.Fmt.{decimal}
 use Rattle.bq_schedule.specs.declared.slice.Slice.{Slice}
 
--- the row above them, which names what stands in each column
+-- the row above the others, which names the columns
 abbrev pub head_row : List ℕ
 head_row = codes "processor,task,from,to\n"
 
@@ -12,7 +12,7 @@ abbrev pub slice_row : Slice → List ℕ
 slice_row s =
     decimal s.processor ++ (codes "," ++ (decimal s.task ++ (codes "," ++ (decimal s.from ++ (codes "," ++ (decimal s.to ++ codes "\n"))))))
 
--- the row of a slice if there is one, else nothing
+-- the row of a slice if there is one, otherwise nothing
 abbrev pub row_of : Option Slice → List ℕ
 row_of None = []
 row_of (Some s) = slice_row s

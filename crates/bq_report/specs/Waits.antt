@@ -1,28 +1,28 @@
--- Waits that go on where a schedule ends.
+-- Waits that still go on when a schedule ends.
 use Rattle.std.specs.Prelude.{ℕ, ◌-◌, Option, Some, None, option_and_then, unwrap_or, if◌then◌else◌}
 use Rattle.std.specs.Option.{option_map}
-use Rattle.bq_parts.specs.Counts.{counted}
+use Rattle.bq_parts.specs.Counts.{saturating_sum}
 use Rattle.bq_schedule.specs.Figures.{Figures, processor_of, task_of}
 use Rattle.bq_schedule.specs.Running.{running_task}
 use Rattle.bq_schedule.specs.Slices.{is_this}
 
--- the last reading of a processor's clock, where a task is runnable at that processor and is not the one that runs there
+-- the last reading of a processor's clock, if a task is runnable at that processor and does not run there
 abbrev pub last_unless_running : Figures → ℕ → Option ℕ → Option ℕ
 last_unless_running s id None = None
 last_unless_running s id (Some p) = if is_this id (running_task (processor_of s p)) then None else Some (processor_of s p).last
 
--- a task waits still, till the last reading of the clock of the processor at which it is runnable; nothing where it does not wait
+-- the last reading of the clock of the processor where a task waits; none if it does not wait
 abbrev pub waits_until : Figures → ℕ → Option ℕ
 waits_until s id = last_unless_running s id (task_of s id).place
 
--- how long it has waited there, which is 0 where the clocks disagree; and 0 where it does not wait
+-- how long the task's current wait has lasted; 0 if the clocks disagree, or if it does not wait
 abbrev pub open_wait : Figures → ℕ → ℕ
 open_wait s id = unwrap_or (option_map (λ (last : ℕ). last - (task_of s id).since) (waits_until s id)) 0
 
--- how long it has waited in all: the waits that are over, and the one that goes on
+-- how long a task has waited in all: the waits that are over, and the current one
 abbrev pub waited_in_all : Figures → ℕ → ℕ
-waited_in_all s id = counted (task_of s id).waited (open_wait s id)
+waited_in_all s id = saturating_sum (task_of s id).waited (open_wait s id)
 
--- it has not run since its last wake ended, and waits still: for so long since then
+-- how long ago the task's last wake ended, if the task has not run since and waits
 abbrev pub still_waiting : Figures → ℕ → Option ℕ
 still_waiting s id = option_and_then (λ (last : ℕ). option_map (λ (at : ℕ). last - at) (task_of s id).woken) (waits_until s id)

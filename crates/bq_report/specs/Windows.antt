@@ -6,7 +6,7 @@ use Rattle.bq_disc.specs.Masks.{allows}
 use Rattle.bq_schedule.specs.declared.slice.Slice.{Slice}
 use Rattle.bq_report.specs.declared.window.Window.{Window}
 
--- a processor is among some that are given by bits
+-- a processor is in a set that is given by bits
 pub record IsIn (processors p : ℕ) : Type 0 where
   pub is_number : p < PROCESSORS
   pub is_chosen : IsTrue (allows processors p)
@@ -15,28 +15,28 @@ pub record IsIn (processors p : ℕ) : Type 0 where
 abbrev pub ShowsProcessor : Window → ℕ → Type 0
 ShowsProcessor w p = IsIn w.processors p
 
--- a task is shown: it is named, or none is
+-- a task is shown: the window names it, or names no task
 abbrev pub ShowsTask : Window → ℕ → Type 0
 ShowsTask w t = (w.tasks.items ≡ []) ⊎ Contains w.tasks.items t
 
--- something is shown that happens to a task at a processor at a moment
+-- the window shows what happens to a task at a processor at a moment
 pub record Shows (w : Window) (p t at : ℕ) : Type 0 where
   pub begun : w.from ≤ at
   pub not_over : at ≤ w.to
   pub processor : ShowsProcessor w p
   pub task : ShowsTask w t
 
--- the part of a run that lies in the window
+-- the part of a run that is inside the window
 abbrev pub part_of : Window → Slice → Slice
 part_of w s = record s { from = max s.from w.from; to = min s.to w.to }
 
--- a part of a run is shown
+-- a part of a run is shown: it is not empty, and its processor and task are shown
 pub record ShowsPart (w : Window) (s : Slice) : Type 0 where
   pub lasts : (part_of w s).from < (part_of w s).to
   pub processor : ShowsProcessor w s.processor
   pub task : ShowsTask w s.task
 
--- the part of a slice that is shown, where there is a slice and any of it is shown
+-- the part of a slice that is shown, if there is a slice and a part of it is shown
 abbrev pub IsShownPart : Window → Option Slice → Option Slice → Type 0
 IsShownPart w None part = part ≡ None
 IsShownPart w (Some s) part = SomeIff part (ShowsPart w s) (part_of w s)

@@ -33,7 +33,7 @@ impl fmt::Display for Thousandths {
     }
 }
 
-/// Nanoseconds, as milliseconds with three decimals. What is less than a microsecond is cut off.
+/// Nanoseconds, as milliseconds with three decimals. A part of a microsecond is cut off.
 ///
 /// 1,234,567 ns are `1.234`.
 #[derive(Clone, Copy)]
@@ -71,7 +71,7 @@ pub enum Unit {
 }
 
 impl Unit {
-    /// The unit for moments that lie this far apart.
+    /// The unit for moments that are this far apart.
     pub fn for_step(step: u64) -> Unit
         ensures { result ≡ (if nat_lt step 1000 then Unit.Microseconds else Unit.Milliseconds) }
     {

@@ -7,8 +7,8 @@ use crate::window::Window;
 use bq_disc::limits::PROCESSORS;
 use bq_schedule::Schedule;
 
-/// The stretch of time that a picture is drawn over: from the first reading of a clock to the last, of the processors that are
-/// shown, as far as the window goes. It is not empty.
+/// The stretch of time that a picture is drawn over. It reaches from the first reading of a shown processor's clock to the last, and is
+/// cut at the edges of the window. It is not empty.
 #[derive(Clone, Copy)]
 pub struct Extent {
     pub from: u64,
@@ -16,7 +16,7 @@ pub struct Extent {
 }
 
 impl Extent {
-    /// That of a schedule in a window. `None` where no time passes, or no clock is shown that was read.
+    /// The extent of a schedule in a window. `None` if no time passes, or if no shown processor's clock was read.
     pub fn of(schedule: &Schedule, window: &Window) -> Option<Extent>
         ensures window { IfSome result (IsInWindow window.now) }
         ensures extent { IfSome result (Spans window.now schedule.now) }
@@ -38,7 +38,7 @@ impl Extent {
         (from < to).then_some(Extent { from, to })
     }
 
-    /// How long it is, in nanoseconds.
+    /// How long the extent is, in nanoseconds.
     pub fn length(&self) -> u64
         ensures { result ≡ self.now.to - self.now.from }
     {

@@ -4,8 +4,8 @@ use crate::names::Names;
 use bq_schedule::{Change, Schedule};
 use std::alloc::AllocError;
 
-/// A form in which a schedule is shown. It adds to a text what is ripe, and the caller may write that out and clear it
-/// whenever it likes. Its only error is that memory ran out.
+/// A form in which a schedule is shown. It adds to a text what is ready, and the caller may write that text out and clear it at any
+/// time. Its only error is that memory ran out.
 ///
 /// ```text
 /// form.begin(&schedule, &names, &mut text)?;
@@ -18,7 +18,7 @@ use std::alloc::AllocError;
 /// form.end(&schedule, &names, &mut text)?;
 /// ```
 pub trait ScheduleForm: Drop {
-    /// Begins, at a schedule to which nothing has happened.
+    /// Begins the text, with a schedule to which nothing has happened.
     fn begin(
         &mut self,
         schedule: &Schedule,
@@ -26,12 +26,12 @@ pub trait ScheduleForm: Drop {
         text: &mut String,
     ) -> Result<(), AllocError>;
 
-    /// A task is admitted. A form in which tasks have letters or colours gives it the next one.
+    /// A task is admitted. A form with letters or colours for tasks gives the task the next one.
     fn admit(&mut self, _task: u16) -> Result<(), AllocError> {
         Ok(())
     }
 
-    /// Takes what one answer changed, and the schedule after it.
+    /// Takes what one answer changed, and the schedule after that answer.
     fn take(
         &mut self,
         change: &Change,
@@ -40,7 +40,7 @@ pub trait ScheduleForm: Drop {
         text: &mut String,
     ) -> Result<(), AllocError>;
 
-    /// Ends, at the schedule of the whole trace.
+    /// Ends the text, with the schedule of the whole trace.
     fn end(
         &mut self,
         schedule: &Schedule,

@@ -7,10 +7,10 @@ use crate::amounts::{MomentText, Unit};
 use crate::extent::Extent;
 use std::alloc::{AllocError, Global};
 
-/// How many columns lie between two moments of the ruler.
+/// How many columns are between two marks of the ruler.
 const TICK: u64 = 20;
 
-/// The columns over an extent: how long each is, but for the last, which ends where the extent does, and how many there are.
+/// The columns over an extent: how many there are, and how long each is. The last column may be shorter: it ends where the extent does.
 #[derive(Clone, Copy)]
 pub(crate) struct Grid {
     pub(crate) extent: Extent,
@@ -19,7 +19,7 @@ pub(crate) struct Grid {
 }
 
 impl Grid {
-    /// As many columns of this length as the extent takes.
+    /// As many columns of this length as cover the extent.
     pub(crate) fn new(extent: &Extent, step: u64) -> Grid
         requires { 0 < step }
         ensures { result ≡ grid_over extent.now step }
@@ -31,7 +31,7 @@ impl Grid {
         }
     }
 
-    /// Where a column begins, by its number, and where the one before it ends.
+    /// The moment at which a column begins and the column before it ends.
     pub(crate) fn moment(&self, column: u64) -> u64
         ensures { result ≡ moment_at self.now column }
     {
@@ -40,7 +40,7 @@ impl Grid {
             .min(self.extent.to)
     }
 
-    /// The ruler above the rows: the moments of every 20th column.
+    /// Adds the ruler above the rows: the moments of every 20th column.
     pub(crate) fn write_ruler(&self, alloc: Global, text: &mut String) -> Result<(), AllocError>
         ensures { OnOk result (string_bytes text.new ≡ string_bytes text.old ++ ruler_text self.now) }
     {
@@ -51,7 +51,7 @@ impl Grid {
         write!(text, "|{moment}\n")
     }
 
-    /// The marks of the ruler before this one, each as wide as the columns to the next.
+    /// Adds the marks of the ruler before the last, each as wide as the columns to the next.
     fn write_marks(&self, alloc: Global, last: u64, text: &mut String) -> Result<(), AllocError>
         requires { last * 20 < 2 ^ 64 }
         ensures { OnOk result (string_bytes text.new ≡ string_bytes text.old ++ marks_text self.now last) }

@@ -1,4 +1,4 @@
-//! What a map says below its rows, and the signs of its columns.
+//! The legend below a map's rows, and the signs of its columns.
 ghost use Rattle.std.specs.Prelude.{◌≡◌, ◌<◌, ◌++◌, ◌∷◌, [], ℕ, List, Contains, map, length, option_map, OnOk, string_bytes};
 ghost use Rattle.bq_report.specs.declared.map_row.Column.{Column};
 ghost use Rattle.bq_report.specs.declared.map_row.Column.TheVariants.{Task};
@@ -15,7 +15,7 @@ use crate::roster::Roster;
 use std::alloc::{AllocError, Global};
 use std::collections::BTreeSet;
 
-/// The letters of the tasks, in the order in which they are admitted.
+/// The letters of tasks, in the order in which tasks are admitted.
 const LETTERS: [char; 62] = [
     'A', 'B', 'C', 'D', 'E', 'F', 'G', 'H', 'I', 'J', 'K', 'L', 'M', 'N', 'O', 'P', 'Q', 'R', 'S',
     'T', 'U', 'V', 'W', 'X', 'Y', 'Z', 'a', 'b', 'c', 'd', 'e', 'f', 'g', 'h', 'i', 'j', 'k', 'l',
@@ -23,13 +23,13 @@ const LETTERS: [char; 62] = [
     '5', '6', '7', '8', '9',
 ];
 
-/// What stands for the tasks after those that have a letter.
+/// The sign of the tasks that are admitted after the letters are used up.
 const BEYOND: char = '*';
 
-/// What stands for a task that is not shown.
+/// The sign of a task that is not shown.
 const HIDDEN: char = '-';
 
-/// What stands for no task.
+/// The sign of a column in which no task ran.
 const IDLE: char = '.';
 
 /// What the columns of a map show.
@@ -37,12 +37,12 @@ const IDLE: char = '.';
 pub(crate) struct Legend {
     /// The tasks that appear in a column.
     tasks: BTreeSet<u16>,
-    /// Whether a column stands for a task that is not shown.
+    /// Whether a column shows that only hidden tasks ran.
     has_hidden: bool,
 }
 
 impl Legend {
-    /// No column yet.
+    /// The legend of no columns yet.
     pub(crate) fn new(alloc: Global) -> Legend
         ensures { Notes [] result }
     {
@@ -52,7 +52,7 @@ impl Legend {
         }
     }
 
-    /// Notes what stands in columns.
+    /// Notes what columns show.
     pub(crate) fn note(&mut self, columns: &[Column]) -> Result<(), AllocError>
         ensures { OnOk result (NotesMore columns.now self.old self.new) }
     {
@@ -62,7 +62,7 @@ impl Legend {
         Ok(())
     }
 
-    /// Notes what stands in a column.
+    /// Notes what a column shows.
     fn note_one(&mut self, column: Column) -> Result<(), AllocError>
         ensures { OnOk result (NotesMore (column ∷ []) self.old self.new) }
     {
@@ -76,7 +76,7 @@ impl Legend {
         Ok(())
     }
 
-    /// Adds the legend of a map whose columns are noted, and are this long.
+    /// Adds the legend of a map whose columns are noted. A column takes `step` ns.
     pub(crate) fn write(
         &self,
         roster: &Roster,
@@ -95,7 +95,7 @@ impl Legend {
         self.write_lines(roster.tasks(), names, text)
     }
 
-    /// What stands for tasks that are not shown, if it stands in a column.
+    /// Adds what the sign of hidden tasks means, if a column has that sign.
     fn write_hidden(&self, text: &mut String) -> Result<(), AllocError>
         ensures { OnOk result ((columns : List Column) → Notes columns self.now
             → Adds (IsHiddenNote columns) (string_bytes text.old) (string_bytes text.new)) }
@@ -106,7 +106,7 @@ impl Legend {
         write!(text, "; {HIDDEN} runs a task that is not shown")
     }
 
-    /// The lines of the tasks that appear, of these in the order of their letters.
+    /// Adds the lines of the tasks that appear in a column, in the order of their letters.
     fn write_lines(&self, tasks: &[u16], names: &Names, text: &mut String) -> Result<(), AllocError>
         ensures { OnOk result ((columns : List Column) → Notes columns self.now
             → Adds (AreParts (IsLegendLine names.now tasks.now columns) (length tasks.now)) (string_bytes text.old) (string_bytes text.new)) }
@@ -117,7 +117,7 @@ impl Legend {
         Ok(())
     }
 
-    /// The line of a task at this place among all that are admitted, if it appears.
+    /// Adds the line of the task at this place among all that are admitted, if it appears in a column.
     fn write_line_if(
         &self,
         place: usize,
@@ -135,7 +135,7 @@ impl Legend {
     }
 }
 
-/// The line of a task at this place, with its name if it has one.
+/// Adds the line of a task at this place, with its name if it has one.
 fn write_line(place: usize, task: u16, names: &Names, text: &mut String) -> Result<(), AllocError>
     ensures { OnOk result (string_bytes text.new ≡ string_bytes text.old ++ legend_line names.now place task) }
 {
@@ -145,7 +145,7 @@ fn write_line(place: usize, task: u16, names: &Names, text: &mut String) -> Resu
     text.push_str("\n")
 }
 
-/// The name behind a task, if it has one.
+/// Adds a task's name, if it has one.
 fn write_name(name: Option<&str>, text: &mut String) -> Result<(), AllocError>
     ensures { OnOk result (string_bytes text.new ≡ string_bytes text.old ++ behind_task (option_map (λ name. name.now) name.entry)) }
 {
@@ -155,7 +155,7 @@ fn write_name(name: Option<&str>, text: &mut String) -> Result<(), AllocError>
     }
 }
 
-/// Adds the signs of columns: the letter of a task, or what stands for hidden ones or for none.
+/// Adds the signs of columns: a task's letter, or the sign of hidden tasks or of no task.
 pub(crate) fn write_signs(
     roster: &Roster,
     columns: &[Column],
@@ -169,7 +169,7 @@ pub(crate) fn write_signs(
     Ok(())
 }
 
-/// What is written for a column.
+/// The sign of a column.
 fn sign(roster: &Roster, column: Column) -> char
     ensures sign { result ≡ sign_of roster.now column }
     ensures ascii { result < 128 }
@@ -181,7 +181,7 @@ fn sign(roster: &Roster, column: Column) -> char
     }
 }
 
-/// The letter of a task by its place, if it has one.
+/// The letter of a task by its place. A task without a place has `*`.
 fn letter_if(place: Option<usize>) -> char
     ensures letter { result ≡ letter_if place }
     ensures ascii { result < 128 }
@@ -192,7 +192,7 @@ fn letter_if(place: Option<usize>) -> char
     }
 }
 
-/// The letter of the task at this place among all that are admitted.
+/// The letter of the task at this place among all that are admitted. `*` if the letters are used up.
 fn letter_at(place: usize) -> char
     ensures letter { result ≡ letter_at place }
     ensures ascii { result < 128 }

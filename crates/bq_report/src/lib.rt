@@ -1,6 +1,6 @@
 //! The forms in which a schedule is shown as text: a report, a map, a list of runs, comma-separated values, JSON.
-//! Promises that a form only adds to its text, and shows what lies in its window, cut at its edges.
-//! Stands on bq_schedule for what happened; it reads no trace and writes to no one.
+//! Promises that a form only adds to its text, and shows what is in its window, cut at the window's edges.
+//! Builds on bq_schedule for what happened. It reads no trace and writes only to the text that it is given.
 #![tactic(auto)]
 
 pub mod amounts;

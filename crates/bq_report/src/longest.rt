@@ -1,4 +1,4 @@
-//! Who ran longest between two moments.
+//! Which task ran longest between two moments.
 ghost use Rattle.std.specs.Prelude.{◌≡◌, ℕ, ◌<◌, length, slice_index, vec_len, IfOk, IfSome, IfNone};
 ghost use Rattle.bq_report.specs.Longest.{time_of, IsFirstGreatest, IsLongest};
 
@@ -6,8 +6,8 @@ use bq_disc::limits::TASKS;
 use bq_schedule::Slice;
 use std::alloc::{AllocError, Global};
 
-/// The task that ran longest from one moment to another, of these runs; of equal ones the one of the least number. `None`
-/// where none ran.
+/// The task that ran longest from one moment to another, among these runs. Of equal ones it is the task of least number. `None` if no
+/// task ran.
 pub fn longest_in(
     alloc: Global,
     runs: &[Slice],
@@ -21,7 +21,7 @@ pub fn longest_in(
     Ok(greatest(times.as_slice()))
 }
 
-/// How long each task ran from one moment to another, of these runs, at the place of its number.
+/// How long each task ran from one moment to another, among these runs. A task's time is at the place of its number.
 fn times_in(alloc: Global, runs: &[Slice], from: u64, to: u64) -> Result<Vec<u128>, AllocError>
     ensures length { IfOk result (λ v. vec_len v ≡ TASKS) }
     ensures times { IfOk result (λ v. (task : ℕ) → task < TASKS → slice_index v.items task ≡ time_of from to runs.now task) }
@@ -38,7 +38,7 @@ fn times_in(alloc: Global, runs: &[Slice], from: u64, to: u64) -> Result<Vec<u12
     Ok(times)
 }
 
-/// The place of the greatest time, of equal ones the first. `None` where all are 0.
+/// The place of the greatest time, the first of equal ones. `None` if all are 0.
 fn greatest(times: &[u128]) -> Option<u16>
     requires { length times.now ≡ TASKS }
     ensures greatest { IfSome result (IsFirstGreatest TASKS (λ task. slice_index times.now task)) }

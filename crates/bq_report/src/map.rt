@@ -1,8 +1,8 @@
-//! The map: a row a processor, a column a step of time, a letter a task.
+//! The map: a row for each processor, a column for each step of time, a letter for each task.
 ghost use Rattle.std.specs.Prelude.{◌≡◌, ◌++◌, ◌∷◌, [], ℕ, List, length, replicate, OnOk, OnErr, IfOk, string_bytes};
 ghost use Rattle.bq_report.specs.Legends.{Draws};
 ghost use Rattle.bq_report.specs.MapRows.{Row};
-ghost use Rattle.bq_report.specs.Maps.{DrawnRow, Holds, HoldsLast, HoldsPart, IsDrawn, IsDrawnBy, IsDrawnRow, IsHeldPart, IsMap, all_columns, columns_in, empty_row, row_text, rows_text, step_over};
+ghost use Rattle.bq_report.specs.Maps.{DrawnRow, RowsHold, HoldsLast, HoldsPart, IsDrawn, IsDrawnBy, IsDrawnRow, IsHeldPart, IsMap, all_columns, columns_in, empty_row, row_text, rows_text, step_over};
 ghost use Rattle.bq_report.specs.Reports.{Adds, AreParts};
 ghost use Rattle.bq_report.specs.Rosters.{enlisted};
 
@@ -22,9 +22,8 @@ use std::alloc::{AllocError, Global};
 /// How wide the names of the rows are.
 const MARGIN: usize = 8;
 
-/// A row a processor, a column a step of time. A column shows the letter of the task that ran longest in it, of those that are
-/// shown; `-` where only other tasks ran, and `.` where none did. It holds the runs, since the step depends on where the trace
-/// ends.
+/// A row for each processor, a column for each step of time. A column shows the letter of the shown task that ran longest in it, `-`
+/// if only hidden tasks ran, and `.` if none ran. The map holds the runs, because the step depends on where the trace ends.
 #[derive(Drop)]
 pub struct Map {
     alloc: Global,
@@ -49,9 +48,9 @@ impl Map {
         }
     }
 
-    /// Holds the part of a run that lies in the window, be its task shown or not. If memory runs out nothing changes.
+    /// Holds the part of a run that is in the window, whether its task is shown or not. If memory runs out, nothing changes.
     fn hold(&mut self, run: Option<Slice>) -> Result<(), AllocError>
-        ensures ok { OnOk result (Holds self.old.window run self.old.rows.items self.new.rows.items) }
+        ensures ok { OnOk result (RowsHold self.old.window run self.old.rows.items self.new.rows.items) }
         ensures err { OnErr result (self.new.rows.items ≡ self.old.rows.items) }
         ensures same { (self.new.window ≡ self.old.window) × (self.new.width ≡ self.old.width) × (self.new.roster ≡ self.old.roster) }
     {
@@ -61,7 +60,7 @@ impl Map {
         }
     }
 
-    /// Holds the last run of each processor, which may go on where the schedule ends.
+    /// Holds the last run of each processor, which may still go on when the schedule ends.
     fn hold_last(&mut self, schedule: &Schedule) -> Result<(), AllocError>
         ensures rows { OnOk result (HoldsLast self.old.window schedule.now 64 self.old.rows.items self.new.rows.items) }
         ensures same { (self.new.window ≡ self.old.window) × (self.new.width ≡ self.old.width) × (self.new.roster ≡ self.old.roster) }
@@ -72,7 +71,7 @@ impl Map {
         Ok(())
     }
 
-    /// Adds the map over an extent: nothing where that is longer than any clock counts.
+    /// Adds the map over an extent. Adds nothing if the extent is longer than any clock counts.
     fn write_over(
         &mut self,
         extent: &Extent,
@@ -124,14 +123,14 @@ fn add_rows(alloc: Global, count: usize, rows: &mut Vec<MapRow>) -> Result<(), A
     Ok(())
 }
 
-/// The part of a run that lies in the window at a processor that is shown, be its task shown or not.
+/// The part of a run that is in the window at a shown processor, whether its task is shown or not.
 fn held_part(alloc: Global, window: &Window, run: Option<Slice>) -> Option<Slice>
     ensures { IsHeldPart window.now run result }
 {
     window.with_every_task(alloc).shown_part(run)
 }
 
-/// Holds a part of a run at its processor, if that has a row. If memory runs out nothing changes.
+/// Holds a part of a run in its processor's row, if there is one. If memory runs out, nothing changes.
 fn hold_part(window: &Window, run: Slice, rows: &mut Vec<MapRow>) -> Result<(), AllocError>
     ensures ok { OnOk result (HoldsPart window.now (Some run) rows.old.items rows.new.items) }
     ensures err { OnErr result (rows.new.items ≡ rows.old.items) }
@@ -145,7 +144,7 @@ fn hold_part(window: &Window, run: Slice, rows: &mut Vec<MapRow>) -> Result<(), 
     Ok(())
 }
 
-/// How many columns there are for steps of time.
+/// How many columns of a line show steps of time.
 fn columns_in(width: usize) -> u16
     ensures { result ≡ columns_in width }
 {
@@ -154,7 +153,7 @@ fn columns_in(width: usize) -> u16
         .max(1)
 }
 
-/// The lines of the rows that are shown. It notes what their columns show.
+/// Adds the lines of the shown rows, and notes what their columns show.
 fn write_rows(
     alloc: Global,
     window: &Window,
@@ -178,7 +177,7 @@ fn write_rows(
     Ok(())
 }
 
-/// The line of a row with these columns.
+/// Adds the line of a row with these columns.
 fn write_row(
     roster: &Roster,
     number: usize,
@@ -220,7 +219,7 @@ impl ScheduleForm for Map {
         _names: &Names,
         text: &mut String,
     ) -> Result<(), AllocError>
-        ensures ok { OnOk result (Holds self.old.window change.now.run self.old.rows.items self.new.rows.items) }
+        ensures ok { OnOk result (RowsHold self.old.window change.now.run self.old.rows.items self.new.rows.items) }
         ensures err { OnErr result (self.new.rows.items ≡ self.old.rows.items) }
         ensures none { string_bytes text.new ≡ string_bytes text.old }
         ensures same { (self.new.window ≡ self.old.window) × (self.new.width ≡ self.old.width) × (self.new.roster ≡ self.old.roster) }

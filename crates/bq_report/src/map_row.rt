@@ -1,4 +1,4 @@
-//! A row of a map: the runs of a processor, and what stands in its columns.
+//! A row of a map: the runs of a processor, and what its columns show.
 ghost use Rattle.std.specs.Prelude.{◌≡◌, ℕ, ◌≤◌, List, nat_le, nat_lt, IfOk, OnOk, OnErr};
 ghost use Rattle.std.specs.List.{prefix_len};
 ghost use Rattle.std.specs.List.Sorted.{IsNonDecreasingBy, IsPermutation};
@@ -13,7 +13,7 @@ use bq_schedule::Slice;
 use std::alloc::{AllocError, Global};
 use std::marker::Model;
 
-/// What stands in a column: the task that ran longest, of those that are shown; that only others ran; or that none did.
+/// What a column shows: the shown task that ran longest, that only hidden tasks ran, or that none ran.
 #[derive(Clone, Copy)]
 pub(crate) enum Column {
     Task(u16),
@@ -21,7 +21,7 @@ pub(crate) enum Column {
     Idle,
 }
 
-/// The runs of a processor: those of tasks that are shown, and the others.
+/// The runs of a processor: those of shown tasks, and those of hidden tasks.
 #[derive(Drop)]
 pub(crate) struct MapRow {
     shown: Vec<Slice>,
@@ -37,7 +37,7 @@ impl Model for MapRow {
 }
 
 impl MapRow {
-    /// No run.
+    /// A row without a run.
     pub(crate) fn new(alloc: Global) -> MapRow
         ensures { result ≡ empty_row }
     {
@@ -47,7 +47,7 @@ impl MapRow {
         }
     }
 
-    /// Holds one more run, whose task is shown or not. If memory runs out nothing changes.
+    /// Holds one more run, whose task is shown or not. If memory runs out, nothing changes.
     pub(crate) fn hold(&mut self, run: Slice, is_shown: bool) -> Result<(), AllocError>
         ensures ok { OnOk result (self.new ≡ with_run is_shown run self.old) }
         ensures err { OnErr result (self.new ≡ self.old) }
@@ -60,7 +60,7 @@ impl MapRow {
         Ok(())
     }
 
-    /// What stands in the columns. It brings the runs into the order in which they begin, and such they are in a schedule.
+    /// What the columns show. Sorts the runs by their beginnings, which is their order in a schedule anyway.
     pub(crate) fn columns(&mut self, alloc: Global, grid: &Grid) -> Result<Vec<Column>, AllocError>
         ensures { IfOk result (λ columns. AreColumns self.old grid.now columns.items) }
     {
@@ -70,7 +70,7 @@ impl MapRow {
     }
 }
 
-/// Brings runs into the order in which they begin.
+/// Sorts runs by their beginnings.
 fn sort(runs: &mut Vec<Slice>)
     ensures order { IsNonDecreasingBy (λ (run : Slice). run.from) runs.new.items }
     ensures same { IsPermutation runs.old.items runs.new.items }
@@ -78,7 +78,7 @@ fn sort(runs: &mut Vec<Slice>)
     runs.sort_unstable_by_key(|run| run.from);
 }
 
-/// What stands in the columns, of these runs of tasks that are shown, and these others.
+/// What the columns show, by the runs of shown tasks and the runs of hidden ones.
 fn columns_of(
     alloc: Global,
     shown: &[Slice],
@@ -102,7 +102,7 @@ fn columns_of(
     Ok(columns)
 }
 
-/// What stands between two moments, of these runs of tasks that are shown, and these others.
+/// What a column between two moments shows, by the runs of shown tasks and the runs of hidden ones.
 fn column_between(
     alloc: Global,
     shown: &[Slice],
@@ -123,7 +123,7 @@ fn column_between(
     }
 }
 
-/// Those of a processor's runs that begin before a moment.
+/// The runs that begin before a moment, if the runs are sorted by their beginnings.
 fn begun_before(runs: &[Slice], to: u64) -> &[Slice]
     requires { IsNonDecreasingBy (λ (run : Slice). run.from) runs.now }
     ensures { (from task : ℕ) → time_of from to result.now task ≡ time_of from to runs.now task }
@@ -138,7 +138,7 @@ fn begun(runs: &[Slice], to: u64) -> usize
     runs.iter().take_while(|run| run.from < to).count()
 }
 
-/// A processor's runs without those at their head that are over at a moment.
+/// The runs without the first ones, which are over at a moment.
 fn not_over(runs: &[Slice], at: u64) -> &[Slice]
     requires { IsNonDecreasingBy (λ (run : Slice). run.from) runs.now }
     ensures order { IsNonDecreasingBy (λ (run : Slice). run.from) result.now }

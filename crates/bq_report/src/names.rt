@@ -27,7 +27,7 @@ impl Model for Names {
 }
 
 impl Names {
-    /// No task has a name.
+    /// Names in which no task has one.
     pub fn new(alloc: Global) -> Names
         ensures { (task : ℕ) → name_of result task ≡ None }
     {
@@ -37,7 +37,7 @@ impl Names {
         }
     }
 
-    /// Reads a comment as it stands in the trace. One that names no task is let be. Where there is no memory nothing changes.
+    /// Reads a comment as the trace has it. A comment that names no task changes nothing. If memory runs out, nothing changes.
     pub fn learn(&mut self, comment: &[u8]) -> Result<(), AllocError>
         ensures ok { OnOk result (Learns comment.now self.old self.new) }
         ensures err { OnErr result ((task : ℕ) → name_of self.new task ≡ name_of self.old task) }
@@ -49,7 +49,7 @@ impl Names {
         Ok(())
     }
 
-    /// The name of a task.
+    /// The name of a task, if it has one.
     pub fn of(&self, task: u16) -> Option<&str>
         ensures { option_map (λ name. name.now) result ≡ name_of self.now task }
     {
@@ -59,7 +59,7 @@ impl Names {
         }
     }
 
-    /// The name of a task; nothing where it has none.
+    /// The name of a task; empty if it has none.
     pub fn text(&self, task: u16) -> &str
         ensures { result.now ≡ name_text self.now task }
     {
@@ -70,7 +70,7 @@ impl Names {
     }
 }
 
-/// The task that a comment names, and its name.
+/// The task that a comment names, and its name. `None` if the comment names no task.
 fn naming(comment: &[u8]) -> Option<(u16, &str)>
     ensures named { IfSome result (λ naming. IsNaming comment.now naming.0 naming.1.now) }
     ensures none { IfNone result ((task : ℕ) (name : List ℕ) → ¬ (IsNaming comment.now task name)) }
@@ -84,7 +84,7 @@ fn naming(comment: &[u8]) -> Option<(u16, &str)>
     Some((task, name))
 }
 
-/// The number of a task, in decimal.
+/// The number of a task, in decimal. `None` if the word is no such number.
 fn task_number(word: &[u8]) -> Option<u16>
     ensures { result ≡ task_number word.now }
 {

@@ -4,8 +4,8 @@ ghost use Rattle.bq_report.specs.Columns.{hundredths_of, percent_text};
 
 use std::fmt;
 
-/// How much of a whole a part is, in percent with two decimals. What is less than a hundredth of a percent is cut off; of
-/// nothing every part is 0.
+/// How much of a whole a part is, in percent with two decimals. Less than a hundredth of a percent is cut off. If the whole is 0, so is
+/// the result.
 ///
 /// 3 of 4 are `75.00`.
 #[derive(Clone, Copy)]
@@ -15,7 +15,7 @@ pub struct Percent {
 }
 
 impl Percent {
-    /// In hundredths of a percent.
+    /// The part, in hundredths of a percent.
     fn hundredths(&self) -> u128
         ensures { result ≡ hundredths_of self.now.part self.now.whole }
     {

@@ -1,4 +1,4 @@
-//! The report: a table of the tasks, of their latencies, of the processors and of the policies.
+//! The report: tables of the tasks, of their latencies, of the processors and of the policies.
 ghost use Rattle.std.specs.Prelude.{◌≡◌, ◌↔◌, ◌++◌, ℕ, [], IsTrue, OnOk, OnErr, string_bytes};
 ghost use Rattle.bq_schedule.specs.WakeLatencies.{IsSame, TakesStart, latencies_of};
 ghost use Rattle.bq_report.specs.Reports.{Adds, IsHookTable, IsLatencyLine, IsProcessorLine, IsReport, IsTable, IsTaskLine, WasAsked, hook_head_unless, latency_head, processor_head, task_head};
@@ -16,8 +16,8 @@ use bq_disc::limits::{PROCESSORS, TASKS};
 use bq_schedule::{Change, ProcessorFigures, Schedule, WakeLatencies};
 use std::alloc::{AllocError, Global};
 
-/// The figures of a whole trace, in tables. The window chooses which tasks and processors have lines; a stretch of time in it
-/// changes no figure. It holds the latency of each wake.
+/// The figures of a whole trace, in tables. The window chooses which tasks and processors have lines. The window's stretch of time
+/// changes no figure. The report holds the latency of each wake.
 #[derive(Drop)]
 pub struct Report {
     window: Window,
@@ -26,7 +26,7 @@ pub struct Report {
 }
 
 impl Report {
-    /// A report of what is in the window.
+    /// A report of the tasks and processors in the window.
     pub fn new(alloc: Global, window: Window) -> Report
         ensures window { result.window ≡ window }
         ensures latencies { (task : ℕ) → latencies_of result.latencies task ≡ [] }
@@ -39,7 +39,7 @@ impl Report {
         }
     }
 
-    /// This many wakes did nothing, since their task did not wait. A simulation counts them; no trace tells them.
+    /// Notes how many wakes did nothing because their task did not wait. A simulation counts these wakes; no trace shows them.
     pub fn count_missed(&mut self, wakes: u64)
         ensures { self.new ≡ record self.old { missed = wakes } }
     {
@@ -47,7 +47,7 @@ impl Report {
     }
 }
 
-/// The table of the tasks.
+/// Adds the table of the tasks.
 fn write_tasks(
     window: &Window,
     schedule: &Schedule,
@@ -64,7 +64,7 @@ fn write_tasks(
     Ok(())
 }
 
-/// The line of a task, if it has one.
+/// Adds the line of a task, if it has one.
 fn write_task_if(
     window: &Window,
     schedule: &Schedule,
@@ -82,7 +82,7 @@ fn write_task_if(
     write_task_line(text, task, names.text(task), &figures, fair)
 }
 
-/// The table of the tasks' latencies, which it sorts.
+/// Adds the table of the tasks' latencies. Sorts the latencies.
 fn write_latencies(
     window: &Window,
     latencies: &mut WakeLatencies,
@@ -101,7 +101,7 @@ fn write_latencies(
     Ok(())
 }
 
-/// The line of a task's latencies, if it has one. It sorts them, and no other task's.
+/// Adds the line of a task's latencies, if it has one. Sorts this task's latencies, and no other task's.
 fn write_latency_if(
     window: &Window,
     latencies: &mut WakeLatencies,
@@ -130,7 +130,7 @@ fn write_latency_if(
     )
 }
 
-/// The table of the processors.
+/// Adds the table of the processors.
 fn write_processors(
     window: &Window,
     schedule: &Schedule,
@@ -146,7 +146,7 @@ fn write_processors(
     Ok(())
 }
 
-/// The line of a processor, if it has one.
+/// Adds the line of a processor, if it has one.
 fn write_processor_if(
     window: &Window,
     schedule: &Schedule,
@@ -161,7 +161,7 @@ fn write_processor_if(
     write_processor_line(text, number, &schedule.processor(number))
 }
 
-/// The table of the policies that were asked; nothing if no policy was.
+/// Adds the table of the policies that were asked. Adds nothing if no policy was asked.
 fn write_policies(window: &Window, schedule: &Schedule, text: &mut String) -> Result<(), AllocError>
     ensures { OnOk result (Adds (IsHookTable window.now schedule.now) (string_bytes text.old) (string_bytes text.new)) }
 {
@@ -177,7 +177,7 @@ fn write_policies(window: &Window, schedule: &Schedule, text: &mut String) -> Re
     Ok(())
 }
 
-/// The head of the policies, unless it stands there already.
+/// Adds the head of the table of policies, unless the text has it already.
 fn write_hook_head(text: &mut String, has_head: bool) -> Result<(), AllocError>
     ensures { OnOk result (string_bytes text.new ≡ string_bytes text.old ++ hook_head_unless has_head) }
 {

@@ -5,8 +5,8 @@ ghost use Rattle.bq_report.specs.Rosters.{enlisted, place_in};
 use std::alloc::{AllocError, Global};
 use std::marker::Model;
 
-/// The tasks of a trace, in the order in which they are admitted. The place of a task is its own, whatever is shown of the
-/// trace, and no task that comes later changes it: by it a task has its letter in a map and its colour in a picture.
+/// The tasks of a trace, in the order in which they are admitted. A task's place does not depend on what is shown of the trace, and no
+/// later task changes it. The place gives the task its letter in a map and its colour in a picture.
 #[derive(Drop)]
 pub struct Roster {
     tasks: Vec<u16>,
@@ -21,7 +21,7 @@ impl Model for Roster {
 }
 
 impl Roster {
-    /// No task is admitted yet.
+    /// A roster without tasks.
     pub fn new(alloc: Global) -> Roster
         ensures { result ≡ [] }
     {
@@ -30,7 +30,7 @@ impl Roster {
         }
     }
 
-    /// Gives a task the next place, unless it has one. If memory runs out nothing changes.
+    /// Gives a task the next place, unless it has one. If memory runs out, nothing changes.
     pub fn admit(&mut self, task: u16) -> Result<(), AllocError>
         ensures ok { OnOk result (self.new ≡ enlisted task self.old) }
         ensures err { OnErr result (self.new ≡ self.old) }
@@ -41,7 +41,7 @@ impl Roster {
         Ok(())
     }
 
-    /// The place of a task, from 0 on. `None` where it is not admitted.
+    /// The place of a task, from 0 on. `None` if it is not admitted.
     pub fn place(&self, task: u16) -> Option<usize>
         ensures { result ≡ place_in self.now task }
     {

@@ -15,8 +15,8 @@ use std::alloc::{AllocError, Global};
 use std::marker::Model;
 use std::str;
 
-/// The slices that are shown, a row a slice, in the order in which they were charged: processor, task, from, to. Contracts see
-/// its window.
+/// The slices that are shown, a row for each, in the order in which they were charged: processor, task, from, to. Contracts see the
+/// form's window.
 #[derive(Drop)]
 pub struct Csv {
     alloc: Global,
@@ -32,7 +32,7 @@ impl Model for Csv {
 }
 
 impl Csv {
-    /// The slices in the window.
+    /// A form for the slices in the window.
     pub fn new(alloc: Global, window: Window) -> Csv
         ensures { result ≡ window }
     {
@@ -57,7 +57,7 @@ impl Csv {
     }
 }
 
-/// Adds a row of these fields, where it is text.
+/// Adds a row of these fields, if it is UTF-8.
 fn write_row(alloc: Global, fields: &[&[u8]], text: &mut String) -> Result<(), AllocError>
     ensures { OnOk result (IsUtf8 (row_text default_writer (map (λ f. f.now) fields.now))
         → string_bytes text.new ≡ string_bytes text.old ++ row_text default_writer (map (λ f. f.now) fields.now)) }

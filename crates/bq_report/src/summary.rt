@@ -18,8 +18,8 @@ use bq_schedule::{
 use serde_json::{Value, json};
 use std::alloc::{AllocError, Global};
 
-/// The figures of the report, in full, as one JSON object: `schema`, then `tasks` and `processors`, an object each, and
-/// `missed_wakes` where there are any. Times are nanoseconds.
+/// The figures of the report, in full, as one JSON object: `schema`, then `tasks` and `processors`, with an object for each, and
+/// `missed_wakes` if there are any. Times are nanoseconds.
 #[derive(Drop)]
 pub struct Json {
     alloc: Global,
@@ -28,11 +28,11 @@ pub struct Json {
     missed: u64,
 }
 
-/// Before the elements of the tasks: the version of what the object holds. It changes if a key goes or means something else.
+/// The text before the tasks. The schema is the version of what the object holds. It changes if a key goes or means something else.
 const HEAD: &str = "{\"schema\":1,\"tasks\":[";
 
 impl Json {
-    /// The figures of what is in the window.
+    /// A form for the figures of the tasks and processors in the window.
     pub fn new(alloc: Global, window: Window) -> Json
         ensures window { result.window ≡ window }
         ensures latencies { (task : ℕ) → latencies_of result.latencies task ≡ [] }
@@ -46,7 +46,7 @@ impl Json {
         }
     }
 
-    /// This many wakes did nothing, since their task did not wait. A simulation counts them; no trace tells them.
+    /// Notes how many wakes did nothing because their task did not wait. A simulation counts these wakes; no trace shows them.
     pub fn count_missed(&mut self, wakes: u64)
         ensures { self.new ≡ record self.old { missed = wakes } }
     {
@@ -54,7 +54,7 @@ impl Json {
     }
 }
 
-/// The elements of the tasks.
+/// Adds the elements of the tasks.
 fn write_tasks(
     alloc: Global,
     window: &Window,
@@ -78,7 +78,7 @@ fn write_tasks(
     Ok(())
 }
 
-/// The element of a task.
+/// Adds the element of a task.
 fn write_task(
     alloc: Global,
     schedule: &Schedule,
@@ -95,7 +95,7 @@ fn write_task(
     write_element(alloc, &value, is_first, text)
 }
 
-/// The elements of the processors.
+/// Adds the elements of the processors.
 fn write_processors(
     alloc: Global,
     window: &Window,
@@ -114,7 +114,7 @@ fn write_processors(
     Ok(())
 }
 
-/// The element of a processor.
+/// Adds the element of a processor.
 fn write_processor(
     alloc: Global,
     number: u8,
@@ -254,7 +254,7 @@ fn number(value: Option<u64>) -> Value
     }
 }
 
-/// The member of the wakes that did nothing, if there are any.
+/// Adds the member for the wakes that did nothing, if there are any.
 fn write_missed(text: &mut String, missed: u64) -> Result<(), AllocError>
     ensures { OnOk result (string_bytes text.new ≡ string_bytes text.old ++ missed_member missed) }
 {
@@ -264,7 +264,7 @@ fn write_missed(text: &mut String, missed: u64) -> Result<(), AllocError>
     write!(text, ",\"missed_wakes\":{missed}")
 }
 
-/// The end of the object.
+/// Adds the end of the object.
 fn write_end(text: &mut String) -> Result<(), AllocError>
     ensures { OnOk result (string_bytes text.new ≡ string_bytes text.old ++ codes "}\n") }
 {

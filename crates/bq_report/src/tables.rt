@@ -7,28 +7,28 @@ use crate::percent::Percent;
 use bq_schedule::{HookFigures, PARTS, Percentiles, ProcessorFigures, TaskFigures};
 use std::alloc::AllocError;
 
-/// Above the lines of the tasks.
+/// The head above the lines of the tasks.
 pub const TASK_HEAD: &str =
     " task name            nice       cpu ms      fair ms switches preempted migrated\n";
 
-/// Above the lines of the latencies.
+/// The head above the lines of the latencies.
 pub const LATENCY_HEAD: &str =
     " task name               wakes      p50 us      p95 us      p99 us      max us\n";
 
-/// Above the lines of the processors.
+/// The head above the lines of the processors.
 pub const PROCESSOR_HEAD: &str = "  cpu  busy %      busy ms      idle ms switches\n";
 
-/// Above the lines of the hooks at which a policy was asked; an empty line before it.
+/// The head above the lines of the hooks at which a policy was asked. It begins with an empty line.
 pub const HOOK_HEAD: &str = "\n  cpu hook            asked  overruled          steps\n";
 
-/// A task by its number and its name, in 20 columns.
+/// Adds a task's number and name, in 20 columns.
 pub fn write_task(text: &mut String, task: u16, name: &str) -> Result<(), AllocError>
     ensures { OnOk result (string_bytes text.new ≡ string_bytes text.old ++ task_columns task name.now) }
 {
     write!(text, "{task:>5} {name:<14.14}")
 }
 
-/// Writes a time in nanoseconds as milliseconds, in 13 columns: wider if needed, always after a space.
+/// Adds a time in nanoseconds as milliseconds, in 13 columns: wider if needed, always after a space.
 pub fn write_millis(text: &mut String, time: u64) -> Result<(), AllocError>
     ensures { OnOk result (string_bytes text.new ≡ string_bytes text.old ++ millis_column time) }
 {
@@ -38,7 +38,7 @@ pub fn write_millis(text: &mut String, time: u64) -> Result<(), AllocError>
     write!(text, " {whole:>8}.{decimals}")
 }
 
-/// Writes a latency in nanoseconds as microseconds, in 12 columns: wider if needed, always after a space; `-` for no latency.
+/// Adds a latency in nanoseconds as microseconds, in 12 columns: wider if needed, always after a space; `-` for no latency.
 fn write_latency(text: &mut String, latency: Option<u64>) -> Result<(), AllocError>
     ensures { OnOk result (string_bytes text.new ≡ string_bytes text.old ++ latency_column latency) }
 {
@@ -59,7 +59,7 @@ pub fn nanoseconds(parts: u128) -> u64
     u64::try_from(parts.saturating_add(PARTS / 2) / PARTS).unwrap_or(u64::MAX)
 }
 
-/// The line of a task: its nice value, its time and its fair time, and how often it began to run, gave way and migrated.
+/// Adds the line of a task: its nice value, its time, its fair time, and how often it started, was preempted and migrated.
 pub fn write_task_line(
     text: &mut String,
     task: u16,
@@ -80,7 +80,7 @@ pub fn write_task_line(
     write!(text, " {switches:>8} {preemptions:>9} {migrations:>8}\n")
 }
 
-/// The line of a task's latencies, from wake to run; behind them how long it waits, where it has not run since its last wake.
+/// Adds the line of a task's latencies, from wake to run. If the task has not run since its last wake, the line ends with its wait.
 pub fn write_latency_line(
     text: &mut String,
     task: u16,
@@ -98,7 +98,7 @@ pub fn write_latency_line(
     text.push_str("\n")
 }
 
-/// How long a task waits that has not run since its last wake, where it does.
+/// Adds how long a task has waited since its last wake, if it has not run since.
 fn write_still_waiting(text: &mut String, time: Option<u64>) -> Result<(), AllocError>
     ensures { OnOk result (string_bytes text.new ≡ string_bytes text.old ++ still_waiting_text time) }
 {
@@ -111,7 +111,7 @@ fn write_still_waiting(text: &mut String, time: Option<u64>) -> Result<(), Alloc
     }
 }
 
-/// A task's latencies.
+/// Adds a task's latencies.
 fn write_latencies(text: &mut String, percentiles: &Percentiles) -> Result<(), AllocError>
     ensures { OnOk result (string_bytes text.new ≡ string_bytes text.old ++ latency_columns percentiles.now) }
 {
@@ -121,7 +121,7 @@ fn write_latencies(text: &mut String, percentiles: &Percentiles) -> Result<(), A
     write_latency(text, percentiles.greatest)
 }
 
-/// How many wakes did nothing since their task did not wait, where any did.
+/// Adds how many wakes did nothing because their task did not wait, if any did.
 pub fn write_missed_line(text: &mut String, missed: u64) -> Result<(), AllocError>
     ensures { OnOk result (string_bytes text.new ≡ string_bytes text.old ++ missed_line missed) }
 {
@@ -131,7 +131,7 @@ pub fn write_missed_line(text: &mut String, missed: u64) -> Result<(), AllocErro
     write!(text, "\nwakes that found no task waiting: {missed}\n")
 }
 
-/// The line of a processor: how much of its time a task ran.
+/// Adds the line of a processor: how much of its time a task ran.
 pub fn write_processor_line(
     text: &mut String,
     processor: u8,
@@ -151,7 +151,7 @@ pub fn write_processor_line(
     write!(text, " {switches:>8}\n")
 }
 
-/// The lines of a processor's hooks at which a policy was asked.
+/// Adds the lines of a processor's hooks at which a policy was asked.
 pub fn write_hook_lines(
     text: &mut String,
     processor: u8,
@@ -164,7 +164,7 @@ pub fn write_hook_lines(
     write_hook_line(text, processor, "pull", &figures.pull)
 }
 
-/// The line of a hook, where a policy was asked.
+/// Adds the line of a hook, if a policy was asked there.
 fn write_hook_line(
     text: &mut String,
     processor: u8,

@@ -18,15 +18,15 @@ use bq_schedule::{Change, ProcessorFigures, Schedule, Start, Stop, Wake};
 use std::alloc::AllocError;
 use std::marker::Model;
 
-/// Above the lines.
+/// The head above the lines.
 pub const HEAD: &str = concat!(
     "           time    cpu  task                  wait time  sch delay   run time\n",
     "                                                 (msec)     (msec)     (msec)\n",
     "--------------- ------  --------------------  ---------  ---------  ---------\n"
 );
 
-/// A line for each time that a task ran, at the moment at which it ceased, and lines that mark wakes and migrations. Lines
-/// stand in the order of the trace. A task that runs when the trace is over has a line at the end. Contracts see its window.
+/// A line for each time that a task ran, at the moment at which it stopped, and lines that mark wakes and migrations. The lines are in
+/// the order of the trace. A task that still runs when the trace ends has a line at the end. Contracts see the form's window.
 #[derive(Drop)]
 pub struct Timehist {
     window: Window,
@@ -41,14 +41,14 @@ impl Model for Timehist {
 }
 
 impl Timehist {
-    /// The lines of the window.
+    /// A form for the lines of the window.
     pub fn new(window: Window) -> Timehist
         ensures { result ≡ window }
     {
         Timehist { window }
     }
 
-    /// A wake, if it is shown.
+    /// The wake, if it is shown.
     fn shown_wake(&self, wake: Option<Wake>) -> Option<Wake>
         ensures { IsShownWake self.now wake result }
     {
@@ -60,7 +60,7 @@ impl Timehist {
         }
     }
 
-    /// A run that ceased, if it is shown.
+    /// The end of a run, if it is shown.
     fn shown_stop(&self, stop: Option<Stop>) -> Option<Stop>
         ensures { IsShownStop self.now stop result }
     {
@@ -72,14 +72,14 @@ impl Timehist {
         }
     }
 
-    /// Whether a run is shown that ceases then.
+    /// Whether a run is shown that ends at this moment.
     fn shows_run(&self, start: &Start, at: u64) -> bool
         ensures { IsTrue result ↔ Shows self.now start.now.processor start.now.task at }
     {
         self.window.shows(start.processor, start.task, at)
     }
 
-    /// How a task began to run on another processor than before, if that is shown.
+    /// The start of a task on another processor than before, if it is shown.
     fn shown_migration(&self, start: Option<Start>) -> Option<Start>
         ensures { IsShownMigration self.now start result }
     {
@@ -92,8 +92,7 @@ impl Timehist {
     }
 }
 
-/// The lines of a change: of its wake, of the run that ends by it, and of the migration by which another begins, as far as
-/// there are any.
+/// Adds the lines of a change: of its wake, of the run that it ends, and of the migration with which another begins, if there are any.
 fn write_change(
     text: &mut String,
     wake: Option<Wake>,
@@ -109,7 +108,7 @@ fn write_change(
     write_migration(text, migration, names)
 }
 
-/// The line of a wake, if there is one.
+/// Adds the line of a wake, if there is one.
 fn write_wake(
     text: &mut String,
     wake: Option<Wake>,
@@ -126,7 +125,7 @@ fn write_wake(
     write_awakened(text, &wake, names)
 }
 
-/// Which task a wake wakes, and where it goes.
+/// Adds which task a wake wakes, and the processor on which the task is placed.
 fn write_awakened(text: &mut String, wake: &Wake, names: &Names) -> Result<(), AllocError>
     ensures { OnOk result (string_bytes text.new ≡ string_bytes text.old ++ awakened_text names.now wake.now) }
 {
@@ -135,14 +134,14 @@ fn write_awakened(text: &mut String, wake: &Wake, names: &Names) -> Result<(), A
     write_target(text, wake.to)
 }
 
-/// Where a wake goes, to the end of its line.
+/// Adds the processor on which a woken task is placed, and ends the line.
 fn write_target(text: &mut String, processor: u8) -> Result<(), AllocError>
     ensures { OnOk result (string_bytes text.new ≡ string_bytes text.old ++ target_text processor) }
 {
     write!(text, " on cpu {processor}\n")
 }
 
-/// Who runs, in the columns of a task.
+/// Adds the running task, in the columns of a task.
 fn write_runner(text: &mut String, running: Option<Start>, names: &Names) -> Result<(), AllocError>
     ensures { OnOk result (string_bytes text.new ≡ string_bytes text.old ++ runner_columns names.now running) }
 {
@@ -152,7 +151,7 @@ fn write_runner(text: &mut String, running: Option<Start>, names: &Names) -> Res
     }
 }
 
-/// The line of a run that ceased, if there is one.
+/// Adds the line of a run that ended, if there is one.
 fn write_stop(text: &mut String, stop: Option<Stop>, names: &Names) -> Result<(), AllocError>
     ensures { OnOk result (string_bytes text.new ≡ string_bytes text.old ++ stop_text names.now stop) }
 {
@@ -164,7 +163,7 @@ fn write_stop(text: &mut String, stop: Option<Stop>, names: &Names) -> Result<()
     text.push_str("\n")
 }
 
-/// The line of a migration, if there is one.
+/// Adds the line of a migration, if there is one.
 fn write_migration(text: &mut String, start: Option<Start>, names: &Names) -> Result<(), AllocError>
     ensures { OnOk result (string_bytes text.new ≡ string_bytes text.old ++ migration_text names.now start) }
 {
@@ -176,7 +175,7 @@ fn write_migration(text: &mut String, start: Option<Start>, names: &Names) -> Re
     write_origin(text, &start)
 }
 
-/// From which processor a task migrates to which, if it ran before.
+/// Adds from which processor a task migrates to which, if it ran before.
 fn write_origin(text: &mut String, start: &Start) -> Result<(), AllocError>
     ensures { OnOk result (string_bytes text.new ≡ string_bytes text.old ++ origin_text start.now) }
 {
@@ -187,7 +186,7 @@ fn write_origin(text: &mut String, start: &Start) -> Result<(), AllocError>
     write!(text, "  migrated: cpu {before} => {processor}\n")
 }
 
-/// The lines of the runs that go on where the schedule ends, of those that are shown.
+/// Adds the lines of the shown runs that still go on when the schedule ends.
 fn write_runners(
     window: &Window,
     schedule: &Schedule,
@@ -204,7 +203,7 @@ fn write_runners(
     Ok(())
 }
 
-/// The line of the run that goes on at a processor, if there is one and it is shown.
+/// Adds the line of the run that goes on at a processor, if there is one and it is shown.
 fn write_runner_at(
     window: &Window,
     processor: u8,
@@ -219,7 +218,7 @@ fn write_runner_at(
     write_run_on(text, runner, figures.last, names)
 }
 
-/// How the task began that runs on at a processor, if that is shown.
+/// The start of the task that runs on at a processor, if it is shown.
 fn shown_runner(window: &Window, processor: u8, last: u64, running: Option<Start>) -> Option<Start>
     ensures { IsShownRunner window.now processor last running result }
 {
@@ -231,7 +230,7 @@ fn shown_runner(window: &Window, processor: u8, last: u64, running: Option<Start
     }
 }
 
-/// The line of a run that goes on, if there is one.
+/// Adds the line of a run that goes on, if there is one.
 fn write_run_on(
     text: &mut String,
     start: Option<Start>,
@@ -247,7 +246,7 @@ fn write_run_on(
     text.push_str("  runs on\n")
 }
 
-/// The columns of a run that began so and ends at this moment.
+/// Adds the columns of a run with this start that ends at this moment.
 fn write_run(text: &mut String, start: &Start, at: u64, name: &str) -> Result<(), AllocError>
     ensures { OnOk result (string_bytes text.new ≡ string_bytes text.old ++ run_columns start.now at name.now) }
 {
@@ -258,7 +257,7 @@ fn write_run(text: &mut String, start: &Start, at: u64, name: &str) -> Result<()
     write_short_millis(text, at.saturating_sub(start.at))
 }
 
-/// A moment in seconds, and a processor.
+/// Adds a moment in seconds, and a processor.
 fn write_moment(text: &mut String, at: u64, processor: u8) -> Result<(), AllocError>
     ensures { OnOk result (string_bytes text.new ≡ string_bytes text.old ++ moment_columns at processor) }
 {
@@ -267,7 +266,7 @@ fn write_moment(text: &mut String, at: u64, processor: u8) -> Result<(), AllocEr
     write!(text, "{whole:>8}.{part:06} [{processor:04}]  ")
 }
 
-/// A task by its number and its name.
+/// Adds a task's number, and its name if it has one.
 fn write_named(text: &mut String, task: u16, names: &Names) -> Result<(), AllocError>
     ensures { OnOk result (string_bytes text.new ≡ string_bytes text.old ++ named_task task (name_of names.now task)) }
 {
@@ -277,7 +276,7 @@ fn write_named(text: &mut String, task: u16, names: &Names) -> Result<(), AllocE
     }
 }
 
-/// A time in milliseconds, in 11 columns: more where it is longer, with a space before it at all times.
+/// Adds a time as milliseconds, in 11 columns: wider if needed, always after a space.
 fn write_short_millis(text: &mut String, time: u64) -> Result<(), AllocError>
     ensures { OnOk result (string_bytes text.new ≡ string_bytes text.old ++ thousandths_cell 6 (time / 1000)) }
 {

@@ -9,22 +9,22 @@ use bq_disc::mask::allows;
 use bq_schedule::{Schedule, Slice};
 use std::alloc::Global;
 
-/// What is shown of a schedule: a stretch of time, processors and tasks. A run is cut at the window's edges; what happens at a
-/// moment is shown if it happens in the window, edges included.
+/// What is shown of a schedule: a stretch of time, processors and tasks. A run is cut at the window's edges. What happens at one moment is
+/// shown if the moment is in the window, edges included.
 #[derive(Drop)]
 pub struct Window {
     /// The first moment, in nanoseconds.
     pub from: u64,
-    /// The last moment; `u64::MAX` is no end.
+    /// The last moment. `u64::MAX` means no end.
     pub to: u64,
     /// The processors: number p is shown if bit p is set.
     pub processors: u64,
-    /// The tasks; none named is every task.
+    /// The tasks. An empty list means every task.
     pub tasks: Vec<u16>,
 }
 
 impl Window {
-    /// All of a schedule.
+    /// A window that shows all of a schedule.
     pub fn whole(alloc: Global) -> Window
         ensures tasks { result.tasks.items ≡ [] }
         ensures rest { (result.from ≡ 0) × (result.to ≡ 2 ^ 64 - 1) × (result.processors ≡ 2 ^ 64 - 1) }
@@ -57,7 +57,7 @@ impl Window {
         processor < PROCESSORS && allows(self.processors, processor)
     }
 
-    /// Whether the row of a processor is shown, by its number among all rows.
+    /// Whether the row with this number is shown: the row of the processor with this number.
     pub fn shows_row(&self, number: usize) -> bool
         ensures { IsTrue result ↔ ShowsProcessor self.now number }
     {
@@ -74,21 +74,21 @@ impl Window {
         self.tasks.is_empty() || self.tasks.contains(&task)
     }
 
-    /// Whether a task has a part in a report: it was admitted, and is shown.
+    /// Whether a task is in a report: it was admitted, and is shown.
     pub(crate) fn has_task(&self, schedule: &Schedule, task: u16) -> bool
         ensures { IsTrue result ↔ HasTask self.now schedule.now task }
     {
         schedule.task(task).is_admitted && self.shows_task(task)
     }
 
-    /// Whether a processor has a part in a report: it is there, and is shown.
+    /// Whether a processor is in a report: it exists, and is shown.
     pub(crate) fn has_processor(&self, schedule: &Schedule, number: u8) -> bool
         ensures { IsTrue result ↔ HasProcessor self.now schedule.now number }
     {
         usize::from(number) < schedule.processors() && self.shows_processor(number)
     }
 
-    /// Whether something is shown that happens to a task at a processor at a moment.
+    /// Whether the window shows what happens to a task at a processor at a moment.
     pub fn shows(&self, processor: u8, task: u16, at: u64) -> bool
         ensures { IsTrue result ↔ Shows self.now processor task at }
     {

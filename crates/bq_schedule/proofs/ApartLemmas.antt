@@ -15,7 +15,8 @@ EndBy n xs = All (λ (s : Slice). s.to ≤ n) xs
 end_later : (n k : ℕ) (xs : List Slice) → n ≤ k → EndBy n xs → EndBy k xs
 end_later n k xs le h = All-weaker (λ (s : Slice). s.to ≤ n) (λ (s : Slice). s.to ≤ k) (λ s e. omega (arith, le, e)) xs h
 
-apart-push : (xs : List Slice) (y : Slice) → StandApart xs → All (λ (s : Slice). s.to ≤ y.from) xs → y.from < y.to → StandApart (xs ++ y ∷ [])
+apart-push : (xs : List Slice) (y : Slice) → StandApart xs → All (λ (s : Slice). s.to ≤ y.from) xs → y.from < y.to
+    → StandApart (xs ++ y ∷ [])
 apart-push [] y h e lt = (lt, All-nil (λ (next : Slice). y.to ≤ next.from), tt)
 apart-push (x ∷ xs) y h e lt = (
   h.0,
@@ -42,7 +43,8 @@ abbrev pub IsNext : ℕ → ℕ → Option Slice → Type 0
 IsNext c r None = c ≤ r
 IsNext c r (Some y) = (y.from ≡ c) × (y.from < y.to) × (y.to ≤ r)
 
-grow : (xs : List Slice) (o : Option Slice) (c r : ℕ) → StandApart xs × EndBy c xs → IsNext c r o → StandApart (xs ++ option_to_list o) × EndBy r (xs ++ option_to_list o)
+grow : (xs : List Slice) (o : Option Slice) (c r : ℕ) → StandApart xs × EndBy c xs → IsNext c r o
+    → StandApart (xs ++ option_to_list o) × EndBy r (xs ++ option_to_list o)
 grow xs None c r h n = rw append-nil (h.0, end_later c r xs n h.1)
 grow xs (Some y) c r h n = (
   apart-push xs y h.0 (end_later c y.from xs (omega (arith, n.0)) h.1) n.1,
@@ -54,8 +56,11 @@ rises true c now = omega arith
 rises false c now = omega arith
 
 -- what a moment ends at a processor begins at its last reading, and ends by the next
-next_at : (x : Sight) (past : History) (processor : ℕ) (who : Option ℕ) (b e : Bool) → ltb (clock x.processor past) (reading (clock x.processor past) x.now) ≡ b → ((e ≡ true) × (x.processor ≡ processor)) ⊎ ((e ≡ false) × (x.processor ≢ processor)) → eqb x.processor processor ≡ e →
-    IsNext (clock processor past) (cond e (reading (clock processor past) x.now) (clock processor past)) (at_only processor (stretch x.processor who (clock x.processor past) (reading (clock x.processor past) x.now)))
+next_at : (x : Sight) (past : History) (processor : ℕ) (who : Option ℕ) (b e : Bool)
+    → ltb (clock x.processor past) (reading (clock x.processor past) x.now) ≡ b
+    → ((e ≡ true) × (x.processor ≡ processor)) ⊎ ((e ≡ false) × (x.processor ≢ processor)) → eqb x.processor processor ≡ e
+    → IsNext (clock processor past) (cond e (reading (clock processor past) x.now) (clock processor past))
+    (at_only processor (stretch x.processor who (clock x.processor past) (reading (clock x.processor past) x.now)))
 next_at x past processor None b e lt t is = rises e (clock processor past) x.now
 next_at x past processor (Some id) true true lt (inl same) is =
     let k : clock x.processor past ≡ clock processor past = ap (λ j. clock j past) same.1 in
@@ -65,17 +70,22 @@ next_at x past processor (Some id) false e lt t is = rw lt (rises e (clock proce
 next_at x past processor (Some id) true true lt (inr other) is = absurd (cc)
 next_at x past processor (Some id) true false lt (inl same) is = absurd (cc)
 
-next_shown : (past : History) (processor : ℕ) (o : Option Sight) → IsNext (clock processor past) (clock_after processor (clock processor past) o) (at_only processor (slice_shown past o))
+next_shown : (past : History) (processor : ℕ) (o : Option Sight)
+    → IsNext (clock processor past) (clock_after processor (clock processor past) o) (at_only processor (slice_shown past o))
 next_shown past processor None = omega arith
 next_shown past processor (Some x) =
-    next_at x past processor (runner x.processor past) (ltb (clock x.processor past) (reading (clock x.processor past) x.now)) (eqb x.processor processor) refl (eqb_tells x.processor processor) refl
+    next_at x past processor (runner x.processor past) (ltb (clock x.processor past) (reading (clock x.processor past) x.now))
+    (eqb x.processor processor) refl (eqb_tells x.processor processor) refl
 
 -- the slices of a processor do not overlap, and end by its last reading
-pub stand_apart : (past : History) (processor : ℕ) → StandApart (slices_at processor past) × All (λ (s : Slice). s.to ≤ clock processor past) (slices_at processor past)
+pub stand_apart : (past : History) (processor : ℕ)
+    → StandApart (slices_at processor past) × All (λ (s : Slice). s.to ≤ clock processor past) (slices_at processor past)
 stand_apart [] processor = (tt, All-nil (λ (s : Slice). s.to ≤ 0))
 stand_apart (m ∷ past) processor =
     let o = sight_of m.event m.answer in
     let is : slices_at processor (m ∷ past) ≡ slices_at processor past ++ option_to_list (at_only processor (slice_shown past o)) =
-    filter-append (is_at processor) (slices past) (option_to_list (slice_shown past o)) ∙ ap (λ ys. slices_at processor past ++ ys) (filter-one processor (slice_shown past o)) in
+    filter-append (is_at processor) (slices past) (option_to_list (slice_shown past o))
+    ∙ ap (λ ys. slices_at processor past ++ ys) (filter-one processor (slice_shown past o)) in
     let P : List Slice → Type 0 = λ xs. StandApart xs × All (λ (s : Slice). s.to ≤ clock processor (m ∷ past)) xs in
-    subst P (sym is) (grow (slices_at processor past) (at_only processor (slice_shown past o)) (clock processor past) (clock processor (m ∷ past)) (stand_apart past processor) (next_shown past processor o))
+    subst P (sym is) (grow (slices_at processor past) (at_only processor (slice_shown past o)) (clock processor past)
+    (clock processor (m ∷ past)) (stand_apart past processor) (next_shown past processor o))

@@ -22,7 +22,7 @@ use Rattle.bq_schedule.specs.Runnable.{leaves, comes}
 use Rattle.bq_schedule.specs.Running.{running_task, switched}
 use Rattle.bq_schedule.specs.Slices.{Sight, sight, sight_of, clock_after, clock, runner_after, runner}
 use Rattle.bq_schedule.specs.Steps.{asked, taken, emptied, decided, placed, blocked, pulled, performed, time_at, is_there, after, figures}
-use Rattle.bq_schedule.specs.Laws.{IsWithin, IsOf}
+use Rattle.bq_schedule.specs.Laws.{IsWithin, IsOfProcessors}
 use Rattle.bq_schedule.proofs.FrameLemmas.{Works, KeepsWorks, KeepsRunning, RunsAs, works-then, works-id, works-with_task, works-with_processor, works-asked, works-leaves, works-comes, works-taken, works-switched, running-then, running-id, running-with_task, running-with_processor, running-asked, running-leaves, running-comes, running-taken, running-read_at, runs-after, runs-before, runs-switched, count-read_at, processors-read_at}
 
 -- what a reply does: the clock is read that it shows, and nothing else of the works changes; and it runs who it says
@@ -30,66 +30,95 @@ abbrev pub Shows : Figures → Figures → Option Sight → Type 0
 Shows s s' None = KeepsWorks s s' × KeepsRunning s s'
 Shows s s' (Some x) = KeepsWorks (read_at x.processor x.now s) s' × RunsAs x.run x.processor s s'
 
-shows-placed : (processor now : ℕ) (d : Decision) (id to : ℕ) (s : Figures) → Shows s (placed processor now d id to s) (Some (record { processor = processor; now = now; run = None }))
+shows-placed : (processor now : ℕ) (d : Decision) (id to : ℕ) (s : Figures)
+    → Shows s (placed processor now d id to s) (Some (record { processor = processor; now = now; run = None }))
 shows-placed processor now d id to s =
     let r = read_at processor now s in
     let a = asked processor d r in
     let at = time_at processor now s in
     let c = comes id to at a in (
       works-then r a _ (works-asked processor d r) (works-then a c _ (works-comes id to at a) (works-with_task c id _ refl)),
-      running-then s r _ (running-read_at processor now s) (running-then r a _ (running-asked processor d r) (running-then a c _ (running-comes id to at a) (running-with_task c id _))),
+      running-then s r _ (running-read_at processor now s)
+          (running-then r a _ (running-asked processor d r) (running-then a c _ (running-comes id to at a) (running-with_task c id _))),
     )
 
-shows-decided : (processor now : ℕ) (d : Decision) (run : Option ℕ) (s : Figures) → processor < length s.processors → Shows s (decided processor now d run s) (Some (record { processor = processor; now = now; run = Some run }))
+shows-decided : (processor now : ℕ) (d : Decision) (run : Option ℕ) (s : Figures)
+    → processor < length s.processors
+    → Shows s (decided processor now d run s) (Some (record { processor = processor; now = now; run = Some run }))
 shows-decided processor now d run s inside =
     let r = read_at processor now s in
     let a = asked processor d r in
     let at = time_at processor now s in
     let inside' : processor < length a.processors = omega (arith, count-read_at processor now s, (works-asked processor d r).count) in (
       works-then r a _ (works-asked processor d r) (works-switched Preempted processor at run a),
-      runs-after (Some run) processor s a (switched Preempted processor at run a) (running-then s r a (running-read_at processor now s) (running-asked processor d r)) (runs-switched Preempted processor at run a inside'),
+      runs-after (Some run) processor s a (switched Preempted processor at run a)
+          (running-then s r a (running-read_at processor now s) (running-asked processor d r))
+          (runs-switched Preempted processor at run a inside'),
     )
 
-shows-blocked : (processor now id : ℕ) (run : Option ℕ) (s : Figures) → processor < length s.processors → Shows s (blocked processor now id run s) (Some (record { processor = processor; now = now; run = Some run }))
+shows-blocked : (processor now id : ℕ) (run : Option ℕ) (s : Figures)
+    → processor < length s.processors
+    → Shows s (blocked processor now id run s) (Some (record { processor = processor; now = now; run = Some run }))
 shows-blocked processor now id run s inside =
     let r = read_at processor now s in
     let a = leaves id r in
     let at = time_at processor now s in
     let inside' : processor < length a.processors = omega (arith, count-read_at processor now s, (works-leaves id r).count) in (
       works-then r a _ (works-leaves id r) (works-switched Blocked processor at run a),
-      runs-after (Some run) processor s a (switched Blocked processor at run a) (running-then s r a (running-read_at processor now s) (running-leaves id r)) (runs-switched Blocked processor at run a inside'),
+      runs-after (Some run) processor s a (switched Blocked processor at run a)
+          (running-then s r a (running-read_at processor now s) (running-leaves id r))
+          (runs-switched Blocked processor at run a inside'),
     )
 
-shows-pulled : (processor now : ℕ) (d : Decision) (task run : Option ℕ) (s : Figures) → processor < length s.processors → Shows s (pulled processor now d task run s) (Some (record { processor = processor; now = now; run = Some run }))
+shows-pulled : (processor now : ℕ) (d : Decision) (task run : Option ℕ) (s : Figures)
+    → processor < length s.processors
+    → Shows s (pulled processor now d task run s) (Some (record { processor = processor; now = now; run = Some run }))
 shows-pulled processor now d task run s inside =
     let r = read_at processor now s in
     let a = asked processor d r in
     let at = time_at processor now s in
     let k = taken processor at task a in
-    let inside' : processor < length k.processors = omega (arith, count-read_at processor now s, (works-asked processor d r).count, (works-taken processor at task a).count) in (
-      works-then r a _ (works-asked processor d r) (works-then a k _ (works-taken processor at task a) (works-switched Preempted processor at run k)),
+    let inside' : processor < length k.processors =
+    omega (arith, count-read_at processor now s, (works-asked processor d r).count, (works-taken processor at task a).count) in (
+      works-then r a _ (works-asked processor d r)
+          (works-then a k _ (works-taken processor at task a) (works-switched Preempted processor at run k)),
       runs-after (Some run) processor s k (switched Preempted processor at run k)
-          (running-then s r k (running-read_at processor now s) (running-then r a k (running-asked processor d r) (running-taken processor at task a)))
+          (running-then s r k (running-read_at processor now s)
+          (running-then r a k (running-asked processor d r) (running-taken processor at task a)))
           (runs-switched Preempted processor at run k inside'),
     )
 
-shows-drained : (processor now : ℕ) (d : Decision) (run : Option ℕ) (s : Figures) → processor < length s.processors → Shows s (emptied processor (decided processor now d run s)) (Some (record { processor = processor; now = now; run = Some run }))
+shows-drained : (processor now : ℕ) (d : Decision) (run : Option ℕ) (s : Figures)
+    → processor < length s.processors
+    → Shows s (emptied processor (decided processor now d run s)) (Some (record { processor = processor; now = now; run = Some run }))
 shows-drained processor now d run s inside =
     let h = shows-decided processor now d run s inside in
-    let q = decided processor now d run s in
-    (works-then _ q _ h.0 (works-with_processor q processor _ refl), runs-before (Some run) processor s q (emptied processor q) h.1 (running-with_processor q processor _ refl))
+    let q = decided processor now d run s in (
+      works-then _ q _ h.0 (works-with_processor q processor _ refl),
+      runs-before (Some run) processor s q (emptied processor q) h.1 (running-with_processor q processor _ refl),
+    )
 
-shows-admitted : (id : ℕ) (s : Figures) (t : Figures) → KeepsWorks (leaves id s) t → KeepsRunning (leaves id s) t → KeepsWorks s t × KeepsRunning s t
+shows-admitted : (id : ℕ) (s : Figures) (t : Figures) → KeepsWorks (leaves id s) t → KeepsRunning (leaves id s) t
+    → KeepsWorks s t × KeepsRunning s t
 shows-admitted id s t a b = (works-then s (leaves id s) t (works-leaves id s) a, running-then s (leaves id s) t (running-leaves id s) b)
 
 -- a reply to an event whose processor is there does to the works, and to who runs, what it shows
 pub shows-performed : (s : Figures) (e : Event) (r : Reply) → is_there s e ≡ true → Shows s (performed s e r) (sight e r)
-shows-performed s (Admit id nice mask slice) Admitted there = shows-admitted id s _ (works-with_task (leaves id s) id _ refl) (running-with_task (leaves id s) id _)
-shows-performed s (EndWake processor now) (Placed task to by steps) there = shows-placed processor now (record { hook = Place; by = by; steps = steps }) task to s
-shows-performed s (Drain processor now) (Drained count run by steps) there = shows-drained processor now (record { hook = Preempt; by = by; steps = steps }) run s (ltb-true processor (length s.processors) there)
-shows-performed s (Tick processor now) (Ticked run by steps) there = shows-decided processor now (record { hook = Preempt; by = by; steps = steps }) run s (ltb-true processor (length s.processors) there)
-shows-performed s (Block processor now) (Went task run) there = shows-blocked processor now task run s (ltb-true processor (length s.processors) there)
-shows-performed s (Pull processor from now) (Pulled task run by steps) there = shows-pulled processor now (record { hook = OnPull; by = by; steps = steps }) task run s (ltb-true processor (length s.processors) there)
+shows-performed s (Admit id nice mask slice) Admitted there =
+    shows-admitted id s _ (works-with_task (leaves id s) id _ refl) (running-with_task (leaves id s) id _)
+shows-performed s (EndWake processor now) (Placed task to by steps) there =
+    shows-placed processor now (record { hook = Place; by = by; steps = steps }) task to s
+shows-performed s (Drain processor now) (Drained count run by steps) there =
+    shows-drained processor now (record { hook = Preempt; by = by; steps = steps }) run s
+    (ltb-true processor (length s.processors) there)
+shows-performed s (Tick processor now) (Ticked run by steps) there =
+    shows-decided processor now (record { hook = Preempt; by = by; steps = steps }) run s
+    (ltb-true processor (length s.processors) there)
+shows-performed s (Block processor now) (Went task run) there =
+    shows-blocked processor now task run s (ltb-true processor (length s.processors) there)
+shows-performed s (Pull processor from now) (Pulled task run by steps) there =
+    shows-pulled processor now (record { hook = OnPull; by = by; steps = steps }) task run s
+    (ltb-true processor (length s.processors) there)
 shows-performed s e r there = (works-id s, running-id s)
 
 -- what is not below a number is not below it
@@ -97,7 +126,8 @@ pub not_below : (a b : ℕ) → ltb a b ≡ false → a < b → ⊥
 not_below a b e h = grind (arith, nat_tests)
 
 -- where the event's processor is not there, nothing is shown of one that is
-shows-nothing : (s : Figures) (e : Event) (r : Reply) → is_there s e ≡ false → IsWithin (length s.processors) (sight e r) → Shows s s (sight e r)
+shows-nothing : (s : Figures) (e : Event) (r : Reply) → is_there s e ≡ false → IsWithin (length s.processors) (sight e r)
+    → Shows s s (sight e r)
 shows-nothing s (EndWake processor now) (Placed task to by steps) none h = absurd (not_below processor (length s.processors) none h)
 shows-nothing s (Drain processor now) (Drained count run by steps) none h = absurd (not_below processor (length s.processors) none h)
 shows-nothing s (Tick processor now) (Ticked run by steps) none h = absurd (not_below processor (length s.processors) none h)
@@ -105,12 +135,14 @@ shows-nothing s (Block processor now) (Went task run) none h = absurd (not_below
 shows-nothing s (Pull processor from now) (Pulled task run by steps) none h = absurd (not_below processor (length s.processors) none h)
 shows-nothing s e r none h = (works-id s, running-id s)
 
-shows-if : (b : Bool) (s : Figures) (e : Event) (r : Reply) → is_there s e ≡ b → IsWithin (length s.processors) (sight e r) → Shows s (cond b (performed s e r) s) (sight e r)
+shows-if : (b : Bool) (s : Figures) (e : Event) (r : Reply) → is_there s e ≡ b → IsWithin (length s.processors) (sight e r)
+    → Shows s (cond b (performed s e r) s) (sight e r)
 shows-if true s e r there h = shows-performed s e r there
 shows-if false s e r there h = shows-nothing s e r there h
 
 -- each answer does to the works, and to who runs, what it shows
-pub shows-after : (s : Figures) (e : Event) (a : Result Reply Refusal) → IsWithin (length s.processors) (sight_of e a) → Shows s (after s e a) (sight_of e a)
+pub shows-after : (s : Figures) (e : Event) (a : Result Reply Refusal)
+    → IsWithin (length s.processors) (sight_of e a) → Shows s (after s e a) (sight_of e a)
 shows-after s e (Ok r) h = shows-if (is_there s e) s e r refl h
 shows-after s e (Err r) h = (record { at = λ j. refl; count = refl; tasks = refl; times = λ id. refl }, record { at = λ j. refl })
 
@@ -120,7 +152,8 @@ count-shown s s' None h = h.0.count
 count-shown s s' (Some x) h = h.0.count ∙ count-read_at x.processor x.now s
 
 -- after an event and its answer there are as many processors as before
-pub count-after : (s : Figures) (e : Event) (a : Result Reply Refusal) → IsWithin (length s.processors) (sight_of e a) → length (after s e a).processors ≡ length s.processors
+pub count-after : (s : Figures) (e : Event) (a : Result Reply Refusal)
+    → IsWithin (length s.processors) (sight_of e a) → length (after s e a).processors ≡ length s.processors
 count-after s e a h = count-shown s (after s e a) (sight_of e a) (shows-after s e a h)
 
 -- what is shown of one of this many processors is so for the same number
@@ -128,19 +161,22 @@ pub within_same : (n k : ℕ) (o : Option Sight) → n ≡ k → IsWithin k o �
 within_same n k o e h = rw e h
 
 -- the figures of a history have as many processors as its world
-pub count-figures : (count : ℕ) (past : History) → IsOf count past → length (figures count past).processors ≡ count
+pub count-figures : (count : ℕ) (past : History) → IsOfProcessors count past → length (figures count past).processors ≡ count
 count-figures count [] h = length-replicate count unread
 count-figures count (m ∷ past) h =
     let before : length (figures count past).processors ≡ count = count-figures count past h.1 in
     count-after (figures count past) m.event m.answer (within_same _ _ _ before h.0) ∙ before
 
 -- the moment is within what the figures before it have
-pub within-figures : (count : ℕ) (past : History) (m : Moment) → IsOf count (m ∷ past) → IsWithin (length (figures count past).processors) (sight_of m.event m.answer)
+pub within-figures : (count : ℕ) (past : History) (m : Moment)
+    → IsOfProcessors count (m ∷ past)
+    → IsWithin (length (figures count past).processors) (sight_of m.event m.answer)
 within-figures count past m h = within_same _ _ _ (count-figures count past h.1) h.0
 
 -- a reading at one processor leaves the works of the others
-works-read_at : (processor now j : ℕ) (s : Figures) → j < length s.processors → (b : Bool) → ((b ≡ true) × (processor ≡ j)) ⊎ ((b ≡ false) × (processor ≢ j)) →
-    processor_of (read_at processor now s) j ≡ cond b (processor_read processor (processor_of s processor) now) (processor_of s j)
+works-read_at : (processor now j : ℕ) (s : Figures) → j < length s.processors
+    → (b : Bool) → ((b ≡ true) × (processor ≡ j)) ⊎ ((b ≡ false) × (processor ≢ j))
+    → processor_of (read_at processor now s) j ≡ cond b (processor_read processor (processor_of s processor) now) (processor_of s j)
 works-read_at processor now j s inside true (inl same) =
     ap (λ l. get_or l j unread) (processors-read_at processor now s)
     ∙ ap (λ k. get_or (slice_set s.processors k (processor_read processor (processor_of s processor) now)) j unread) same.1
@@ -152,27 +188,31 @@ works-read_at processor now j s inside false (inr other) =
     ∙ get_or-set_other s.processors processor j (processor_read processor (processor_of s processor) now) unread (λ e. other.1 (sym e))
 
 -- the processor that was read
-pub read_there : (processor now : ℕ) (s : Figures) → processor < length s.processors → processor_of (read_at processor now s) processor ≡ processor_read processor (processor_of s processor) now
+pub read_there : (processor now : ℕ) (s : Figures) → processor < length s.processors
+    → processor_of (read_at processor now s) processor ≡ processor_read processor (processor_of s processor) now
 read_there processor now s inside = works-read_at processor now processor s inside true (inl (refl, refl))
 
 -- after a reading its processor has what the reading makes of it, and each other what it had
-pub processor-read_at : (processor now j : ℕ) (s : Figures) → j < length s.processors →
-    processor_of (read_at processor now s) j ≡ cond (eqb processor j) (processor_read processor (processor_of s processor) now) (processor_of s j)
+pub processor-read_at : (processor now j : ℕ) (s : Figures) → j < length s.processors
+    → processor_of (read_at processor now s) j
+    ≡ cond (eqb processor j) (processor_read processor (processor_of s processor) now) (processor_of s j)
 processor-read_at processor now j s inside = works-read_at processor now j s inside (eqb processor j) (eqb_tells processor j)
 
 last-cond : (b : Bool) (p q : ProcessorFigures) → (cond b p q).last ≡ cond b p.last q.last
 last-cond true p q = refl
 last-cond false p q = refl
 
-last-same : (processor now j : ℕ) (s : Figures) (b : Bool) → ((b ≡ true) × (processor ≡ j)) ⊎ ((b ≡ false) × (processor ≢ j)) →
-    cond b (reading (processor_of s processor).last now) (processor_of s j).last ≡ cond b (reading (processor_of s j).last now) (processor_of s j).last
+last-same : (processor now j : ℕ) (s : Figures) (b : Bool) → ((b ≡ true) × (processor ≡ j)) ⊎ ((b ≡ false) × (processor ≢ j))
+    → cond b (reading (processor_of s processor).last now) (processor_of s j).last
+    ≡ cond b (reading (processor_of s j).last now) (processor_of s j).last
 last-same processor now j s true (inl same) = ap (λ k. reading (processor_of s k).last now) same.1
 last-same processor now j s false (inl same) = refl
 last-same processor now j s true (inr other) = absurd (cc)
 last-same processor now j s false (inr other) = refl
 
 -- the last reading of each clock is the one that is shown
-pub last-shown : (s s' : Figures) (o : Option Sight) (j : ℕ) → j < length s.processors → Shows s s' o → (processor_of s' j).last ≡ clock_after j (processor_of s j).last o
+pub last-shown : (s s' : Figures) (o : Option Sight) (j : ℕ) → j < length s.processors → Shows s s' o
+    → (processor_of s' j).last ≡ clock_after j (processor_of s j).last o
 last-shown s s' None j inside h = ap (λ (w : Works). w.last) (h.0.at j)
 last-shown s s' (Some x) j inside h =
     ap (λ (w : Works). w.last) (h.0.at j)
@@ -180,8 +220,9 @@ last-shown s s' (Some x) j inside h =
     ∙ last-cond (eqb x.processor j) _ _
     ∙ last-same x.processor x.now j s (eqb x.processor j) (eqb_tells x.processor j)
 
-running_task-at : (o : Option (Option ℕ)) (s s' : Figures) (processor j : ℕ) (b : Bool) → ((b ≡ true) × (processor ≡ j)) ⊎ ((b ≡ false) × (processor ≢ j)) → RunsAs o processor s s' →
-    running_task (processor_of s' j) ≡ cond b (unwrap_or o (running_task (processor_of s j))) (running_task (processor_of s j))
+running_task-at : (o : Option (Option ℕ)) (s s' : Figures) (processor j : ℕ) (b : Bool)
+    → ((b ≡ true) × (processor ≡ j)) ⊎ ((b ≡ false) × (processor ≢ j)) → RunsAs o processor s s'
+    → running_task (processor_of s' j) ≡ cond b (unwrap_or o (running_task (processor_of s j))) (running_task (processor_of s j))
 running_task-at None s s' processor j true t h = ap (option_map (λ (x : Start). x.task)) (h.at j)
 running_task-at None s s' processor j false t h = ap (option_map (λ (x : Start). x.task)) (h.at j)
 running_task-at (Some run) s s' processor j true (inl same) h = ap (λ k. running_task (processor_of s' k)) (sym same.1) ∙ h.0
@@ -189,8 +230,9 @@ running_task-at (Some run) s s' processor j false (inl same) h = absurd (cc)
 running_task-at (Some run) s s' processor j true (inr other) h = absurd (cc)
 running_task-at (Some run) s s' processor j false (inr other) h = ap (option_map (λ (x : Start). x.task)) (h.1 j (λ e. other.1 (sym e)))
 
--- and who runs is who it says
-pub running_task-shown : (s s' : Figures) (o : Option Sight) (j : ℕ) → Shows s s' o → running_task (processor_of s' j) ≡ runner_after j (running_task (processor_of s j)) o
+-- who runs is who the sight of an event says
+pub running_task-shown : (s s' : Figures) (o : Option Sight) (j : ℕ)
+    → Shows s s' o → running_task (processor_of s' j) ≡ runner_after j (running_task (processor_of s j)) o
 running_task-shown s s' None j h = ap (option_map (λ (x : Start). x.task)) (h.1.at j)
 running_task-shown s s' (Some x) j h = running_task-at x.run s s' x.processor j (eqb x.processor j) (eqb_tells x.processor j) h.1
 
@@ -198,9 +240,14 @@ opening-at : (count processor : ℕ) → processor < count → processor_of (ope
 opening-at count processor inside = get_or-replicate count processor unread unread inside
 
 -- the figures' last reading of each processor, and who runs there, are those of the history
-pub figures-clocks : (count : ℕ) (past : History) (processor : ℕ) → IsOf count past → processor < count →
-    ((processor_of (figures count past) processor).last ≡ clock processor past) × (running_task (processor_of (figures count past) processor) ≡ runner processor past)
-figures-clocks count [] processor h inside = (ap (λ (p : ProcessorFigures). p.last) (opening-at count processor inside), ap running_task (opening-at count processor inside))
+pub figures-clocks : (count : ℕ) (past : History) (processor : ℕ)
+    → IsOfProcessors count past → processor < count
+    → ((processor_of (figures count past) processor).last ≡ clock processor past)
+    × (running_task (processor_of (figures count past) processor) ≡ runner processor past)
+figures-clocks count [] processor h inside = (
+  ap (λ (p : ProcessorFigures). p.last) (opening-at count processor inside),
+  ap running_task (opening-at count processor inside),
+)
 figures-clocks count (m ∷ past) processor h inside =
     let s = figures count past in
     let o = sight_of m.event m.answer in

@@ -6,7 +6,7 @@ use Rattle.std.proofs.lemmas.Bool.Decides.{eqb_tells, leb_tells}
 use Rattle.std.proofs.lemmas.List.{set_past, length-set}
 use Rattle.bq_schedule.specs.declared.figures.TaskFigures.{TaskFigures}
 use Rattle.bq_schedule.specs.declared.figures.ProcessorFigures.{ProcessorFigures}
-use Rattle.bq_parts.specs.Counts.{counted}
+use Rattle.bq_parts.specs.Counts.{saturating_sum}
 use Rattle.bq_schedule.specs.Figures.{Figures, unknown, processor_of, task_of, with_processor, with_task}
 use Rattle.bq_schedule.specs.Runnable.{processor_joined, joins}
 use Rattle.bq_schedule.specs.Steps.{admitted}
@@ -20,10 +20,13 @@ pub record Stays (s s' : Figures) : Type 0 where
   pub sound : PurseLemmas.IsSound s'
   pub raws : (j : ℕ) → PurseLemmas.uncapped s' j ≡ PurseLemmas.uncapped s j
 
-weights-joined : (s s' : Figures) (id processor j w : ℕ) (t' : TaskFigures) (b : Bool) → PurseLemmas.IsSound s → ((b ≡ true) × (processor ≡ j)) ⊎ ((b ≡ false) × (processor ≢ j)) → eqb processor j ≡ b →
-    (task_of s id).place ≡ None → t'.place ≡ Some processor → t'.weight ≡ (task_of s id).weight → (processor_of s j).weight ≡ weights_at s j →
-    weights_at s' j + weight_there j (task_of s id) ≡ weights_at s j + weight_there j t' →
-    w ≡ cond b (counted (processor_of s processor).weight (task_of s id).weight) (processor_of s j).weight → w ≡ weights_at s' j
+weights-joined : (s s' : Figures) (id processor j w : ℕ) (t' : TaskFigures) (b : Bool)
+    → PurseLemmas.IsSound s → ((b ≡ true) × (processor ≡ j)) ⊎ ((b ≡ false) × (processor ≢ j))
+    → eqb processor j ≡ b → (task_of s id).place ≡ None → t'.place ≡ Some processor
+    → t'.weight ≡ (task_of s id).weight → (processor_of s j).weight ≡ weights_at s j
+    → weights_at s' j + weight_there j (task_of s id) ≡ weights_at s j + weight_there j t'
+    → w ≡ cond b (saturating_sum (processor_of s processor).weight (task_of s id).weight) (processor_of s j).weight
+    → w ≡ weights_at s' j
 weights-joined s s' id processor j w t' true h (inl e) is at place weight old sums new =
     let same : (processor_of s processor).weight ≡ (processor_of s j).weight = ap (λ k. (processor_of s k).weight) e.1 in
     let here : weight_there j t' ≡ t'.weight = weight-here j t' (place ∙ ap (λ (k : ℕ). Some k) e.1) in
@@ -34,51 +37,67 @@ weights-joined s s' id processor j w t' false h (inr e) is at place weight old s
     let here : weight_there j t' ≡ 0 = weight-elsewhere j processor t' false place is in
     omega (arith, here, old, sums, new, weight-nowhere j (task_of s id) at)
 
-joined-here : (f : ℕ → ℕ) (u : PurseLemmas.Purse) (processor : ℕ) (o : Option ℕ) → o ≡ Some processor → u.joined ≡ f processor → PurseLemmas.JoinedBy f u o
+joined-here : (f : ℕ → ℕ) (u : PurseLemmas.Purse) (processor : ℕ) (o : Option ℕ)
+    → o ≡ Some processor → u.joined ≡ f processor → PurseLemmas.JoinedBy f u o
 joined-here f u processor o e j = rw e (omega (arith, j))
 
-worth-here : (f : ℕ → ℕ) (u : PurseLemmas.Purse) (processor : ℕ) (o : Option ℕ) → o ≡ Some processor → u.joined ≡ f processor → PurseLemmas.worth_at f u o ≡ u.accrued
+worth-here : (f : ℕ → ℕ) (u : PurseLemmas.Purse) (processor : ℕ) (o : Option ℕ)
+    → o ≡ Some processor → u.joined ≡ f processor → PurseLemmas.worth_at f u o ≡ u.accrued
 worth-here f u processor o e j =
     let none : f processor - u.joined ≡ 0 = omega (arith, j) in
     ap (λ p. PurseLemmas.worth_at f u p) e ∙ ap (λ n. u.accrued + u.weight * n) none ∙ omega arith
 
 -- a task with an id of the table comes
-joined-inside : (s : Figures) (id processor : ℕ) (p : ProcessorFigures) (t' : TaskFigures) → PurseLemmas.IsSound s → id < length s.tasks → (task_of s id).place ≡ None → p.shared ≡ PurseLemmas.shared_at s processor →
-    p.weight ≡ counted (processor_of s processor).weight (task_of s id).weight → t'.place ≡ Some processor → t'.weight ≡ (task_of s id).weight → t'.joined ≡ PurseLemmas.shared_at s processor → t'.accrued ≡ (task_of s id).accrued →
-    Stays s (with_task (with_processor s processor p) id t')
+joined-inside : (s : Figures) (id processor : ℕ) (p : ProcessorFigures) (t' : TaskFigures)
+    → PurseLemmas.IsSound s → id < length s.tasks → (task_of s id).place ≡ None → p.shared ≡ PurseLemmas.shared_at s processor
+    → p.weight ≡ saturating_sum (processor_of s processor).weight (task_of s id).weight → t'.place ≡ Some processor
+    → t'.weight ≡ (task_of s id).weight → t'.joined ≡ PurseLemmas.shared_at s processor → t'.accrued ≡ (task_of s id).accrued
+    → Stays s (with_task (with_processor s processor p) id t')
 joined-inside s id processor p t' h inside at shared weight place same joined accrued =
     let s1 = with_processor s processor p in
     let s2 = with_task s1 id t' in
     let u = PurseLemmas.purse t' in
     let gives : (j : ℕ) → PurseLemmas.shared_at s2 j ≡ PurseLemmas.shared_at s j = λ j. shared-with_processor s processor p j shared in
-    let is : (j : ℕ) → PurseLemmas.purse (task_of s2 j) ≡ cond (eqb id j) u (PurseLemmas.purse (task_of s j)) = λ j. set_reads PurseLemmas.purse s1 id j t' (eqb id j) inside (eqb_tells id j) in
-    let had : PurseLemmas.uncapped s id ≡ (task_of s id).accrued = ap (λ o. PurseLemmas.worth_at (PurseLemmas.shared_at s) (PurseLemmas.purse (task_of s id)) o) at in
+    let is : (j : ℕ) → PurseLemmas.purse (task_of s2 j) ≡ cond (eqb id j) u (PurseLemmas.purse (task_of s j)) =
+    λ j. set_reads PurseLemmas.purse s1 id j t' (eqb id j) inside (eqb_tells id j) in
+    let had : PurseLemmas.uncapped s id ≡ (task_of s id).accrued =
+    ap (λ o. PurseLemmas.worth_at (PurseLemmas.shared_at s) (PurseLemmas.purse (task_of s id)) o) at in
     record {
       sound = record {
         weights = λ j there.
             let there' : j < length s.processors = omega (arith, there, length-set s.processors processor p) in
-            weights-joined s s2 id processor j (processor_of s2 j).weight t' (eqb processor j) h (eqb_tells processor j) refl at place same (h.weights j there') (weights-set s1 id j t' inside)
-            (set-there s processor j p (eqb processor j) there' (eqb_tells processor j) ∙ ap (λ w. cond (eqb processor j) w (processor_of s j).weight) weight);
-        joined = λ j. joined-set s s2 j u (eqb id j) gives (is j) (joined-here (PurseLemmas.shared_at s) u processor t'.place place joined) (h.joined j);
+            weights-joined s s2 id processor j (processor_of s2 j).weight t' (eqb processor j) h (eqb_tells processor j) refl
+            at place same (h.weights j there') (weights-set s1 id j t' inside)
+            (set-there s processor j p (eqb processor j) there' (eqb_tells processor j)
+            ∙ ap (λ w. cond (eqb processor j) w (processor_of s j).weight) weight);
+        joined = λ j.
+            joined-set s s2 j u (eqb id j) gives (is j)
+            (joined-here (PurseLemmas.shared_at s) u processor t'.place place joined) (h.joined j);
         table = λ j. omega (arith, h.table j, task_kept (λ (v : TaskFigures). v.weight) s1 id j t' same);
         ids = length-set s.tasks id t' ∙ h.ids;
       };
-      raws = λ j. raw-set s s2 id j u gives (is j) (worth-here (PurseLemmas.shared_at s) u processor t'.place place joined ∙ accrued ∙ sym had);
+      raws = λ j.
+          raw-set s s2 id j u gives (is j)
+          (worth-here (PurseLemmas.shared_at s) u processor t'.place place joined ∙ accrued ∙ sym had);
     }
 
 -- what counts nothing more is as it was
-counted-none : (s : Figures) (processor j w : ℕ) (b : Bool) → PurseLemmas.IsSound s → j < length s.processors → ((b ≡ true) × (processor ≡ j)) ⊎ ((b ≡ false) × (processor ≢ j)) →
-    w ≡ cond b (counted (processor_of s processor).weight 0) (processor_of s j).weight → w ≡ (processor_of s j).weight
-counted-none s processor j w true h there (inl e) new =
+saturating_sum-none : (s : Figures) (processor j w : ℕ) (b : Bool)
+    → PurseLemmas.IsSound s → j < length s.processors → ((b ≡ true) × (processor ≡ j)) ⊎ ((b ≡ false) × (processor ≢ j))
+    → w ≡ cond b (saturating_sum (processor_of s processor).weight 0) (processor_of s j).weight
+    → w ≡ (processor_of s j).weight
+saturating_sum-none s processor j w true h there (inl e) new =
     let same : (processor_of s processor).weight ≡ (processor_of s j).weight = ap (λ k. (processor_of s k).weight) e.1 in
     omega (arith, same, new, h.weights j there, weights-few s j h)
-counted-none s processor j w false h there (inl e) new = absurd (cc)
-counted-none s processor j w true h there (inr e) new = absurd (cc)
-counted-none s processor j w false h there (inr e) new = new
+saturating_sum-none s processor j w false h there (inl e) new = absurd (cc)
+saturating_sum-none s processor j w true h there (inr e) new = absurd (cc)
+saturating_sum-none s processor j w false h there (inr e) new = new
 
 -- one without changes nothing
-joined-outside : (s : Figures) (id processor : ℕ) (p : ProcessorFigures) (t' : TaskFigures) → PurseLemmas.IsSound s → length s.tasks ≤ id → p.shared ≡ PurseLemmas.shared_at s processor →
-    p.weight ≡ counted (processor_of s processor).weight (task_of s id).weight → Stays s (with_task (with_processor s processor p) id t')
+joined-outside : (s : Figures) (id processor : ℕ) (p : ProcessorFigures) (t' : TaskFigures)
+    → PurseLemmas.IsSound s → length s.tasks ≤ id → p.shared ≡ PurseLemmas.shared_at s processor
+    → p.weight ≡ saturating_sum (processor_of s processor).weight (task_of s id).weight
+    → Stays s (with_task (with_processor s processor p) id t')
 joined-outside s id processor p t' h past shared weight =
     let s1 = with_processor s processor p in
     let s2 = with_task s1 id t' in
@@ -90,23 +109,34 @@ joined-outside s id processor p t' h past shared weight =
       sound = record {
         weights = λ j there.
             let there' : j < length s.processors = omega (arith, there, length-set s.processors processor p) in
-            counted-none s processor j (processor_of s2 j).weight (eqb processor j) h there' (eqb_tells processor j)
-            (set-there s processor j p (eqb processor j) there' (eqb_tells processor j) ∙ ap (λ w. cond (eqb processor j) w (processor_of s j).weight) (weight ∙ ap (counted (processor_of s processor).weight) none))
+            saturating_sum-none s processor j (processor_of s2 j).weight (eqb processor j) h there' (eqb_tells processor j)
+            (set-there s processor j p (eqb processor j) there' (eqb_tells processor j)
+            ∙ ap (λ w. cond (eqb processor j) w (processor_of s j).weight)
+            (weight ∙ ap (saturating_sum (processor_of s processor).weight) none))
             ∙ h.weights j there' ∙ ap (λ l. sum_by (weight_there j) l) (sym tasks);
-        joined = λ j. PurseLemmas.joined-more (PurseLemmas.shared_at s) (PurseLemmas.shared_at s2) (PurseLemmas.purse (task_of s2 j)) (task_of s2 j).place (λ k. omega (arith, gives k))
-            (PurseLemmas.joined-same (PurseLemmas.shared_at s) (PurseLemmas.purse (task_of s2 j)) (PurseLemmas.purse (task_of s j)) (ap PurseLemmas.purse (same j)) (h.joined j));
+        joined = λ j.
+            PurseLemmas.joined-more (PurseLemmas.shared_at s) (PurseLemmas.shared_at s2) (PurseLemmas.purse (task_of s2 j))
+            (task_of s2 j).place (λ k. omega (arith, gives k))
+            (PurseLemmas.joined-same (PurseLemmas.shared_at s) (PurseLemmas.purse (task_of s2 j))
+            (PurseLemmas.purse (task_of s j)) (ap PurseLemmas.purse (same j)) (h.joined j));
         table = λ j. omega (arith, h.table j, ap (λ (v : TaskFigures). v.weight) (same j));
         ids = length-set s.tasks id t' ∙ h.ids;
       };
       raws = λ j. PurseLemmas.raw-kept s s2 j gives (ap PurseLemmas.purse (same j));
     }
 
-joined-if : (s : Figures) (id processor now : ℕ) (b : Bool) → PurseLemmas.IsSound s → (task_of s id).place ≡ None → ((b ≡ true) × (length s.tasks ≤ id)) ⊎ ((b ≡ false) × (id < length s.tasks)) → Stays s (joins id processor now s)
-joined-if s id processor now b h at (inl past) = joined-outside s id processor (processor_joined (processor_of s processor) (task_of s id).weight) _ h past.1 refl refl
-joined-if s id processor now b h at (inr inside) = joined-inside s id processor (processor_joined (processor_of s processor) (task_of s id).weight) _ h inside.1 at refl refl refl refl refl refl
+joined-if : (s : Figures) (id processor now : ℕ) (b : Bool) → PurseLemmas.IsSound s → (task_of s id).place ≡ None
+    → ((b ≡ true) × (length s.tasks ≤ id)) ⊎ ((b ≡ false) × (id < length s.tasks))
+    → Stays s (joins id processor now s)
+joined-if s id processor now b h at (inl past) =
+    joined-outside s id processor (processor_joined (processor_of s processor) (task_of s id).weight) _ h past.1 refl refl
+joined-if s id processor now b h at (inr inside) =
+    joined-inside s id processor (processor_joined (processor_of s processor) (task_of s id).weight) _ h
+    inside.1 at refl refl refl refl refl refl
 
 -- where a task that is nowhere joins a processor, all stays sound, and each task has what it had
-pub joined-stays : (s : Figures) (id processor now : ℕ) → PurseLemmas.IsSound s → (task_of s id).place ≡ None → Stays s (joins id processor now s)
+pub joined-stays : (s : Figures) (id processor now : ℕ) → PurseLemmas.IsSound s → (task_of s id).place ≡ None
+    → Stays s (joins id processor now s)
 joined-stays s id processor now h at = joined-if s id processor now (leb (length s.tasks) id) h at (leb_tells (length s.tasks) id)
 
 table-cond : (b : Bool) (u v : PurseLemmas.Purse) → u.weight ≤ 88761 → v.weight ≤ 88761 → (cond b u v).weight ≤ 88761
@@ -114,21 +144,31 @@ table-cond true u v h l = h
 table-cond false u v h l = l
 
 -- a task that is nowhere has another weight
-admitted-inside : (s : Figures) (id : ℕ) (t' : TaskFigures) → PurseLemmas.IsSound s → id < length s.tasks → (task_of s id).place ≡ None → t'.place ≡ None → t'.weight ≤ 88761 → t'.accrued ≡ (task_of s id).accrued →
-    Stays s (with_task s id t')
+admitted-inside : (s : Figures) (id : ℕ) (t' : TaskFigures) → PurseLemmas.IsSound s → id < length s.tasks
+    → (task_of s id).place ≡ None → t'.place ≡ None → t'.weight ≤ 88761 → t'.accrued ≡ (task_of s id).accrued
+    → Stays s (with_task s id t')
 admitted-inside s id t' h inside at place weight accrued =
     let s2 = with_task s id t' in
     let u = PurseLemmas.purse t' in
-    let is : (j : ℕ) → PurseLemmas.purse (task_of s2 j) ≡ cond (eqb id j) u (PurseLemmas.purse (task_of s j)) = λ j. set_reads PurseLemmas.purse s id j t' (eqb id j) inside (eqb_tells id j) in
-    let had : PurseLemmas.uncapped s id ≡ (task_of s id).accrued = ap (λ o. PurseLemmas.worth_at (PurseLemmas.shared_at s) (PurseLemmas.purse (task_of s id)) o) at in
+    let is : (j : ℕ) → PurseLemmas.purse (task_of s2 j) ≡ cond (eqb id j) u (PurseLemmas.purse (task_of s j)) =
+    λ j. set_reads PurseLemmas.purse s id j t' (eqb id j) inside (eqb_tells id j) in
+    let had : PurseLemmas.uncapped s id ≡ (task_of s id).accrued =
+    ap (λ o. PurseLemmas.worth_at (PurseLemmas.shared_at s) (PurseLemmas.purse (task_of s id)) o) at in
     record {
       sound = record {
-        weights = λ j there. omega (arith, h.weights j there, weights-set s id j t' inside, weight-nowhere j t' place, weight-nowhere j (task_of s id) at);
+        weights = λ j there.
+            omega (arith, h.weights j there, weights-set s id j t' inside, weight-nowhere j t' place, weight-nowhere j (task_of s id) at);
         joined = λ j. joined-set s s2 j u (eqb id j) (λ k. refl) (is j) (rw place tt) (h.joined j);
-        table = λ j. omega (arith, ap (λ (v : PurseLemmas.Purse). v.weight) (is j), table-cond (eqb id j) u (PurseLemmas.purse (task_of s j)) weight (h.table j));
+        table = λ j. omega (
+          arith,
+          ap (λ (v : PurseLemmas.Purse). v.weight) (is j),
+          table-cond (eqb id j) u (PurseLemmas.purse (task_of s j)) weight (h.table j),
+        );
         ids = length-set s.tasks id t' ∙ h.ids;
       };
-      raws = λ j. raw-set s s2 id j u (λ k. refl) (is j) (ap (λ o. PurseLemmas.worth_at (PurseLemmas.shared_at s) u o) place ∙ accrued ∙ sym had);
+      raws = λ j.
+          raw-set s s2 id j u (λ k. refl) (is j)
+          (ap (λ o. PurseLemmas.worth_at (PurseLemmas.shared_at s) u o) place ∙ accrued ∙ sym had);
     }
 
 admitted-outside : (s : Figures) (id : ℕ) (t' : TaskFigures) → PurseLemmas.IsSound s → length s.tasks ≤ id → Stays s (with_task s id t')
@@ -139,14 +179,18 @@ admitted-outside s id t' h past =
     record {
       sound = record {
         weights = λ j there. h.weights j there ∙ ap (λ l. sum_by (weight_there j) l) (sym tasks);
-        joined = λ j. PurseLemmas.joined-same (PurseLemmas.shared_at s) (PurseLemmas.purse (task_of s2 j)) (PurseLemmas.purse (task_of s j)) (ap PurseLemmas.purse (same j)) (h.joined j);
+        joined = λ j.
+            PurseLemmas.joined-same (PurseLemmas.shared_at s) (PurseLemmas.purse (task_of s2 j))
+            (PurseLemmas.purse (task_of s j)) (ap PurseLemmas.purse (same j)) (h.joined j);
         table = λ j. omega (arith, h.table j, ap (λ (v : TaskFigures). v.weight) (same j));
         ids = length-set s.tasks id t' ∙ h.ids;
       };
       raws = λ j. PurseLemmas.raw-kept s s2 j (λ k. refl) (ap PurseLemmas.purse (same j));
     }
 
-admitted-if : (s : Figures) (id : ℕ) (nice : ℤ) (b : Bool) → PurseLemmas.IsSound s → (task_of s id).place ≡ None → ((b ≡ true) × (length s.tasks ≤ id)) ⊎ ((b ≡ false) × (id < length s.tasks)) → Stays s (admitted id nice s)
+admitted-if : (s : Figures) (id : ℕ) (nice : ℤ) (b : Bool) → PurseLemmas.IsSound s → (task_of s id).place ≡ None
+    → ((b ≡ true) × (length s.tasks ≤ id)) ⊎ ((b ≡ false) × (id < length s.tasks))
+    → Stays s (admitted id nice s)
 admitted-if s id nice b h at (inl past) = admitted-outside s id _ h past.1
 admitted-if s id nice b h at (inr inside) = admitted-inside s id _ h inside.1 at at (weight_at-le nice) refl
 

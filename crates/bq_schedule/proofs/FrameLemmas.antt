@@ -24,20 +24,22 @@ get_or-set_case : {X Y : Type 0} (f : X → Y) (xs : List X) (i j : ℕ) (y d : 
     ((b ≡ true) × (j ≡ i)) ⊎ ((b ≡ false) × (j ≢ i)) → ((c ≡ true) × (length xs ≤ i)) ⊎ ((c ≡ false) × (i < length xs)) →
     f (get_or (slice_set xs i y) j d) ≡ f (get_or xs j d)
 get_or-set_case f xs i j y d b c e (inl same) (inr inside) =
-    ap (λ k. f (get_or (slice_set xs i y) k d)) same.1 ∙ ap f (get_or-set_same xs i y d inside.1) ∙ e ∙ ap (λ k. f (get_or xs k d)) (sym same.1)
+    ap (λ k. f (get_or (slice_set xs i y) k d)) same.1 ∙ ap f (get_or-set_same xs i y d inside.1) ∙ e
+    ∙ ap (λ k. f (get_or xs k d)) (sym same.1)
 get_or-set_case f xs i j y d b c e (inl same) (inl past) = ap (λ l. f (get_or l j d)) (set_past xs i y past.1)
 get_or-set_case f xs i j y d b c e (inr other) within = ap f (get_or-set_other xs i j y d other.1)
 
 -- where a place is set to what f cannot tell from what was there, f reads each place as before
-pub get_or-set_like : {X Y : Type 0} (f : X → Y) (xs : List X) (i j : ℕ) (y d : X) → f y ≡ f (get_or xs i d) → f (get_or (slice_set xs i y) j d) ≡ f (get_or xs j d)
+pub get_or-set_like : {X Y : Type 0} (f : X → Y) (xs : List X) (i j : ℕ) (y d : X)
+    → f y ≡ f (get_or xs i d) → f (get_or (slice_set xs i y) j d) ≡ f (get_or xs j d)
 get_or-set_like f xs i j y d e = get_or-set_case f xs i j y d (eqb j i) (leb (length xs) i) e (eqb_tells j i) (leb_tells (length xs) i)
 
--- so a processor that is set to one that f cannot tell from it changes f of none
+-- a processor that is set to one that f cannot tell from it changes f of none
 pub processor_kept : {Y : Type 0} (f : ProcessorFigures → Y) (s : Figures) (i j : ℕ) (p : ProcessorFigures) → f p ≡ f (processor_of s i) →
     f (processor_of (with_processor s i p) j) ≡ f (processor_of s j)
 processor_kept f s i j p e = get_or-set_like f s.processors i j p unread e
 
--- nor does such a task
+-- a task that is set to one that f cannot tell from it changes f of none
 pub task_kept : {Y : Type 0} (f : TaskFigures → Y) (s : Figures) (i j : ℕ) (t : TaskFigures) → f t ≡ f (task_of s i) →
     f (task_of (with_task s i t) j) ≡ f (task_of s j)
 task_kept f s i j t e = get_or-set_like f s.tasks i j t unknown e
@@ -82,7 +84,8 @@ works-id s = record { at = λ j. refl; count = refl; tasks = refl; times = λ id
 
 -- two changes that keep the works keep them one after the other
 pub works-then : (s t u : Figures) → KeepsWorks s t → KeepsWorks t u → KeepsWorks s u
-works-then s t u a b = record { at = λ j. b.at j ∙ a.at j; count = b.count ∙ a.count; tasks = b.tasks ∙ a.tasks; times = λ id. b.times id ∙ a.times id }
+works-then s t u a b =
+    record { at = λ j. b.at j ∙ a.at j; count = b.count ∙ a.count; tasks = b.tasks ∙ a.tasks; times = λ id. b.times id ∙ a.times id }
 
 -- two changes that keep who runs keep it one after the other
 pub running-then : (s t u : Figures) → KeepsRunning s t → KeepsRunning t u → KeepsRunning s u
@@ -93,16 +96,20 @@ pub running-id : (s : Figures) → KeepsRunning s s
 running-id s = record { at = λ j. refl }
 
 -- a processor whose works stay
-pub works-with_processor : (s : Figures) (i : ℕ) (p : ProcessorFigures) → works p ≡ works (processor_of s i) → KeepsWorks s (with_processor s i p)
-works-with_processor s i p e = record { at = λ j. processor_kept works s i j p e; count = length-set s.processors i p; tasks = refl; times = λ id. refl }
+pub works-with_processor : (s : Figures) (i : ℕ) (p : ProcessorFigures)
+    → works p ≡ works (processor_of s i) → KeepsWorks s (with_processor s i p)
+works-with_processor s i p e =
+    record { at = λ j. processor_kept works s i j p e; count = length-set s.processors i p; tasks = refl; times = λ id. refl }
 
 -- a processor that is set, where the same runs as before, keeps who runs
-pub running-with_processor : (s : Figures) (i : ℕ) (p : ProcessorFigures) → p.running ≡ (processor_of s i).running → KeepsRunning s (with_processor s i p)
+pub running-with_processor : (s : Figures) (i : ℕ) (p : ProcessorFigures)
+    → p.running ≡ (processor_of s i).running → KeepsRunning s (with_processor s i p)
 running-with_processor s i p e = record { at = λ j. processor_kept (λ q. q.running) s i j p e }
 
 -- a task whose time stays
 pub works-with_task : (s : Figures) (i : ℕ) (t : TaskFigures) → t.time ≡ (task_of s i).time → KeepsWorks s (with_task s i t)
-works-with_task s i t e = record { at = λ j. refl; count = refl; tasks = length-set s.tasks i t; times = λ id. task_kept (λ u. u.time) s i id t e }
+works-with_task s i t e =
+    record { at = λ j. refl; count = refl; tasks = length-set s.tasks i t; times = λ id. task_kept (λ u. u.time) s i id t e }
 
 -- a task that is set keeps who runs
 pub running-with_task : (s : Figures) (i : ℕ) (t : TaskFigures) → KeepsRunning s (with_task s i t)
@@ -150,12 +157,14 @@ running-comes id processor now s = running-then _ _ _ (running-leaves id s) (run
 -- a task that is pulled, if there is one, keeps the works
 pub works-taken : (processor now : ℕ) (task : Option ℕ) (s : Figures) → KeepsWorks s (taken processor now task s)
 works-taken processor now None s = works-id s
-works-taken processor now (Some id) s = works-then _ _ _ (works-with_task s id _ refl) (works-comes id processor now (waited_there id now s))
+works-taken processor now (Some id) s =
+    works-then _ _ _ (works-with_task s id _ refl) (works-comes id processor now (waited_there id now s))
 
 -- a task that is pulled, if there is one, keeps who runs
 pub running-taken : (processor now : ℕ) (task : Option ℕ) (s : Figures) → KeepsRunning s (taken processor now task s)
 running-taken processor now None s = running-id s
-running-taken processor now (Some id) s = running-then _ _ _ (running-with_task s id _) (running-comes id processor now (waited_there id now s))
+running-taken processor now (Some id) s =
+    running-then _ _ _ (running-with_task s id _) (running-comes id processor now (waited_there id now s))
 
 time-with_latency : (t : TaskFigures) (n : Option ℕ) → (with_latency t n).time ≡ t.time
 time-with_latency t None = refl
@@ -187,15 +196,18 @@ works-processor_runs p (Some start) = refl
 
 works-started : (processor now : ℕ) (run : Option ℕ) (s : Figures) → KeepsWorks s (started processor now run s)
 works-started processor now run s =
-    let e : processor_of (begun_if processor now run s) processor ≡ processor_of s processor = ap (λ l. get_or l processor unread) (processors-begun_if processor now run s) in
+    let e : processor_of (begun_if processor now run s) processor ≡ processor_of s processor =
+    ap (λ l. get_or l processor unread) (processors-begun_if processor now run s) in
     works-then _ _ _ (works-begun_if processor now run s)
-    (works-with_processor (begun_if processor now run s) processor _ (works-processor_runs (processor_of s processor) (starts_as processor now run s) ∙ ap works (sym e)))
+    (works-with_processor (begun_if processor now run s) processor _
+    (works-processor_runs (processor_of s processor) (starts_as processor now run s) ∙ ap works (sym e)))
 
 works-switched_if : (b : Bool) (left : Left) (processor now : ℕ) (run : Option ℕ) (s : Figures) →
     KeepsWorks s (cond b s (started processor now run (stopped left now (processor_of s processor).running s)))
 works-switched_if true left processor now run s = works-id s
 works-switched_if false left processor now run s =
-    works-then _ _ _ (works-stopped left now (processor_of s processor).running s) (works-started processor now run (stopped left now (processor_of s processor).running s))
+    works-then _ _ _ (works-stopped left now (processor_of s processor).running s)
+    (works-started processor now run (stopped left now (processor_of s processor).running s))
 
 -- a switch to a task, or to none, keeps the works
 pub works-switched : (left : Left) (processor now : ℕ) (run : Option ℕ) (s : Figures) → KeepsWorks s (switched left processor now run s)
@@ -204,28 +216,38 @@ works-switched left processor now run s = works-switched_if (is_run_by (processo
 -- what is reported of who runs at a processor holds afterwards, and at the others it is as it was
 abbrev pub RunsAs : Option (Option ℕ) → ℕ → Figures → Figures → Type 0
 RunsAs None processor s s' = KeepsRunning s s'
-RunsAs (Some run) processor s s' = (running_task (processor_of s' processor) ≡ run) × ((j : ℕ) → j ≢ processor → (processor_of s' j).running ≡ (processor_of s j).running)
+RunsAs (Some run) processor s s' =
+    (running_task (processor_of s' processor) ≡ run)
+    × ((j : ℕ) → j ≢ processor → (processor_of s' j).running ≡ (processor_of s j).running)
 
 -- what is reported of who runs holds too where a step stands before it that keeps who runs
-pub runs-after : (o : Option (Option ℕ)) (processor : ℕ) (s t u : Figures) → KeepsRunning s t → RunsAs o processor t u → RunsAs o processor s u
+pub runs-after : (o : Option (Option ℕ)) (processor : ℕ) (s t u : Figures)
+    → KeepsRunning s t → RunsAs o processor t u → RunsAs o processor s u
 runs-after None processor s t u a b = running-then s t u a b
 runs-after (Some run) processor s t u a b = (b.0, λ j ne. b.1 j ne ∙ a.at j)
 
 -- what is reported of who runs holds too where a step follows it that keeps who runs
-pub runs-before : (o : Option (Option ℕ)) (processor : ℕ) (s t u : Figures) → RunsAs o processor s t → KeepsRunning t u → RunsAs o processor s u
+pub runs-before : (o : Option (Option ℕ)) (processor : ℕ) (s t u : Figures)
+    → RunsAs o processor s t → KeepsRunning t u → RunsAs o processor s u
 runs-before None processor s t u a b = running-then s t u a b
 runs-before (Some run) processor s t u a b = (ap (option_map (λ (x : Start). x.task)) (b.at processor) ∙ a.0, λ j ne. b.at j ∙ a.1 j ne)
 
-running_task-processor_runs : (p : ProcessorFigures) (processor now : ℕ) (run : Option ℕ) (s : Figures) → running_task (processor_runs p (starts_as processor now run s)) ≡ run
+running_task-processor_runs : (p : ProcessorFigures) (processor now : ℕ) (run : Option ℕ) (s : Figures)
+    → running_task (processor_runs p (starts_as processor now run s)) ≡ run
 running_task-processor_runs p processor now None s = refl
 running_task-processor_runs p processor now (Some id) s = refl
 
-runs-started : (processor now : ℕ) (run : Option ℕ) (s : Figures) → processor < length s.processors → RunsAs (Some run) processor s (started processor now run s)
+runs-started : (processor now : ℕ) (run : Option ℕ) (s : Figures)
+    → processor < length s.processors → RunsAs (Some run) processor s (started processor now run s)
 runs-started processor now run s inside =
     let e : (begun_if processor now run s).processors ≡ s.processors = processors-begun_if processor now run s in
     let q = processor_runs (processor_of s processor) (starts_as processor now run s) in (
-      ap (λ l. running_task (get_or (slice_set l processor q) processor unread)) e ∙ ap running_task (get_or-set_same s.processors processor q unread inside) ∙ running_task-processor_runs (processor_of s processor) processor now run s,
-      λ j ne. ap (λ l. (get_or (slice_set l processor q) j unread).running) e ∙ ap (λ (p : ProcessorFigures). p.running) (get_or-set_other s.processors processor j q unread ne),
+      ap (λ l. running_task (get_or (slice_set l processor q) processor unread)) e
+          ∙ ap running_task (get_or-set_same s.processors processor q unread inside)
+          ∙ running_task-processor_runs (processor_of s processor) processor now run s,
+      λ j ne.
+          ap (λ l. (get_or (slice_set l processor q) j unread).running) e
+          ∙ ap (λ (p : ProcessorFigures). p.running) (get_or-set_other s.processors processor j q unread ne),
     )
 
 -- where a task is the one that runs, or none is, it is who runs
@@ -235,17 +257,21 @@ who_is None (Some id) e = cc
 who_is (Some start) None e = cc
 who_is (Some start) (Some id) e = grind (arith, nat_tests)
 
-runs-switched_if : (b : Bool) (left : Left) (processor now : ℕ) (run : Option ℕ) (s : Figures) → is_run_by (processor_of s processor).running run ≡ b → processor < length s.processors →
-    RunsAs (Some run) processor s (cond b s (started processor now run (stopped left now (processor_of s processor).running s)))
+runs-switched_if : (b : Bool) (left : Left) (processor now : ℕ) (run : Option ℕ) (s : Figures)
+    → is_run_by (processor_of s processor).running run ≡ b → processor < length s.processors
+    → RunsAs (Some run) processor s (cond b s (started processor now run (stopped left now (processor_of s processor).running s)))
 runs-switched_if true left processor now run s e inside = (who_is (processor_of s processor).running run e, λ j ne. refl)
 runs-switched_if false left processor now run s e inside =
     let t = stopped left now (processor_of s processor).running s in
     let inside' : processor < length t.processors = omega (arith, (works-stopped left now (processor_of s processor).running s).count) in
-    runs-after (Some run) processor s t (started processor now run t) (running-stopped left now (processor_of s processor).running s) (runs-started processor now run t inside')
+    runs-after (Some run) processor s t (started processor now run t)
+    (running-stopped left now (processor_of s processor).running s) (runs-started processor now run t inside')
 
 -- after a switch the processor runs whom it was to run, and the others whom they ran
-pub runs-switched : (left : Left) (processor now : ℕ) (run : Option ℕ) (s : Figures) → processor < length s.processors → RunsAs (Some run) processor s (switched left processor now run s)
-runs-switched left processor now run s inside = runs-switched_if (is_run_by (processor_of s processor).running run) left processor now run s refl inside
+pub runs-switched : (left : Left) (processor now : ℕ) (run : Option ℕ) (s : Figures)
+    → processor < length s.processors → RunsAs (Some run) processor s (switched left processor now run s)
+runs-switched left processor now run s inside =
+    runs-switched_if (is_run_by (processor_of s processor).running run) left processor now run s refl inside
 
 running-with_charged : (s : Figures) (o : Option Slice) → KeepsRunning s (with_charged s o)
 running-with_charged s None = running-id s
@@ -260,12 +286,14 @@ count-with_charged s None = refl
 count-with_charged s (Some x) = refl
 
 -- a reading sets the processor whose clock is read, and no other
-pub processors-read_at : (processor now : ℕ) (s : Figures) → (read_at processor now s).processors ≡ slice_set s.processors processor (processor_read processor (processor_of s processor) now)
+pub processors-read_at : (processor now : ℕ) (s : Figures)
+    → (read_at processor now s).processors ≡ slice_set s.processors processor (processor_read processor (processor_of s processor) now)
 processors-read_at processor now s = count-with_charged _ _
 
 -- after a reading there are as many processors as before
 pub count-read_at : (processor now : ℕ) (s : Figures) → length (read_at processor now s).processors ≡ length s.processors
-count-read_at processor now s = ap (λ (l : List ProcessorFigures). length l) (processors-read_at processor now s) ∙ length-set s.processors processor _
+count-read_at processor now s =
+    ap (λ (l : List ProcessorFigures). length l) (processors-read_at processor now s) ∙ length-set s.processors processor _
 
 tasks-with_charged : (s : Figures) (o : Option Slice) → length (with_charged s o).tasks ≡ length s.tasks
 tasks-with_charged s None = refl

@@ -44,8 +44,11 @@ pub weight_at-le : (nice : ℤ) → weight_at nice ≤ 88761
 weight_at-le nice = weight_at_if _ (weight_of nice) (weight_of-le nice)
 
 -- a task that is somewhere has an id of the table
-in_table_by : (s : Figures) (id processor : ℕ) (b : Bool) → (task_of s id).place ≡ Some processor → ((b ≡ true) × (length s.tasks ≤ id)) ⊎ ((b ≡ false) × (id < length s.tasks)) → id < length s.tasks
-in_table_by s id processor b e (inl past) = let u : (task_of s id).place ≡ None = ap (λ (t : TaskFigures). t.place) (get_or_past s.tasks id unknown past.1) in cc
+in_table_by : (s : Figures) (id processor : ℕ) (b : Bool) → (task_of s id).place ≡ Some processor
+    → ((b ≡ true) × (length s.tasks ≤ id)) ⊎ ((b ≡ false) × (id < length s.tasks))
+    → id < length s.tasks
+in_table_by s id processor b e (inl past) =
+    let u : (task_of s id).place ≡ None = ap (λ (t : TaskFigures). t.place) (get_or_past s.tasks id unknown past.1) in cc
 in_table_by s id processor b e (inr inside) = inside.1
 
 in_table : (s : Figures) (id processor : ℕ) → (task_of s id).place ≡ Some processor → id < length s.tasks
@@ -56,15 +59,19 @@ pub beyond_table : (s : Figures) (id : ℕ) → length s.tasks ≤ id → task_o
 beyond_table s id past = get_or_past s.tasks id unknown past
 
 -- where a task is set, what f reads of each task is what it was, or what it is set to
-pub set_reads : {Y : Type 0} (f : TaskFigures → Y) (s : Figures) (id j : ℕ) (t : TaskFigures) (b : Bool) → id < length s.tasks → ((b ≡ true) × (id ≡ j)) ⊎ ((b ≡ false) × (id ≢ j)) →
-    f (task_of (with_task s id t) j) ≡ cond b (f t) (f (task_of s j))
-set_reads f s id j t true inside (inl e) = ap (λ k. f (get_or (slice_set s.tasks id t) k unknown)) (sym e.1) ∙ ap f (get_or-set_same s.tasks id t unknown inside)
+pub set_reads : {Y : Type 0} (f : TaskFigures → Y) (s : Figures) (id j : ℕ) (t : TaskFigures) (b : Bool)
+    → id < length s.tasks → ((b ≡ true) × (id ≡ j)) ⊎ ((b ≡ false) × (id ≢ j))
+    → f (task_of (with_task s id t) j) ≡ cond b (f t) (f (task_of s j))
+set_reads f s id j t true inside (inl e) =
+    ap (λ k. f (get_or (slice_set s.tasks id t) k unknown)) (sym e.1) ∙ ap f (get_or-set_same s.tasks id t unknown inside)
 set_reads f s id j t false inside (inl e) = absurd (cc)
 set_reads f s id j t true inside (inr e) = absurd (cc)
 set_reads f s id j t false inside (inr e) = ap f (get_or-set_other s.tasks id j t unknown (λ h. e.1 (sym h)))
 
 -- the weights at a processor, where a task is set
-pub weights-set : (s : Figures) (id processor : ℕ) (t : TaskFigures) → id < length s.tasks → weights_at (with_task s id t) processor + weight_there processor (task_of s id) ≡ weights_at s processor + weight_there processor t
+pub weights-set : (s : Figures) (id processor : ℕ) (t : TaskFigures)
+    → id < length s.tasks
+    → weights_at (with_task s id t) processor + weight_there processor (task_of s id) ≡ weights_at s processor + weight_there processor t
 weights-set s id processor t inside = sum_by-set (weight_there processor) s.tasks id t unknown inside
 
 there-le : (b : Bool) (n : ℕ) → n ≤ 88761 → cond b n 0 ≤ 88761
@@ -73,10 +80,12 @@ there-le false n h = omega arith
 
 -- a task has its weight where it is
 pub weight-here : (processor : ℕ) (t : TaskFigures) → t.place ≡ Some processor → weight_there processor t ≡ t.weight
-weight-here processor t e = ap (λ o. cond (is_this processor o) t.weight 0) e ∙ ap (λ b. cond b t.weight 0) (eq-eqb processor processor refl)
+weight-here processor t e =
+    ap (λ o. cond (is_this processor o) t.weight 0) e ∙ ap (λ b. cond b t.weight 0) (eq-eqb processor processor refl)
 
 -- a task has no weight at a processor where it is not
-pub weight-elsewhere : (processor k : ℕ) (t : TaskFigures) (b : Bool) → t.place ≡ Some k → eqb k processor ≡ false → weight_there processor t ≡ 0
+pub weight-elsewhere : (processor k : ℕ) (t : TaskFigures) (b : Bool)
+    → t.place ≡ Some k → eqb k processor ≡ false → weight_there processor t ≡ 0
 weight-elsewhere processor k t b e ne = ap (λ o. cond (is_this processor o) t.weight 0) e ∙ ap (λ b. cond b t.weight 0) ne
 
 -- a task that is nowhere has no weight at any processor
@@ -84,15 +93,21 @@ pub weight-nowhere : (processor : ℕ) (t : TaskFigures) → t.place ≡ None �
 weight-nowhere processor t e = ap (λ o. cond (is_this processor o) t.weight 0) e
 
 -- what a processor's figures are after one is set
-pub set-there : (s : Figures) (i j : ℕ) (p : ProcessorFigures) (b : Bool) → j < length s.processors → ((b ≡ true) × (i ≡ j)) ⊎ ((b ≡ false) × (i ≢ j)) →
-    (processor_of (with_processor s i p) j).weight ≡ cond b p.weight (processor_of s j).weight
-set-there s i j p true inside (inl e) = ap (λ k. (get_or (slice_set s.processors k p) j unread).weight) e.1 ∙ ap (λ (q : ProcessorFigures). q.weight) (get_or-set_same s.processors j p unread inside)
+pub set-there : (s : Figures) (i j : ℕ) (p : ProcessorFigures) (b : Bool)
+    → j < length s.processors → ((b ≡ true) × (i ≡ j)) ⊎ ((b ≡ false) × (i ≢ j))
+    → (processor_of (with_processor s i p) j).weight ≡ cond b p.weight (processor_of s j).weight
+set-there s i j p true inside (inl e) =
+    ap (λ k. (get_or (slice_set s.processors k p) j unread).weight) e.1
+    ∙ ap (λ (q : ProcessorFigures). q.weight) (get_or-set_same s.processors j p unread inside)
 set-there s i j p false inside (inl e) = absurd (cc)
 set-there s i j p true inside (inr e) = absurd (cc)
-set-there s i j p false inside (inr e) = ap (λ (q : ProcessorFigures). q.weight) (get_or-set_other s.processors i j p unread (λ h. e.1 (sym h)))
+set-there s i j p false inside (inr e) =
+    ap (λ (q : ProcessorFigures). q.weight) (get_or-set_other s.processors i j p unread (λ h. e.1 (sym h)))
 
 -- what was given at each processor is kept where a processor is set that has given the same
-pub shared-with_processor : (s : Figures) (i : ℕ) (p : ProcessorFigures) (j : ℕ) → p.shared ≡ PurseLemmas.shared_at s i → PurseLemmas.shared_at (with_processor s i p) j ≡ PurseLemmas.shared_at s j
+pub shared-with_processor : (s : Figures) (i : ℕ) (p : ProcessorFigures) (j : ℕ)
+    → p.shared ≡ PurseLemmas.shared_at s i
+    → PurseLemmas.shared_at (with_processor s i p) j ≡ PurseLemmas.shared_at s j
 shared-with_processor s i p j e = processor_kept (λ (q : ProcessorFigures). q.shared) s i j p e
 
 -- a task leaves its processor: it keeps what it has, and its weight goes
@@ -101,10 +116,12 @@ pub record Leaves (id : ℕ) (s s' : Figures) : Type 0 where
   pub raws : (j : ℕ) → PurseLemmas.uncapped s' j ≡ PurseLemmas.uncapped s j
   pub nowhere : (task_of s' id).place ≡ None
 
-weights-left : (s s' : Figures) (id processor j : ℕ) (b : Bool) (w : ℕ) → ((b ≡ true) × (processor ≡ j)) ⊎ ((b ≡ false) × (processor ≢ j)) → eqb processor j ≡ b → id < length s.tasks →
-    (task_of s id).place ≡ Some processor → (processor_of s j).weight ≡ weights_at s j →
-    weights_at s' j + weight_there j (task_of s id) ≡ weights_at s j →
-    w ≡ cond b ((processor_of s processor).weight - (task_of s id).weight) (processor_of s j).weight → w ≡ weights_at s' j
+weights-left : (s s' : Figures) (id processor j : ℕ) (b : Bool) (w : ℕ)
+    → ((b ≡ true) × (processor ≡ j)) ⊎ ((b ≡ false) × (processor ≢ j)) → eqb processor j ≡ b
+    → id < length s.tasks → (task_of s id).place ≡ Some processor → (processor_of s j).weight ≡ weights_at s j
+    → weights_at s' j + weight_there j (task_of s id) ≡ weights_at s j
+    → w ≡ cond b ((processor_of s processor).weight - (task_of s id).weight) (processor_of s j).weight
+    → w ≡ weights_at s' j
 weights-left s s' id processor j true w (inl e) is inside at old sums new =
     let same : (processor_of s processor).weight ≡ (processor_of s j).weight = ap (λ k. (processor_of s k).weight) e.1 in
     let here : weight_there j (task_of s id) ≡ (task_of s id).weight = weight-here j (task_of s id) (at ∙ ap (λ (k : ℕ). Some k) e.1) in
@@ -128,45 +145,59 @@ cond-joined f true u v h k = h
 cond-joined f false u v h k = k
 
 -- one purse is another, which came after what was given; so did the others
-pub joined-set : (s s' : Figures) (j : ℕ) (u : PurseLemmas.Purse) (b : Bool) → ((k : ℕ) → PurseLemmas.shared_at s' k ≡ PurseLemmas.shared_at s k) → PurseLemmas.purse (task_of s' j) ≡ cond b u (PurseLemmas.purse (task_of s j)) →
-    HasJoined (PurseLemmas.shared_at s) u → HasJoined (PurseLemmas.shared_at s) (PurseLemmas.purse (task_of s j)) → HasJoined (PurseLemmas.shared_at s') (PurseLemmas.purse (task_of s' j))
+pub joined-set : (s s' : Figures) (j : ℕ) (u : PurseLemmas.Purse) (b : Bool)
+    → ((k : ℕ) → PurseLemmas.shared_at s' k ≡ PurseLemmas.shared_at s k)
+    → PurseLemmas.purse (task_of s' j) ≡ cond b u (PurseLemmas.purse (task_of s j)) → HasJoined (PurseLemmas.shared_at s) u
+    → HasJoined (PurseLemmas.shared_at s) (PurseLemmas.purse (task_of s j))
+    → HasJoined (PurseLemmas.shared_at s') (PurseLemmas.purse (task_of s' j))
 joined-set s s' j u b gives is new old =
-    PurseLemmas.joined-more (PurseLemmas.shared_at s) (PurseLemmas.shared_at s') (PurseLemmas.purse (task_of s' j)) (task_of s' j).place (λ k. omega (arith, gives k))
-    (PurseLemmas.joined-same (PurseLemmas.shared_at s) (PurseLemmas.purse (task_of s' j)) (cond b u (PurseLemmas.purse (task_of s j))) is (cond-joined (PurseLemmas.shared_at s) b u (PurseLemmas.purse (task_of s j)) new old))
+    PurseLemmas.joined-more (PurseLemmas.shared_at s) (PurseLemmas.shared_at s') (PurseLemmas.purse (task_of s' j))
+    (task_of s' j).place (λ k. omega (arith, gives k))
+    (PurseLemmas.joined-same (PurseLemmas.shared_at s)
+    (PurseLemmas.purse (task_of s' j)) (cond b u (PurseLemmas.purse (task_of s j))) is
+    (cond-joined (PurseLemmas.shared_at s) b u (PurseLemmas.purse (task_of s j)) new old))
 
-worth-cond : (s : Figures) (id j : ℕ) (u : PurseLemmas.Purse) (b : Bool) → ((b ≡ true) × (id ≡ j)) ⊎ ((b ≡ false) × (id ≢ j)) → worth (PurseLemmas.shared_at s) u ≡ PurseLemmas.uncapped s id →
-    worth (PurseLemmas.shared_at s) (cond b u (PurseLemmas.purse (task_of s j))) ≡ PurseLemmas.uncapped s j
+worth-cond : (s : Figures) (id j : ℕ) (u : PurseLemmas.Purse) (b : Bool)
+    → ((b ≡ true) × (id ≡ j)) ⊎ ((b ≡ false) × (id ≢ j)) → worth (PurseLemmas.shared_at s) u ≡ PurseLemmas.uncapped s id
+    → worth (PurseLemmas.shared_at s) (cond b u (PurseLemmas.purse (task_of s j))) ≡ PurseLemmas.uncapped s j
 worth-cond s id j u true (inl e) same = same ∙ ap (λ k. PurseLemmas.uncapped s k) e.1
 worth-cond s id j u false (inl e) same = absurd (cc)
 worth-cond s id j u true (inr e) same = absurd (cc)
 worth-cond s id j u false (inr e) same = refl
 
 -- one purse is another of the same worth
-pub raw-set : (s s' : Figures) (id j : ℕ) (u : PurseLemmas.Purse) → ((k : ℕ) → PurseLemmas.shared_at s' k ≡ PurseLemmas.shared_at s k) → PurseLemmas.purse (task_of s' j) ≡ cond (eqb id j) u (PurseLemmas.purse (task_of s j)) →
-    worth (PurseLemmas.shared_at s) u ≡ PurseLemmas.uncapped s id → PurseLemmas.uncapped s' j ≡ PurseLemmas.uncapped s j
+pub raw-set : (s s' : Figures) (id j : ℕ) (u : PurseLemmas.Purse)
+    → ((k : ℕ) → PurseLemmas.shared_at s' k ≡ PurseLemmas.shared_at s k)
+    → PurseLemmas.purse (task_of s' j) ≡ cond (eqb id j) u (PurseLemmas.purse (task_of s j))
+    → worth (PurseLemmas.shared_at s) u ≡ PurseLemmas.uncapped s id
+    → PurseLemmas.uncapped s' j ≡ PurseLemmas.uncapped s j
 raw-set s s' id j u gives is same =
-    PurseLemmas.worth-same (PurseLemmas.shared_at s') (PurseLemmas.shared_at s) (PurseLemmas.purse (task_of s' j)) (task_of s' j).place gives
-    ∙ ap (λ v. worth (PurseLemmas.shared_at s) v) is
-    ∙ worth-cond s id j u (eqb id j) (eqb_tells id j) same
+    PurseLemmas.worth-same (PurseLemmas.shared_at s') (PurseLemmas.shared_at s) (PurseLemmas.purse (task_of s' j))
+    (task_of s' j).place gives
+    ∙ ap (λ v. worth (PurseLemmas.shared_at s) v) is ∙ worth-cond s id j u (eqb id j) (eqb_tells id j) same
 
-left-one : (s : Figures) (id processor : ℕ) (p : ProcessorFigures) (t' : TaskFigures) → PurseLemmas.IsSound s → (task_of s id).place ≡ Some processor → p.shared ≡ PurseLemmas.shared_at s processor →
-    p.weight ≡ (processor_of s processor).weight - (task_of s id).weight → t'.place ≡ None → t'.weight ≡ (task_of s id).weight → t'.accrued ≡ PurseLemmas.uncapped s id →
-    Leaves id s (with_task (with_processor s processor p) id t')
+left-one : (s : Figures) (id processor : ℕ) (p : ProcessorFigures) (t' : TaskFigures)
+    → PurseLemmas.IsSound s → (task_of s id).place ≡ Some processor → p.shared ≡ PurseLemmas.shared_at s processor
+    → p.weight ≡ (processor_of s processor).weight - (task_of s id).weight → t'.place ≡ None
+    → t'.weight ≡ (task_of s id).weight → t'.accrued ≡ PurseLemmas.uncapped s id
+    → Leaves id s (with_task (with_processor s processor p) id t')
 left-one s id processor p t' h at shared weight nowhere same accrued =
     let s1 = with_processor s processor p in
     let s2 = with_task s1 id t' in
     let u = PurseLemmas.purse t' in
     let inside : id < length s.tasks = in_table s id processor at in
     let gives : (j : ℕ) → PurseLemmas.shared_at s2 j ≡ PurseLemmas.shared_at s j = λ j. shared-with_processor s processor p j shared in
-    let is : (j : ℕ) → PurseLemmas.purse (task_of s2 j) ≡ cond (eqb id j) u (PurseLemmas.purse (task_of s j)) = λ j. set_reads PurseLemmas.purse s1 id j t' (eqb id j) inside (eqb_tells id j) in
+    let is : (j : ℕ) → PurseLemmas.purse (task_of s2 j) ≡ cond (eqb id j) u (PurseLemmas.purse (task_of s j)) =
+    λ j. set_reads PurseLemmas.purse s1 id j t' (eqb id j) inside (eqb_tells id j) in
     record {
       sound = record {
         weights = λ j there.
             let there' : j < length s.processors = omega (arith, there, length-set s.processors processor p) in
             let gone : weight_there j t' ≡ 0 = weight-nowhere j t' nowhere in
-            weights-left s s2 id processor j (eqb processor j) (processor_of s2 j).weight (eqb_tells processor j) refl inside at (h.weights j there')
-            (omega (arith, weights-set s1 id j t' inside, gone))
-            (set-there s processor j p (eqb processor j) there' (eqb_tells processor j) ∙ ap (λ w. cond (eqb processor j) w (processor_of s j).weight) weight);
+            weights-left s s2 id processor j (eqb processor j) (processor_of s2 j).weight (eqb_tells processor j) refl inside
+            at (h.weights j there') (omega (arith, weights-set s1 id j t' inside, gone))
+            (set-there s processor j p (eqb processor j) there' (eqb_tells processor j)
+            ∙ ap (λ w. cond (eqb processor j) w (processor_of s j).weight) weight);
         joined = λ j. joined-set s s2 j u (eqb id j) gives (is j) (rw nowhere tt) (h.joined j);
         table = λ j. omega (arith, h.table j, task_kept (λ (v : TaskFigures). v.weight) s1 id j t' same);
         ids = length-set s.tasks id t' ∙ h.ids;
@@ -175,15 +206,22 @@ left-one s id processor p t' h at shared weight nowhere same accrued =
       nowhere = ap (λ (v : TaskFigures). v.place) (get_or-set_same s.tasks id t' unknown inside) ∙ nowhere;
     }
 
-left-if : (s : Figures) (id : ℕ) (o : Option ℕ) → PurseLemmas.IsSound s → (task_of s id).place ≡ o → PurseLemmas.uncapped s id ≤ 340282366920938463463374607431768211455 → Leaves id s (left_from id s o)
+left-if : (s : Figures) (id : ℕ) (o : Option ℕ) → PurseLemmas.IsSound s → (task_of s id).place ≡ o
+    → PurseLemmas.uncapped s id ≤ 340282366920938463463374607431768211455
+    → Leaves id s (left_from id s o)
 left-if s id None h at small = record { sound = h; raws = λ j. refl; nowhere = at }
 left-if s id (Some processor) h at small =
     let t = task_of s id in
-    let is : PurseLemmas.uncapped s id ≡ t.accrued + t.weight * (PurseLemmas.shared_at s processor - t.joined) = ap (λ o. PurseLemmas.worth_at (PurseLemmas.shared_at s) (PurseLemmas.purse t) o) at in
-    left-one s id processor (processor_left (processor_of s processor) t.weight) (record t { accrued = fair_at s t (Some processor); place = None; drains = None }) h at refl refl refl refl (omega (arith, is, small))
+    let is : PurseLemmas.uncapped s id ≡ t.accrued + t.weight * (PurseLemmas.shared_at s processor - t.joined) =
+    ap (λ o. PurseLemmas.worth_at (PurseLemmas.shared_at s) (PurseLemmas.purse t) o) at in
+    left-one s id processor (processor_left (processor_of s processor) t.weight)
+    (record t { accrued = fair_at s t (Some processor); place = None; drains = None }) h at refl refl refl refl
+    (omega (arith, is, small))
 
 -- a task that leaves is nowhere, all stays sound, and each has what it had, where what it has fits in 128 bits
-pub leaves-stays : (s : Figures) (id : ℕ) → PurseLemmas.IsSound s → PurseLemmas.uncapped s id ≤ 340282366920938463463374607431768211455 → Leaves id s (leaves id s)
+pub leaves-stays : (s : Figures) (id : ℕ) → PurseLemmas.IsSound s
+    → PurseLemmas.uncapped s id ≤ 340282366920938463463374607431768211455
+    → Leaves id s (leaves id s)
 leaves-stays s id h small = left-if s id (task_of s id).place h refl small
 
 -- all weights together are few
@@ -193,5 +231,6 @@ weights-few s processor h =
       arith,
       h.ids,
       sum_by-le (weight_there processor) 88761 s.tasks
-          (All-from_get_or (λ (t : TaskFigures). weight_there processor t ≤ 88761) s.tasks unknown (λ j inside. there-le (is_this processor (task_of s j).place) (task_of s j).weight (h.table j))),
+          (All-from_get_or (λ (t : TaskFigures). weight_there processor t ≤ 88761) s.tasks unknown
+          (λ j inside. there-le (is_this processor (task_of s j).place) (task_of s j).weight (h.table j))),
     )

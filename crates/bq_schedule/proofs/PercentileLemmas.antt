@@ -17,7 +17,8 @@ stands (x ∷ numbers) zero h = refl
 stands (x ∷ numbers) (suc k) h = stands numbers k (omega arith)
 
 -- none stands at the place of a percentile exactly when there is no number, and so no number of which these are an order
-pub none_at_rank : (percent : ℕ) (old new : List ℕ) → IsPermutation old new → IsNone (slice_get new (rank percent (length new))) ↔ (old ≡ [])
+pub none_at_rank : (percent : ℕ) (old new : List ℕ) → IsPermutation old new
+    → IsNone (slice_get new (rank percent (length new))) ↔ (old ≡ [])
 none_at_rank percent old new kept = (there new (length_permutation old new kept), back new (length_permutation old new kept))
   where
     there : (new : List ℕ) → length new ≡ length old → IsNone (slice_get new (rank percent (length new))) → old ≡ []

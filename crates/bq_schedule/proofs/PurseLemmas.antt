@@ -19,7 +19,8 @@ use Rattle.bq_schedule.specs.FairTimes.{weight_there, weights_at}
 use Rattle.bq_schedule.proofs.FrameLemmas.{processor_kept, task_kept, processors-begun_if}
 
 -- lists alike under f and g have the same sum
-pub sums_like : {X : Type 0} (f g : X → ℕ) (d : X) (xs ys : List X) → length xs ≡ length ys → ((j : ℕ) → f (get_or xs j d) ≡ g (get_or ys j d)) → sum_by f xs ≡ sum_by g ys
+pub sums_like : {X : Type 0} (f g : X → ℕ) (d : X) (xs ys : List X)
+    → length xs ≡ length ys → ((j : ℕ) → f (get_or xs j d) ≡ g (get_or ys j d)) → sum_by f xs ≡ sum_by g ys
 sums_like f g d [] [] e h = refl
 sums_like f g d [] (y ∷ ys) e h = absurd (omega arith)
 sums_like f g d (x ∷ xs) [] e h = absurd (omega arith)
@@ -60,15 +61,23 @@ kept-id s = record { pots = λ j. refl; purses = λ id. refl; count = refl; task
 
 -- two changes that keep purses and pots keep them one after the other
 pub kept-then : (s t u : Figures) → KeepsPurses s t → KeepsPurses t u → KeepsPurses s u
-kept-then s t u a b = record { pots = λ j. b.pots j ∙ a.pots j; purses = λ id. b.purses id ∙ a.purses id; count = b.count ∙ a.count; tasks = b.tasks ∙ a.tasks }
+kept-then s t u a b = record {
+  pots = λ j. b.pots j ∙ a.pots j;
+  purses = λ id. b.purses id ∙ a.purses id;
+  count = b.count ∙ a.count;
+  tasks = b.tasks ∙ a.tasks;
+}
 
 -- a processor that is set, with the same pot, keeps purses and pots
-pub kept-with_processor : (s : Figures) (i : ℕ) (p : ProcessorFigures) → pot p ≡ pot (processor_of s i) → KeepsPurses s (with_processor s i p)
-kept-with_processor s i p e = record { pots = λ j. processor_kept pot s i j p e; purses = λ id. refl; count = length-set s.processors i p; tasks = refl }
+pub kept-with_processor : (s : Figures) (i : ℕ) (p : ProcessorFigures)
+    → pot p ≡ pot (processor_of s i) → KeepsPurses s (with_processor s i p)
+kept-with_processor s i p e =
+    record { pots = λ j. processor_kept pot s i j p e; purses = λ id. refl; count = length-set s.processors i p; tasks = refl }
 
 -- a task that is set, with the same purse, keeps purses and pots
 pub kept-with_task : (s : Figures) (i : ℕ) (t : TaskFigures) → purse t ≡ purse (task_of s i) → KeepsPurses s (with_task s i t)
-kept-with_task s i t e = record { pots = λ j. refl; purses = λ id. task_kept purse s i id t e; count = refl; tasks = length-set s.tasks i t }
+kept-with_task s i t e =
+    record { pots = λ j. refl; purses = λ id. task_kept purse s i id t e; count = refl; tasks = length-set s.tasks i t }
 
 pot-processor_asked : (p : ProcessorFigures) (d : Decision) (h : Hook) → pot (processor_asked p d h) ≡ pot p
 pot-processor_asked p d Place = refl
@@ -98,9 +107,11 @@ pot-processor_runs p (Some start) = refl
 
 kept-started : (processor now : ℕ) (run : Option ℕ) (s : Figures) → KeepsPurses s (started processor now run s)
 kept-started processor now run s =
-    let e : processor_of (begun_if processor now run s) processor ≡ processor_of s processor = ap (λ l. get_or l processor unread) (processors-begun_if processor now run s) in
+    let e : processor_of (begun_if processor now run s) processor ≡ processor_of s processor =
+    ap (λ l. get_or l processor unread) (processors-begun_if processor now run s) in
     kept-then s (begun_if processor now run s) _ (kept-begun_if processor now run s)
-    (kept-with_processor (begun_if processor now run s) processor _ (pot-processor_runs (processor_of s processor) (starts_as processor now run s) ∙ ap pot (sym e)))
+    (kept-with_processor (begun_if processor now run s) processor _
+    (pot-processor_runs (processor_of s processor) (starts_as processor now run s) ∙ ap pot (sym e)))
 
 kept-switched_if : (b : Bool) (left : Left) (processor now : ℕ) (run : Option ℕ) (s : Figures) →
     KeepsPurses s (cond b s (started processor now run (stopped left now (processor_of s processor).running s)))
@@ -136,7 +147,9 @@ worth-same f g u None h = refl
 worth-same f g u (Some processor) h = ap (λ n. u.accrued + u.weight * (n - u.joined)) (h processor)
 
 -- a task whose purse stays has what it had, where each processor gave the same
-pub raw-kept : (s s' : Figures) (id : ℕ) → ((j : ℕ) → shared_at s' j ≡ shared_at s j) → purse (task_of s' id) ≡ purse (task_of s id) → uncapped s' id ≡ uncapped s id
+pub raw-kept : (s s' : Figures) (id : ℕ) → ((j : ℕ) → shared_at s' j ≡ shared_at s j)
+    → purse (task_of s' id) ≡ purse (task_of s id)
+    → uncapped s' id ≡ uncapped s id
 raw-kept s s' id h e =
     worth-same (shared_at s') (shared_at s) (purse (task_of s' id)) (task_of s' id).place h
     ∙ ap (λ (u : Purse). worth_at (shared_at s) u u.place) e
@@ -147,7 +160,9 @@ weight_of_purse processor u = cond (is_this processor u.place) u.weight 0
 
 -- what keeps purses and pots keeps the weights at each processor together
 pub weights-kept : (s s' : Figures) (processor : ℕ) → KeepsPurses s s' → weights_at s' processor ≡ weights_at s processor
-weights-kept s s' processor k = sums_like (weight_there processor) (weight_there processor) unknown s'.tasks s.tasks k.tasks (λ j. ap (weight_of_purse processor) (k.purses j))
+weights-kept s s' processor k =
+    sums_like (weight_there processor) (weight_there processor) unknown s'.tasks s.tasks k.tasks
+    (λ j. ap (weight_of_purse processor) (k.purses j))
 
 -- what had been given where a task came to stand is no more than what is given there now
 abbrev pub JoinedBy : (ℕ → ℕ) → Purse → Option ℕ → Type 0
@@ -173,9 +188,13 @@ joined-same f u v e h = let P : Purse → Type 0 = λ w. JoinedBy f w w.place in
 -- what keeps purses and pots keeps all sound
 pub sound-kept : (s s' : Figures) → KeepsPurses s s' → IsSound s → IsSound s'
 sound-kept s s' k h = record {
-  weights = λ processor inside. ap (λ (q : Pot). q.weight) (k.pots processor) ∙ h.weights processor (omega (arith, k.count)) ∙ sym (weights-kept s s' processor k);
-  joined = λ id. joined-same (shared_at s') (purse (task_of s' id)) (purse (task_of s id)) (k.purses id)
-      (joined-more (shared_at s) (shared_at s') (purse (task_of s id)) (task_of s id).place (λ j. omega (arith, ap (λ (q : Pot). q.shared) (k.pots j))) (h.joined id));
+  weights = λ processor inside.
+      ap (λ (q : Pot). q.weight) (k.pots processor) ∙ h.weights processor (omega (arith, k.count))
+      ∙ sym (weights-kept s s' processor k);
+  joined = λ id.
+      joined-same (shared_at s') (purse (task_of s' id)) (purse (task_of s id)) (k.purses id)
+      (joined-more (shared_at s) (shared_at s') (purse (task_of s id)) (task_of s id).place
+      (λ j. omega (arith, ap (λ (q : Pot). q.shared) (k.pots j))) (h.joined id));
   table = λ id. omega (arith, h.table id, ap (λ (u : Purse). u.weight) (k.purses id));
   ids = k.tasks ∙ h.ids;
 }

@@ -8,7 +8,7 @@ use Rattle.std.proofs.lemmas.Bool.{and_parts}
 use Rattle.bq_parts.specs.declared.event.Event.{Event}
 use Rattle.bq_parts.specs.declared.event.Event.TheVariants.{EndWake, Drain, Tick, Block, Pull}
 use Rattle.bq_parts.specs.declared.reply.Reply.{Reply}
-use Rattle.bq_parts.specs.declared.reply.Reply.TheVariants.{Placed, Drained, Ticked, Blocked as Went, Pulled}
+use Rattle.bq_parts.specs.declared.reply.Reply.TheVariants.{Placed, Drained, Ticked, Blocked, Pulled}
 use Rattle.bq_parts.specs.declared.refusal.Refusal.{Refusal}
 use Rattle.bq_schedule.specs.declared.slice.Slice.{Slice}
 use Rattle.bq_schedule.specs.declared.figures.ProcessorFigures.{ProcessorFigures}
@@ -16,8 +16,8 @@ use Rattle.bq_schedule.specs.Moments.{History}
 use Rattle.bq_schedule.specs.Figures.{Figures, unread, processor_of}
 use Rattle.bq_schedule.specs.Passing.{goes_on, slice_at, joined_run, ended_run, processor_read}
 use Rattle.bq_schedule.specs.Slices.{Sight, sight, sight_of, runner, stretch, slice_shown, slices, slices_at, is_at, joined, runs}
-use Rattle.bq_schedule.specs.Steps.{performed_told, change, nothing, is_there, after, figures}
-use Rattle.bq_schedule.specs.Laws.{IsWithin, IsOf, told_if, told_runs, TellsRuns}
+use Rattle.bq_schedule.specs.Steps.{report_of_answer, change, nothing, is_there, after, figures}
+use Rattle.bq_schedule.specs.Laws.{IsWithin, IsOfProcessors, reported_if, reported_runs, ReportsRuns}
 use Rattle.bq_schedule.proofs.FrameLemmas.{Works}
 use Rattle.bq_schedule.proofs.ClockLemmas.{Shows, shows-after, count-figures, within-figures, processor-read_at, not_below}
 use Rattle.bq_schedule.proofs.SliceTimeLemmas.{slice_seen, shown-seen}
@@ -30,8 +30,9 @@ last_joined (r ∷ []) y = cond (goes_on r y) (record r { to = y.to } ∷ []) (r
 last_joined (r ∷ (q ∷ rs)) y = r ∷ last_joined (q ∷ rs) y
 
 -- it makes no odds at which end slices are joined first
-joined-one : (x r y : Slice) (b c d : Bool) → goes_on r y ≡ b → goes_on x r ≡ c → goes_on (record x { to = r.to }) y ≡ d → (c ≡ true → d ≡ b) →
-    joined x (cond b (record r { to = y.to } ∷ []) (r ∷ y ∷ [])) ≡ last_joined (cond c (record x { to = r.to } ∷ []) (x ∷ r ∷ [])) y
+joined-one : (x r y : Slice) (b c d : Bool) → goes_on r y ≡ b → goes_on x r ≡ c → goes_on (record x { to = r.to }) y ≡ d
+    → (c ≡ true → d ≡ b)
+    → joined x (cond b (record r { to = y.to } ∷ []) (r ∷ y ∷ [])) ≡ last_joined (cond c (record x { to = r.to } ∷ []) (x ∷ r ∷ [])) y
 joined-one x r y true true d is on next same = rw (on, next, same refl) refl
 joined-one x r y true false d is on next same = rw (on, is) refl
 joined-one x r y false true d is on next same = rw (on, next, same refl) refl
@@ -40,14 +41,16 @@ joined-one x r y false false d is on next same = rw (on, is) refl
 same_task : (x r y : Slice) → goes_on x r ≡ true → goes_on (record x { to = r.to }) y ≡ goes_on r y
 same_task x r y e = ap (λ k. eqb k y.task && eqb r.to y.from) (eqb-true x.task r.task (and_parts (eqb x.task r.task) (eqb x.to r.from) e).0)
 
-joined-many : (x r q y : Slice) (rs : List Slice) (c : Bool) → goes_on x r ≡ c →
-    cond c (record x { to = r.to } ∷ last_joined (q ∷ rs) y) (x ∷ r ∷ last_joined (q ∷ rs) y) ≡ last_joined (cond c (record x { to = r.to } ∷ q ∷ rs) (x ∷ r ∷ q ∷ rs)) y
+joined-many : (x r q y : Slice) (rs : List Slice) (c : Bool) → goes_on x r ≡ c
+    → cond c (record x { to = r.to } ∷ last_joined (q ∷ rs) y) (x ∷ r ∷ last_joined (q ∷ rs) y)
+    ≡ last_joined (cond c (record x { to = r.to } ∷ q ∷ rs) (x ∷ r ∷ q ∷ rs)) y
 joined-many x r q y rs true e = refl
 joined-many x r q y rs false e = refl
 
 joined-last : (x y : Slice) (rs : List Slice) → joined x (last_joined rs y) ≡ last_joined (joined x rs) y
 joined-last x y [] = refl
-joined-last x y (r ∷ []) = joined-one x r y (goes_on r y) (goes_on x r) (goes_on (record x { to = r.to }) y) refl refl refl (same_task x r y)
+joined-last x y (r ∷ []) =
+    joined-one x r y (goes_on r y) (goes_on x r) (goes_on (record x { to = r.to }) y) refl refl refl (same_task x r y)
 joined-last x y (r ∷ (q ∷ rs)) = joined-many x r q y rs (goes_on x r) refl
 
 runs-push : (xs : List Slice) (y : Slice) → runs (xs ++ y ∷ []) ≡ last_joined (runs xs) y
@@ -60,32 +63,41 @@ last-front [] r y = refl
 last-front (f ∷ []) r y = refl
 last-front (f ∷ (g ∷ gs)) r y = ap (λ zs. f ∷ zs) (last-front (g ∷ gs) r y)
 
-told-one : (front : List Slice) (r y : Slice) (b : Bool) → goes_on r y ≡ b →
-    front ++ cond b (record r { to = y.to } ∷ []) (r ∷ y ∷ []) ≡ (front ++ option_to_list (cond b None (Some r))) ++ option_to_list (cond b (Some (record r { to = y.to })) (Some y))
-told-one front r y true e = ap (λ zs. zs ++ record r { to = y.to } ∷ []) (sym (append-nil front))
-told-one front r y false e = sym (append_assoc front (r ∷ []) (y ∷ []))
+reported-one : (front : List Slice) (r y : Slice) (b : Bool) → goes_on r y ≡ b
+    → front ++ cond b (record r { to = y.to } ∷ []) (r ∷ y ∷ [])
+    ≡ (front ++ option_to_list (cond b None (Some r))) ++ option_to_list (cond b (Some (record r { to = y.to })) (Some y))
+reported-one front r y true e = ap (λ zs. zs ++ record r { to = y.to } ∷ []) (sym (append-nil front))
+reported-one front r y false e = sym (append_assoc front (r ∷ []) (y ∷ []))
 
 -- what was reported and what goes on are some runs, and nothing was reported where nothing goes on
-pub record AreRuns (told : List Slice) (run : Option Slice) (xs : List Slice) : Type 0 where
-  pub all : told ++ option_to_list run ≡ runs xs
-  pub first : run ≡ None → told ≡ []
+pub record AreRuns (reported : List Slice) (run : Option Slice) (xs : List Slice) : Type 0 where
+  pub all : reported ++ option_to_list run ≡ runs xs
+  pub first : run ≡ None → reported ≡ []
 
 some_run : (r y : Slice) (b : Bool) → cond b (Some (record r { to = y.to })) (Some y) ≡ None → ⊥
 some_run r y true e = cc
 some_run r y false e = cc
 
-more : (told : List Slice) (run o : Option Slice) (xs : List Slice) → AreRuns told run xs → AreRuns (told ++ option_to_list (ended_run run o)) (joined_run run o) (xs ++ option_to_list o)
-more told None None xs h = record { all = ap (λ zs. zs ++ []) (append-nil told) ∙ h.all ∙ ap runs (sym (append-nil xs)); first = λ e. append-nil told ∙ h.first e }
-more told (Some r) None xs h = record { all = ap (λ zs. zs ++ r ∷ []) (append-nil told) ∙ h.all ∙ ap runs (sym (append-nil xs)); first = λ e. cc }
-more told None (Some y) xs h =
-    let none : told ≡ [] = h.first refl in
-    let empty : runs xs ≡ [] = sym h.all ∙ append-nil told ∙ none in
+more : (reported : List Slice) (run o : Option Slice) (xs : List Slice)
+    → AreRuns reported run xs
+    → AreRuns (reported ++ option_to_list (ended_run run o)) (joined_run run o) (xs ++ option_to_list o)
+more reported None None xs h = record {
+  all = ap (λ zs. zs ++ []) (append-nil reported) ∙ h.all ∙ ap runs (sym (append-nil xs));
+  first = λ e. append-nil reported ∙ h.first e;
+}
+more reported (Some r) None xs h =
+    record { all = ap (λ zs. zs ++ r ∷ []) (append-nil reported) ∙ h.all ∙ ap runs (sym (append-nil xs)); first = λ e. cc }
+more reported None (Some y) xs h =
+    let none : reported ≡ [] = h.first refl in
+    let empty : runs xs ≡ [] = sym h.all ∙ append-nil reported ∙ none in
     record {
       all = ap (λ zs. (zs ++ []) ++ y ∷ []) none ∙ sym (runs-push xs y ∙ ap (λ zs. last_joined zs y) empty);
       first = λ e. cc;
     }
-more told (Some r) (Some y) xs h = record {
-  all = sym (runs-push xs y ∙ ap (λ zs. last_joined zs y) (sym h.all) ∙ last-front told r y ∙ told-one told r y (goes_on r y) refl);
+more reported (Some r) (Some y) xs h = record {
+  all =
+      sym
+      (runs-push xs y ∙ ap (λ zs. last_joined zs y) (sym h.all) ∙ last-front reported r y ∙ reported-one reported r y (goes_on r y) refl);
   first = λ e. absurd (some_run r y (goes_on r y) e);
 }
 
@@ -94,27 +106,30 @@ abbrev pub run_seen : Figures → Option Sight → Option Slice
 run_seen s None = None
 run_seen s (Some x) = ended_run (processor_of s x.processor).run (slice_at x.processor (processor_of s x.processor) x.now)
 
-seen-performed : (s : Figures) (e : Event) (r : Reply) → (performed_told s e r).run ≡ run_seen s (sight e r)
+seen-performed : (s : Figures) (e : Event) (r : Reply) → (report_of_answer s e r).run ≡ run_seen s (sight e r)
 seen-performed s (EndWake processor now) (Placed task to by steps) = refl
 seen-performed s (Drain processor now) (Drained count run by steps) = refl
 seen-performed s (Tick processor now) (Ticked run by steps) = refl
-seen-performed s (Block processor now) (Went task run) = refl
+seen-performed s (Block processor now) (Blocked task run) = refl
 seen-performed s (Pull processor from now) (Pulled task run by steps) = refl
 seen-performed s e r = refl
 
-seen-nothing : (s : Figures) (e : Event) (r : Reply) → is_there s e ≡ false → IsWithin (length s.processors) (sight e r) → None ≡ run_seen s (sight e r)
+seen-nothing : (s : Figures) (e : Event) (r : Reply) → is_there s e ≡ false → IsWithin (length s.processors) (sight e r)
+    → None ≡ run_seen s (sight e r)
 seen-nothing s (EndWake processor now) (Placed task to by steps) none h = absurd (not_below processor (length s.processors) none h)
 seen-nothing s (Drain processor now) (Drained count run by steps) none h = absurd (not_below processor (length s.processors) none h)
 seen-nothing s (Tick processor now) (Ticked run by steps) none h = absurd (not_below processor (length s.processors) none h)
-seen-nothing s (Block processor now) (Went task run) none h = absurd (not_below processor (length s.processors) none h)
+seen-nothing s (Block processor now) (Blocked task run) none h = absurd (not_below processor (length s.processors) none h)
 seen-nothing s (Pull processor from now) (Pulled task run by steps) none h = absurd (not_below processor (length s.processors) none h)
 seen-nothing s e r none h = refl
 
-seen-if : (b : Bool) (s : Figures) (e : Event) (r : Reply) → is_there s e ≡ b → IsWithin (length s.processors) (sight e r) → (cond b (performed_told s e r) nothing).run ≡ run_seen s (sight e r)
+seen-if : (b : Bool) (s : Figures) (e : Event) (r : Reply) → is_there s e ≡ b → IsWithin (length s.processors) (sight e r)
+    → (cond b (report_of_answer s e r) nothing).run ≡ run_seen s (sight e r)
 seen-if true s e r there h = seen-performed s e r
 seen-if false s e r there h = seen-nothing s e r there h
 
-seen-change : (s : Figures) (e : Event) (a : Result Reply Refusal) → IsWithin (length s.processors) (sight_of e a) → (change s e a).run ≡ run_seen s (sight_of e a)
+seen-change : (s : Figures) (e : Event) (a : Result Reply Refusal)
+    → IsWithin (length s.processors) (sight_of e a) → (change s e a).run ≡ run_seen s (sight_of e a)
 seen-change s e (Ok r) h = seen-if (is_there s e) s e r refl h
 seen-change s e (Err r) h = refl
 
@@ -123,76 +138,101 @@ run-there : (s s' : Figures) (x : Sight) (j : ℕ) (b : Bool) → eqb x.processo
     (processor_of s' j).run ≡ cond b (joined_run (processor_of s x.processor).run (slice_seen s (Some x))) (processor_of s j).run
 run-there s s' x j true e inside h =
     let q = processor_read x.processor (processor_of s x.processor) x.now in
-    ap (λ (w : Works). w.run) (h.0.at j) ∙ ap (λ (p : ProcessorFigures). p.run) (processor-read_at x.processor x.now j s inside ∙ ap (λ c. cond c q (processor_of s j)) e)
+    ap (λ (w : Works). w.run) (h.0.at j)
+    ∙ ap (λ (p : ProcessorFigures). p.run) (processor-read_at x.processor x.now j s inside ∙ ap (λ c. cond c q (processor_of s j)) e)
 run-there s s' x j false e inside h =
     let q = processor_read x.processor (processor_of s x.processor) x.now in
-    ap (λ (w : Works). w.run) (h.0.at j) ∙ ap (λ (p : ProcessorFigures). p.run) (processor-read_at x.processor x.now j s inside ∙ ap (λ c. cond c q (processor_of s j)) e)
+    ap (λ (w : Works). w.run) (h.0.at j)
+    ∙ ap (λ (p : ProcessorFigures). p.run) (processor-read_at x.processor x.now j s inside ∙ ap (λ c. cond c q (processor_of s j)) e)
 
 -- a slice of another processor does not count here
-only-cond : (l : Bool) (processor j id from to : ℕ) (b : Bool) → eqb processor j ≡ b →
-    at_only j (cond l (Some (record { processor = processor; task = id; from = from; to = to })) None) ≡ cond b (cond l (Some (record { processor = processor; task = id; from = from; to = to })) None) None
+only-cond : (l : Bool) (processor j id from to : ℕ) (b : Bool)
+    → eqb processor j ≡ b
+    → at_only j (cond l (Some (record { processor = processor; task = id; from = from; to = to })) None)
+    ≡ cond b (cond l (Some (record { processor = processor; task = id; from = from; to = to })) None) None
 only-cond true processor j id from to true e = rw e refl
 only-cond true processor j id from to false e = rw e refl
 only-cond false processor j id from to true e = refl
 only-cond false processor j id from to false e = refl
 
-only-there : (processor j from to : ℕ) (who : Option ℕ) (b : Bool) → eqb processor j ≡ b → at_only j (stretch processor who from to) ≡ cond b (stretch processor who from to) None
+only-there : (processor j from to : ℕ) (who : Option ℕ) (b : Bool)
+    → eqb processor j ≡ b
+    → at_only j (stretch processor who from to) ≡ cond b (stretch processor who from to) None
 only-there processor j from to None true e = refl
 only-there processor j from to None false e = refl
 only-there processor j from to (Some id) true e = only-cond (ltb from to) processor j id from to true e
 only-there processor j from to (Some id) false e = only-cond (ltb from to) processor j id from to false e
 
 -- the runs told of a processor, and the one that may go on, are those that its slices make
-abbrev pub Told : ℕ → ℕ → History → Type 0
-Told count processor past = AreRuns (told_runs count processor past) (processor_of (figures count past) processor).run (slices_at processor past)
+abbrev pub AreReportedRuns : ℕ → ℕ → History → Type 0
+AreReportedRuns count processor past =
+    AreRuns (reported_runs count processor past) (processor_of (figures count past) processor).run (slices_at processor past)
 
-same_runs : (told told' : List Slice) (run run' : Option Slice) (xs xs' : List Slice) → told' ≡ told → run' ≡ run → xs' ≡ xs → AreRuns told run xs → AreRuns told' run' xs'
-same_runs told told' run run' xs xs' t r x h = record { all = ap (λ zs. zs ++ option_to_list run') t ∙ ap (λ o. told ++ option_to_list o) r ∙ h.all ∙ ap runs (sym x); first = λ e. t ∙ h.first (sym r ∙ e) }
+same_runs : (reported reported' : List Slice) (run run' : Option Slice) (xs xs' : List Slice)
+    → reported' ≡ reported → run' ≡ run → xs' ≡ xs → AreRuns reported run xs → AreRuns reported' run' xs'
+same_runs reported reported' run run' xs xs' t r x h = record {
+  all = ap (λ zs. zs ++ option_to_list run') t ∙ ap (λ o. reported ++ option_to_list o) r ∙ h.all ∙ ap runs (sym x);
+  first = λ e. t ∙ h.first (sym r ∙ e);
+}
 
-told-there : (count : ℕ) (past : History) (processor : ℕ) (s' : Figures) (x : Sight) (run : Option Slice) (b : Bool) → IsOf count past → IsWithin count (Some x) → processor < count → Shows (figures count past) s' (Some x) →
-    run ≡ run_seen (figures count past) (Some x) → eqb x.processor processor ≡ b → ((b ≡ true) × (x.processor ≡ processor)) ⊎ ((b ≡ false) × (x.processor ≢ processor)) → Told count processor past →
-    AreRuns (told_runs count processor past ++ cond b (option_to_list run) []) (processor_of s' processor).run (slices_at processor past ++ option_to_list (at_only processor (slice_shown past (Some x))))
-told-there count past processor s' x run true h w inside k is e (inl same) t =
+reported-there : (count : ℕ) (past : History) (processor : ℕ) (s' : Figures) (x : Sight) (run : Option Slice) (b : Bool)
+    → IsOfProcessors count past → IsWithin count (Some x) → processor < count → Shows (figures count past) s' (Some x)
+    → run ≡ run_seen (figures count past) (Some x) → eqb x.processor processor ≡ b
+    → ((b ≡ true) × (x.processor ≡ processor)) ⊎ ((b ≡ false) × (x.processor ≢ processor))
+    → AreReportedRuns count processor past
+    → AreRuns (reported_runs count processor past ++ cond b (option_to_list run) []) (processor_of s' processor).run
+    (slices_at processor past ++ option_to_list (at_only processor (slice_shown past (Some x))))
+reported-there count past processor s' x run true h w inside k is e (inl same) t =
     let s = figures count past in
     let p = processor_of s x.processor in
     let here : p.run ≡ (processor_of s processor).run = ap (λ k. (processor_of s k).run) same.1 in
     let o = slice_seen s (Some x) in
     let shown : slice_shown past (Some x) ≡ o = sym (shown-seen count past (Some x) h w) in
-    let only : at_only processor (slice_shown past (Some x)) ≡ o = only-there x.processor processor _ _ (runner x.processor past) true e ∙ shown in
+    let only : at_only processor (slice_shown past (Some x)) ≡ o =
+    only-there x.processor processor _ _ (runner x.processor past) true e ∙ shown in
     same_runs _ _ _ _ _ _
-    (ap (λ z. told_runs count processor past ++ option_to_list z) (is ∙ ap (λ z. ended_run z o) here))
+    (ap (λ z. reported_runs count processor past ++ option_to_list z) (is ∙ ap (λ z. ended_run z o) here))
     (run-there s s' x processor true e (omega (arith, inside, count-figures count past h)) k ∙ ap (λ z. joined_run z o) here)
     (ap (λ z. slices_at processor past ++ option_to_list z) only)
-    (more (told_runs count processor past) (processor_of s processor).run o (slices_at processor past) t)
-told-there count past processor s' x run false h w inside k is e (inr other) t =
+    (more (reported_runs count processor past) (processor_of s processor).run o (slices_at processor past) t)
+reported-there count past processor s' x run false h w inside k is e (inr other) t =
     let s = figures count past in
-    same_runs _ _ _ _ _ _
-    (append-nil (told_runs count processor past))
+    same_runs _ _ _ _ _ _ (append-nil (reported_runs count processor past))
     (run-there s s' x processor false e (omega (arith, inside, count-figures count past h)) k)
-    (ap (λ z. slices_at processor past ++ option_to_list z) (only-there x.processor processor _ _ (runner x.processor past) false e) ∙ append-nil (slices_at processor past))
-    t
-told-there count past processor s' x run true h w inside k is e (inr other) t = absurd (cc)
-told-there count past processor s' x run false h w inside k is e (inl same) t = absurd (cc)
+    (ap (λ z. slices_at processor past ++ option_to_list z) (only-there x.processor processor _ _ (runner x.processor past) false e)
+    ∙ append-nil (slices_at processor past)) t
+reported-there count past processor s' x run true h w inside k is e (inr other) t = absurd (cc)
+reported-there count past processor s' x run false h w inside k is e (inl same) t = absurd (cc)
 
-told-step : (count : ℕ) (past : History) (processor : ℕ) (s' : Figures) (o : Option Sight) (run : Option Slice) → IsOf count past → IsWithin count o → processor < count → Shows (figures count past) s' o → run ≡ run_seen (figures count past) o →
-    Told count processor past → AreRuns (told_runs count processor past ++ told_if processor o run) (processor_of s' processor).run (slices_at processor past ++ option_to_list (at_only processor (slice_shown past o)))
-told-step count past processor s' None run h w inside k is t =
-    same_runs _ _ _ _ _ _ (append-nil (told_runs count processor past)) (ap (λ (v : Works). v.run) (k.0.at processor)) (append-nil (slices_at processor past)) t
-told-step count past processor s' (Some x) run h w inside k is t = told-there count past processor s' x run (eqb x.processor processor) h w inside k is refl (eqb_tells x.processor processor) t
+reported-step : (count : ℕ) (past : History) (processor : ℕ) (s' : Figures) (o : Option Sight) (run : Option Slice)
+    → IsOfProcessors count past → IsWithin count o → processor < count → Shows (figures count past) s' o
+    → run ≡ run_seen (figures count past) o → AreReportedRuns count processor past
+    → AreRuns (reported_runs count processor past ++ reported_if processor o run) (processor_of s' processor).run
+    (slices_at processor past ++ option_to_list (at_only processor (slice_shown past o)))
+reported-step count past processor s' None run h w inside k is t =
+    same_runs _ _ _ _ _ _ (append-nil (reported_runs count processor past)) (ap (λ (v : Works). v.run) (k.0.at processor))
+    (append-nil (slices_at processor past)) t
+reported-step count past processor s' (Some x) run h w inside k is t =
+    reported-there count past processor s' x run (eqb x.processor processor) h w inside k is refl
+    (eqb_tells x.processor processor) t
 
-told : (count : ℕ) (past : History) (processor : ℕ) → IsOf count past → processor < count → Told count processor past
-told count [] processor h inside =
-    let none : (processor_of (figures count []) processor).run ≡ None = ap (λ (p : ProcessorFigures). p.run) (get_or-replicate count processor unread unread inside) in
+reported : (count : ℕ) (past : History) (processor : ℕ) → IsOfProcessors count past → processor < count
+    → AreReportedRuns count processor past
+reported count [] processor h inside =
+    let none : (processor_of (figures count []) processor).run ≡ None =
+    ap (λ (p : ProcessorFigures). p.run) (get_or-replicate count processor unread unread inside) in
     record { all = ap (λ o. [] ++ option_to_list o) none; first = λ e. refl }
-told count (m ∷ past) processor h inside =
+reported count (m ∷ past) processor h inside =
     let s = figures count past in
     let o = sight_of m.event m.answer in
     let w = within-figures count past m h in
     let is : slices_at processor (m ∷ past) ≡ slices_at processor past ++ option_to_list (at_only processor (slice_shown past o)) =
-    filter-append (is_at processor) (slices past) (option_to_list (slice_shown past o)) ∙ ap (λ ys. slices_at processor past ++ ys) (filter-one processor (slice_shown past o)) in
+    filter-append (is_at processor) (slices past) (option_to_list (slice_shown past o))
+    ∙ ap (λ ys. slices_at processor past ++ ys) (filter-one processor (slice_shown past o)) in
     same_runs _ _ _ _ _ _ refl refl is
-    (told-step count past processor (after s m.event m.answer) o (change s m.event m.answer).run h.1 h.0 inside (shows-after s m.event m.answer w) (seen-change s m.event m.answer w) (told count past processor h.1 inside))
+    (reported-step count past processor (after s m.event m.answer) o (change s m.event m.answer).run h.1 h.0 inside
+    (shows-after s m.event m.answer w) (seen-change s m.event m.answer w) (reported count past processor h.1 inside))
 
 -- in each history the runs told of a processor, with the last one, are the runs of its slices
-pub tells_runs : TellsRuns
-tells_runs count past processor h inside = (told count past processor h inside).all
+pub reports_runs : ReportsRuns
+reports_runs count past processor h inside = (reported count past processor h inside).all

@@ -6,7 +6,7 @@ use Rattle.bq_disc.specs.OneProcessor.{reading}
 use Rattle.bq_parts.specs.declared.event.Event.{Event}
 use Rattle.bq_parts.specs.declared.event.Event.TheVariants.{EndWake, Drain, Tick, Block, Pull}
 use Rattle.bq_parts.specs.declared.reply.Reply.{Reply}
-use Rattle.bq_parts.specs.declared.reply.Reply.TheVariants.{Placed, Drained, Ticked, Blocked as Went, Pulled}
+use Rattle.bq_parts.specs.declared.reply.Reply.TheVariants.{Placed, Drained, Ticked, Blocked, Pulled}
 use Rattle.bq_parts.specs.declared.refusal.Refusal.{Refusal}
 use Rattle.bq_schedule.specs.declared.slice.Slice.{Slice}
 use Rattle.bq_schedule.specs.declared.change.Start.{Start}
@@ -15,8 +15,8 @@ use Rattle.bq_schedule.specs.Figures.{Figures, processor_of}
 use Rattle.bq_schedule.specs.Passing.{slice_between, slice_at}
 use Rattle.bq_schedule.specs.Running.{running_task}
 use Rattle.bq_schedule.specs.Slices.{Sight, sight, sight_of, clock, stretch, slice_shown, slices}
-use Rattle.bq_schedule.specs.Steps.{performed_told, change, nothing, is_there, figures}
-use Rattle.bq_schedule.specs.Laws.{IsWithin, IsOf}
+use Rattle.bq_schedule.specs.Steps.{report_of_answer, change, nothing, is_there, figures}
+use Rattle.bq_schedule.specs.Laws.{IsWithin, IsOfProcessors}
 use Rattle.bq_schedule.proofs.ClockLemmas.{figures-clocks, within-figures, not_below}
 
 -- the slice that figures show
@@ -24,37 +24,42 @@ abbrev pub slice_seen : Figures → Option Sight → Option Slice
 slice_seen s None = None
 slice_seen s (Some x) = slice_at x.processor (processor_of s x.processor) x.now
 
-seen-performed : (s : Figures) (e : Event) (r : Reply) → (performed_told s e r).slice ≡ slice_seen s (sight e r)
+seen-performed : (s : Figures) (e : Event) (r : Reply) → (report_of_answer s e r).slice ≡ slice_seen s (sight e r)
 seen-performed s (EndWake processor now) (Placed task to by steps) = refl
 seen-performed s (Drain processor now) (Drained count run by steps) = refl
 seen-performed s (Tick processor now) (Ticked run by steps) = refl
-seen-performed s (Block processor now) (Went task run) = refl
+seen-performed s (Block processor now) (Blocked task run) = refl
 seen-performed s (Pull processor from now) (Pulled task run by steps) = refl
 seen-performed s e r = refl
 
-seen-nothing : (s : Figures) (e : Event) (r : Reply) → is_there s e ≡ false → IsWithin (length s.processors) (sight e r) → None ≡ slice_seen s (sight e r)
+seen-nothing : (s : Figures) (e : Event) (r : Reply) → is_there s e ≡ false → IsWithin (length s.processors) (sight e r)
+    → None ≡ slice_seen s (sight e r)
 seen-nothing s (EndWake processor now) (Placed task to by steps) none h = absurd (not_below processor (length s.processors) none h)
 seen-nothing s (Drain processor now) (Drained count run by steps) none h = absurd (not_below processor (length s.processors) none h)
 seen-nothing s (Tick processor now) (Ticked run by steps) none h = absurd (not_below processor (length s.processors) none h)
-seen-nothing s (Block processor now) (Went task run) none h = absurd (not_below processor (length s.processors) none h)
+seen-nothing s (Block processor now) (Blocked task run) none h = absurd (not_below processor (length s.processors) none h)
 seen-nothing s (Pull processor from now) (Pulled task run by steps) none h = absurd (not_below processor (length s.processors) none h)
 seen-nothing s e r none h = refl
 
-seen-if : (b : Bool) (s : Figures) (e : Event) (r : Reply) → is_there s e ≡ b → IsWithin (length s.processors) (sight e r) → (cond b (performed_told s e r) nothing).slice ≡ slice_seen s (sight e r)
+seen-if : (b : Bool) (s : Figures) (e : Event) (r : Reply) → is_there s e ≡ b → IsWithin (length s.processors) (sight e r)
+    → (cond b (report_of_answer s e r) nothing).slice ≡ slice_seen s (sight e r)
 seen-if true s e r there h = seen-performed s e r
 seen-if false s e r there h = seen-nothing s e r there h
 
-seen-change : (s : Figures) (e : Event) (a : Result Reply Refusal) → IsWithin (length s.processors) (sight_of e a) → (change s e a).slice ≡ slice_seen s (sight_of e a)
+seen-change : (s : Figures) (e : Event) (a : Result Reply Refusal)
+    → IsWithin (length s.processors) (sight_of e a) → (change s e a).slice ≡ slice_seen s (sight_of e a)
 seen-change s e (Ok r) h = seen-if (is_there s e) s e r refl h
 seen-change s e (Err r) h = refl
 
 -- a slice by who runs
-stretch_is : (processor from to : ℕ) (running : Option Start) → slice_between processor from to running ≡ stretch processor (option_map (λ (x : Start). x.task) running) from to
+stretch_is : (processor from to : ℕ) (running : Option Start)
+    → slice_between processor from to running ≡ stretch processor (option_map (λ (x : Start). x.task) running) from to
 stretch_is processor from to None = refl
 stretch_is processor from to (Some start) = refl
 
 -- the slice that figures show of a sight is the one that their history shows
-pub shown-seen : (count : ℕ) (past : History) (o : Option Sight) → IsOf count past → IsWithin count o → slice_seen (figures count past) o ≡ slice_shown past o
+pub shown-seen : (count : ℕ) (past : History) (o : Option Sight)
+    → IsOfProcessors count past → IsWithin count o → slice_seen (figures count past) o ≡ slice_shown past o
 shown-seen count past None h w = refl
 shown-seen count past (Some x) h w =
     let c = figures-clocks count past x.processor h w in
@@ -64,9 +69,15 @@ shown-seen count past (Some x) h w =
     ∙ ap (λ y. stretch x.processor y (clock x.processor past) (reading (clock x.processor past) x.now)) c.1
 
 -- the slice that is reported of a moment is the one that it ends
-pub slice-told : (count : ℕ) (past : History) (m : Moment) → IsOf count (m ∷ past) → (change (figures count past) m.event m.answer).slice ≡ slice_shown past (sight_of m.event m.answer)
-slice-told count past m h = seen-change (figures count past) m.event m.answer (within-figures count past m h) ∙ shown-seen count past (sight_of m.event m.answer) h.1 h.0
+pub slice-reported : (count : ℕ) (past : History) (m : Moment)
+    → IsOfProcessors count (m ∷ past)
+    → (change (figures count past) m.event m.answer).slice ≡ slice_shown past (sight_of m.event m.answer)
+slice-reported count past m h =
+    seen-change (figures count past) m.event m.answer (within-figures count past m h)
+    ∙ shown-seen count past (sight_of m.event m.answer) h.1 h.0
 
 -- the slices up to a moment are those before it, and then the one that is reported of it
-pub slices-told : (count : ℕ) (past : History) (m : Moment) → IsOf count (m ∷ past) → slices (m ∷ past) ≡ slices past ++ option_to_list (change (figures count past) m.event m.answer).slice
-slices-told count past m h = ap (λ o. slices past ++ option_to_list o) (sym (slice-told count past m h))
+pub slices-reported : (count : ℕ) (past : History) (m : Moment)
+    → IsOfProcessors count (m ∷ past)
+    → slices (m ∷ past) ≡ slices past ++ option_to_list (change (figures count past) m.event m.answer).slice
+slices-reported count past m h = ap (λ o. slices past ++ option_to_list o) (sym (slice-reported count past m h))

@@ -11,13 +11,13 @@ use Rattle.bq_schedule.specs.declared.slice.Slice.{Slice}
 use Rattle.bq_schedule.specs.declared.change.Start.{Start}
 use Rattle.bq_schedule.specs.declared.figures.ProcessorFigures.{ProcessorFigures}
 use Rattle.bq_schedule.specs.declared.figures.TaskFigures.{TaskFigures}
-use Rattle.bq_parts.specs.Counts.{counted}
+use Rattle.bq_parts.specs.Counts.{saturating_sum}
 use Rattle.bq_schedule.specs.Moments.{Moment, History}
 use Rattle.bq_schedule.specs.Figures.{Figures, unread, unknown, processor_of, task_of, with_processor, with_task}
 use Rattle.bq_schedule.specs.Passing.{slice_between, slice_at, length_of, read_at, processor_read, with_charged, task_charged}
 use Rattle.bq_schedule.specs.Slices.{Sight, sight_of, clock_after, clock, slice_shown, slices, time_if, time_in, is_of, is_at}
 use Rattle.bq_schedule.specs.Steps.{after, figures}
-use Rattle.bq_schedule.specs.Laws.{IsWithin, IsOf}
+use Rattle.bq_schedule.specs.Laws.{IsWithin, IsOfProcessors}
 use Rattle.bq_schedule.proofs.FrameLemmas.{Works, KeepsWorks, tasks-read_at, processors-read_at}
 use Rattle.bq_schedule.proofs.SliceTimeLemmas.{slice_seen, shown-seen}
 use Rattle.bq_schedule.proofs.ClockLemmas.{Shows, figures-clocks, shows-after, count-figures, within-figures, processor-read_at}
@@ -27,7 +27,8 @@ abbrev pub time_of : (Slice → Bool) → Option Slice → ℕ
 time_of chosen None = 0
 time_of chosen (Some s) = time_if chosen s
 
-time_in-more : (chosen : Slice → Bool) (xs : List Slice) (o : Option Slice) → time_in chosen (xs ++ option_to_list o) ≡ time_in chosen xs + time_of chosen o
+time_in-more : (chosen : Slice → Bool) (xs : List Slice) (o : Option Slice)
+    → time_in chosen (xs ++ option_to_list o) ≡ time_in chosen xs + time_of chosen o
 time_in-more chosen xs None = ap (time_in chosen) (append-nil xs) ∙ omega arith
 time_in-more chosen xs (Some s) = sum_by_push (time_if chosen) xs s
 
@@ -43,10 +44,18 @@ time_if-le false n = omega arith
 time_in-le : (chosen : Slice → Bool) (xs : List Slice) → time_in chosen xs ≤ time_in any xs
 time_in-le chosen [] = omega arith
 time_in-le chosen (x ∷ xs) =
-    omega (arith, sum_by-cons (time_if chosen) x xs, sum_by-cons (time_if any) x xs, time_if-le (chosen x) (x.to - x.from), time_in-le chosen xs)
+    omega (
+      arith,
+      sum_by-cons (time_if chosen) x xs,
+      sum_by-cons (time_if any) x xs,
+      time_if-le (chosen x) (x.to - x.from),
+      time_in-le chosen xs,
+    )
 
 -- lists alike under f have the same sum
-sums_alike : (f : ProcessorFigures → ℕ) (xs ys : List ProcessorFigures) → length xs ≡ length ys → ((j : ℕ) → f (get_or xs j unread) ≡ f (get_or ys j unread)) → sum_by f xs ≡ sum_by f ys
+sums_alike : (f : ProcessorFigures → ℕ) (xs ys : List ProcessorFigures)
+    → length xs ≡ length ys → ((j : ℕ) → f (get_or xs j unread) ≡ f (get_or ys j unread))
+    → sum_by f xs ≡ sum_by f ys
 sums_alike f [] [] e h = refl
 sums_alike f [] (y ∷ ys) e h = absurd (omega arith)
 sums_alike f (x ∷ xs) [] e h = absurd (omega arith)
@@ -62,16 +71,19 @@ last_of p = p.last
 abbrev pub clocks_of : Figures → ℕ
 clocks_of s = sum_by last_of s.processors
 
-worth-le-rise : (processor from to : ℕ) (running : Option Start) (b : Bool) → ltb from to ≡ b → from ≤ to → time_of any (slice_between processor from to running) ≤ to - from
+worth-le-rise : (processor from to : ℕ) (running : Option Start) (b : Bool)
+    → ltb from to ≡ b → from ≤ to → time_of any (slice_between processor from to running) ≤ to - from
 worth-le-rise processor from to None b e h = omega arith
 worth-le-rise processor from to (Some start) true e h = rw e (omega arith)
 worth-le-rise processor from to (Some start) false e h = rw e (omega arith)
 
 -- a slice is no longer than its clock has risen
 slice-le-rise : (processor now : ℕ) (p : ProcessorFigures) → time_of any (slice_at processor p now) + p.last ≤ reading p.last now
-slice-le-rise processor now p = omega (arith, worth-le-rise processor p.last (reading p.last now) p.running (ltb p.last (reading p.last now)) refl (omega arith))
+slice-le-rise processor now p =
+    omega (arith, worth-le-rise processor p.last (reading p.last now) p.running (ltb p.last (reading p.last now)) refl (omega arith))
 
-clocks-read_at : (processor now : ℕ) (s : Figures) → processor < length s.processors → clocks_of s + time_of any (slice_at processor (processor_of s processor) now) ≤ clocks_of (read_at processor now s)
+clocks-read_at : (processor now : ℕ) (s : Figures) → processor < length s.processors
+    → clocks_of s + time_of any (slice_at processor (processor_of s processor) now) ≤ clocks_of (read_at processor now s)
 clocks-read_at processor now s inside =
     let p = processor_of s processor in
     omega (
@@ -84,12 +96,13 @@ clocks-read_at processor now s inside =
 clocks-kept : (s t : Figures) → KeepsWorks s t → clocks_of t ≡ clocks_of s
 clocks-kept s t h = sums_alike last_of t.processors s.processors h.count (λ j. ap (λ (w : Works). w.last) (h.at j))
 
-clocks-shown : (s s' : Figures) (o : Option Sight) → IsWithin (length s.processors) o → Shows s s' o → clocks_of s + time_of any (slice_seen s o) ≤ clocks_of s'
+clocks-shown : (s s' : Figures) (o : Option Sight) → IsWithin (length s.processors) o → Shows s s' o
+    → clocks_of s + time_of any (slice_seen s o) ≤ clocks_of s'
 clocks-shown s s' None w h = omega (arith, clocks-kept s s' h.0)
 clocks-shown s s' (Some x) w h = omega (arith, clocks-kept (read_at x.processor x.now s) s' h.0, clocks-read_at x.processor x.now s w)
 
 -- all slices together are no longer than all clocks
-slices-le-clocks : (count : ℕ) (past : History) → IsOf count past → time_in any (slices past) ≤ clocks_of (figures count past)
+slices-le-clocks : (count : ℕ) (past : History) → IsOfProcessors count past → time_in any (slices past) ≤ clocks_of (figures count past)
 slices-le-clocks count [] h = omega arith
 slices-le-clocks count (m ∷ past) h =
     let s = figures count past in
@@ -113,10 +126,12 @@ short_after processor last (Some x) h = short_if (eqb x.processor processor) las
 
 clock-is-short : (processor : ℕ) (past : History) → clock processor past ≤ 281474976710655
 clock-is-short processor [] = omega arith
-clock-is-short processor (m ∷ past) = short_after processor (clock processor past) (sight_of m.event m.answer) (clock-is-short processor past)
+clock-is-short processor (m ∷ past) =
+    short_after processor (clock processor past) (sight_of m.event m.answer) (clock-is-short processor past)
 
 -- all clocks together stay below 2^64
-pub clocks-are-short : (count : ℕ) (past : History) → count ≤ 255 → IsOf count past → clocks_of (figures count past) ≤ 71776119061217025
+pub clocks-are-short : (count : ℕ) (past : History) → count ≤ 255 → IsOfProcessors count past
+    → clocks_of (figures count past) ≤ 71776119061217025
 clocks-are-short count past few h =
     let s = figures count past in
     let all : All (λ (p : ProcessorFigures). last_of p ≤ 281474976710655) s.processors =
@@ -126,45 +141,54 @@ clocks-are-short count past few h =
     omega (arith, count-figures count past h, sum_by-le last_of 281474976710655 s.processors all)
 
 -- the time of a task rises by the slices that are of it
-task-charged : (s : Figures) (x : Slice) (id : ℕ) (b : Bool) → id < length s.tasks → ((b ≡ true) × (x.task ≡ id)) ⊎ ((b ≡ false) × (x.task ≢ id)) →
-    (task_of (with_task s x.task (task_charged (task_of s x.task) (x.to - x.from))) id).time ≡ cond b (counted (task_of s id).time (x.to - x.from)) (task_of s id).time
+task-charged : (s : Figures) (x : Slice) (id : ℕ) (b : Bool) → id < length s.tasks
+    → ((b ≡ true) × (x.task ≡ id)) ⊎ ((b ≡ false) × (x.task ≢ id))
+    → (task_of (with_task s x.task (task_charged (task_of s x.task) (x.to - x.from))) id).time
+    ≡ cond b (saturating_sum (task_of s id).time (x.to - x.from)) (task_of s id).time
 task-charged s x id true inside (inl same) =
     ap (λ k. (get_or (slice_set s.tasks k (task_charged (task_of s k) (x.to - x.from))) id unknown).time) same.1
     ∙ ap (λ (t : TaskFigures). t.time) (get_or-set_same s.tasks id (task_charged (task_of s id) (x.to - x.from)) unknown inside)
 task-charged s x id false inside (inl same) = absurd (cc)
 task-charged s x id true inside (inr other) = absurd (cc)
 task-charged s x id false inside (inr other) =
-    ap (λ (t : TaskFigures). t.time) (get_or-set_other s.tasks x.task id (task_charged (task_of s x.task) (x.to - x.from)) unknown (λ e. other.1 (sym e)))
+    ap (λ (t : TaskFigures). t.time)
+    (get_or-set_other s.tasks x.task id (task_charged (task_of s x.task) (x.to - x.from)) unknown (λ e. other.1 (sym e)))
 
-counted-is : (b : Bool) (n more : ℕ) → n + cond b more 0 ≤ 18446744073709551615 → cond b (counted n more) n ≡ n + cond b more 0
-counted-is true n more h = omega arith
-counted-is false n more h = omega arith
+saturating_sum-is : (b : Bool) (n more : ℕ) → n + cond b more 0 ≤ 18446744073709551615
+    → cond b (saturating_sum n more) n ≡ n + cond b more 0
+saturating_sum-is true n more h = omega arith
+saturating_sum-is false n more h = omega arith
 
-time-charged : (s : Figures) (o : Option Slice) (id : ℕ) → id < length s.tasks → (task_of s id).time + time_of (is_of id) o ≤ 18446744073709551615 →
-    (task_of (with_charged s o) id).time ≡ (task_of s id).time + time_of (is_of id) o
+time-charged : (s : Figures) (o : Option Slice) (id : ℕ) → id < length s.tasks
+    → (task_of s id).time + time_of (is_of id) o ≤ 18446744073709551615
+    → (task_of (with_charged s o) id).time ≡ (task_of s id).time + time_of (is_of id) o
 time-charged s None id inside fits = omega arith
 time-charged s (Some x) id inside fits =
-    task-charged s x id (eqb x.task id) inside (eqb_tells x.task id) ∙ counted-is (eqb x.task id) (task_of s id).time (x.to - x.from) fits
+    task-charged s x id (eqb x.task id) inside (eqb_tells x.task id)
+    ∙ saturating_sum-is (eqb x.task id) (task_of s id).time (x.to - x.from) fits
 
-time-shown : (s s' : Figures) (o : Option Sight) (id : ℕ) → id < length s.tasks → (task_of s id).time + time_of (is_of id) (slice_seen s o) ≤ 18446744073709551615 → Shows s s' o →
-    (task_of s' id).time ≡ (task_of s id).time + time_of (is_of id) (slice_seen s o)
+time-shown : (s s' : Figures) (o : Option Sight) (id : ℕ) → id < length s.tasks
+    → (task_of s id).time + time_of (is_of id) (slice_seen s o) ≤ 18446744073709551615 → Shows s s' o
+    → (task_of s' id).time ≡ (task_of s id).time + time_of (is_of id) (slice_seen s o)
 time-shown s s' None id inside fits h = omega (arith, h.0.times id)
 time-shown s s' (Some x) id inside fits h =
-    h.0.times id ∙ time-charged (with_processor s x.processor (processor_read x.processor (processor_of s x.processor) x.now)) (slice_at x.processor (processor_of s x.processor) x.now) id inside fits
+    h.0.times id ∙ time-charged (with_processor s x.processor (processor_read x.processor (processor_of s x.processor) x.now))
+    (slice_at x.processor (processor_of s x.processor) x.now) id inside fits
 
 tasks-shown : (s s' : Figures) (o : Option Sight) → Shows s s' o → length s'.tasks ≡ length s.tasks
 tasks-shown s s' None h = h.0.tasks
 tasks-shown s s' (Some x) h = h.0.tasks ∙ tasks-read_at x.processor x.now s
 
 -- the figures of a history have 1024 tasks
-pub tasks-figures : (count : ℕ) (past : History) → IsOf count past → length (figures count past).tasks ≡ 1024
+pub tasks-figures : (count : ℕ) (past : History) → IsOfProcessors count past → length (figures count past).tasks ≡ 1024
 tasks-figures count [] h = length-replicate 1024 unknown
 tasks-figures count (m ∷ past) h =
     let s = figures count past in
-    tasks-shown s _ (sight_of m.event m.answer) (shows-after s m.event m.answer (within-figures count past m h)) ∙ tasks-figures count past h.1
+    tasks-shown s _ (sight_of m.event m.answer) (shows-after s m.event m.answer (within-figures count past m h))
+    ∙ tasks-figures count past h.1
 
 -- any part of the slices fits in 64 bits, with the next slice
-fits-next : (chosen : Slice → Bool) (count : ℕ) (past : History) (m : Moment) → count ≤ 255 → IsOf count (m ∷ past) →
+fits-next : (chosen : Slice → Bool) (count : ℕ) (past : History) (m : Moment) → count ≤ 255 → IsOfProcessors count (m ∷ past) →
     time_in chosen (slices past) + time_of chosen (slice_shown past (sight_of m.event m.answer)) ≤ 18446744073709551615
 fits-next chosen count past m few h =
     omega (
@@ -176,7 +200,8 @@ fits-next chosen count past m few h =
     )
 
 -- the time of a task is the sum of its slices
-pub time_is_sum_of_slices : (count : ℕ) (past : History) → count ≤ 255 → IsOf count past → (id : ℕ) → id < 1024 → (task_of (figures count past) id).time ≡ time_in (is_of id) (slices past)
+pub time_is_sum_of_slices : (count : ℕ) (past : History) → count ≤ 255 → IsOfProcessors count past → (id : ℕ) → id < 1024
+    → (task_of (figures count past) id).time ≡ time_in (is_of id) (slices past)
 time_is_sum_of_slices count [] few h id inside = ap (λ (t : TaskFigures). t.time) (get_or-replicate 1024 id unknown unknown inside)
 time_is_sum_of_slices count (m ∷ past) few h id inside =
     let s = figures count past in
@@ -184,7 +209,8 @@ time_is_sum_of_slices count (m ∷ past) few h id inside =
     let before = time_is_sum_of_slices count past few h.1 id inside in
     let seen = ap (time_of (is_of id)) (shown-seen count past o h.1 h.0) in
     let inside' : id < length s.tasks = omega (arith, tasks-figures count past h.1) in
-    let fits : (task_of s id).time + time_of (is_of id) (slice_seen s o) ≤ 18446744073709551615 = omega (arith, before, seen, fits-next (is_of id) count past m few h) in
+    let fits : (task_of s id).time + time_of (is_of id) (slice_seen s o) ≤ 18446744073709551615 =
+    omega (arith, before, seen, fits-next (is_of id) count past m few h) in
     omega (
       arith,
       before,
@@ -194,9 +220,13 @@ time_is_sum_of_slices count (m ∷ past) few h id inside =
     )
 
 -- the busy time of a processor rises by the slices that are there
-busy-read_at : (processor now j : ℕ) (s : Figures) (b : Bool) → j < length s.processors → ((b ≡ true) × (processor ≡ j)) ⊎ ((b ≡ false) × (processor ≢ j)) →
-    (cond b (processor_read processor (processor_of s processor) now) (processor_of s j)).busy ≡ cond b (counted (processor_of s j).busy (length_of (slice_at processor (processor_of s processor) now))) (processor_of s j).busy
-busy-read_at processor now j s true inside (inl same) = ap (λ k. counted (processor_of s k).busy (length_of (slice_at processor (processor_of s processor) now))) same.1
+busy-read_at : (processor now j : ℕ) (s : Figures) (b : Bool)
+    → j < length s.processors → ((b ≡ true) × (processor ≡ j)) ⊎ ((b ≡ false) × (processor ≢ j))
+    → (cond b (processor_read processor (processor_of s processor) now) (processor_of s j)).busy
+    ≡ cond b (saturating_sum (processor_of s j).busy (length_of (slice_at processor (processor_of s processor) now)))
+    (processor_of s j).busy
+busy-read_at processor now j s true inside (inl same) =
+    ap (λ k. saturating_sum (processor_of s k).busy (length_of (slice_at processor (processor_of s processor) now))) same.1
 busy-read_at processor now j s false inside (inl same) = refl
 busy-read_at processor now j s true inside (inr other) = absurd (cc)
 busy-read_at processor now j s false inside (inr other) = refl
@@ -212,33 +242,41 @@ worth-some : (processor j from to : ℕ) (start : Start) (b : Bool) →
 worth-some processor j from to start true = refl
 worth-some processor j from to start false = sym (worth-none (eqb processor j))
 
-worth-at : (processor j from to : ℕ) (running : Option Start) → time_of (is_at j) (slice_between processor from to running) ≡ cond (eqb processor j) (length_of (slice_between processor from to running)) 0
+worth-at : (processor j from to : ℕ) (running : Option Start)
+    → time_of (is_at j) (slice_between processor from to running)
+    ≡ cond (eqb processor j) (length_of (slice_between processor from to running)) 0
 worth-at processor j from to None = sym (worth-none (eqb processor j))
 worth-at processor j from to (Some start) = worth-some processor j from to start (ltb from to)
 
-busy-shown : (s s' : Figures) (o : Option Sight) (j : ℕ) → j < length s.processors → (processor_of s j).busy + time_of (is_at j) (slice_seen s o) ≤ 18446744073709551615 → Shows s s' o →
-    (processor_of s' j).busy ≡ (processor_of s j).busy + time_of (is_at j) (slice_seen s o)
+busy-shown : (s s' : Figures) (o : Option Sight) (j : ℕ) → j < length s.processors
+    → (processor_of s j).busy + time_of (is_at j) (slice_seen s o) ≤ 18446744073709551615 → Shows s s' o
+    → (processor_of s' j).busy ≡ (processor_of s j).busy + time_of (is_at j) (slice_seen s o)
 busy-shown s s' None j inside fits h = ap (λ (w : Works). w.busy) (h.0.at j) ∙ omega arith
 busy-shown s s' (Some x) j inside fits h =
     let p = processor_of s x.processor in
     let at = worth-at x.processor j p.last (reading p.last x.now) p.running in
-    let fits' : (processor_of s j).busy + cond (eqb x.processor j) (length_of (slice_at x.processor p x.now)) 0 ≤ 18446744073709551615 = omega (arith, at, fits) in
+    let fits' : (processor_of s j).busy + cond (eqb x.processor j) (length_of (slice_at x.processor p x.now)) 0
+    ≤ 18446744073709551615 = omega (arith, at, fits) in
     ap (λ (w : Works). w.busy) (h.0.at j)
     ∙ ap (λ (q : ProcessorFigures). q.busy) (processor-read_at x.processor x.now j s inside)
     ∙ busy-read_at x.processor x.now j s (eqb x.processor j) inside (eqb_tells x.processor j)
-    ∙ counted-is (eqb x.processor j) (processor_of s j).busy (length_of (slice_at x.processor p x.now)) fits'
+    ∙ saturating_sum-is (eqb x.processor j) (processor_of s j).busy (length_of (slice_at x.processor p x.now)) fits'
     ∙ omega (arith, at)
 
 -- the busy time of a processor is the sum of its slices
-pub busy_is_sum_of_slices : (count : ℕ) (past : History) → count ≤ 255 → IsOf count past → (processor : ℕ) → processor < count → (processor_of (figures count past) processor).busy ≡ time_in (is_at processor) (slices past)
-busy_is_sum_of_slices count [] few h processor inside = ap (λ (p : ProcessorFigures). p.busy) (get_or-replicate count processor unread unread inside)
+pub busy_is_sum_of_slices : (count : ℕ) (past : History) → count ≤ 255 → IsOfProcessors count past
+    → (processor : ℕ) → processor < count
+    → (processor_of (figures count past) processor).busy ≡ time_in (is_at processor) (slices past)
+busy_is_sum_of_slices count [] few h processor inside =
+    ap (λ (p : ProcessorFigures). p.busy) (get_or-replicate count processor unread unread inside)
 busy_is_sum_of_slices count (m ∷ past) few h processor inside =
     let s = figures count past in
     let o = sight_of m.event m.answer in
     let before = busy_is_sum_of_slices count past few h.1 processor inside in
     let seen = ap (time_of (is_at processor)) (shown-seen count past o h.1 h.0) in
     let inside' : processor < length s.processors = omega (arith, count-figures count past h.1) in
-    let fits : (processor_of s processor).busy + time_of (is_at processor) (slice_seen s o) ≤ 18446744073709551615 = omega (arith, before, seen, fits-next (is_at processor) count past m few h) in
+    let fits : (processor_of s processor).busy + time_of (is_at processor) (slice_seen s o) ≤ 18446744073709551615 =
+    omega (arith, before, seen, fits-next (is_at processor) count past m few h) in
     omega (
       arith,
       before,
@@ -248,7 +286,7 @@ busy_is_sum_of_slices count (m ∷ past) few h processor inside =
     )
 
 -- the times of tasks and the busy times of processors are the sums of their slices
-pub adds_up : (count : ℕ) (past : History) → count ≤ 255 → IsOf count past →
+pub adds_up : (count : ℕ) (past : History) → count ≤ 255 → IsOfProcessors count past →
     ((id : ℕ) → id < 1024 → (task_of (figures count past) id).time ≡ time_in (is_of id) (slices past))
     × ((processor : ℕ) → processor < count → (processor_of (figures count past) processor).busy ≡ time_in (is_at processor) (slices past))
 adds_up count past few h = (time_is_sum_of_slices count past few h, busy_is_sum_of_slices count past few h)

@@ -23,122 +23,156 @@ use Rattle.bq_schedule.specs.Passing.{read_at}
 use Rattle.bq_schedule.specs.Runnable.{leaves}
 use Rattle.bq_schedule.specs.Running.{stopped, started, starts_as, start_of, stop_of, processor_runs, switched, is_run_by, stop_at, start_at}
 use Rattle.bq_schedule.specs.Slices.{Sight, sight, sight_of, clock, clock_after, runner, runner_after}
-use Rattle.bq_schedule.specs.Steps.{nothing, asked, taken, emptied, decided, blocked, pulled, performed, performed_told, time_at, is_there, after, change, figures}
+use Rattle.bq_schedule.specs.Steps.{nothing, asked, taken, emptied, decided, blocked, pulled, performed, report_of_answer, time_at, is_there, after, change, figures}
 use Rattle.bq_schedule.specs.Switches.{why_left}
-use Rattle.bq_schedule.specs.Laws.{IsWithin, IsOf, TellsStarts, TellsStops}
+use Rattle.bq_schedule.specs.Laws.{IsWithin, IsOfProcessors, ReportsStarts, ReportsStops}
 use Rattle.bq_schedule.proofs.FrameLemmas.{KeepsRunning, works-asked, works-leaves, works-taken, works-stopped, processors-begun_if, running-then, running-id, running-with_processor, running-asked, running-leaves, running-taken, running-read_at, runs-switched, who_is, count-read_at}
 use Rattle.bq_schedule.proofs.ClockLemmas.{figures-clocks, shows-performed, within-figures, not_below}
 
 -- a switch at a processor: what is reported of it, and what runs afterwards
-pub record Switches (s s' : Figures) (left : Left) (processor at : ℕ) (run : Option ℕ) (stop : Option Stop) (start : Option Start) : Type 0 where
+pub record Switches (s s' : Figures) (left : Left) (processor at : ℕ) (run : Option ℕ) (stop : Option Stop)
+    (start : Option Start) : Type 0 where
   pub before : Figures
   pub stops : stop ≡ cond (is_run_by (processor_of s processor).running run) None (stop_of left at (processor_of s processor).running)
   pub starts : start ≡ cond (is_run_by (processor_of s processor).running run) None (starts_as processor at run before)
-  pub runs : (processor_of s' processor).running ≡ cond (is_run_by (processor_of s processor).running run) (processor_of s processor).running (starts_as processor at run before)
+  pub runs : (processor_of s' processor).running
+      ≡ cond (is_run_by (processor_of s processor).running run) (processor_of s processor).running (starts_as processor at run before)
   pub others : (j : ℕ) → j ≢ processor → (processor_of s' j).running ≡ (processor_of s j).running
 
 running-processor_runs : (p : ProcessorFigures) (o : Option Start) → (processor_runs p o).running ≡ o
 running-processor_runs p None = refl
 running-processor_runs p (Some start) = refl
 
-running-started : (processor at : ℕ) (run : Option ℕ) (u : Figures) → processor < length u.processors → (processor_of (started processor at run u) processor).running ≡ starts_as processor at run u
+running-started : (processor at : ℕ) (run : Option ℕ) (u : Figures)
+    → processor < length u.processors
+    → (processor_of (started processor at run u) processor).running ≡ starts_as processor at run u
 running-started processor at run u inside =
     let q = processor_runs (processor_of u processor) (starts_as processor at run u) in
     ap (λ l. (get_or (slice_set l processor q) processor unread).running) (processors-begun_if processor at run u)
     ∙ ap (λ (p : ProcessorFigures). p.running) (get_or-set_same u.processors processor q unread inside)
     ∙ running-processor_runs (processor_of u processor) (starts_as processor at run u)
 
-running-switched_if : (b : Bool) (left : Left) (processor at : ℕ) (run : Option ℕ) (t : Figures) → processor < length t.processors →
-    let u = stopped left at (processor_of t processor).running t in
-    (processor_of (cond b t (started processor at run u)) processor).running ≡ cond b (processor_of t processor).running (starts_as processor at run u)
+running-switched_if : (b : Bool) (left : Left) (processor at : ℕ) (run : Option ℕ) (t : Figures)
+    → processor < length t.processors
+    → let u = stopped left at (processor_of t processor).running t in
+    (processor_of (cond b t (started processor at run u)) processor).running
+    ≡ cond b (processor_of t processor).running (starts_as processor at run u)
 running-switched_if true left processor at run t inside = refl
 running-switched_if false left processor at run t inside =
     let u = stopped left at (processor_of t processor).running t in
     running-started processor at run u (omega (arith, (works-stopped left at (processor_of t processor).running t).count))
 
 -- after a step that keeps who runs, and before another, a switch is one of the whole
-switch : (left : Left) (processor at : ℕ) (run : Option ℕ) (s t s' : Figures) → KeepsRunning s t → processor < length t.processors → KeepsRunning (switched left processor at run t) s' →
-    Switches s s' left processor at run (stop_at left processor at run t) (start_at left processor at run t)
+switch : (left : Left) (processor at : ℕ) (run : Option ℕ) (s t s' : Figures)
+    → KeepsRunning s t → processor < length t.processors → KeepsRunning (switched left processor at run t) s'
+    → Switches s s' left processor at run (stop_at left processor at run t) (start_at left processor at run t)
 switch left processor at run s t s' k inside k' =
     let u = stopped left at (processor_of t processor).running t in
     record {
       before = u;
       stops = ap (λ o. cond (is_run_by o run) None (stop_of left at o)) (k.at processor);
       starts = ap (λ o. cond (is_run_by o run) None (starts_as processor at run u)) (k.at processor);
-      runs = k'.at processor ∙ running-switched_if (is_run_by (processor_of t processor).running run) left processor at run t inside ∙ ap (λ o. cond (is_run_by o run) o (starts_as processor at run u)) (k.at processor);
+      runs =
+          k'.at processor ∙ running-switched_if (is_run_by (processor_of t processor).running run) left processor at run t inside
+          ∙ ap (λ o. cond (is_run_by o run) o (starts_as processor at run u)) (k.at processor);
       others = λ j ne. k'.at j ∙ (runs-switched left processor at run t inside).1 j ne ∙ k.at j;
     }
 
 -- what an answer tells of who runs, by what it shows: nothing where it does not say who does
-abbrev pub TellsRun : Figures → Figures → Left → ℕ → ℕ → Option (Option ℕ) → Option Stop → Option Start → Type 0
-TellsRun s s' left processor at None stop start = (stop ≡ None) × (start ≡ None) × KeepsRunning s s'
-TellsRun s s' left processor at (Some run) stop start = Switches s s' left processor at run stop start
+abbrev pub ReportsRunning : Figures → Figures → Left → ℕ → ℕ → Option (Option ℕ) → Option Stop → Option Start → Type 0
+ReportsRunning s s' left processor at None stop start = (stop ≡ None) × (start ≡ None) × KeepsRunning s s'
+ReportsRunning s s' left processor at (Some run) stop start = Switches s s' left processor at run stop start
 
--- the same by the sight of an event and its answer
-abbrev pub TellsSwitch : Figures → Figures → Event → Option Sight → Option Stop → Option Start → Type 0
-TellsSwitch s s' e None stop start = (stop ≡ None) × (start ≡ None) × KeepsRunning s s'
-TellsSwitch s s' e (Some x) stop start = TellsRun s s' (why_left e) x.processor (time_at x.processor x.now s) x.run stop start
+-- what an answer tells of who runs, by the sight of an event and its answer
+abbrev pub ReportsSwitch : Figures → Figures → Event → Option Sight → Option Stop → Option Start → Type 0
+ReportsSwitch s s' e None stop start = (stop ≡ None) × (start ≡ None) × KeepsRunning s s'
+ReportsSwitch s s' e (Some x) stop start = ReportsRunning s s' (why_left e) x.processor (time_at x.processor x.now s) x.run stop start
 
-decided-tells : (processor now : ℕ) (d : Decision) (run : Option ℕ) (s s' : Figures) → processor < length s.processors → KeepsRunning (decided processor now d run s) s' →
-    let t = asked processor d (read_at processor now s) in
-    Switches s s' Preempted processor (time_at processor now s) run (stop_at Preempted processor (time_at processor now s) run t) (start_at Preempted processor (time_at processor now s) run t)
-decided-tells processor now d run s s' inside k =
+decided-reports : (processor now : ℕ) (d : Decision) (run : Option ℕ) (s s' : Figures)
+    → processor < length s.processors → KeepsRunning (decided processor now d run s) s'
+    → let t = asked processor d (read_at processor now s) in
+    Switches s s' Preempted processor (time_at processor now s) run (stop_at Preempted processor (time_at processor now s) run t)
+    (start_at Preempted processor (time_at processor now s) run t)
+decided-reports processor now d run s s' inside k =
     let r = read_at processor now s in
     let t = asked processor d r in
-    switch Preempted processor (time_at processor now s) run s t s' (running-then s r t (running-read_at processor now s) (running-asked processor d r))
+    switch Preempted processor (time_at processor now s) run s t s'
+    (running-then s r t (running-read_at processor now s) (running-asked processor d r))
     (omega (arith, count-read_at processor now s, (works-asked processor d r).count)) k
 
-blocked-tells : (processor now id : ℕ) (run : Option ℕ) (s : Figures) → processor < length s.processors →
-    let t = leaves id (read_at processor now s) in
-    Switches s (blocked processor now id run s) Blocked processor (time_at processor now s) run (stop_at Blocked processor (time_at processor now s) run t) (start_at Blocked processor (time_at processor now s) run t)
-blocked-tells processor now id run s inside =
+blocked-reports : (processor now id : ℕ) (run : Option ℕ) (s : Figures)
+    → processor < length s.processors
+    → let t = leaves id (read_at processor now s) in
+    Switches s (blocked processor now id run s) Blocked processor (time_at processor now s) run
+    (stop_at Blocked processor (time_at processor now s) run t) (start_at Blocked processor (time_at processor now s) run t)
+blocked-reports processor now id run s inside =
     let r = read_at processor now s in
     let t = leaves id r in
-    switch Blocked processor (time_at processor now s) run s t (blocked processor now id run s) (running-then s r t (running-read_at processor now s) (running-leaves id r))
+    switch Blocked processor (time_at processor now s) run s t (blocked processor now id run s)
+    (running-then s r t (running-read_at processor now s) (running-leaves id r))
     (omega (arith, count-read_at processor now s, (works-leaves id r).count)) (running-id (blocked processor now id run s))
 
-pulled-tells : (processor now : ℕ) (d : Decision) (task run : Option ℕ) (s : Figures) → processor < length s.processors →
-    let t = taken processor (time_at processor now s) task (asked processor d (read_at processor now s)) in
-    Switches s (pulled processor now d task run s) Preempted processor (time_at processor now s) run (stop_at Preempted processor (time_at processor now s) run t) (start_at Preempted processor (time_at processor now s) run t)
-pulled-tells processor now d task run s inside =
+pulled-reports : (processor now : ℕ) (d : Decision) (task run : Option ℕ) (s : Figures)
+    → processor < length s.processors
+    → let t = taken processor (time_at processor now s) task (asked processor d (read_at processor now s)) in
+    Switches s (pulled processor now d task run s) Preempted processor
+    (time_at processor now s) run (stop_at Preempted processor (time_at processor now s) run t)
+    (start_at Preempted processor (time_at processor now s) run t)
+pulled-reports processor now d task run s inside =
     let r = read_at processor now s in
     let a = asked processor d r in
     let at = time_at processor now s in
     let t = taken processor at task a in
-    switch Preempted processor at run s t (pulled processor now d task run s) (running-then s r t (running-read_at processor now s) (running-then r a t (running-asked processor d r) (running-taken processor at task a)))
-    (omega (arith, count-read_at processor now s, (works-asked processor d r).count, (works-taken processor at task a).count)) (running-id (pulled processor now d task run s))
+    switch Preempted processor at run s t (pulled processor now d task run s)
+    (running-then s r t (running-read_at processor now s)
+    (running-then r a t (running-asked processor d r) (running-taken processor at task a)))
+    (omega (arith, count-read_at processor now s, (works-asked processor d r).count, (works-taken processor at task a).count))
+    (running-id (pulled processor now d task run s))
 
-performed-tells : (s : Figures) (e : Event) (r : Reply) → is_there s e ≡ true → TellsSwitch s (performed s e r) e (sight e r) (performed_told s e r).stop (performed_told s e r).start
-performed-tells s (Admit id nice mask slice) Admitted there = (refl, refl, (shows-performed s (Admit id nice mask slice) Admitted there).1)
-performed-tells s (EndWake processor now) (Placed task to by steps) there = (refl, refl, (shows-performed s (EndWake processor now) (Placed task to by steps) there).1)
-performed-tells s (Drain processor now) (Drained count run by steps) there =
+performed-reports : (s : Figures) (e : Event) (r : Reply) → is_there s e ≡ true
+    → ReportsSwitch s (performed s e r) e (sight e r) (report_of_answer s e r).stop (report_of_answer s e r).start
+performed-reports s (Admit id nice mask slice) Admitted there =
+    (refl, refl, (shows-performed s (Admit id nice mask slice) Admitted there).1)
+performed-reports s (EndWake processor now) (Placed task to by steps) there =
+    (refl, refl, (shows-performed s (EndWake processor now) (Placed task to by steps) there).1)
+performed-reports s (Drain processor now) (Drained count run by steps) there =
     let d : Decision = record { hook = Preempt; by = by; steps = steps } in
     let q = decided processor now d run s in
-    decided-tells processor now d run s (emptied processor q) (ltb-true processor (length s.processors) there) (running-with_processor q processor _ refl)
-performed-tells s (Tick processor now) (Ticked run by steps) there =
+    decided-reports processor now d run s (emptied processor q) (ltb-true processor (length s.processors) there)
+    (running-with_processor q processor _ refl)
+performed-reports s (Tick processor now) (Ticked run by steps) there =
     let d : Decision = record { hook = Preempt; by = by; steps = steps } in
-    decided-tells processor now d run s (decided processor now d run s) (ltb-true processor (length s.processors) there) (running-id (decided processor now d run s))
-performed-tells s (Block processor now) (Went task run) there = blocked-tells processor now task run s (ltb-true processor (length s.processors) there)
-performed-tells s (Pull processor from now) (Pulled task run by steps) there = pulled-tells processor now (record { hook = OnPull; by = by; steps = steps }) task run s (ltb-true processor (length s.processors) there)
-performed-tells s e r there = (refl, refl, running-id s)
+    decided-reports processor now d run s (decided processor now d run s) (ltb-true processor (length s.processors) there)
+    (running-id (decided processor now d run s))
+performed-reports s (Block processor now) (Went task run) there =
+    blocked-reports processor now task run s (ltb-true processor (length s.processors) there)
+performed-reports s (Pull processor from now) (Pulled task run by steps) there =
+    pulled-reports processor now (record { hook = OnPull; by = by; steps = steps }) task run s
+    (ltb-true processor (length s.processors) there)
+performed-reports s e r there = (refl, refl, running-id s)
 
-nothing-tells : (s : Figures) (e : Event) (r : Reply) → is_there s e ≡ false → IsWithin (length s.processors) (sight e r) → TellsSwitch s s e (sight e r) None None
-nothing-tells s (EndWake processor now) (Placed task to by steps) none h = absurd (not_below processor (length s.processors) none h)
-nothing-tells s (Drain processor now) (Drained count run by steps) none h = absurd (not_below processor (length s.processors) none h)
-nothing-tells s (Tick processor now) (Ticked run by steps) none h = absurd (not_below processor (length s.processors) none h)
-nothing-tells s (Block processor now) (Went task run) none h = absurd (not_below processor (length s.processors) none h)
-nothing-tells s (Pull processor from now) (Pulled task run by steps) none h = absurd (not_below processor (length s.processors) none h)
-nothing-tells s e r none h = (refl, refl, running-id s)
+nothing-reports : (s : Figures) (e : Event) (r : Reply) → is_there s e ≡ false → IsWithin (length s.processors) (sight e r)
+    → ReportsSwitch s s e (sight e r) None None
+nothing-reports s (EndWake processor now) (Placed task to by steps) none h = absurd (not_below processor (length s.processors) none h)
+nothing-reports s (Drain processor now) (Drained count run by steps) none h = absurd (not_below processor (length s.processors) none h)
+nothing-reports s (Tick processor now) (Ticked run by steps) none h = absurd (not_below processor (length s.processors) none h)
+nothing-reports s (Block processor now) (Went task run) none h = absurd (not_below processor (length s.processors) none h)
+nothing-reports s (Pull processor from now) (Pulled task run by steps) none h = absurd (not_below processor (length s.processors) none h)
+nothing-reports s e r none h = (refl, refl, running-id s)
 
-tells-if : (b : Bool) (s : Figures) (e : Event) (r : Reply) → is_there s e ≡ b → IsWithin (length s.processors) (sight e r) →
-    TellsSwitch s (cond b (performed s e r) s) e (sight e r) (cond b (performed_told s e r) nothing).stop (cond b (performed_told s e r) nothing).start
-tells-if true s e r there h = performed-tells s e r there
-tells-if false s e r there h = nothing-tells s e r there h
+reports-if : (b : Bool) (s : Figures) (e : Event) (r : Reply)
+    → is_there s e ≡ b → IsWithin (length s.processors) (sight e r)
+    → ReportsSwitch s (cond b (performed s e r) s) e (sight e r) (cond b (report_of_answer s e r) nothing).stop
+    (cond b (report_of_answer s e r) nothing).start
+reports-if true s e r there h = performed-reports s e r there
+reports-if false s e r there h = nothing-reports s e r there h
 
 -- each answer tells the switch that it shows
-tells : (s : Figures) (e : Event) (a : Result Reply Refusal) → IsWithin (length s.processors) (sight_of e a) → TellsSwitch s (after s e a) e (sight_of e a) (change s e a).stop (change s e a).start
-tells s e (Ok r) h = tells-if (is_there s e) s e r refl h
-tells s e (Err r) h = (refl, refl, record { at = λ j. refl })
+reports : (s : Figures) (e : Event) (a : Result Reply Refusal)
+    → IsWithin (length s.processors) (sight_of e a)
+    → ReportsSwitch s (after s e a) e (sight_of e a) (change s e a).stop (change s e a).start
+reports s e (Ok r) h = reports-if (is_there s e) s e r refl h
+reports s e (Err r) h = (refl, refl, record { at = λ j. refl })
 
 -- where it is another than who ran, it is not who runs
 pub not_who : (running : Option Start) (run : Option ℕ) → is_run_by running run ≡ false → option_map (λ (x : Start). x.task) running ≢ run
@@ -149,7 +183,8 @@ not_who (Some start) (Some id) e h =
     let same : start.task ≡ id = cc in
     grind (arith, nat_tests)
 
-is_new : (running : Option Start) (run : Option ℕ) (b : Bool) → is_run_by running run ≡ b → option_map (λ (x : Start). x.task) running ≢ run → b ≡ false
+is_new : (running : Option Start) (run : Option ℕ) (b : Bool)
+    → is_run_by running run ≡ b → option_map (λ (x : Start). x.task) running ≢ run → b ≡ false
 is_new running run true e ne = absurd (ne (who_is running run e))
 is_new running run false e ne = refl
 
@@ -161,7 +196,9 @@ pub record IsStart (running : Option Start) (processor at : ℕ) (run : Option �
   pub new : option_map (λ (x : Start). x.task) running ≢ run
 
 -- what is reported to start, where another runs than did, is such a start
-pub start_if : (b : Bool) (running : Option Start) (processor at : ℕ) (run : Option ℕ) (u : Figures) (start : Start) → is_run_by running run ≡ b → cond b None (starts_as processor at run u) ≡ Some start → IsStart running processor at run start
+pub start_if : (b : Bool) (running : Option Start) (processor at : ℕ) (run : Option ℕ) (u : Figures) (start : Start)
+    → is_run_by running run ≡ b → cond b None (starts_as processor at run u) ≡ Some start
+    → IsStart running processor at run start
 start_if true running processor at run u start is e = cc
 start_if false running processor at None u start is e = cc
 start_if false running processor at (Some id) u start is e =
@@ -177,7 +214,9 @@ pub record IsStop (running : Option Start) (left : Left) (at : ℕ) (run : Optio
   pub new : option_map (λ (x : Start). x.task) running ≢ run
 
 -- what is reported to stop, where another runs than did, is such a stop
-pub stop_if : (b : Bool) (running : Option Start) (left : Left) (at : ℕ) (run : Option ℕ) (stop : Stop) → is_run_by running run ≡ b → cond b None (stop_of left at running) ≡ Some stop → IsStop running left at run stop
+pub stop_if : (b : Bool) (running : Option Start) (left : Left) (at : ℕ) (run : Option ℕ) (stop : Stop)
+    → is_run_by running run ≡ b → cond b None (stop_of left at running) ≡ Some stop
+    → IsStop running left at run stop
 stop_if true running left at run stop is e = cc
 stop_if false None left at run stop is e = cc
 stop_if false (Some old) left at run stop is e =
@@ -218,10 +257,16 @@ CeasesWith j task past o = (runner j past ≡ Some task) × (runner_after j (run
 
 -- a start that is reported is of a task that begins to run
 abbrev pub IsStartOf : ℕ → History → Option Sight → Start → Type 0
-IsStartOf count past o st = (st.processor < count) × BeginsWith st.processor st.task past o × (st.at ≡ clock_after st.processor (clock st.processor past) o)
+IsStartOf count past o st =
+    (st.processor < count) × BeginsWith st.processor st.task past o
+    × (st.at ≡ clock_after st.processor (clock st.processor past) o)
 
-start-run : (count : ℕ) (past : History) (processor now : ℕ) (o : Option (Option ℕ)) (s' : Figures) (left : Left) (stop : Option Stop) (start : Option Start) (st : Start) → IsOf count past → processor < count →
-    TellsRun (figures count past) s' left processor (time_at processor now (figures count past)) o stop start → start ≡ Some st → IsStartOf count past (Some (record { processor = processor; now = now; run = o })) st
+start-run : (count : ℕ) (past : History) (processor now : ℕ) (o : Option (Option ℕ)) (s' : Figures) (left : Left)
+    (stop : Option Stop) (start : Option Start) (st : Start)
+    → IsOfProcessors count past → processor < count
+    → ReportsRunning (figures count past) s' left processor (time_at processor now (figures count past)) o stop start
+    → start ≡ Some st
+    → IsStartOf count past (Some (record { processor = processor; now = now; run = o })) st
 start-run count past processor now None s' left stop start st h w t e =
     let t1 = t.1 in
     cc
@@ -229,64 +274,86 @@ start-run count past processor now (Some run) s' left stop start st h w t e =
     let s = figures count past in
     let x : Sight = record { processor = processor; now = now; run = Some run } in
     let c = figures-clocks count past processor h w in
-    let i = start_if (is_run_by (processor_of s processor).running run) (processor_of s processor).running processor (time_at processor now s) run t.before st refl (sym t.starts ∙ e) in
+    let i =
+    start_if (is_run_by (processor_of s processor).running run) (processor_of s processor).running processor
+    (time_at processor now s) run t.before st refl (sym t.starts ∙ e) in
     let here = i.here in (
       omega arith,
       (
         runner-there st.processor (runner st.processor past) x here ∙ i.task,
         λ same. i.new (c.1 ∙ ap (λ k. runner k past) (sym here) ∙ same ∙ sym i.task),
       ),
-      i.time ∙ ap (λ n. reading n now) (c.0 ∙ ap (λ k. clock k past) (sym here)) ∙ sym (clock-there st.processor (clock st.processor past) x here),
+      i.time ∙ ap (λ n. reading n now) (c.0 ∙ ap (λ k. clock k past) (sym here))
+          ∙ sym (clock-there st.processor (clock st.processor past) x here),
     )
 
-start-shown : (count : ℕ) (past : History) (o : Option Sight) (s' : Figures) (e : Event) (stop : Option Stop) (start : Option Start) (st : Start) → IsOf count past → IsWithin count o →
-    TellsSwitch (figures count past) s' e o stop start → start ≡ Some st → IsStartOf count past o st
+start-shown : (count : ℕ) (past : History) (o : Option Sight) (s' : Figures) (e : Event) (stop : Option Stop)
+    (start : Option Start) (st : Start)
+    → IsOfProcessors count past → IsWithin count o → ReportsSwitch (figures count past) s' e o stop start → start ≡ Some st
+    → IsStartOf count past o st
 start-shown count past None s' e stop start st h w t is =
     let t1 = t.1 in
     cc
-start-shown count past (Some x) s' e stop start st h w t is = start-run count past x.processor x.now x.run s' (why_left e) stop start st h w t is
+start-shown count past (Some x) s' e stop start st h w t is =
+    start-run count past x.processor x.now x.run s' (why_left e) stop start st h w t is
 
--- and each that begins is reported
-begun-there : (count : ℕ) (past : History) (processor now j task : ℕ) (run : Option ℕ) (s' : Figures) (left : Left) (stop : Option Stop) (start : Option Start) (b : Bool) → IsOf count past → processor < count →
-    Switches (figures count past) s' left processor (time_at processor now (figures count past)) run stop start → ((b ≡ true) × (processor ≡ j)) ⊎ ((b ≡ false) × (processor ≢ j)) →
-    cond b run (runner j past) ≡ Some task → runner j past ≢ Some task → IsSomeAnd start (λ st. (st.processor ≡ j) × (st.task ≡ task))
+-- each start of a task that begins to run is reported
+begun-there : (count : ℕ) (past : History) (processor now j task : ℕ) (run : Option ℕ) (s' : Figures) (left : Left)
+    (stop : Option Stop) (start : Option Start) (b : Bool)
+    → IsOfProcessors count past → processor < count
+    → Switches (figures count past) s' left processor (time_at processor now (figures count past)) run stop start
+    → ((b ≡ true) × (processor ≡ j)) ⊎ ((b ≡ false) × (processor ≢ j)) → cond b run (runner j past) ≡ Some task
+    → runner j past ≢ Some task
+    → IsSomeAnd start (λ st. (st.processor ≡ j) × (st.task ≡ task))
 begun-there count past processor now j task run s' left stop start true h w t (inl same) is new =
     let s = figures count past in
     let c = figures-clocks count past processor h w in
     let off : is_run_by (processor_of s processor).running run ≡ false =
-    is_new (processor_of s processor).running run (is_run_by (processor_of s processor).running run) refl (λ e. new (ap (λ k. runner k past) (sym same.1) ∙ sym c.1 ∙ e ∙ is)) in
+    is_new (processor_of s processor).running run (is_run_by (processor_of s processor).running run) refl
+    (λ e. new (ap (λ k. runner k past) (sym same.1) ∙ sym c.1 ∙ e ∙ is)) in
     and_some start _ (start_of processor task (time_at processor now s) (task_of t.before task))
-    (t.starts ∙ ap (λ v. cond v None (starts_as processor (time_at processor now s) run t.before)) off ∙ ap (λ r. starts_as processor (time_at processor now s) r t.before) is)
-    (same.1, refl)
+    (t.starts ∙ ap (λ v. cond v None (starts_as processor (time_at processor now s) run t.before)) off
+    ∙ ap (λ r. starts_as processor (time_at processor now s) r t.before) is) (same.1, refl)
 begun-there count past processor now j task run s' left stop start false h w t (inl same) is new = absurd (cc)
 begun-there count past processor now j task run s' left stop start true h w t (inr other) is new = absurd (cc)
 begun-there count past processor now j task run s' left stop start false h w t (inr other) is new = absurd (new is)
 
-begun-run : (count : ℕ) (past : History) (processor now j task : ℕ) (o : Option (Option ℕ)) (s' : Figures) (left : Left) (stop : Option Stop) (start : Option Start) → IsOf count past → processor < count →
-    TellsRun (figures count past) s' left processor (time_at processor now (figures count past)) o stop start → BeginsWith j task past (Some (record { processor = processor; now = now; run = o })) →
-    IsSomeAnd start (λ st. (st.processor ≡ j) × (st.task ≡ task))
-begun-run count past processor now j task None s' left stop start h w t begins = absurd (begins.1 (sym (same-cond (eqb processor j) (runner j past)) ∙ begins.0))
+begun-run : (count : ℕ) (past : History) (processor now j task : ℕ) (o : Option (Option ℕ)) (s' : Figures) (left : Left)
+    (stop : Option Stop) (start : Option Start)
+    → IsOfProcessors count past → processor < count
+    → ReportsRunning (figures count past) s' left processor (time_at processor now (figures count past)) o stop start
+    → BeginsWith j task past (Some (record { processor = processor; now = now; run = o }))
+    → IsSomeAnd start (λ st. (st.processor ≡ j) × (st.task ≡ task))
+begun-run count past processor now j task None s' left stop start h w t begins =
+    absurd (begins.1 (sym (same-cond (eqb processor j) (runner j past)) ∙ begins.0))
 begun-run count past processor now j task (Some run) s' left stop start h w t begins =
     begun-there count past processor now j task run s' left stop start (eqb processor j) h w t (eqb_tells processor j) begins.0 begins.1
 
-begun-shown : (count : ℕ) (past : History) (o : Option Sight) (s' : Figures) (e : Event) (stop : Option Stop) (start : Option Start) (j task : ℕ) → IsOf count past → IsWithin count o →
-    TellsSwitch (figures count past) s' e o stop start → BeginsWith j task past o → IsSomeAnd start (λ st. (st.processor ≡ j) × (st.task ≡ task))
+begun-shown : (count : ℕ) (past : History) (o : Option Sight) (s' : Figures) (e : Event) (stop : Option Stop)
+    (start : Option Start) (j task : ℕ)
+    → IsOfProcessors count past → IsWithin count o → ReportsSwitch (figures count past) s' e o stop start
+    → BeginsWith j task past o
+    → IsSomeAnd start (λ st. (st.processor ≡ j) × (st.task ≡ task))
 begun-shown count past None s' e stop start j task h w t begins = absurd (begins.1 begins.0)
-begun-shown count past (Some x) s' e stop start j task h w t begins = begun-run count past x.processor x.now j task x.run s' (why_left e) stop start h w t begins
+begun-shown count past (Some x) s' e stop start j task h w t begins =
+    begun-run count past x.processor x.now j task x.run s' (why_left e) stop start h w t begins
 
 -- what a moment tells is of the switch that it shows
-pub moment_tells : (count : ℕ) (past : History) (m : Moment) → IsOf count (m ∷ past) →
-    TellsSwitch (figures count past) (figures count (m ∷ past)) m.event (sight_of m.event m.answer) (change (figures count past) m.event m.answer).stop (change (figures count past) m.event m.answer).start
-moment_tells count past m h = tells (figures count past) m.event m.answer (within-figures count past m h)
+pub moment_reports : (count : ℕ) (past : History) (m : Moment)
+    → IsOfProcessors count (m ∷ past)
+    → ReportsSwitch (figures count past) (figures count (m ∷ past)) m.event (sight_of m.event m.answer)
+    (change (figures count past) m.event m.answer).stop (change (figures count past) m.event m.answer).start
+moment_reports count past m h = reports (figures count past) m.event m.answer (within-figures count past m h)
 
 -- a start is reported exactly when a task begins to run
-pub tells_starts : TellsStarts
-tells_starts count past m h =
+pub reports_starts : ReportsStarts
+reports_starts count past m h =
     let o = sight_of m.event m.answer in
     let s' = figures count (m ∷ past) in
     let c = change (figures count past) m.event m.answer in (
-      λ processor task inside begins. begun-shown count past o s' m.event c.stop c.start processor task h.1 h.0 (moment_tells count past m h) begins,
-      of_some c.start _ (λ st is. start-shown count past o s' m.event c.stop c.start st h.1 h.0 (moment_tells count past m h) is),
+      λ processor task inside begins.
+          begun-shown count past o s' m.event c.stop c.start processor task h.1 h.0 (moment_reports count past m h) begins,
+      of_some c.start _ (λ st is. start-shown count past o s' m.event c.stop c.start st h.1 h.0 (moment_reports count past m h) is),
     )
 
 -- what runs at a processor has begun there
@@ -294,47 +361,67 @@ abbrev pub RunsHere : ℕ → History → Type 0
 RunsHere count past = (j : ℕ) (st : Start) → j < count → (processor_of (figures count past) j).running ≡ Some st → st.processor ≡ j
 
 -- who runs at a processor after a switch has begun there, if who ran before has
-pub begun-here : (b : Bool) (processor at : ℕ) (run : Option ℕ) (u : Figures) (running : Option Start) (st : Start) → cond b running (starts_as processor at run u) ≡ Some st → (running ≡ Some st → st.processor ≡ processor) → st.processor ≡ processor
+pub begun-here : (b : Bool) (processor at : ℕ) (run : Option ℕ) (u : Figures) (running : Option Start) (st : Start)
+    → cond b running (starts_as processor at run u) ≡ Some st → (running ≡ Some st → st.processor ≡ processor)
+    → st.processor ≡ processor
 begun-here true processor at run u running st e before = before e
 begun-here false processor at None u running st e before = cc
 begun-here false processor at (Some id) u running st e before =
     let x : start_of processor id at (task_of u id) ≡ st = cc in
     ap (λ (y : Start). y.processor) (sym x)
 
-here-there : (s s' : Figures) (left : Left) (processor at : ℕ) (run : Option ℕ) (stop : Option Stop) (start : Option Start) (j : ℕ) (st : Start) (b : Bool) → Switches s s' left processor at run stop start →
-    ((b ≡ true) × (processor ≡ j)) ⊎ ((b ≡ false) × (processor ≢ j)) → ((processor_of s j).running ≡ Some st → st.processor ≡ j) → (processor_of s' j).running ≡ Some st → st.processor ≡ j
+here-there : (s s' : Figures) (left : Left) (processor at : ℕ) (run : Option ℕ) (stop : Option Stop)
+    (start : Option Start) (j : ℕ) (st : Start) (b : Bool)
+    → Switches s s' left processor at run stop start → ((b ≡ true) × (processor ≡ j)) ⊎ ((b ≡ false) × (processor ≢ j))
+    → ((processor_of s j).running ≡ Some st → st.processor ≡ j) → (processor_of s' j).running ≡ Some st
+    → st.processor ≡ j
 here-there s s' left processor at run stop start j st b t (inl same) before e =
-    begun-here (is_run_by (processor_of s processor).running run) processor at run t.before (processor_of s processor).running st (sym t.runs ∙ ap (λ k. (processor_of s' k).running) same.1 ∙ e)
+    begun-here (is_run_by (processor_of s processor).running run) processor at run t.before
+    (processor_of s processor).running st (sym t.runs ∙ ap (λ k. (processor_of s' k).running) same.1 ∙ e)
     (λ is. before (ap (λ k. (processor_of s k).running) (sym same.1) ∙ is) ∙ sym same.1)
     ∙ same.1
 here-there s s' left processor at run stop start j st b t (inr other) before e = before (sym (t.others j (λ is. other.1 (sym is))) ∙ e)
 
-here-run : (s s' : Figures) (left : Left) (processor at : ℕ) (o : Option (Option ℕ)) (stop : Option Stop) (start : Option Start) (j : ℕ) (st : Start) → TellsRun s s' left processor at o stop start →
-    ((processor_of s j).running ≡ Some st → st.processor ≡ j) → (processor_of s' j).running ≡ Some st → st.processor ≡ j
+here-run : (s s' : Figures) (left : Left) (processor at : ℕ) (o : Option (Option ℕ)) (stop : Option Stop)
+    (start : Option Start) (j : ℕ) (st : Start)
+    → ReportsRunning s s' left processor at o stop start → ((processor_of s j).running ≡ Some st → st.processor ≡ j)
+    → (processor_of s' j).running ≡ Some st
+    → st.processor ≡ j
 here-run s s' left processor at None stop start j st t before e = before (sym (t.2.at j) ∙ e)
-here-run s s' left processor at (Some run) stop start j st t before e = here-there s s' left processor at run stop start j st (eqb processor j) t (eqb_tells processor j) before e
+here-run s s' left processor at (Some run) stop start j st t before e =
+    here-there s s' left processor at run stop start j st (eqb processor j) t (eqb_tells processor j) before e
 
-here-shown : (s s' : Figures) (e : Event) (o : Option Sight) (stop : Option Stop) (start : Option Start) (j : ℕ) (st : Start) → TellsSwitch s s' e o stop start →
-    ((processor_of s j).running ≡ Some st → st.processor ≡ j) → (processor_of s' j).running ≡ Some st → st.processor ≡ j
+here-shown : (s s' : Figures) (e : Event) (o : Option Sight) (stop : Option Stop) (start : Option Start) (j : ℕ) (st : Start)
+    → ReportsSwitch s s' e o stop start → ((processor_of s j).running ≡ Some st → st.processor ≡ j)
+    → (processor_of s' j).running ≡ Some st
+    → st.processor ≡ j
 here-shown s s' e None stop start j st t before is = before (sym (t.2.at j) ∙ is)
-here-shown s s' e (Some x) stop start j st t before is = here-run s s' (why_left e) x.processor (time_at x.processor x.now s) x.run stop start j st t before is
+here-shown s s' e (Some x) stop start j st t before is =
+    here-run s s' (why_left e) x.processor (time_at x.processor x.now s) x.run stop start j st t before is
 
 -- in each history what runs at a processor has begun there
-pub runs_here : (count : ℕ) (past : History) → IsOf count past → RunsHere count past
+pub runs_here : (count : ℕ) (past : History) → IsOfProcessors count past → RunsHere count past
 runs_here count [] h j st inside e =
-    let none : (processor_of (figures count []) j).running ≡ None = ap (λ (p : ProcessorFigures). p.running) (get_or-replicate count j unread unread inside) in
+    let none : (processor_of (figures count []) j).running ≡ None =
+    ap (λ (p : ProcessorFigures). p.running) (get_or-replicate count j unread unread inside) in
     cc
 runs_here count (m ∷ past) h j st inside e =
     let c = change (figures count past) m.event m.answer in
-    here-shown (figures count past) (figures count (m ∷ past)) m.event (sight_of m.event m.answer) c.stop c.start j st (moment_tells count past m h) (runs_here count past h.1 j st inside) e
+    here-shown (figures count past) (figures count (m ∷ past)) m.event (sight_of m.event m.answer) c.stop c.start j st
+    (moment_reports count past m h) (runs_here count past h.1 j st inside) e
 
 -- a stop that is reported is of a task that ceases to run
 abbrev pub IsStopOf : ℕ → History → Event → Option Sight → Stop → Type 0
 IsStopOf count past e o sp =
-    (sp.start.processor < count) × CeasesWith sp.start.processor sp.start.task past o × (sp.at ≡ clock_after sp.start.processor (clock sp.start.processor past) o) × (sp.left ≡ why_left e)
+    (sp.start.processor < count) × CeasesWith sp.start.processor sp.start.task past o
+    × (sp.at ≡ clock_after sp.start.processor (clock sp.start.processor past) o) × (sp.left ≡ why_left e)
 
-stop-run : (count : ℕ) (past : History) (e : Event) (processor now : ℕ) (o : Option (Option ℕ)) (s' : Figures) (stop : Option Stop) (start : Option Start) (sp : Stop) → IsOf count past → processor < count →
-    TellsRun (figures count past) s' (why_left e) processor (time_at processor now (figures count past)) o stop start → stop ≡ Some sp → IsStopOf count past e (Some (record { processor = processor; now = now; run = o })) sp
+stop-run : (count : ℕ) (past : History) (e : Event) (processor now : ℕ) (o : Option (Option ℕ)) (s' : Figures)
+    (stop : Option Stop) (start : Option Start) (sp : Stop)
+    → IsOfProcessors count past → processor < count
+    → ReportsRunning (figures count past) s' (why_left e) processor (time_at processor now (figures count past)) o stop start
+    → stop ≡ Some sp
+    → IsStopOf count past e (Some (record { processor = processor; now = now; run = o })) sp
 stop-run count past e processor now None s' stop start sp h w t is =
     let t0 = t.0 in
     cc
@@ -342,7 +429,9 @@ stop-run count past e processor now (Some run) s' stop start sp h w t is =
     let s = figures count past in
     let x : Sight = record { processor = processor; now = now; run = Some run } in
     let c = figures-clocks count past processor h w in
-    let i = stop_if (is_run_by (processor_of s processor).running run) (processor_of s processor).running (why_left e) (time_at processor now s) run sp refl (sym t.stops ∙ is) in
+    let i =
+    stop_if (is_run_by (processor_of s processor).running run) (processor_of s processor).running (why_left e)
+    (time_at processor now s) run sp refl (sym t.stops ∙ is) in
     let here : sp.start.processor ≡ processor = runs_here count past h processor sp.start w i.start in
     let ran : runner processor past ≡ Some sp.start.task = sym c.1 ∙ ap (option_map (λ (y : Start). y.task)) i.start in (
       omega arith,
@@ -350,59 +439,78 @@ stop-run count past e processor now (Some run) s' stop start sp h w t is =
         ap (λ k. runner k past) here ∙ ran,
         λ same. i.new (c.1 ∙ ran ∙ sym same ∙ runner-there sp.start.processor (runner sp.start.processor past) x here),
       ),
-      i.time ∙ ap (λ n. reading n now) (c.0 ∙ ap (λ k. clock k past) (sym here)) ∙ sym (clock-there sp.start.processor (clock sp.start.processor past) x here),
+      i.time ∙ ap (λ n. reading n now) (c.0 ∙ ap (λ k. clock k past) (sym here))
+          ∙ sym (clock-there sp.start.processor (clock sp.start.processor past) x here),
       i.why,
     )
 
-stop-shown : (count : ℕ) (past : History) (o : Option Sight) (s' : Figures) (e : Event) (stop : Option Stop) (start : Option Start) (sp : Stop) → IsOf count past → IsWithin count o →
-    TellsSwitch (figures count past) s' e o stop start → stop ≡ Some sp → IsStopOf count past e o sp
+stop-shown : (count : ℕ) (past : History) (o : Option Sight) (s' : Figures) (e : Event) (stop : Option Stop)
+    (start : Option Start) (sp : Stop)
+    → IsOfProcessors count past → IsWithin count o → ReportsSwitch (figures count past) s' e o stop start → stop ≡ Some sp
+    → IsStopOf count past e o sp
 stop-shown count past None s' e stop start sp h w t is =
     let t0 = t.0 in
     cc
 stop-shown count past (Some x) s' e stop start sp h w t is = stop-run count past e x.processor x.now x.run s' stop start sp h w t is
 
 -- of what ran something is reported where it is another than runs now
-ceased-told : (running : Option Start) (left : Left) (at j task : ℕ) (stop : Option Stop) → stop ≡ stop_of left at running → option_map (λ (x : Start). x.task) running ≡ Some task →
-    ((st : Start) → running ≡ Some st → st.processor ≡ j) → IsSomeAnd stop (λ sp. (sp.start.processor ≡ j) × (sp.start.task ≡ task))
-ceased-told None left at j task stop is e here = cc
-ceased-told (Some old) left at j task stop is e here =
+ceased-reported : (running : Option Start) (left : Left) (at j task : ℕ) (stop : Option Stop)
+    → stop ≡ stop_of left at running → option_map (λ (x : Start). x.task) running ≡ Some task
+    → ((st : Start) → running ≡ Some st → st.processor ≡ j)
+    → IsSomeAnd stop (λ sp. (sp.start.processor ≡ j) × (sp.start.task ≡ task))
+ceased-reported None left at j task stop is e here = cc
+ceased-reported (Some old) left at j task stop is e here =
     let same : old.task ≡ task = cc in
     and_some stop _ (record { start = old; at = at; left = left }) is (here old refl, same)
 
-ceased-there : (count : ℕ) (past : History) (processor now j task : ℕ) (run : Option ℕ) (s' : Figures) (left : Left) (stop : Option Stop) (start : Option Start) (b : Bool) → IsOf count past → processor < count →
-    Switches (figures count past) s' left processor (time_at processor now (figures count past)) run stop start → ((b ≡ true) × (processor ≡ j)) ⊎ ((b ≡ false) × (processor ≢ j)) →
-    runner j past ≡ Some task → cond b run (runner j past) ≢ Some task → IsSomeAnd stop (λ sp. (sp.start.processor ≡ j) × (sp.start.task ≡ task))
+ceased-there : (count : ℕ) (past : History) (processor now j task : ℕ) (run : Option ℕ) (s' : Figures) (left : Left)
+    (stop : Option Stop) (start : Option Start) (b : Bool)
+    → IsOfProcessors count past → processor < count
+    → Switches (figures count past) s' left processor (time_at processor now (figures count past)) run stop start
+    → ((b ≡ true) × (processor ≡ j)) ⊎ ((b ≡ false) × (processor ≢ j)) → runner j past ≡ Some task
+    → cond b run (runner j past) ≢ Some task
+    → IsSomeAnd stop (λ sp. (sp.start.processor ≡ j) × (sp.start.task ≡ task))
 ceased-there count past processor now j task run s' left stop start true h w t (inl same) ran new =
     let s = figures count past in
     let c = figures-clocks count past processor h w in
-    let ran' : option_map (λ (x : Start). x.task) (processor_of s processor).running ≡ Some task = c.1 ∙ ap (λ k. runner k past) same.1 ∙ ran in
+    let ran' : option_map (λ (x : Start). x.task) (processor_of s processor).running ≡ Some task =
+    c.1 ∙ ap (λ k. runner k past) same.1 ∙ ran in
     let off : is_run_by (processor_of s processor).running run ≡ false =
     is_new (processor_of s processor).running run (is_run_by (processor_of s processor).running run) refl (λ e. new (sym e ∙ ran')) in
-    ceased-told (processor_of s processor).running left (time_at processor now s) j task stop
+    ceased-reported (processor_of s processor).running left (time_at processor now s) j task stop
     (t.stops ∙ ap (λ v. cond v None (stop_of left (time_at processor now s) (processor_of s processor).running)) off)
     ran' (λ st e. runs_here count past h processor st w e ∙ same.1)
 ceased-there count past processor now j task run s' left stop start false h w t (inl same) ran new = absurd (cc)
 ceased-there count past processor now j task run s' left stop start true h w t (inr other) ran new = absurd (cc)
 ceased-there count past processor now j task run s' left stop start false h w t (inr other) ran new = absurd (new ran)
 
-ceased-run : (count : ℕ) (past : History) (processor now j task : ℕ) (o : Option (Option ℕ)) (s' : Figures) (left : Left) (stop : Option Stop) (start : Option Start) → IsOf count past → processor < count →
-    TellsRun (figures count past) s' left processor (time_at processor now (figures count past)) o stop start → CeasesWith j task past (Some (record { processor = processor; now = now; run = o })) →
-    IsSomeAnd stop (λ sp. (sp.start.processor ≡ j) × (sp.start.task ≡ task))
-ceased-run count past processor now j task None s' left stop start h w t ceases = absurd (ceases.1 (same-cond (eqb processor j) (runner j past) ∙ ceases.0))
+ceased-run : (count : ℕ) (past : History) (processor now j task : ℕ) (o : Option (Option ℕ)) (s' : Figures) (left : Left)
+    (stop : Option Stop) (start : Option Start)
+    → IsOfProcessors count past → processor < count
+    → ReportsRunning (figures count past) s' left processor (time_at processor now (figures count past)) o stop start
+    → CeasesWith j task past (Some (record { processor = processor; now = now; run = o }))
+    → IsSomeAnd stop (λ sp. (sp.start.processor ≡ j) × (sp.start.task ≡ task))
+ceased-run count past processor now j task None s' left stop start h w t ceases =
+    absurd (ceases.1 (same-cond (eqb processor j) (runner j past) ∙ ceases.0))
 ceased-run count past processor now j task (Some run) s' left stop start h w t ceases =
     ceased-there count past processor now j task run s' left stop start (eqb processor j) h w t (eqb_tells processor j) ceases.0 ceases.1
 
-ceased-shown : (count : ℕ) (past : History) (o : Option Sight) (s' : Figures) (e : Event) (stop : Option Stop) (start : Option Start) (j task : ℕ) → IsOf count past → IsWithin count o →
-    TellsSwitch (figures count past) s' e o stop start → CeasesWith j task past o → IsSomeAnd stop (λ sp. (sp.start.processor ≡ j) × (sp.start.task ≡ task))
+ceased-shown : (count : ℕ) (past : History) (o : Option Sight) (s' : Figures) (e : Event) (stop : Option Stop)
+    (start : Option Start) (j task : ℕ)
+    → IsOfProcessors count past → IsWithin count o → ReportsSwitch (figures count past) s' e o stop start
+    → CeasesWith j task past o
+    → IsSomeAnd stop (λ sp. (sp.start.processor ≡ j) × (sp.start.task ≡ task))
 ceased-shown count past None s' e stop start j task h w t ceases = absurd (ceases.1 ceases.0)
-ceased-shown count past (Some x) s' e stop start j task h w t ceases = ceased-run count past x.processor x.now j task x.run s' (why_left e) stop start h w t ceases
+ceased-shown count past (Some x) s' e stop start j task h w t ceases =
+    ceased-run count past x.processor x.now j task x.run s' (why_left e) stop start h w t ceases
 
 -- a stop is reported exactly when a task ceases to run
-pub tells_stops : TellsStops
-tells_stops count past m h =
+pub reports_stops : ReportsStops
+reports_stops count past m h =
     let o = sight_of m.event m.answer in
     let s' = figures count (m ∷ past) in
     let c = change (figures count past) m.event m.answer in (
-      λ processor task inside ceases. ceased-shown count past o s' m.event c.stop c.start processor task h.1 h.0 (moment_tells count past m h) ceases,
-      of_some c.stop _ (λ sp is. stop-shown count past o s' m.event c.stop c.start sp h.1 h.0 (moment_tells count past m h) is),
+      λ processor task inside ceases.
+          ceased-shown count past o s' m.event c.stop c.start processor task h.1 h.0 (moment_reports count past m h) ceases,
+      of_some c.stop _ (λ sp is. stop-shown count past o s' m.event c.stop c.start sp h.1 h.0 (moment_reports count past m h) is),
     )

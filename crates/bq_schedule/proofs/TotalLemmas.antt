@@ -18,7 +18,7 @@ use Rattle.bq_schedule.specs.declared.change.Left.{Left}
 use Rattle.bq_schedule.specs.declared.change.Left.TheVariants.{Preempted, Blocked}
 use Rattle.bq_schedule.specs.declared.figures.TaskFigures.{TaskFigures}
 use Rattle.bq_schedule.specs.declared.figures.ProcessorFigures.{ProcessorFigures}
-use Rattle.bq_schedule.specs.Counts.{parts}
+use Rattle.bq_schedule.specs.Counts.{parts_per_nanosecond}
 use Rattle.bq_schedule.specs.Moments.{Moment, History}
 use Rattle.bq_schedule.specs.Figures.{Figures, opening, unread, unknown, processor_of, task_of, with_processor, with_task}
 use Rattle.bq_schedule.specs.Passing.{slice_at, length_of, part_of, processor_read, read_at, with_charged}
@@ -27,7 +27,7 @@ use Rattle.bq_schedule.specs.Running.{switched}
 use Rattle.bq_schedule.specs.Slices.{Sight, sight, sight_of, is_this}
 use Rattle.bq_schedule.specs.Steps.{asked, admitted, waited_there, emptied, taken, placed, decided, blocked, pulled, performed, time_at, is_there, after, figures}
 use Rattle.bq_schedule.specs.FairTimes.{weight_there, weights_at, share, all_fair, all_unshared, all_busy}
-use Rattle.bq_schedule.specs.Laws.{IsWithin, IsOf, SharesOut, AddsUpFairTimes}
+use Rattle.bq_schedule.specs.Laws.{IsWithin, IsOfProcessors, SharesOut, AddsUpFairTimes}
 use Rattle.bq_schedule.proofs.FrameLemmas.{Works, KeepsWorks, works-id, works-then, processor_kept, task_kept, works-with_processor, works-with_task, works-asked, works-leaves, works-comes, works-switched, processors-read_at, count-read_at, tasks-read_at}
 use Rattle.bq_schedule.proofs.ClockLemmas.{count-figures, within-figures, not_below}
 use Rattle.bq_schedule.proofs.SumLemmas.{clocks-are-short}
@@ -43,38 +43,53 @@ all_raw s = sum_by (PurseLemmas.uncapped_of s) s.tasks
 -- what is had and what is left over is what was run, and no unit of weight was given more than its processor's tasks ran
 pub record IsFull (s : Figures) : Type 0 where
   pub sound : PurseLemmas.IsSound s
-  pub total : all_raw s + all_unshared s ≡ parts * all_busy s
-  pub ahead : (j : ℕ) → PurseLemmas.shared_at s j ≤ parts * (processor_of s j).busy
+  pub total : all_raw s + all_unshared s ≡ parts_per_nanosecond * all_busy s
+  pub ahead : (j : ℕ) → PurseLemmas.shared_at s j ≤ parts_per_nanosecond * (processor_of s j).busy
 
 -- all busy times stay below 2^56
 abbrev pub IsShort : Figures → Type 0
 IsShort s = all_busy s ≤ 71776119061217025
 
 busy-kept : (s s' : Figures) → KeepsWorks s s' → all_busy s' ≡ all_busy s
-busy-kept s s' k = PurseLemmas.sums_like (λ (p : ProcessorFigures). p.busy) (λ (p : ProcessorFigures). p.busy) unread s'.processors s.processors k.count (λ j. ap (λ (w : Works). w.busy) (k.at j))
+busy-kept s s' k =
+    PurseLemmas.sums_like (λ (p : ProcessorFigures). p.busy) (λ (p : ProcessorFigures). p.busy) unread s'.processors
+    s.processors k.count (λ j. ap (λ (w : Works). w.busy) (k.at j))
 
 unshared-kept : (s s' : Figures) → KeepsWorks s s' → all_unshared s' ≡ all_unshared s
-unshared-kept s s' k = PurseLemmas.sums_like (λ (p : ProcessorFigures). p.unshared) (λ (p : ProcessorFigures). p.unshared) unread s'.processors s.processors k.count (λ j. ap (λ (w : Works). w.unshared) (k.at j))
+unshared-kept s s' k =
+    PurseLemmas.sums_like (λ (p : ProcessorFigures). p.unshared) (λ (p : ProcessorFigures). p.unshared) unread s'.processors
+    s.processors k.count (λ j. ap (λ (w : Works). w.unshared) (k.at j))
 
 -- what keeps the works, and leaves each task what it has
 full-kept : (s s' : Figures) → IsFull s → KeepsWorks s s' → Coming.Stays s s' → IsFull s'
 full-kept s s' f k m = record {
   sound = m.sound;
-  total = omega (arith, f.total, busy-kept s s' k, unshared-kept s s' k, PurseLemmas.sums_like (PurseLemmas.uncapped_of s') (PurseLemmas.uncapped_of s) unknown s'.tasks s.tasks k.tasks m.raws);
+  total = omega (
+    arith,
+    f.total,
+    busy-kept s s' k,
+    unshared-kept s s' k,
+    PurseLemmas.sums_like (PurseLemmas.uncapped_of s') (PurseLemmas.uncapped_of s) unknown s'.tasks s.tasks k.tasks m.raws,
+  );
   ahead = λ j. omega (arith, f.ahead j, ap (λ (w : Works). w.shared) (k.at j), ap (λ (w : Works). w.busy) (k.at j));
 }
 
 -- what a task has is little
-small_by : (s : Figures) (id : ℕ) (b : Bool) → IsFull s → IsShort s → ((b ≡ true) × (length s.tasks ≤ id)) ⊎ ((b ≡ false) × (id < length s.tasks)) → PurseLemmas.uncapped s id ≤ 340282366920938463463374607431768211455
-small_by s id b f short (inl past) = omega (arith, ap (λ (t : TaskFigures). PurseLemmas.uncapped_of s t) (get_or_past s.tasks id unknown past.1))
-small_by s id b f short (inr inside) = omega (arith, f.total, short, get_or-le-sum_by (PurseLemmas.uncapped_of s) s.tasks id unknown inside.1)
+small_by : (s : Figures) (id : ℕ) (b : Bool) → IsFull s → IsShort s
+    → ((b ≡ true) × (length s.tasks ≤ id)) ⊎ ((b ≡ false) × (id < length s.tasks))
+    → PurseLemmas.uncapped s id ≤ 340282366920938463463374607431768211455
+small_by s id b f short (inl past) =
+    omega (arith, ap (λ (t : TaskFigures). PurseLemmas.uncapped_of s t) (get_or_past s.tasks id unknown past.1))
+small_by s id b f short (inr inside) =
+    omega (arith, f.total, short, get_or-le-sum_by (PurseLemmas.uncapped_of s) s.tasks id unknown inside.1)
 
 small : (s : Figures) (id : ℕ) → IsFull s → IsShort s → PurseLemmas.uncapped s id ≤ 340282366920938463463374607431768211455
 small s id f short = small_by s id (leb (length s.tasks) id) f short (leb_tells (length s.tasks) id)
 
--- so its fair time is what it has
-fair-raw_if : (s : Figures) (t : TaskFigures) (o : Option ℕ) → PurseLemmas.worth_at (PurseLemmas.shared_at s) (PurseLemmas.purse t) o ≤ 340282366920938463463374607431768211455 →
-    fair_at s t o ≡ PurseLemmas.worth_at (PurseLemmas.shared_at s) (PurseLemmas.purse t) o
+-- where what a task has is little, its fair time is what it has
+fair-raw_if : (s : Figures) (t : TaskFigures) (o : Option ℕ)
+    → PurseLemmas.worth_at (PurseLemmas.shared_at s) (PurseLemmas.purse t) o ≤ 340282366920938463463374607431768211455
+    → fair_at s t o ≡ PurseLemmas.worth_at (PurseLemmas.shared_at s) (PurseLemmas.purse t) o
 fair-raw_if s t None h = refl
 fair-raw_if s t (Some processor) h = omega (arith, h)
 
@@ -108,7 +123,9 @@ goes-purses s s' w k = record {
   };
 }
 
-goes-with_task : (s : Figures) (id : ℕ) (t : TaskFigures) → t.time ≡ (task_of s id).time → PurseLemmas.purse t ≡ PurseLemmas.purse (task_of s id) → Goes s (with_task s id t)
+goes-with_task : (s : Figures) (id : ℕ) (t : TaskFigures) → t.time ≡ (task_of s id).time
+    → PurseLemmas.purse t ≡ PurseLemmas.purse (task_of s id)
+    → Goes s (with_task s id t)
 goes-with_task s id t e p = goes-purses s _ (works-with_task s id t e) (PurseLemmas.kept-with_task s id t p)
 
 goes-asked : (processor : ℕ) (d : Decision) (s : Figures) → Goes s (asked processor d s)
@@ -142,35 +159,44 @@ goes-admitted id nice s = record {
 }
 
 goes-switched : (left : Left) (processor now : ℕ) (run : Option ℕ) (s : Figures) → Goes s (switched left processor now run s)
-goes-switched left processor now run s = goes-purses s _ (works-switched left processor now run s) (PurseLemmas.kept-switched left processor now run s)
+goes-switched left processor now run s =
+    goes-purses s _ (works-switched left processor now run s) (PurseLemmas.kept-switched left processor now run s)
 
 goes-taken : (processor now : ℕ) (task : Option ℕ) (s : Figures) → Goes s (taken processor now task s)
 goes-taken processor now None s = goes-id s
-goes-taken processor now (Some id) s = goes-then s (waited_there id now s) _ (goes-with_task s id _ refl refl) (goes-comes id processor now (waited_there id now s))
+goes-taken processor now (Some id) s =
+    goes-then s (waited_there id now s) _ (goes-with_task s id _ refl refl)
+    (goes-comes id processor now (waited_there id now s))
 
 -- after its reading, what an event does
 abbrev pub GoesFrom : Figures → Option Sight → Figures → Type 0
 GoesFrom s None s' = Goes s s'
 GoesFrom s (Some x) s' = Goes (read_at x.processor x.now s) s'
 
-goes-decided : (processor now : ℕ) (d : Decision) (run : Option ℕ) (s : Figures) → Goes (read_at processor now s) (decided processor now d run s)
+goes-decided : (processor now : ℕ) (d : Decision) (run : Option ℕ) (s : Figures)
+    → Goes (read_at processor now s) (decided processor now d run s)
 goes-decided processor now d run s =
     let r = read_at processor now s in
-    goes-then r (asked processor d r) _ (goes-asked processor d r) (goes-switched Preempted processor (time_at processor now s) run (asked processor d r))
+    goes-then r (asked processor d r) _ (goes-asked processor d r)
+    (goes-switched Preempted processor (time_at processor now s) run (asked processor d r))
 
 goes-placed : (processor now : ℕ) (d : Decision) (id to : ℕ) (s : Figures) → Goes (read_at processor now s) (placed processor now d id to s)
 goes-placed processor now d id to s =
     let r = read_at processor now s in
     let a = asked processor d r in
     let c = comes id to (time_at processor now s) a in
-    goes-then r a _ (goes-asked processor d r) (goes-then a c _ (goes-comes id to (time_at processor now s) a) (goes-with_task c id _ refl refl))
+    goes-then r a _ (goes-asked processor d r)
+    (goes-then a c _ (goes-comes id to (time_at processor now s) a) (goes-with_task c id _ refl refl))
 
-goes-pulled : (processor now : ℕ) (d : Decision) (task run : Option ℕ) (s : Figures) → Goes (read_at processor now s) (pulled processor now d task run s)
+goes-pulled : (processor now : ℕ) (d : Decision) (task run : Option ℕ) (s : Figures)
+    → Goes (read_at processor now s) (pulled processor now d task run s)
 goes-pulled processor now d task run s =
     let r = read_at processor now s in
     let a = asked processor d r in
     let k = taken processor (time_at processor now s) task a in
-    goes-then r a _ (goes-asked processor d r) (goes-then a k _ (goes-taken processor (time_at processor now s) task a) (goes-switched Preempted processor (time_at processor now s) run k))
+    goes-then r a _ (goes-asked processor d r)
+    (goes-then a k _ (goes-taken processor (time_at processor now s) task a)
+    (goes-switched Preempted processor (time_at processor now s) run k))
 
 goes-blocked : (processor now id : ℕ) (run : Option ℕ) (s : Figures) → Goes (read_at processor now s) (blocked processor now id run s)
 goes-blocked processor now id run s =
@@ -179,16 +205,21 @@ goes-blocked processor now id run s =
 
 goes-performed : (s : Figures) (e : Event) (r : Reply) → GoesFrom s (sight e r) (performed s e r)
 goes-performed s (Admit id nice mask slice) Admitted = goes-admitted id nice s
-goes-performed s (EndWake processor now) (Placed task to by steps) = goes-placed processor now (record { hook = Place; by = by; steps = steps }) task to s
+goes-performed s (EndWake processor now) (Placed task to by steps) =
+    goes-placed processor now (record { hook = Place; by = by; steps = steps }) task to s
 goes-performed s (Drain processor now) (Drained count run by steps) =
     let d : Decision = record { hook = Preempt; by = by; steps = steps } in
-    goes-then _ (decided processor now d run s) _ (goes-decided processor now d run s) (goes-emptied processor (decided processor now d run s))
-goes-performed s (Tick processor now) (Ticked run by steps) = goes-decided processor now (record { hook = Preempt; by = by; steps = steps }) run s
+    goes-then _ (decided processor now d run s) _ (goes-decided processor now d run s)
+    (goes-emptied processor (decided processor now d run s))
+goes-performed s (Tick processor now) (Ticked run by steps) =
+    goes-decided processor now (record { hook = Preempt; by = by; steps = steps }) run s
 goes-performed s (Block processor now) (Went task run) = goes-blocked processor now task run s
-goes-performed s (Pull processor from now) (Pulled task run by steps) = goes-pulled processor now (record { hook = OnPull; by = by; steps = steps }) task run s
+goes-performed s (Pull processor from now) (Pulled task run by steps) =
+    goes-pulled processor now (record { hook = OnPull; by = by; steps = steps }) task run s
 goes-performed s e r = goes-id s
 
-goes-nothing : (s : Figures) (e : Event) (r : Reply) → is_there s e ≡ false → IsWithin (length s.processors) (sight e r) → GoesFrom s (sight e r) s
+goes-nothing : (s : Figures) (e : Event) (r : Reply) → is_there s e ≡ false → IsWithin (length s.processors) (sight e r)
+    → GoesFrom s (sight e r) s
 goes-nothing s (EndWake processor now) (Placed task to by steps) none h = absurd (not_below processor (length s.processors) none h)
 goes-nothing s (Drain processor now) (Drained count run by steps) none h = absurd (not_below processor (length s.processors) none h)
 goes-nothing s (Tick processor now) (Ticked run by steps) none h = absurd (not_below processor (length s.processors) none h)
@@ -196,46 +227,68 @@ goes-nothing s (Block processor now) (Went task run) none h = absurd (not_below 
 goes-nothing s (Pull processor from now) (Pulled task run by steps) none h = absurd (not_below processor (length s.processors) none h)
 goes-nothing s e r none h = goes-id s
 
-goes-if : (b : Bool) (s : Figures) (e : Event) (r : Reply) → is_there s e ≡ b → IsWithin (length s.processors) (sight e r) → GoesFrom s (sight e r) (cond b (performed s e r) s)
+goes-if : (b : Bool) (s : Figures) (e : Event) (r : Reply) → is_there s e ≡ b → IsWithin (length s.processors) (sight e r)
+    → GoesFrom s (sight e r) (cond b (performed s e r) s)
 goes-if true s e r there h = goes-performed s e r
 goes-if false s e r there h = goes-nothing s e r there h
 
-goes-after : (s : Figures) (e : Event) (a : Result Reply Refusal) → IsWithin (length s.processors) (sight_of e a) → GoesFrom s (sight_of e a) (after s e a)
+goes-after : (s : Figures) (e : Event) (a : Result Reply Refusal)
+    → IsWithin (length s.processors) (sight_of e a) → GoesFrom s (sight_of e a) (after s e a)
 goes-after s e (Ok r) h = goes-if (is_there s e) s e r refl h
-goes-after s e (Err r) h = record { keeps = record { at = λ j. refl; count = refl; tasks = refl; times = λ id. refl }; goes = λ f short. record { sound = record { weights = f.sound.weights; joined = f.sound.joined; table = f.sound.table; ids = f.sound.ids }; raws = λ j. refl } }
+goes-after s e (Err r) h = record {
+  keeps = record { at = λ j. refl; count = refl; tasks = refl; times = λ id. refl };
+  goes = λ f short. record {
+    sound = record { weights = f.sound.weights; joined = f.sound.joined; table = f.sound.table; ids = f.sound.ids };
+    raws = λ j. refl;
+  };
+}
 
 -- a reading changes no purse
-purse-with_charged : (s : Figures) (o : Option Slice) (id : ℕ) → PurseLemmas.purse (task_of (with_charged s o) id) ≡ PurseLemmas.purse (task_of s id)
+purse-with_charged : (s : Figures) (o : Option Slice) (id : ℕ)
+    → PurseLemmas.purse (task_of (with_charged s o) id) ≡ PurseLemmas.purse (task_of s id)
 purse-with_charged s None id = refl
 purse-with_charged s (Some x) id = task_kept PurseLemmas.purse s x.task id _ refl
 
-purse-read_at : (processor now : ℕ) (s : Figures) (id : ℕ) → PurseLemmas.purse (task_of (read_at processor now s) id) ≡ PurseLemmas.purse (task_of s id)
-purse-read_at processor now s id = purse-with_charged (with_processor s processor (processor_read processor (processor_of s processor) now)) (slice_at processor (processor_of s processor) now) id
+purse-read_at : (processor now : ℕ) (s : Figures) (id : ℕ)
+    → PurseLemmas.purse (task_of (read_at processor now s) id) ≡ PurseLemmas.purse (task_of s id)
+purse-read_at processor now s id =
+    purse-with_charged (with_processor s processor (processor_read processor (processor_of s processor) now))
+    (slice_at processor (processor_of s processor) now) id
 
 -- what each unit of weight is given at a reading
 abbrev pub given : ℕ → ℕ → Figures → ℕ
 given processor now s = part_of (length_of (slice_at processor (processor_of s processor) now)) (processor_of s processor).weight
 
-shared-read : (processor now j : ℕ) (s : Figures) (b : Bool) → processor < length s.processors → PurseLemmas.shared_at s processor + given processor now s ≤ 340282366920938463463374607431768211455 →
-    ((b ≡ true) × (processor ≡ j)) ⊎ ((b ≡ false) × (processor ≢ j)) → (get_or (slice_set s.processors processor (processor_read processor (processor_of s processor) now)) j unread).shared ≡ PurseLemmas.shared_at s j + cond b (given processor now s) 0
+shared-read : (processor now j : ℕ) (s : Figures) (b : Bool) → processor < length s.processors
+    → PurseLemmas.shared_at s processor + given processor now s ≤ 340282366920938463463374607431768211455
+    → ((b ≡ true) × (processor ≡ j)) ⊎ ((b ≡ false) × (processor ≢ j))
+    → (get_or (slice_set s.processors processor (processor_read processor (processor_of s processor) now)) j unread).shared
+    ≡ PurseLemmas.shared_at s j + cond b (given processor now s) 0
 shared-read processor now j s true inside fits (inl e) =
     let q = processor_read processor (processor_of s processor) now in
     let same : PurseLemmas.shared_at s processor ≡ PurseLemmas.shared_at s j = ap (PurseLemmas.shared_at s) e.1 in
-    ap (λ k. (get_or (slice_set s.processors processor q) k unread).shared) (sym e.1) ∙ ap (λ (p : ProcessorFigures). p.shared) (get_or-set_same s.processors processor q unread inside)
+    ap (λ k. (get_or (slice_set s.processors processor q) k unread).shared) (sym e.1)
+    ∙ ap (λ (p : ProcessorFigures). p.shared) (get_or-set_same s.processors processor q unread inside)
     ∙ omega (arith, same, fits)
 shared-read processor now j s false inside fits (inl e) = absurd (cc)
 shared-read processor now j s true inside fits (inr e) = absurd (cc)
 shared-read processor now j s false inside fits (inr e) =
-    ap (λ (p : ProcessorFigures). p.shared) (get_or-set_other s.processors processor j (processor_read processor (processor_of s processor) now) unread (λ h. e.1 (sym h))) ∙ omega arith
+    ap (λ (p : ProcessorFigures). p.shared)
+    (get_or-set_other s.processors processor j (processor_read processor (processor_of s processor) now) unread (λ h. e.1 (sym h)))
+    ∙ omega arith
 
-shared-read_at : (processor now j : ℕ) (s : Figures) → processor < length s.processors → PurseLemmas.shared_at s processor + given processor now s ≤ 340282366920938463463374607431768211455 →
-    PurseLemmas.shared_at (read_at processor now s) j ≡ PurseLemmas.shared_at s j + cond (eqb processor j) (given processor now s) 0
+shared-read_at : (processor now j : ℕ) (s : Figures) → processor < length s.processors
+    → PurseLemmas.shared_at s processor + given processor now s ≤ 340282366920938463463374607431768211455
+    → PurseLemmas.shared_at (read_at processor now s) j ≡ PurseLemmas.shared_at s j + cond (eqb processor j) (given processor now s) 0
 shared-read_at processor now j s inside fits =
-    ap (λ l. (get_or l j unread).shared) (processors-read_at processor now s) ∙ shared-read processor now j s (eqb processor j) inside fits (eqb_tells processor j)
+    ap (λ l. (get_or l j unread).shared) (processors-read_at processor now s)
+    ∙ shared-read processor now j s (eqb processor j) inside fits (eqb_tells processor j)
 
 -- a task that is there is given its weight times as much
-worth-more_if : (f g : ℕ → ℕ) (processor k part : ℕ) (u : PurseLemmas.Purse) (b c : Bool) → ((b ≡ true) × (processor ≡ k)) ⊎ ((b ≡ false) × (processor ≢ k)) → ((c ≡ true) × (k ≡ processor)) ⊎ ((c ≡ false) × (k ≢ processor)) →
-    g k ≡ f k + cond b part 0 → u.joined ≤ f k → u.accrued + u.weight * (g k - u.joined) ≡ (u.accrued + u.weight * (f k - u.joined)) + cond c u.weight 0 * part
+worth-more_if : (f g : ℕ → ℕ) (processor k part : ℕ) (u : PurseLemmas.Purse) (b c : Bool)
+    → ((b ≡ true) × (processor ≡ k)) ⊎ ((b ≡ false) × (processor ≢ k))
+    → ((c ≡ true) × (k ≡ processor)) ⊎ ((c ≡ false) × (k ≢ processor)) → g k ≡ f k + cond b part 0 → u.joined ≤ f k
+    → u.accrued + u.weight * (g k - u.joined) ≡ (u.accrued + u.weight * (f k - u.joined)) + cond c u.weight 0 * part
 worth-more_if f g processor k part u true true s t e h =
     let more : g k - u.joined ≡ (f k - u.joined) + part = omega (arith, e, h) in
     ap (λ n. u.accrued + u.weight * n) more ∙ omega arith
@@ -249,25 +302,40 @@ worth-more_if f g processor k part u false true (inr s) (inl t) e h = absurd (s.
 worth-more_if f g processor k part u false true (inr s) (inr t) e h = absurd (cc)
 worth-more_if f g processor k part u false true (inl s) t e h = absurd (cc)
 
-worth-more : (f g : ℕ → ℕ) (processor part : ℕ) (u : PurseLemmas.Purse) (o : Option ℕ) → ((j : ℕ) → g j ≡ f j + cond (eqb processor j) part 0) → PurseLemmas.JoinedBy f u o →
-    PurseLemmas.worth_at g u o ≡ PurseLemmas.worth_at f u o + cond (is_this processor o) u.weight 0 * part
+worth-more : (f g : ℕ → ℕ) (processor part : ℕ) (u : PurseLemmas.Purse) (o : Option ℕ)
+    → ((j : ℕ) → g j ≡ f j + cond (eqb processor j) part 0) → PurseLemmas.JoinedBy f u o
+    → PurseLemmas.worth_at g u o ≡ PurseLemmas.worth_at f u o + cond (is_this processor o) u.weight 0 * part
 worth-more f g processor part u None e h = omega arith
-worth-more f g processor part u (Some k) e h = worth-more_if f g processor k part u (eqb processor k) (eqb k processor) (eqb_tells processor k) (eqb_tells k processor) (e k) h
+worth-more f g processor part u (Some k) e h =
+    worth-more_if f g processor k part u (eqb processor k) (eqb k processor) (eqb_tells processor k)
+    (eqb_tells k processor) (e k) h
 
-raw-read_at : (processor now id : ℕ) (s : Figures) → PurseLemmas.IsSound s → processor < length s.processors → PurseLemmas.shared_at s processor + given processor now s ≤ 340282366920938463463374607431768211455 →
-    PurseLemmas.uncapped (read_at processor now s) id ≡ PurseLemmas.uncapped s id + weight_there processor (task_of s id) * given processor now s
+raw-read_at : (processor now id : ℕ) (s : Figures) → PurseLemmas.IsSound s → processor < length s.processors
+    → PurseLemmas.shared_at s processor + given processor now s ≤ 340282366920938463463374607431768211455
+    → PurseLemmas.uncapped (read_at processor now s) id
+    ≡ PurseLemmas.uncapped s id + weight_there processor (task_of s id) * given processor now s
 raw-read_at processor now id s h inside fits =
     let r = read_at processor now s in
     ap (λ (u : PurseLemmas.Purse). PurseLemmas.worth_at (PurseLemmas.shared_at r) u u.place) (purse-read_at processor now s id)
-    ∙ worth-more (PurseLemmas.shared_at s) (PurseLemmas.shared_at r) processor (given processor now s) (PurseLemmas.purse (task_of s id)) (task_of s id).place (λ j. shared-read_at processor now j s inside fits) (h.joined id)
+    ∙ worth-more (PurseLemmas.shared_at s) (PurseLemmas.shared_at r) processor (given processor now s)
+    (PurseLemmas.purse (task_of s id)) (task_of s id).place (λ j. shared-read_at processor now j s inside fits) (h.joined id)
 
 -- two sums at once
-sums_both : (f g : TaskFigures → ℕ) (n : ℕ) (xs : List TaskFigures) → sum_by (λ (t : TaskFigures). f t + g t * n) xs ≡ sum_by f xs + sum_by g xs * n
+sums_both : (f g : TaskFigures → ℕ) (n : ℕ) (xs : List TaskFigures)
+    → sum_by (λ (t : TaskFigures). f t + g t * n) xs ≡ sum_by f xs + sum_by g xs * n
 sums_both f g n [] = omega arith
 sums_both f g n (x ∷ xs) =
-    omega (arith, sum_by-cons (λ (t : TaskFigures). f t + g t * n) x xs, sum_by-cons f x xs, ap (λ k. k * n) (sum_by-cons g x xs), sums_both f g n xs)
+    omega (
+      arith,
+      sum_by-cons (λ (t : TaskFigures). f t + g t * n) x xs,
+      sum_by-cons f x xs,
+      ap (λ k. k * n) (sum_by-cons g x xs),
+      sums_both f g n xs,
+    )
 
-sound-read_at : (processor now : ℕ) (s : Figures) → PurseLemmas.IsSound s → processor < length s.processors → PurseLemmas.shared_at s processor + given processor now s ≤ 340282366920938463463374607431768211455 → PurseLemmas.IsSound (read_at processor now s)
+sound-read_at : (processor now : ℕ) (s : Figures) → PurseLemmas.IsSound s → processor < length s.processors
+    → PurseLemmas.shared_at s processor + given processor now s ≤ 340282366920938463463374607431768211455
+    → PurseLemmas.IsSound (read_at processor now s)
 sound-read_at processor now s h inside fits =
     let r = read_at processor now s in
     let q = processor_read processor (processor_of s processor) now in
@@ -276,10 +344,13 @@ sound-read_at processor now s h inside fits =
           ap (λ l. (get_or l j unread).weight) (processors-read_at processor now s)
           ∙ processor_kept (λ (p : ProcessorFigures). p.weight) s processor j q refl
           ∙ h.weights j (omega (arith, there, count-read_at processor now s))
-          ∙ sym (PurseLemmas.sums_like (weight_there j) (weight_there j) unknown r.tasks s.tasks (tasks-read_at processor now s) (λ i. ap (PurseLemmas.weight_of_purse j) (purse-read_at processor now s i)));
+          ∙ sym (PurseLemmas.sums_like (weight_there j) (weight_there j) unknown r.tasks s.tasks
+          (tasks-read_at processor now s) (λ i. ap (PurseLemmas.weight_of_purse j) (purse-read_at processor now s i)));
       joined = λ id.
-          PurseLemmas.joined-more (PurseLemmas.shared_at s) (PurseLemmas.shared_at r) (PurseLemmas.purse (task_of r id)) (task_of r id).place (λ j. omega (arith, shared-read_at processor now j s inside fits))
-          (PurseLemmas.joined-same (PurseLemmas.shared_at s) (PurseLemmas.purse (task_of r id)) (PurseLemmas.purse (task_of s id)) (purse-read_at processor now s id) (h.joined id));
+          PurseLemmas.joined-more (PurseLemmas.shared_at s) (PurseLemmas.shared_at r) (PurseLemmas.purse (task_of r id))
+          (task_of r id).place (λ j. omega (arith, shared-read_at processor now j s inside fits))
+          (PurseLemmas.joined-same (PurseLemmas.shared_at s) (PurseLemmas.purse (task_of r id))
+          (PurseLemmas.purse (task_of s id)) (purse-read_at processor now s id) (h.joined id));
       table = λ id. omega (arith, h.table id, ap (λ (u : PurseLemmas.Purse). u.weight) (purse-read_at processor now s id));
       ids = tasks-read_at processor now s ∙ h.ids;
     }
@@ -287,22 +358,31 @@ sound-read_at processor now s h inside fits =
 -- a reading, all of whose numbers fit
 pub record Reads (processor now : ℕ) (s : Figures) : Type 0 where
   pub full : IsFull (read_at processor now s)
-  pub raws : (id : ℕ) → PurseLemmas.uncapped (read_at processor now s) id ≡ PurseLemmas.uncapped s id + weight_there processor (task_of s id) * given processor now s
+  pub raws : (id : ℕ)
+      → PurseLemmas.uncapped (read_at processor now s) id
+      ≡ PurseLemmas.uncapped s id + weight_there processor (task_of s id) * given processor now s
 
-ahead-read : (processor now j : ℕ) (s : Figures) (b : Bool) → processor < length s.processors → ((b ≡ true) × (processor ≡ j)) ⊎ ((b ≡ false) × (processor ≢ j)) →
-    (processor_of (read_at processor now s) j).busy ≡ cond b (processor_read processor (processor_of s processor) now).busy (processor_of s j).busy
+ahead-read : (processor now j : ℕ) (s : Figures) (b : Bool) → processor < length s.processors
+    → ((b ≡ true) × (processor ≡ j)) ⊎ ((b ≡ false) × (processor ≢ j))
+    → (processor_of (read_at processor now s) j).busy
+    ≡ cond b (processor_read processor (processor_of s processor) now).busy (processor_of s j).busy
 ahead-read processor now j s true inside (inl e) =
     let q = processor_read processor (processor_of s processor) now in
     ap (λ l. (get_or l j unread).busy) (processors-read_at processor now s)
-    ∙ ap (λ k. (get_or (slice_set s.processors processor q) k unread).busy) (sym e.1) ∙ ap (λ (p : ProcessorFigures). p.busy) (get_or-set_same s.processors processor q unread inside)
+    ∙ ap (λ k. (get_or (slice_set s.processors processor q) k unread).busy) (sym e.1)
+    ∙ ap (λ (p : ProcessorFigures). p.busy) (get_or-set_same s.processors processor q unread inside)
 ahead-read processor now j s false inside (inl e) = absurd (cc)
 ahead-read processor now j s true inside (inr e) = absurd (cc)
 ahead-read processor now j s false inside (inr e) =
     ap (λ l. (get_or l j unread).busy) (processors-read_at processor now s)
-    ∙ ap (λ (p : ProcessorFigures). p.busy) (get_or-set_other s.processors processor j (processor_read processor (processor_of s processor) now) unread (λ h. e.1 (sym h)))
+    ∙ ap (λ (p : ProcessorFigures). p.busy)
+    (get_or-set_other s.processors processor j (processor_read processor (processor_of s processor) now) unread (λ h. e.1 (sym h)))
 
-ahead-if : (s : Figures) (processor j shared busy part time busy' : ℕ) (b : Bool) → ((b ≡ true) × (processor ≡ j)) ⊎ ((b ≡ false) × (processor ≢ j)) → IsFull s →
-    shared ≡ PurseLemmas.shared_at s j + cond b part 0 → busy ≡ cond b busy' (processor_of s j).busy → busy' ≡ (processor_of s processor).busy + time → part ≤ time * parts → shared ≤ parts * busy
+ahead-if : (s : Figures) (processor j shared busy part time busy' : ℕ) (b : Bool)
+    → ((b ≡ true) × (processor ≡ j)) ⊎ ((b ≡ false) × (processor ≢ j)) → IsFull s
+    → shared ≡ PurseLemmas.shared_at s j + cond b part 0 → busy ≡ cond b busy' (processor_of s j).busy
+    → busy' ≡ (processor_of s processor).busy + time → part ≤ time * parts_per_nanosecond
+    → shared ≤ parts_per_nanosecond * busy
 ahead-if s processor j shared busy part time busy' true (inl e) f is now more le =
     let same : (processor_of s processor).busy ≡ (processor_of s j).busy = ap (λ k. (processor_of s k).busy) e.1 in
     omega (arith, f.ahead j, is, now, more, le, same)
@@ -311,41 +391,57 @@ ahead-if s processor j shared busy part time busy' true (inr e) f is now more le
 ahead-if s processor j shared busy part time busy' false (inr e) f is now more le = omega (arith, f.ahead j, is, now)
 
 -- a reading leaves all full, and gives each task its part by its weight there, if busy times stay short
-pub read_at-full : (processor now : ℕ) (s : Figures) → IsFull s → processor < length s.processors → IsShort (read_at processor now s) → Reads processor now s
+pub read_at-full : (processor now : ℕ) (s : Figures) → IsFull s → processor < length s.processors
+    → IsShort (read_at processor now s)
+    → Reads processor now s
 read_at-full processor now s f inside short =
     let r = read_at processor now s in
     let p = processor_of s processor in
     let q = processor_read processor p now in
     let time = length_of (slice_at processor p now) in
     let part = given processor now s in
-    let busies : sum_by (λ (x : ProcessorFigures). x.busy) (slice_set s.processors processor q) + p.busy ≡ all_busy s + q.busy = sum_by-set (λ (x : ProcessorFigures). x.busy) s.processors processor q unread inside in
-    let is-busy : all_busy r ≡ sum_by (λ (x : ProcessorFigures). x.busy) (slice_set s.processors processor q) = ap (λ l. sum_by (λ (x : ProcessorFigures). x.busy) l) (processors-read_at processor now s) in
+    let busies : sum_by (λ (x : ProcessorFigures). x.busy) (slice_set s.processors processor q) + p.busy
+    ≡ all_busy s + q.busy = sum_by-set (λ (x : ProcessorFigures). x.busy) s.processors processor q unread inside in
+    let is-busy : all_busy r ≡ sum_by (λ (x : ProcessorFigures). x.busy) (slice_set s.processors processor q) =
+    ap (λ l. sum_by (λ (x : ProcessorFigures). x.busy) l) (processors-read_at processor now s) in
     let part-of-all : p.busy ≤ all_busy s = get_or-le-sum_by (λ (x : ProcessorFigures). x.busy) s.processors processor unread inside in
-    let unshareds : sum_by (λ (x : ProcessorFigures). x.unshared) (slice_set s.processors processor q) + p.unshared ≡ all_unshared s + q.unshared = sum_by-set (λ (x : ProcessorFigures). x.unshared) s.processors processor q unread inside in
-    let is-unshared : all_unshared r ≡ sum_by (λ (x : ProcessorFigures). x.unshared) (slice_set s.processors processor q) = ap (λ l. sum_by (λ (x : ProcessorFigures). x.unshared) l) (processors-read_at processor now s) in
-    let part-of-rest : p.unshared ≤ all_unshared s = get_or-le-sum_by (λ (x : ProcessorFigures). x.unshared) s.processors processor unread inside in
+    let unshareds : sum_by (λ (x : ProcessorFigures). x.unshared) (slice_set s.processors processor q) + p.unshared
+    ≡ all_unshared s + q.unshared =
+    sum_by-set (λ (x : ProcessorFigures). x.unshared) s.processors processor q unread inside in
+    let is-unshared : all_unshared r ≡ sum_by (λ (x : ProcessorFigures). x.unshared) (slice_set s.processors processor q) =
+    ap (λ l. sum_by (λ (x : ProcessorFigures). x.unshared) l) (processors-read_at processor now s) in
+    let part-of-rest : p.unshared ≤ all_unshared s =
+    get_or-le-sum_by (λ (x : ProcessorFigures). x.unshared) s.processors processor unread inside in
     let busy : q.busy ≡ p.busy + time = omega (arith, short, busies, is-busy, part-of-all) in
-    let little : part ≤ time * parts = div-le_self (time * parts) p.weight in
-    let shares : p.weight * part ≤ time * parts = mul-div-le (time * parts) p.weight in
-    let fits : PurseLemmas.shared_at s processor + part ≤ 340282366920938463463374607431768211455 = omega (arith, f.ahead processor, little, busy, short, busies, is-busy, part-of-all) in
-    let unshared : q.unshared ≡ p.unshared + (time * parts - p.weight * part) = omega (arith, part-of-rest, f.total, short, busies, is-busy, part-of-all, busy) in
-    let raws : (id : ℕ) → PurseLemmas.uncapped r id ≡ PurseLemmas.uncapped s id + weight_there processor (task_of s id) * part = λ id. raw-read_at processor now id s f.sound inside fits in
+    let little : part ≤ time * parts_per_nanosecond = div-le_self (time * parts_per_nanosecond) p.weight in
+    let shares : p.weight * part ≤ time * parts_per_nanosecond = mul-div-le (time * parts_per_nanosecond) p.weight in
+    let fits : PurseLemmas.shared_at s processor + part ≤ 340282366920938463463374607431768211455 =
+    omega (arith, f.ahead processor, little, busy, short, busies, is-busy, part-of-all) in
+    let unshared : q.unshared ≡ p.unshared + (time * parts_per_nanosecond - p.weight * part) =
+    omega (arith, part-of-rest, f.total, short, busies, is-busy, part-of-all, busy) in
+    let raws : (id : ℕ) → PurseLemmas.uncapped r id ≡ PurseLemmas.uncapped s id + weight_there processor (task_of s id) * part =
+    λ id. raw-read_at processor now id s f.sound inside fits in
     let all : all_raw r ≡ all_raw s + weights_at s processor * part =
-    PurseLemmas.sums_like (PurseLemmas.uncapped_of r) (λ (t : TaskFigures). PurseLemmas.uncapped_of s t + weight_there processor t * part) unknown r.tasks s.tasks (tasks-read_at processor now s) raws
+    PurseLemmas.sums_like (PurseLemmas.uncapped_of r)
+    (λ (t : TaskFigures). PurseLemmas.uncapped_of s t + weight_there processor t * part) unknown r.tasks s.tasks
+    (tasks-read_at processor now s) raws
     ∙ sums_both (PurseLemmas.uncapped_of s) (weight_there processor) part s.tasks in
     let weights : p.weight * part ≡ weights_at s processor * part = ap (λ n. n * part) (f.sound.weights processor inside) in
     record {
       full = record {
         sound = sound-read_at processor now s f.sound inside fits;
         total = omega (arith, all, weights, unshared, unshareds, is-unshared, busies, is-busy, busy, f.total, shares);
-        ahead = λ j. ahead-if s processor j (PurseLemmas.shared_at r j) (processor_of r j).busy part time q.busy (eqb processor j) (eqb_tells processor j) f
-            (shared-read_at processor now j s inside fits) (ahead-read processor now j s (eqb processor j) inside (eqb_tells processor j)) busy little;
+        ahead = λ j.
+            ahead-if s processor j (PurseLemmas.shared_at r j) (processor_of r j).busy part time q.busy
+            (eqb processor j) (eqb_tells processor j) f (shared-read_at processor now j s inside fits)
+            (ahead-read processor now j s (eqb processor j) inside (eqb_tells processor j)) busy little;
       };
       raws = raws;
     }
 
 -- busy times are no longer than clocks
-sums_le : (f g : ProcessorFigures → ℕ) (xs : List ProcessorFigures) → ((j : ℕ) → j < length xs → f (get_or xs j unread) ≤ g (get_or xs j unread)) → sum_by f xs ≤ sum_by g xs
+sums_le : (f g : ProcessorFigures → ℕ) (xs : List ProcessorFigures)
+    → ((j : ℕ) → j < length xs → f (get_or xs j unread) ≤ g (get_or xs j unread)) → sum_by f xs ≤ sum_by g xs
 sums_le f g [] h = omega arith
 sums_le f g (x ∷ xs) h =
     omega (arith, sum_by-cons f x xs, sum_by-cons g x xs, h 0 (omega arith), sums_le f g xs (λ j inside. h (suc j) (omega (arith, inside))))
@@ -354,18 +450,21 @@ busy-le : (first : Option ℕ) (p : ProcessorFigures) → IsFilled first p.last 
 busy-le None p h = omega (arith, h.0)
 busy-le (Some first) p h = omega (arith, h)
 
-is_short : (count : ℕ) (past : History) → count ≤ 255 → IsOf count past → IsShort (figures count past)
+is_short : (count : ℕ) (past : History) → count ≤ 255 → IsOfProcessors count past → IsShort (figures count past)
 is_short count past few h =
     let s = figures count past in
     omega (
       arith,
       clocks-are-short count past few h,
       sums_le (λ (p : ProcessorFigures). p.busy) (λ (p : ProcessorFigures). p.last) s.processors (λ j inside.
-          busy-le (processor_of s j).first (processor_of s j) (figures_are_filled count past j h (omega (arith, inside, count-figures count past h)))),
+          busy-le (processor_of s j).first (processor_of s j)
+          (figures_are_filled count past j h (omega (arith, inside, count-figures count past h)))),
     )
 
 -- at the opening nothing is there
-same_everywhere_if : {X : Type 0} (n i : ℕ) (x : X) (b : Bool) → ((b ≡ true) × (length (replicate n x) ≤ i)) ⊎ ((b ≡ false) × (i < length (replicate n x))) → get_or (replicate n x) i x ≡ x
+same_everywhere_if : {X : Type 0} (n i : ℕ) (x : X) (b : Bool)
+    → ((b ≡ true) × (length (replicate n x) ≤ i)) ⊎ ((b ≡ false) × (i < length (replicate n x)))
+    → get_or (replicate n x) i x ≡ x
 same_everywhere_if n i x b (inl past) = get_or_past (replicate n x) i x past.1
 same_everywhere_if n i x b (inr inside) = get_or-replicate n i x x (omega (arith, inside.1, length-replicate n x))
 
@@ -381,12 +480,21 @@ opening-full count =
     let s = opening count in
     record {
       sound = record {
-        weights = λ processor inside. ap (λ (p : ProcessorFigures). p.weight) (same_everywhere count processor unread) ∙ sym (sum-none (weight_there processor) unknown 1024 refl);
-        joined = λ id. PurseLemmas.joined-same (PurseLemmas.shared_at s) (PurseLemmas.purse (task_of s id)) (PurseLemmas.purse unknown) (ap PurseLemmas.purse (same_everywhere 1024 id unknown)) tt;
+        weights = λ processor inside.
+            ap (λ (p : ProcessorFigures). p.weight) (same_everywhere count processor unread)
+            ∙ sym (sum-none (weight_there processor) unknown 1024 refl);
+        joined = λ id.
+            PurseLemmas.joined-same (PurseLemmas.shared_at s) (PurseLemmas.purse (task_of s id)) (PurseLemmas.purse unknown)
+            (ap PurseLemmas.purse (same_everywhere 1024 id unknown)) tt;
         table = λ id. omega (arith, ap (λ (t : TaskFigures). t.weight) (same_everywhere 1024 id unknown));
         ids = length-replicate 1024 unknown;
       };
-      total = omega (arith, sum-none (PurseLemmas.uncapped_of s) unknown 1024 refl, sum-none (λ (p : ProcessorFigures). p.unshared) unread count refl, sum-none (λ (p : ProcessorFigures). p.busy) unread count refl);
+      total = omega (
+        arith,
+        sum-none (PurseLemmas.uncapped_of s) unknown 1024 refl,
+        sum-none (λ (p : ProcessorFigures). p.unshared) unread count refl,
+        sum-none (λ (p : ProcessorFigures). p.busy) unread count refl,
+      );
       ahead = λ j. omega (arith, ap (λ (p : ProcessorFigures). p.shared) (same_everywhere count j unread));
     }
 
@@ -395,7 +503,9 @@ pub record Rises (s s' : Figures) (o : Option Sight) : Type 0 where
   pub full : IsFull s'
   pub raws : (id : ℕ) → PurseLemmas.uncapped s' id ≡ PurseLemmas.uncapped s id + share s o id
 
-rises : (s s' : Figures) (o : Option Sight) → IsFull s → IsShort s → IsShort s' → IsWithin (length s.processors) o → GoesFrom s o s' → Rises s s' o
+rises : (s s' : Figures) (o : Option Sight) → IsFull s → IsShort s → IsShort s'
+    → IsWithin (length s.processors) o → GoesFrom s o s'
+    → Rises s s' o
 rises s s' None f short short' w g =
     let m = g.goes f short in
     record { full = full-kept s s' f g.keeps m; raws = λ id. m.raws id ∙ omega arith }
@@ -406,18 +516,24 @@ rises s s' (Some x) f short short' w g =
     let m = g.goes k.full short-r in
     record {
       full = full-kept r s' k.full g.keeps m;
-      raws = λ id. m.raws id ∙ k.raws id
-          ∙ ap (λ n. PurseLemmas.uncapped s id + weight_there x.processor (task_of s id) * part_of (length_of (slice_at x.processor (processor_of s x.processor) x.now)) n) (f.sound.weights x.processor w);
+      raws = λ id.
+          m.raws id ∙ k.raws id
+          ∙ ap (λ n.
+          PurseLemmas.uncapped s id
+          + weight_there x.processor (task_of s id) * part_of (length_of (slice_at x.processor (processor_of s x.processor) x.now)) n)
+          (f.sound.weights x.processor w);
     }
 
-step : (count : ℕ) (past : History) (m : Moment) → count ≤ 255 → IsOf count (m ∷ past) → IsFull (figures count past) → Rises (figures count past) (figures count (m ∷ past)) (sight_of m.event m.answer)
+step : (count : ℕ) (past : History) (m : Moment) → count ≤ 255 → IsOfProcessors count (m ∷ past) → IsFull (figures count past)
+    → Rises (figures count past) (figures count (m ∷ past)) (sight_of m.event m.answer)
 step count past m few h f =
     let s = figures count past in
     let w = within-figures count past m h in
-    rises s (after s m.event m.answer) (sight_of m.event m.answer) f (is_short count past few h.1) (is_short count (m ∷ past) few h) w (goes-after s m.event m.answer w)
+    rises s (after s m.event m.answer) (sight_of m.event m.answer) f (is_short count past few h.1)
+    (is_short count (m ∷ past) few h) w (goes-after s m.event m.answer w)
 
 -- in each history what tasks have, and what is left over, is what was run
-pub figures_are_full : (count : ℕ) (past : History) → count ≤ 255 → IsOf count past → IsFull (figures count past)
+pub figures_are_full : (count : ℕ) (past : History) → count ≤ 255 → IsOfProcessors count past → IsFull (figures count past)
 figures_are_full count [] few h = opening-full count
 figures_are_full count (m ∷ past) few h = (step count past m few h (figures_are_full count past few h.1)).full
 
@@ -437,5 +553,6 @@ adds_up_fair_times count past few h =
     let s = figures count past in
     let f = figures_are_full count past few h in
     let fair : all_fair s ≡ all_raw s =
-    PurseLemmas.sums_like (λ (t : TaskFigures). fair_at s t t.place) (PurseLemmas.uncapped_of s) unknown s.tasks s.tasks refl (λ j. fair-raw s j f (is_short count past few h)) in
+    PurseLemmas.sums_like (λ (t : TaskFigures). fair_at s t t.place) (PurseLemmas.uncapped_of s) unknown s.tasks s.tasks refl
+    (λ j. fair-raw s j f (is_short count past few h)) in
     omega (arith, fair, f.total)

@@ -25,8 +25,8 @@ use Rattle.bq_schedule.specs.Runnable.{left_from, leaves, comes}
 use Rattle.bq_schedule.specs.Running.{running_task, stopped, started, starts_as, start_of, start_at, begun_if, switched, is_run_by}
 use Rattle.bq_schedule.specs.Slices.{Sight, sight, sight_of, clock, clock_after, runner, is_this}
 use Rattle.bq_schedule.specs.Wakes.{begins_as, begins, wake_end, awaited_after, awaited}
-use Rattle.bq_schedule.specs.Steps.{nothing, asked, waited_there, taken, placed, decided, blocked, pulled, performed, performed_told, time_at, is_there, after, change, figures}
-use Rattle.bq_schedule.specs.Laws.{IsWithin, IsOf, TellsLatencies}
+use Rattle.bq_schedule.specs.Steps.{nothing, asked, waited_there, taken, placed, decided, blocked, pulled, performed, report_of_answer, time_at, is_there, after, change, figures}
+use Rattle.bq_schedule.specs.Laws.{IsWithin, IsOfProcessors, ReportsLatencies}
 use Rattle.bq_schedule.proofs.FrameLemmas.{task_kept, running-asked, running-leaves, running-taken, running-read_at}
 use Rattle.bq_schedule.proofs.ClockLemmas.{figures-clocks, within-figures, not_below}
 use Rattle.bq_schedule.proofs.SumLemmas.{tasks-figures}
@@ -53,7 +53,9 @@ kept-with_charged s None = same s
 kept-with_charged s (Some x) = with_one s x.task _ refl
 
 kept-read_at : (processor now : ℕ) (s : Figures) → KeepsWakes s (read_at processor now s)
-kept-read_at processor now s = both s (with_processor s processor (processor_read processor (processor_of s processor) now)) _ (of_processor s processor _) (kept-with_charged _ (slice_at processor (processor_of s processor) now))
+kept-read_at processor now s =
+    both s (with_processor s processor (processor_read processor (processor_of s processor) now)) _
+    (of_processor s processor _) (kept-with_charged _ (slice_at processor (processor_of s processor) now))
 
 kept-left_from : (id : ℕ) (s : Figures) (place : Option ℕ) → KeepsWakes s (left_from id s place)
 kept-left_from id s None = same s
@@ -63,11 +65,14 @@ kept-leaves : (id : ℕ) (s : Figures) → KeepsWakes s (leaves id s)
 kept-leaves id s = kept-left_from id s (task_of s id).place
 
 kept-comes : (id processor now : ℕ) (s : Figures) → KeepsWakes s (comes id processor now s)
-kept-comes id processor now s = both s (leaves id s) _ (kept-leaves id s) (both (leaves id s) _ _ (of_processor (leaves id s) processor _) (with_one _ id _ refl))
+kept-comes id processor now s =
+    both s (leaves id s) _ (kept-leaves id s)
+    (both (leaves id s) _ _ (of_processor (leaves id s) processor _) (with_one _ id _ refl))
 
 kept-taken : (processor now : ℕ) (task : Option ℕ) (s : Figures) → KeepsWakes s (taken processor now task s)
 kept-taken processor now None s = same s
-kept-taken processor now (Some id) s = both s (waited_there id now s) _ (with_one s id _ refl) (kept-comes id processor now (waited_there id now s))
+kept-taken processor now (Some id) s =
+    both s (waited_there id now s) _ (with_one s id _ refl) (kept-comes id processor now (waited_there id now s))
 
 kept-stopped : (left : Left) (now : ℕ) (running : Option Start) (s : Figures) → KeepsWakes s (stopped left now running s)
 kept-stopped left now None s = same s
@@ -77,12 +82,16 @@ kept-stopped Preempted now (Some old) s = with_one s old.task _ refl
 -- a task is set whose wake is one thing or the other
 set-one : (s : Figures) (i j : ℕ) (t : TaskFigures) (b : Bool) → j < length s.tasks → ((b ≡ true) × (i ≡ j)) ⊎ ((b ≡ false) × (i ≢ j)) →
     (task_of (with_task s i t) j).woken ≡ cond b t.woken (task_of s j).woken
-set-one s i j t true inside (inl e) = ap (λ k. (get_or (slice_set s.tasks k t) j unknown).woken) e.1 ∙ ap (λ (u : TaskFigures). u.woken) (get_or-set_same s.tasks j t unknown inside)
+set-one s i j t true inside (inl e) =
+    ap (λ k. (get_or (slice_set s.tasks k t) j unknown).woken) e.1
+    ∙ ap (λ (u : TaskFigures). u.woken) (get_or-set_same s.tasks j t unknown inside)
 set-one s i j t false inside (inl e) = absurd (cc)
 set-one s i j t true inside (inr e) = absurd (cc)
 set-one s i j t false inside (inr e) = ap (λ (u : TaskFigures). u.woken) (get_or-set_other s.tasks i j t unknown (λ h. e.1 (sym h)))
 
-woken-begun_if : (processor now : ℕ) (run : Option ℕ) (s : Figures) (j : ℕ) → j < length s.tasks → (task_of (begun_if processor now run s) j).woken ≡ cond (is_this j run) None (task_of s j).woken
+woken-begun_if : (processor now : ℕ) (run : Option ℕ) (s : Figures) (j : ℕ)
+    → j < length s.tasks
+    → (task_of (begun_if processor now run s) j).woken ≡ cond (is_this j run) None (task_of s j).woken
 woken-begun_if processor now None s j inside = refl
 woken-begun_if processor now (Some id) s j inside = set-one s id j _ (eqb id j) inside (eqb_tells id j)
 
@@ -93,14 +102,18 @@ begins_alone false = refl
 differs : (a b : ℕ) → eqb a b ≡ false → a ≢ b
 differs a b e h = grind (arith, nat_tests)
 
-new_at : (j old id : ℕ) (b c : Bool) → ((b ≡ true) × (id ≡ j)) ⊎ ((b ≡ false) × (id ≢ j)) → ((c ≡ true) × (old ≡ j)) ⊎ ((c ≡ false) × (old ≢ j)) → old ≢ id → (b && not c) ≡ b
+new_at : (j old id : ℕ) (b c : Bool) → ((b ≡ true) × (id ≡ j)) ⊎ ((b ≡ false) × (id ≢ j))
+    → ((c ≡ true) × (old ≡ j)) ⊎ ((c ≡ false) × (old ≢ j)) → old ≢ id
+    → (b && not c) ≡ b
 new_at j old id true true (inl e) (inl f) ne = absurd (ne (f.1 ∙ sym e.1))
 new_at j old id true true (inl e) (inr f) ne = absurd (cc)
 new_at j old id true true (inr e) f ne = absurd (cc)
 new_at j old id true false e f ne = refl
 new_at j old id false c e f ne = refl
 
-old_at : (j old id : ℕ) (b c : Bool) → ((b ≡ true) × (id ≡ j)) ⊎ ((b ≡ false) × (id ≢ j)) → ((c ≡ true) × (old ≡ j)) ⊎ ((c ≡ false) × (old ≢ j)) → old ≡ id → (b && not c) ≡ false
+old_at : (j old id : ℕ) (b c : Bool) → ((b ≡ true) × (id ≡ j)) ⊎ ((b ≡ false) × (id ≢ j))
+    → ((c ≡ true) × (old ≡ j)) ⊎ ((c ≡ false) × (old ≢ j)) → old ≡ id
+    → (b && not c) ≡ false
 old_at j old id true true e f same = refl
 old_at j old id true false (inl e) (inr f) same = absurd (f.1 (same ∙ e.1))
 old_at j old id true false (inl e) (inl f) same = absurd (cc)
@@ -108,21 +121,29 @@ old_at j old id true false (inr e) f same = absurd (cc)
 old_at j old id false c e f same = refl
 
 -- where it is not yet who runs, begins and runs are one
-begins-new : (j : ℕ) (running : Option Start) (run : Option ℕ) → is_run_by running run ≡ false → begins_as j (option_map (λ (x : Start). x.task) running) (Some run) ≡ is_this j run
+begins-new : (j : ℕ) (running : Option Start) (run : Option ℕ)
+    → is_run_by running run ≡ false
+    → begins_as j (option_map (λ (x : Start). x.task) running) (Some run) ≡ is_this j run
 begins-new j None None e = refl
 begins-new j None (Some id) e = begins_alone (eqb id j)
 begins-new j (Some start) None e = refl
-begins-new j (Some start) (Some id) e = new_at j start.task id (eqb id j) (eqb start.task j) (eqb_tells id j) (eqb_tells start.task j) (differs start.task id e)
+begins-new j (Some start) (Some id) e =
+    new_at j start.task id (eqb id j) (eqb start.task j) (eqb_tells id j) (eqb_tells start.task j) (differs start.task id e)
 
--- and where it is who runs, none begins
-begins-old : (j : ℕ) (running : Option Start) (run : Option ℕ) → is_run_by running run ≡ true → begins_as j (option_map (λ (x : Start). x.task) running) (Some run) ≡ false
+-- where the task runs already, it does not begin
+begins-old : (j : ℕ) (running : Option Start) (run : Option ℕ)
+    → is_run_by running run ≡ true
+    → begins_as j (option_map (λ (x : Start). x.task) running) (Some run) ≡ false
 begins-old j None None e = refl
 begins-old j None (Some id) e = cc
 begins-old j (Some start) None e = cc
-begins-old j (Some start) (Some id) e = old_at j start.task id (eqb id j) (eqb start.task j) (eqb_tells id j) (eqb_tells start.task j) (eqb-true start.task id e)
+begins-old j (Some start) (Some id) e =
+    old_at j start.task id (eqb id j) (eqb start.task j) (eqb_tells id j) (eqb_tells start.task j) (eqb-true start.task id e)
 
-woken-switched_if : (b : Bool) (left : Left) (processor now : ℕ) (run : Option ℕ) (s : Figures) (j : ℕ) → is_run_by (processor_of s processor).running run ≡ b → j < length s.tasks →
-    (task_of (cond b s (started processor now run (stopped left now (processor_of s processor).running s))) j).woken ≡ cond (begins_as j (running_task (processor_of s processor)) (Some run)) None (task_of s j).woken
+woken-switched_if : (b : Bool) (left : Left) (processor now : ℕ) (run : Option ℕ) (s : Figures) (j : ℕ)
+    → is_run_by (processor_of s processor).running run ≡ b → j < length s.tasks
+    → (task_of (cond b s (started processor now run (stopped left now (processor_of s processor).running s))) j).woken
+    ≡ cond (begins_as j (running_task (processor_of s processor)) (Some run)) None (task_of s j).woken
 woken-switched_if true left processor now run s j e inside = rw (begins-old j (processor_of s processor).running run e) refl
 woken-switched_if false left processor now run s j e inside =
     let t = stopped left now (processor_of s processor).running s in
@@ -130,9 +151,12 @@ woken-switched_if false left processor now run s j e inside =
     woken-begun_if processor now run t j (omega (arith, k.tasks)) ∙ ap (λ o. cond (is_this j run) None o) (k.at j)
     ∙ ap (λ b. cond b None (task_of s j).woken) (sym (begins-new j (processor_of s processor).running run e))
 
-woken-switched : (left : Left) (processor now : ℕ) (run : Option ℕ) (s : Figures) (j : ℕ) → j < length s.tasks →
-    (task_of (switched left processor now run s) j).woken ≡ cond (begins_as j (running_task (processor_of s processor)) (Some run)) None (task_of s j).woken
-woken-switched left processor now run s j inside = woken-switched_if (is_run_by (processor_of s processor).running run) left processor now run s j refl inside
+woken-switched : (left : Left) (processor now : ℕ) (run : Option ℕ) (s : Figures) (j : ℕ)
+    → j < length s.tasks
+    → (task_of (switched left processor now run s) j).woken
+    ≡ cond (begins_as j (running_task (processor_of s processor)) (Some run)) None (task_of s j).woken
+woken-switched left processor now run s j inside =
+    woken-switched_if (is_run_by (processor_of s processor).running run) left processor now run s j refl inside
 
 -- what becomes of the wake that a task has waited for
 abbrev pub wake_seen : ℕ → Figures → Event → Result Reply Refusal → Option ℕ
@@ -152,8 +176,10 @@ awaits-placed : (b : Bool) (at : ℕ) (before : Option ℕ) → cond b (Some at)
 awaits-placed true at before = refl
 awaits-placed false at before = refl
 
-placed-awaits : (processor now : ℕ) (d : Decision) (id to : ℕ) (s : Figures) (j : ℕ) → j < length s.tasks →
-    (task_of (placed processor now d id to s) j).woken ≡ awaited_after (cond (eqb id j) (Some (time_at processor now s)) None) false (task_of s j).woken
+placed-awaits : (processor now : ℕ) (d : Decision) (id to : ℕ) (s : Figures) (j : ℕ)
+    → j < length s.tasks
+    → (task_of (placed processor now d id to s) j).woken
+    ≡ awaited_after (cond (eqb id j) (Some (time_at processor now s)) None) false (task_of s j).woken
 placed-awaits processor now d id to s j inside =
     let at = time_at processor now s in
     let r = read_at processor now s in
@@ -165,57 +191,85 @@ placed-awaits processor now d id to s j inside =
     ∙ awaits-placed (eqb id j) at (task_of s j).woken
 
 -- after moves that keep wakes and who runs
-switched-awaits : (left : Left) (processor now : ℕ) (run : Option ℕ) (s t : Figures) (j : ℕ) → j < length s.tasks → KeepsWakes s t → (processor_of t processor).running ≡ (processor_of s processor).running →
-    (task_of (switched left processor now run t) j).woken ≡ cond (begins_as j (running_task (processor_of s processor)) (Some run)) None (task_of s j).woken
+switched-awaits : (left : Left) (processor now : ℕ) (run : Option ℕ) (s t : Figures) (j : ℕ)
+    → j < length s.tasks → KeepsWakes s t → (processor_of t processor).running ≡ (processor_of s processor).running
+    → (task_of (switched left processor now run t) j).woken
+    ≡ cond (begins_as j (running_task (processor_of s processor)) (Some run)) None (task_of s j).woken
 switched-awaits left processor now run s t j inside k r =
     woken-switched left processor now run t j (omega (arith, k.tasks))
     ∙ ap (λ o. cond (begins_as j (option_map (λ (x : Start). x.task) o) (Some run)) None (task_of t j).woken) r
     ∙ ap (λ o. cond (begins_as j (running_task (processor_of s processor)) (Some run)) None o) (k.at j)
 
 kept-ask : (processor now : ℕ) (d : Decision) (s : Figures) → KeepsWakes s (asked processor d (read_at processor now s))
-kept-ask processor now d s = both s (read_at processor now s) _ (kept-read_at processor now s) (of_processor (read_at processor now s) processor _)
+kept-ask processor now d s =
+    both s (read_at processor now s) _ (kept-read_at processor now s) (of_processor (read_at processor now s) processor _)
 
 -- counting a decision and reading a clock keep who runs
-pub runs-ask : (processor now : ℕ) (d : Decision) (s : Figures) (j : ℕ) → (processor_of (asked processor d (read_at processor now s)) j).running ≡ (processor_of s j).running
+pub runs-ask : (processor now : ℕ) (d : Decision) (s : Figures) (j : ℕ)
+    → (processor_of (asked processor d (read_at processor now s)) j).running ≡ (processor_of s j).running
 runs-ask processor now d s j = (running-asked processor d (read_at processor now s)).at j ∙ (running-read_at processor now s).at j
 
-decided-awaits : (processor now : ℕ) (d : Decision) (run : Option ℕ) (s : Figures) (j : ℕ) → j < length s.tasks →
-    (task_of (decided processor now d run s) j).woken ≡ cond (begins_as j (running_task (processor_of s processor)) (Some run)) None (task_of s j).woken
-decided-awaits processor now d run s j inside = switched-awaits Preempted processor (time_at processor now s) run s _ j inside (kept-ask processor now d s) (runs-ask processor now d s processor)
+decided-awaits : (processor now : ℕ) (d : Decision) (run : Option ℕ) (s : Figures) (j : ℕ)
+    → j < length s.tasks
+    → (task_of (decided processor now d run s) j).woken
+    ≡ cond (begins_as j (running_task (processor_of s processor)) (Some run)) None (task_of s j).woken
+decided-awaits processor now d run s j inside =
+    switched-awaits Preempted processor (time_at processor now s) run s _ j inside (kept-ask processor now d s)
+    (runs-ask processor now d s processor)
 
 kept-block : (processor now id : ℕ) (s : Figures) → KeepsWakes s (leaves id (read_at processor now s))
 kept-block processor now id s = both s (read_at processor now s) _ (kept-read_at processor now s) (kept-leaves id (read_at processor now s))
 
--- so does a task's leaving
-pub runs-block : (processor now id : ℕ) (s : Figures) (j : ℕ) → (processor_of (leaves id (read_at processor now s)) j).running ≡ (processor_of s j).running
+-- a task's leaving keeps who runs
+pub runs-block : (processor now id : ℕ) (s : Figures) (j : ℕ)
+    → (processor_of (leaves id (read_at processor now s)) j).running ≡ (processor_of s j).running
 runs-block processor now id s j = (running-leaves id (read_at processor now s)).at j ∙ (running-read_at processor now s).at j
 
-blocked-awaits : (processor now id : ℕ) (run : Option ℕ) (s : Figures) (j : ℕ) → j < length s.tasks →
-    (task_of (blocked processor now id run s) j).woken ≡ cond (begins_as j (running_task (processor_of s processor)) (Some run)) None (task_of s j).woken
-blocked-awaits processor now id run s j inside = switched-awaits Blocked processor (time_at processor now s) run s _ j inside (kept-block processor now id s) (runs-block processor now id s processor)
+blocked-awaits : (processor now id : ℕ) (run : Option ℕ) (s : Figures) (j : ℕ)
+    → j < length s.tasks
+    → (task_of (blocked processor now id run s) j).woken
+    ≡ cond (begins_as j (running_task (processor_of s processor)) (Some run)) None (task_of s j).woken
+blocked-awaits processor now id run s j inside =
+    switched-awaits Blocked processor (time_at processor now s) run s _ j inside (kept-block processor now id s)
+    (runs-block processor now id s processor)
 
-kept-pull : (processor now : ℕ) (d : Decision) (task : Option ℕ) (s : Figures) → KeepsWakes s (taken processor (time_at processor now s) task (asked processor d (read_at processor now s)))
-kept-pull processor now d task s = both s (asked processor d (read_at processor now s)) _ (kept-ask processor now d s) (kept-taken processor (time_at processor now s) task _)
+kept-pull : (processor now : ℕ) (d : Decision) (task : Option ℕ) (s : Figures)
+    → KeepsWakes s (taken processor (time_at processor now s) task (asked processor d (read_at processor now s)))
+kept-pull processor now d task s =
+    both s (asked processor d (read_at processor now s)) _ (kept-ask processor now d s)
+    (kept-taken processor (time_at processor now s) task _)
 
--- and a pull
-pub runs-pull : (processor now : ℕ) (d : Decision) (task : Option ℕ) (s : Figures) (j : ℕ) →
-    (processor_of (taken processor (time_at processor now s) task (asked processor d (read_at processor now s))) j).running ≡ (processor_of s j).running
-runs-pull processor now d task s j = (running-taken processor (time_at processor now s) task (asked processor d (read_at processor now s))).at j ∙ runs-ask processor now d s j
+-- a pull keeps who runs
+pub runs-pull : (processor now : ℕ) (d : Decision) (task : Option ℕ) (s : Figures) (j : ℕ)
+    → (processor_of (taken processor (time_at processor now s) task (asked processor d (read_at processor now s))) j).running
+    ≡ (processor_of s j).running
+runs-pull processor now d task s j =
+    (running-taken processor (time_at processor now s) task (asked processor d (read_at processor now s))).at j
+    ∙ runs-ask processor now d s j
 
-pulled-awaits : (processor now : ℕ) (d : Decision) (task run : Option ℕ) (s : Figures) (j : ℕ) → j < length s.tasks →
-    (task_of (pulled processor now d task run s) j).woken ≡ cond (begins_as j (running_task (processor_of s processor)) (Some run)) None (task_of s j).woken
-pulled-awaits processor now d task run s j inside = switched-awaits Preempted processor (time_at processor now s) run s _ j inside (kept-pull processor now d task s) (runs-pull processor now d task s processor)
+pulled-awaits : (processor now : ℕ) (d : Decision) (task run : Option ℕ) (s : Figures) (j : ℕ)
+    → j < length s.tasks
+    → (task_of (pulled processor now d task run s) j).woken
+    ≡ cond (begins_as j (running_task (processor_of s processor)) (Some run)) None (task_of s j).woken
+pulled-awaits processor now d task run s j inside =
+    switched-awaits Preempted processor (time_at processor now s) run s _ j inside (kept-pull processor now d task s)
+    (runs-pull processor now d task s processor)
 
 performed-awaits : (s : Figures) (e : Event) (r : Reply) (j : ℕ) → j < length s.tasks → AwaitsAfter j s (performed s e r) e (Ok r)
 performed-awaits s (Admit id nice mask slice) Admitted j inside = (with_one (leaves id s) id _ refl).at j ∙ (kept-leaves id s).at j
-performed-awaits s (EndWake processor now) (Placed task to by steps) j inside = placed-awaits processor now (record { hook = Place; by = by; steps = steps }) task to s j inside
-performed-awaits s (Drain processor now) (Drained count run by steps) j inside = decided-awaits processor now (record { hook = Preempt; by = by; steps = steps }) run s j inside
-performed-awaits s (Tick processor now) (Ticked run by steps) j inside = decided-awaits processor now (record { hook = Preempt; by = by; steps = steps }) run s j inside
+performed-awaits s (EndWake processor now) (Placed task to by steps) j inside =
+    placed-awaits processor now (record { hook = Place; by = by; steps = steps }) task to s j inside
+performed-awaits s (Drain processor now) (Drained count run by steps) j inside =
+    decided-awaits processor now (record { hook = Preempt; by = by; steps = steps }) run s j inside
+performed-awaits s (Tick processor now) (Ticked run by steps) j inside =
+    decided-awaits processor now (record { hook = Preempt; by = by; steps = steps }) run s j inside
 performed-awaits s (Block processor now) (Went task run) j inside = blocked-awaits processor now task run s j inside
-performed-awaits s (Pull processor from now) (Pulled task run by steps) j inside = pulled-awaits processor now (record { hook = OnPull; by = by; steps = steps }) task run s j inside
+performed-awaits s (Pull processor from now) (Pulled task run by steps) j inside =
+    pulled-awaits processor now (record { hook = OnPull; by = by; steps = steps }) task run s j inside
 performed-awaits s e r j inside = refl
 
-nothing-awaits : (s : Figures) (e : Event) (r : Reply) (j : ℕ) → is_there s e ≡ false → IsWithin (length s.processors) (sight e r) → AwaitsAfter j s s e (Ok r)
+nothing-awaits : (s : Figures) (e : Event) (r : Reply) (j : ℕ)
+    → is_there s e ≡ false → IsWithin (length s.processors) (sight e r) → AwaitsAfter j s s e (Ok r)
 nothing-awaits s (EndWake processor now) (Placed task to by steps) j none h = absurd (not_below processor (length s.processors) none h)
 nothing-awaits s (Drain processor now) (Drained count run by steps) j none h = absurd (not_below processor (length s.processors) none h)
 nothing-awaits s (Tick processor now) (Ticked run by steps) j none h = absurd (not_below processor (length s.processors) none h)
@@ -223,26 +277,34 @@ nothing-awaits s (Block processor now) (Went task run) j none h = absurd (not_be
 nothing-awaits s (Pull processor from now) (Pulled task run by steps) j none h = absurd (not_below processor (length s.processors) none h)
 nothing-awaits s e r j none h = refl
 
-awaits-if : (b : Bool) (s : Figures) (e : Event) (r : Reply) (j : ℕ) → is_there s e ≡ b → j < length s.tasks → IsWithin (length s.processors) (sight e r) → AwaitsAfter j s (cond b (performed s e r) s) e (Ok r)
+awaits-if : (b : Bool) (s : Figures) (e : Event) (r : Reply) (j : ℕ)
+    → is_there s e ≡ b → j < length s.tasks → IsWithin (length s.processors) (sight e r)
+    → AwaitsAfter j s (cond b (performed s e r) s) e (Ok r)
 awaits-if true s e r j there inside h = performed-awaits s e r j inside
 awaits-if false s e r j there inside h = nothing-awaits s e r j there h
 
 -- which wake is awaited after an event is what it was, except for what the answer shows
-awaits-after : (s : Figures) (e : Event) (a : Result Reply Refusal) (j : ℕ) → j < length s.tasks → IsWithin (length s.processors) (sight_of e a) → AwaitsAfter j s (after s e a) e a
+awaits-after : (s : Figures) (e : Event) (a : Result Reply Refusal) (j : ℕ)
+    → j < length s.tasks → IsWithin (length s.processors) (sight_of e a) → AwaitsAfter j s (after s e a) e a
 awaits-after s e (Ok r) j inside h = awaits-if (is_there s e) s e r j refl inside h
 awaits-after s (EndWake processor now) (Err r) j inside h = refl
 awaits-after s e (Err r) j inside h = refl
 
-seen-wake : (count : ℕ) (past : History) (e : Event) (a : Result Reply Refusal) (j : ℕ) → IsOf count past → IsWithin count (sight_of e a) → wake_seen j (figures count past) e a ≡ wake_end j past e a
-seen-wake count past (EndWake processor now) (Ok (Placed task to by steps)) j h w = ap (λ n. cond (eqb task j) (Some (reading n now)) None) (figures-clocks count past processor h w).0
+seen-wake : (count : ℕ) (past : History) (e : Event) (a : Result Reply Refusal) (j : ℕ)
+    → IsOfProcessors count past → IsWithin count (sight_of e a)
+    → wake_seen j (figures count past) e a ≡ wake_end j past e a
+seen-wake count past (EndWake processor now) (Ok (Placed task to by steps)) j h w =
+    ap (λ n. cond (eqb task j) (Some (reading n now)) None) (figures-clocks count past processor h w).0
 seen-wake count past e a j h w = refl
 
-seen-begins : (count : ℕ) (past : History) (o : Option Sight) (j : ℕ) → IsOf count past → IsWithin count o → begins_seen j (figures count past) o ≡ begins j past o
+seen-begins : (count : ℕ) (past : History) (o : Option Sight) (j : ℕ)
+    → IsOfProcessors count past → IsWithin count o → begins_seen j (figures count past) o ≡ begins j past o
 seen-begins count past None j h w = refl
 seen-begins count past (Some x) j h w = ap (λ y. begins_as j y x.run) (figures-clocks count past x.processor h w).1
 
 -- figures show the wakes that are awaited
-awaits : (count : ℕ) (past : History) (j : ℕ) → IsOf count past → j < 1024 → (task_of (figures count past) j).woken ≡ awaited j past
+awaits : (count : ℕ) (past : History) (j : ℕ) → IsOfProcessors count past → j < 1024
+    → (task_of (figures count past) j).woken ≡ awaited j past
 awaits count [] j h inside = ap (λ (t : TaskFigures). t.woken) (get_or-replicate 1024 j unknown unknown inside)
 awaits count (m ∷ past) j h inside =
     let s = figures count past in
@@ -259,7 +321,10 @@ pub record Starts (s : Figures) (processor now : ℕ) (run : Option ℕ) (start 
   pub reading : start.at ≡ time_at processor now s
   pub late : start.latency ≡ option_map (λ (woken : ℕ). start.at - woken) (task_of s start.task).woken
 
-starts_by : (s u : Figures) (processor now : ℕ) (run : Option ℕ) (start : Start) → KeepsWakes s u → is_run_by (processor_of s processor).running run ≡ false → starts_as processor (time_at processor now s) run u ≡ Some start → Starts s processor now run start
+starts_by : (s u : Figures) (processor now : ℕ) (run : Option ℕ) (start : Start)
+    → KeepsWakes s u → is_run_by (processor_of s processor).running run ≡ false
+    → starts_as processor (time_at processor now s) run u ≡ Some start
+    → Starts s processor now run start
 starts_by s u processor now None start k new e = cc
 starts_by s u processor now (Some id) start k new e =
     let x = start_of processor id (time_at processor now s) (task_of u id) in
@@ -272,61 +337,93 @@ starts_by s u processor now (Some id) start k new e =
       late = ap (option_map (λ (woken : ℕ). time_at processor now s - woken)) (k.at id);
     })
 
-starts_if : (b : Bool) (left : Left) (s t : Figures) (processor now : ℕ) (run : Option ℕ) (start : Start) → KeepsWakes s t → (processor_of t processor).running ≡ (processor_of s processor).running → is_run_by (processor_of t processor).running run ≡ b →
-    cond b None (starts_as processor (time_at processor now s) run (stopped left (time_at processor now s) (processor_of t processor).running t)) ≡ Some start → Starts s processor now run start
+starts_if : (b : Bool) (left : Left) (s t : Figures) (processor now : ℕ) (run : Option ℕ) (start : Start)
+    → KeepsWakes s t → (processor_of t processor).running ≡ (processor_of s processor).running
+    → is_run_by (processor_of t processor).running run ≡ b
+    → cond b None
+    (starts_as processor (time_at processor now s) run (stopped left (time_at processor now s) (processor_of t processor).running t))
+    ≡ Some start
+    → Starts s processor now run start
 starts_if true left s t processor now run start k r is e = cc
 starts_if false left s t processor now run start k r is e =
     let u = stopped left (time_at processor now s) (processor_of t processor).running t in
     starts_by s u processor now run start (both s t u k (kept-stopped left (time_at processor now s) (processor_of t processor).running t))
     (ap (λ o. is_run_by o run) (sym r) ∙ is) e
 
-starts : (left : Left) (s t : Figures) (processor now : ℕ) (run : Option ℕ) (start : Start) → KeepsWakes s t → (processor_of t processor).running ≡ (processor_of s processor).running → start_at left processor (time_at processor now s) run t ≡ Some start →
-    Starts s processor now run start
-starts left s t processor now run start k r e = starts_if (is_run_by (processor_of t processor).running run) left s t processor now run start k r refl e
+starts : (left : Left) (s t : Figures) (processor now : ℕ) (run : Option ℕ) (start : Start)
+    → KeepsWakes s t → (processor_of t processor).running ≡ (processor_of s processor).running
+    → start_at left processor (time_at processor now s) run t ≡ Some start
+    → Starts s processor now run start
+starts left s t processor now run start k r e =
+    starts_if (is_run_by (processor_of t processor).running run) left s t processor now run start k r refl e
 
 -- what is reported of a start, by what the answer shows
 abbrev pub StartsAs : Figures → Option Sight → Start → Type 0
 StartsAs s None start = ⊥
 StartsAs s (Some x) start = (run : Option ℕ) × (x.run ≡ Some run) × Starts s x.processor x.now run start
 
-starts-performed : (s : Figures) (e : Event) (r : Reply) (start : Start) → (performed_told s e r).start ≡ Some start → StartsAs s (sight e r) start
+starts-performed : (s : Figures) (e : Event) (r : Reply) (start : Start)
+    → (report_of_answer s e r).start ≡ Some start → StartsAs s (sight e r) start
 starts-performed s (Drain processor now) (Drained count run by steps) start e =
-    let d : Decision = record { hook = Preempt; by = by; steps = steps } in
-    (run, refl, starts Preempted s (asked processor d (read_at processor now s)) processor now run start (kept-ask processor now d s) (runs-ask processor now d s processor) e)
+    let d : Decision = record { hook = Preempt; by = by; steps = steps } in (
+      run,
+      refl,
+      starts Preempted s (asked processor d (read_at processor now s)) processor now run start (kept-ask processor now d s)
+          (runs-ask processor now d s processor) e,
+    )
 starts-performed s (Tick processor now) (Ticked run by steps) start e =
-    let d : Decision = record { hook = Preempt; by = by; steps = steps } in
-    (run, refl, starts Preempted s (asked processor d (read_at processor now s)) processor now run start (kept-ask processor now d s) (runs-ask processor now d s processor) e)
-starts-performed s (Block processor now) (Went task run) start e =
-    (run, refl, starts Blocked s (leaves task (read_at processor now s)) processor now run start (kept-block processor now task s) (runs-block processor now task s processor) e)
+    let d : Decision = record { hook = Preempt; by = by; steps = steps } in (
+      run,
+      refl,
+      starts Preempted s (asked processor d (read_at processor now s)) processor now run start (kept-ask processor now d s)
+          (runs-ask processor now d s processor) e,
+    )
+starts-performed s (Block processor now) (Went task run) start e = (
+  run,
+  refl,
+  starts Blocked s (leaves task (read_at processor now s)) processor now run start (kept-block processor now task s)
+      (runs-block processor now task s processor) e,
+)
 starts-performed s (Pull processor from now) (Pulled task run by steps) start e =
-    let d : Decision = record { hook = OnPull; by = by; steps = steps } in
-    (run, refl, starts Preempted s (taken processor (time_at processor now s) task (asked processor d (read_at processor now s))) processor now run start (kept-pull processor now d task s) (runs-pull processor now d task s processor) e)
+    let d : Decision = record { hook = OnPull; by = by; steps = steps } in (
+      run,
+      refl,
+      starts Preempted s (taken processor (time_at processor now s) task (asked processor d (read_at processor now s)))
+          processor now run start (kept-pull processor now d task s) (runs-pull processor now d task s processor) e,
+    )
 starts-performed s (EndWake processor now) (Placed task to by steps) start e = cc
 starts-performed s e r start h = cc
 
-starts-told_if : (b : Bool) (s : Figures) (e : Event) (r : Reply) (start : Start) → (cond b (performed_told s e r) nothing).start ≡ Some start → StartsAs s (sight e r) start
-starts-told_if true s e r start h = starts-performed s e r start h
-starts-told_if false s e r start h = cc
+starts-reported_if : (b : Bool) (s : Figures) (e : Event) (r : Reply) (start : Start)
+    → (cond b (report_of_answer s e r) nothing).start ≡ Some start → StartsAs s (sight e r) start
+starts-reported_if true s e r start h = starts-performed s e r start h
+starts-reported_if false s e r start h = cc
 
-starts-told : (s : Figures) (e : Event) (a : Result Reply Refusal) (start : Start) → (change s e a).start ≡ Some start → StartsAs s (sight_of e a) start
-starts-told s e (Ok r) start h = starts-told_if (is_there s e) s e r start h
-starts-told s e (Err r) start h = cc
+starts-reported : (s : Figures) (e : Event) (a : Result Reply Refusal) (start : Start)
+    → (change s e a).start ≡ Some start → StartsAs s (sight_of e a) start
+starts-reported s e (Ok r) start h = starts-reported_if (is_there s e) s e r start h
+starts-reported s e (Err r) start h = cc
 
 -- the clock that a sight reads
-clock-there : (processor : ℕ) (past : History) (x : Sight) → x.processor ≡ processor → clock_after processor (clock processor past) (Some x) ≡ reading (clock processor past) x.now
+clock-there : (processor : ℕ) (past : History) (x : Sight) → x.processor ≡ processor
+    → clock_after processor (clock processor past) (Some x) ≡ reading (clock processor past) x.now
 clock-there processor past x e = rw e (rw (eq-eqb processor processor refl) refl)
 
-latency-shown : (count : ℕ) (past : History) (o : Option Sight) (start : Start) → IsOf count past → IsWithin count o → start.task < 1024 → StartsAs (figures count past) o start →
-    (begins start.task past o ≡ true) × (start.at ≡ clock_after start.processor (clock start.processor past) o) × (start.latency ≡ option_map (λ (woken : ℕ). start.at - woken) (awaited start.task past))
+latency-shown : (count : ℕ) (past : History) (o : Option Sight) (start : Start)
+    → IsOfProcessors count past → IsWithin count o → start.task < 1024 → StartsAs (figures count past) o start
+    → (begins start.task past o ≡ true) × (start.at ≡ clock_after start.processor (clock start.processor past) o)
+    × (start.latency ≡ option_map (λ (woken : ℕ). start.at - woken) (awaited start.task past))
 latency-shown count past None start h w inside t = absurd t
 latency-shown count past (Some x) start h w inside t =
     let c = figures-clocks count past x.processor h w in (
       ap (λ r. begins_as start.task (runner x.processor past) r) t.1 ∙ ap (λ y. begins_as start.task y (Some t.0)) (sym c.1) ∙ t.2.new,
-      t.2.reading ∙ ap (λ n. reading n x.now) c.0 ∙ sym (ap (λ j. clock_after j (clock j past) (Some x)) t.2.here ∙ clock-there x.processor past x refl),
+      t.2.reading ∙ ap (λ n. reading n x.now) c.0
+          ∙ sym (ap (λ j. clock_after j (clock j past) (Some x)) t.2.here ∙ clock-there x.processor past x refl),
       t.2.late ∙ ap (option_map (λ (woken : ℕ). start.at - woken)) (awaits count past start.task h inside),
     )
 
 -- where a start is reported its task begins to run, and its latency is the distance from the wake that still waits
-pub tells_latencies : TellsLatencies
-tells_latencies count past m start h inside e =
-    latency-shown count past (sight_of m.event m.answer) start h.1 h.0 inside (starts-told (figures count past) m.event m.answer start e)
+pub reports_latencies : ReportsLatencies
+reports_latencies count past m start h inside e =
+    latency-shown count past (sight_of m.event m.answer) start h.1 h.0 inside
+    (starts-reported (figures count past) m.event m.answer start e)

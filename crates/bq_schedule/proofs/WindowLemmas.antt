@@ -11,7 +11,7 @@ use Rattle.bq_schedule.specs.Figures.{Figures, unread, processor_of}
 use Rattle.bq_schedule.specs.Passing.{slice_between, slice_at, length_of, passed, processor_read, read_at, idle_of}
 use Rattle.bq_schedule.specs.Slices.{Sight, sight_of}
 use Rattle.bq_schedule.specs.Steps.{after, figures}
-use Rattle.bq_schedule.specs.Laws.{IsOf, window_since, FillsWindow}
+use Rattle.bq_schedule.specs.Laws.{IsOfProcessors, window_since, FillsWindow}
 use Rattle.bq_schedule.proofs.FrameLemmas.{Works, works, RunsAs}
 use Rattle.bq_schedule.proofs.ClockLemmas.{Shows, shows-after, count-figures, within-figures, processor-read_at}
 use Rattle.bq_schedule.proofs.SumLemmas.{busy_is_sum_of_slices}
@@ -32,13 +32,16 @@ HasBegun w = (first : ℕ) × (w.first ≡ Some first) × (first + w.busy ≤ w.
 begun : (p : ProcessorFigures) → HasBegun (works p) → Filled p
 begun p h = rw h.1 h.2
 
-length-le-rise : (processor from to : ℕ) (running : Option Start) (b : Bool) → ltb from to ≡ b → from ≤ to → from + length_of (slice_between processor from to running) ≤ to
+length-le-rise : (processor from to : ℕ) (running : Option Start) (b : Bool)
+    → ltb from to ≡ b → from ≤ to → from + length_of (slice_between processor from to running) ≤ to
 length-le-rise processor from to None b e h = omega arith
 length-le-rise processor from to (Some start) true e h = rw e (omega arith)
 length-le-rise processor from to (Some start) false e h = rw e (omega arith)
 
-begun-read_as : (p : ProcessorFigures) (to : ℕ) (s : Option Slice) (first : Option ℕ) → p.first ≡ first → p.last + length_of s ≤ to → (p.running ≡ None → length_of s ≡ 0) → IsFilled first p.last p.busy p.running →
-    HasBegun (works (passed p to s))
+begun-read_as : (p : ProcessorFigures) (to : ℕ) (s : Option Slice) (first : Option ℕ)
+    → p.first ≡ first → p.last + length_of s ≤ to → (p.running ≡ None → length_of s ≡ 0)
+    → IsFilled first p.last p.busy p.running
+    → HasBegun (works (passed p to s))
 begun-read_as p to s None e le none h = (to, rw e refl, omega (arith, h.0, none h.1))
 begun-read_as p to s (Some first) e le none h = (first, rw e refl, omega (arith, h))
 
@@ -58,32 +61,41 @@ same_works p q w r h =
     rw (first, last, busy, r) h
 
 -- at another processor nothing changes that this reads
-runs_elsewhere : (o : Option (Option ℕ)) (s s' : Figures) (processor j : ℕ) → j ≢ processor → RunsAs o processor s s' → (processor_of s' j).running ≡ (processor_of s j).running
+runs_elsewhere : (o : Option (Option ℕ)) (s s' : Figures) (processor j : ℕ)
+    → j ≢ processor → RunsAs o processor s s' → (processor_of s' j).running ≡ (processor_of s j).running
 runs_elsewhere None s s' processor j ne h = h.at j
 runs_elsewhere (Some run) s s' processor j ne h = h.1 j ne
 
-filled-there : (s s' : Figures) (x : Sight) (j : ℕ) (b : Bool) → eqb x.processor j ≡ b → j < length s.processors → Shows s s' (Some x) → Filled (processor_of s j) → ((b ≡ true) × (x.processor ≡ j)) ⊎ ((b ≡ false) × (x.processor ≢ j)) →
-    Filled (processor_of s' j)
+filled-there : (s s' : Figures) (x : Sight) (j : ℕ) (b : Bool)
+    → eqb x.processor j ≡ b → j < length s.processors → Shows s s' (Some x) → Filled (processor_of s j)
+    → ((b ≡ true) × (x.processor ≡ j)) ⊎ ((b ≡ false) × (x.processor ≢ j))
+    → Filled (processor_of s' j)
 filled-there s s' x j true is inside h f (inl same) =
     let r = processor-read_at x.processor x.now j s inside in
     let q = processor_read x.processor (processor_of s x.processor) x.now in
     let read : processor_of (read_at x.processor x.now s) j ≡ q = r ∙ ap (λ b. cond b q (processor_of s j)) is in
     let P : Works → Type 0 = λ w. HasBegun w in
     let Q : ℕ → Type 0 = λ k. Filled (processor_of s k) in
-    begun (processor_of s' j) (subst P (sym (h.0.at j ∙ ap works read)) (begun-read x.processor x.now (processor_of s x.processor) (subst Q (sym same.1) f)))
+    begun (processor_of s' j)
+    (subst P (sym (h.0.at j ∙ ap works read)) (begun-read x.processor x.now (processor_of s x.processor) (subst Q (sym same.1) f)))
 filled-there s s' x j false is inside h f (inr other) =
     let q = processor_read x.processor (processor_of s x.processor) x.now in
-    let read : processor_of (read_at x.processor x.now s) j ≡ processor_of s j = processor-read_at x.processor x.now j s inside ∙ ap (λ b. cond b q (processor_of s j)) is in
-    same_works (processor_of s j) (processor_of s' j) (h.0.at j ∙ ap works read) (runs_elsewhere x.run s s' x.processor j (λ e. other.1 (sym e)) h.1) f
+    let read : processor_of (read_at x.processor x.now s) j ≡ processor_of s j =
+    processor-read_at x.processor x.now j s inside ∙ ap (λ b. cond b q (processor_of s j)) is in
+    same_works (processor_of s j) (processor_of s' j) (h.0.at j ∙ ap works read)
+    (runs_elsewhere x.run s s' x.processor j (λ e. other.1 (sym e)) h.1) f
 filled-there s s' x j false is inside h f (inl same) = absurd (cc)
 filled-there s s' x j true is inside h f (inr other) = absurd (cc)
 
-filled-shown : (s s' : Figures) (o : Option Sight) (j : ℕ) → j < length s.processors → Shows s s' o → Filled (processor_of s j) → Filled (processor_of s' j)
+filled-shown : (s s' : Figures) (o : Option Sight) (j : ℕ) → j < length s.processors → Shows s s' o
+    → Filled (processor_of s j)
+    → Filled (processor_of s' j)
 filled-shown s s' None j inside h f = same_works (processor_of s j) (processor_of s' j) (h.0.at j) (h.1.at j) f
 filled-shown s s' (Some x) j inside h f = filled-there s s' x j (eqb x.processor j) refl inside h f (eqb_tells x.processor j)
 
 -- in each history no processor ran before its first reading, nor longer since then than its clock rose
-pub figures_are_filled : (count : ℕ) (past : History) (processor : ℕ) → IsOf count past → processor < count → Filled (processor_of (figures count past) processor)
+pub figures_are_filled : (count : ℕ) (past : History) (processor : ℕ)
+    → IsOfProcessors count past → processor < count → Filled (processor_of (figures count past) processor)
 figures_are_filled count [] processor h inside =
     let P : ProcessorFigures → Type 0 = λ p. Filled p in
     subst P (sym (get_or-replicate count processor unread unread inside)) (refl, refl)
@@ -92,7 +104,8 @@ figures_are_filled count (m ∷ past) processor h inside =
     filled-shown s (after s m.event m.answer) (sight_of m.event m.answer) processor (omega (arith, count-figures count past h.1))
     (shows-after s m.event m.answer (within-figures count past m h)) (figures_are_filled count past processor h.1 inside)
 
-fills_if : (first : Option ℕ) (p : ProcessorFigures) → p.first ≡ first → IsFilled first p.last p.busy p.running → p.busy + idle_of p ≡ window_since p.first p.last
+fills_if : (first : Option ℕ) (p : ProcessorFigures) → p.first ≡ first → IsFilled first p.last p.busy p.running
+    → p.busy + idle_of p ≡ window_since p.first p.last
 fills_if None p e h = rw e (omega (arith, h.0))
 fills_if (Some first) p e h = rw e (omega (arith, h))
 
@@ -100,4 +113,5 @@ fills_if (Some first) p e h = rw e (omega (arith, h))
 pub fills_window : FillsWindow
 fills_window count past processor few h inside =
     let p = processor_of (figures count past) processor in
-    ap (λ n. n + idle_of p) (sym (busy_is_sum_of_slices count past few h processor inside)) ∙ fills_if p.first p refl (figures_are_filled count past processor h inside)
+    ap (λ n. n + idle_of p) (sym (busy_is_sum_of_slices count past few h processor inside))
+    ∙ fills_if p.first p refl (figures_are_filled count past processor h inside)

@@ -8,11 +8,11 @@ use Rattle.std.proofs.lemmas.Bool.{eqb-false}
 use Rattle.bq_disc.specs.Tasks.{Task, id_of, with_id}
 use Rattle.bq_disc.specs.Discipline.{Discipline, charged, next_of}
 use Rattle.bq_disc.specs.OneProcessor.{Running, reading, charge, run_id, exchanged, decided, enter_all}
-use Rattle.bq_bpf.specs.declared.board.Call.{Call as Asked}
+use Rattle.bq_bpf.specs.declared.board.CounterCall.{CounterCall}
 use Rattle.bq_parts.specs.declared.event.Event.{Event}
 use Rattle.bq_parts.specs.declared.event.Event.TheVariants.{Admit, Retire, Draw, Install, BeginWake, EndWake, Drain, Tick, Block, Pull}
 use Rattle.bq_parts.specs.declared.reply.Reply.{Reply}
-use Rattle.bq_parts.specs.declared.reply.Reply.TheVariants.{Admitted, Retired, Drawn, Installed, Begun, Placed, Drained, Ticked, Blocked as Went, Pulled as Moved}
+use Rattle.bq_parts.specs.declared.reply.Reply.TheVariants.{Admitted, Retired, Drawn, Installed, Begun, Placed, Drained, Ticked, Blocked, Pulled}
 use Rattle.bq_parts.specs.declared.refusal.Refusal.{Refusal}
 use Rattle.bq_parts.specs.declared.refusal.Refusal.TheVariants as no
 use Rattle.bq_parts.specs.Processors.{Processor, opening}
@@ -27,7 +27,7 @@ use Rattle.bq_core.specs.Laws.{under_any_answers}
 use Rattle.bq_core.proofs.OrderLemmas.{not_refused_is_there, first_refusal_passed, accepted}
 use Rattle.bq_schedule.specs.Moments.{History}
 use Rattle.bq_schedule.specs.Slices.{Sight, sight, sight_of, clock_after, clock, runner_after, runner}
-use Rattle.bq_schedule.specs.Laws.{IsWithin, IsOf, grown, IsCharged}
+use Rattle.bq_schedule.specs.Laws.{IsWithin, IsOfProcessors, grown, IsCharged}
 use Rattle.bq_schedule.proofs.FrameLemmas.{get_or-set_like}
 use Rattle.bq_schedule.proofs.ClockLemmas.{within_same}
 
@@ -46,14 +46,15 @@ pub record Shown (w w' : World) (o : Option Sight) : Type 0 where
   pub who : (j : ℕ) → j < count_in w → who_at w' j ≡ runner_after j (who_at w j) o
 
 -- a processor is replaced by one with the same clock and current task
-kept : (w : World) (i : ℕ) (p : Processor) → p.running.last ≡ last_at w i → id_of p.running.current ≡ who_at w i → Shown w (with_processor w i p) None
+kept : (w : World) (i : ℕ) (p : Processor) → p.running.last ≡ last_at w i → id_of p.running.current ≡ who_at w i
+    → Shown w (with_processor w i p) None
 kept w i p l c = record {
   count = length-set w.processors i p;
   last = λ j inside. get_or-set_like (λ (q : Processor). q.running.last) w.processors i j p opening l;
   who = λ j inside. get_or-set_like (λ (q : Processor). id_of q.running.current) w.processors i j p opening c;
 }
 
--- only the processors count
+-- what is shown of a world depends only on its processors
 like : (w u w' : World) (o : Option Sight) → u.processors ≡ w'.processors → Shown w u o → Shown w w' o
 like w u w' o e h = record {
   count = ap (λ (l : List Processor). length l) (sym e) ∙ h.count;
@@ -64,34 +65,41 @@ like w u w' o e h = record {
 same : (w : World) → Shown w w None
 same w = record { count = refl; last = λ j inside. refl; who = λ j inside. refl }
 
-last_there : (w : World) (i j now : ℕ) (p : Processor) (b : Bool) → j < count_in w → p.running.last ≡ reading (last_at w i) now → ((b ≡ true) × (i ≡ j)) ⊎ ((b ≡ false) × (i ≢ j)) →
-    (get_or (slice_set w.processors i p) j opening).running.last ≡ cond b (reading (last_at w j) now) (last_at w j)
+last_there : (w : World) (i j now : ℕ) (p : Processor) (b : Bool)
+    → j < count_in w → p.running.last ≡ reading (last_at w i) now → ((b ≡ true) × (i ≡ j)) ⊎ ((b ≡ false) × (i ≢ j))
+    → (get_or (slice_set w.processors i p) j opening).running.last ≡ cond b (reading (last_at w j) now) (last_at w j)
 last_there w i j now p true inside l (inl e) =
-    ap (λ k. (get_or (slice_set w.processors k p) j opening).running.last) e.1 ∙ ap (λ (q : Processor). q.running.last) (get_or-set_same w.processors j p opening inside)
-    ∙ l ∙ ap (λ k. reading (last_at w k) now) e.1
+    ap (λ k. (get_or (slice_set w.processors k p) j opening).running.last) e.1
+    ∙ ap (λ (q : Processor). q.running.last) (get_or-set_same w.processors j p opening inside) ∙ l
+    ∙ ap (λ k. reading (last_at w k) now) e.1
 last_there w i j now p false inside l (inl e) = absurd (cc)
 last_there w i j now p true inside l (inr e) = absurd (cc)
-last_there w i j now p false inside l (inr e) = ap (λ (q : Processor). q.running.last) (get_or-set_other w.processors i j p opening (λ h. e.1 (sym h)))
+last_there w i j now p false inside l (inr e) =
+    ap (λ (q : Processor). q.running.last) (get_or-set_other w.processors i j p opening (λ h. e.1 (sym h)))
 
-who_there : (w : World) (i j : ℕ) (run : Option (Option ℕ)) (p : Processor) (b : Bool) → j < count_in w → id_of p.running.current ≡ unwrap_or run (who_at w i) → ((b ≡ true) × (i ≡ j)) ⊎ ((b ≡ false) × (i ≢ j)) →
-    id_of (get_or (slice_set w.processors i p) j opening).running.current ≡ cond b (unwrap_or run (who_at w j)) (who_at w j)
+who_there : (w : World) (i j : ℕ) (run : Option (Option ℕ)) (p : Processor) (b : Bool)
+    → j < count_in w → id_of p.running.current ≡ unwrap_or run (who_at w i) → ((b ≡ true) × (i ≡ j)) ⊎ ((b ≡ false) × (i ≢ j))
+    → id_of (get_or (slice_set w.processors i p) j opening).running.current ≡ cond b (unwrap_or run (who_at w j)) (who_at w j)
 who_there w i j run p true inside l (inl e) =
-    ap (λ k. id_of (get_or (slice_set w.processors k p) j opening).running.current) e.1 ∙ ap (λ (q : Processor). id_of q.running.current) (get_or-set_same w.processors j p opening inside)
-    ∙ l ∙ ap (λ k. unwrap_or run (who_at w k)) e.1
+    ap (λ k. id_of (get_or (slice_set w.processors k p) j opening).running.current) e.1
+    ∙ ap (λ (q : Processor). id_of q.running.current) (get_or-set_same w.processors j p opening inside) ∙ l
+    ∙ ap (λ k. unwrap_or run (who_at w k)) e.1
 who_there w i j run p false inside l (inl e) = absurd (cc)
 who_there w i j run p true inside l (inr e) = absurd (cc)
-who_there w i j run p false inside l (inr e) = ap (λ (q : Processor). id_of q.running.current) (get_or-set_other w.processors i j p opening (λ h. e.1 (sym h)))
+who_there w i j run p false inside l (inr e) =
+    ap (λ (q : Processor). id_of q.running.current) (get_or-set_other w.processors i j p opening (λ h. e.1 (sym h)))
 
 -- a processor's clock is read, and who runs there is reported or stays
-read_there : (w : World) (x : Sight) (p : Processor) → p.running.last ≡ reading (last_at w x.processor) x.now → id_of p.running.current ≡ unwrap_or x.run (who_at w x.processor) →
-    Shown w (with_processor w x.processor p) (Some x)
+read_there : (w : World) (x : Sight) (p : Processor) → p.running.last ≡ reading (last_at w x.processor) x.now
+    → id_of p.running.current ≡ unwrap_or x.run (who_at w x.processor)
+    → Shown w (with_processor w x.processor p) (Some x)
 read_there w x p l c = record {
   count = length-set w.processors x.processor p;
   last = λ j inside. last_there w x.processor j x.now p (eqb x.processor j) inside l (eqb_tells x.processor j);
   who = λ j inside. who_there w x.processor j x.run p (eqb x.processor j) inside c (eqb_tells x.processor j);
 }
 
--- then a step that shows nothing
+-- what is shown stays so when a step follows that shows nothing
 then_kept : (w u v : World) (o : Option Sight) → Shown w u o → Shown u v None → Shown w v o
 then_kept w u v o a b = record {
   count = b.count ∙ a.count;
@@ -139,19 +147,24 @@ shown_as : (w w' : World) (e : Event) (r x : Reply) → r ≡ x → Shown w w' (
 shown_as w w' e r x h k = rw h k
 
 -- an event that is performed does to the clocks, and to who runs, what its reply shows
-pub shown-performs : (s : PolicySemantics) (w : World) (e : Event) (calls : List Asked) (r : Reply) (w' : World) → refusal w e ≡ None → Performs s w e calls r w' → Shown w w' (sight e r)
+pub shown-performs : (s : PolicySemantics) (w : World) (e : Event) (calls : List CounterCall) (r : Reply) (w' : World)
+    → refusal w e ≡ None → Performs s w e calls r w' → Shown w w' (sight e r)
 shown-performs s w (Admit id nice mask slice) calls r w' h k =
     shown_as w w' (Admit id nice mask slice) r Admitted k.1.1 (like w w w' None (ap (λ (v : World). v.processors) (sym k.3)) (same w))
-shown-performs s w (Retire id) calls r w' h k = shown_as w w' (Retire id) r Retired k.1.1 (like w w w' None (ap (λ (v : World). v.processors) (sym k.3)) (same w))
-shown-performs s w Draw calls r w' h k = shown_as w w' Draw r (Drawn _) k.0 (like w w w' None (ap (λ (v : World). v.processors) (sym k.2)) (same w))
+shown-performs s w (Retire id) calls r w' h k =
+    shown_as w w' (Retire id) r Retired k.1.1 (like w w w' None (ap (λ (v : World). v.processors) (sym k.3)) (same w))
+shown-performs s w Draw calls r w' h k =
+    shown_as w w' Draw r (Drawn _) k.0 (like w w w' None (ap (λ (v : World). v.processors) (sym k.2)) (same w))
 shown-performs s w (Install processor hook g policy) calls r w' h k =
     let i = k.1 in
     shown_as w w' (Install processor hook g policy) r Installed i.1
-    (like w (with_processor w processor k.0) w' None (ap (λ (v : World). v.processors) (sym k.3)) (kept w processor k.0 (ap (λ (q : Processor). q.running.last) i.2) (ap (λ (q : Processor). id_of q.running.current) i.2)))
+    (like w (with_processor w processor k.0) w' None (ap (λ (v : World). v.processors) (sym k.3))
+    (kept w processor k.0 (ap (λ (q : Processor). q.running.last) i.2) (ap (λ (q : Processor). id_of q.running.current) i.2)))
 shown-performs s w (BeginWake processor id) calls r w' h k =
     let b = k.2 in
     shown_as w w' (BeginWake processor id) r (Begun id _) b.replies
-    (like w (with_processor w processor k.0) w' None (ap (λ (v : World). v.processors) (sym k.4)) (kept w processor k.0 (ap (λ (q : Processor). q.running.last) b.in_hand) (ap (λ (q : Processor). id_of q.running.current) b.in_hand)))
+    (like w (with_processor w processor k.0) w' None (ap (λ (v : World). v.processors) (sym k.4))
+    (kept w processor k.0 (ap (λ (q : Processor). q.running.last) b.in_hand) (ap (λ (q : Processor). id_of q.running.current) b.in_hand)))
 shown-performs s w (EndWake processor now) calls r w' h k =
     let written = k.2.here in
     shown_as w w' (EndWake processor now) r (Placed k.0.task.id k.0.to k.0.by k.0.steps) k.3
@@ -176,7 +189,7 @@ shown-performs s w (Block processor now) calls r w' h k =
     let p = charge s.discipline (processor_at w processor).running now in
     let rest : Running = record p { current = None } in
     let x = k.2 in
-    shown_as w w' (Block processor now) r (Went x.0.id (id_of k.0.running.current)) x.1.2
+    shown_as w w' (Block processor now) r (Blocked x.0.id (id_of k.0.running.current)) x.1.2
     (like w (with_processor w processor k.0) w' _ (ap (λ (v : World). v.processors) (sym k.4))
     (read_there w (record { processor = processor; now = now; run = Some (id_of k.0.running.current) }) k.0
     (ap (λ (q : Processor). q.running.last) x.1.1 ∙ last-run_id rest (id_of (s.discipline.choice rest.queue))) refl))
@@ -191,52 +204,66 @@ shown-performs s w (Pull processor from now) calls r w' h k =
     let other : Processor = remarked d (processor_at w from) in
     let taken = taken_from other.running task in
     let u = with_processor w processor k.0 in
-    let there' : processor_at u from ≡ processor_at w from = get_or-set_other w.processors processor from k.0 opening (λ e. apart (sym e)) in
-    shown_as w w' (Pull processor from now) r (Moved task (id_of k.0.running.current) x.settled.by x.settled.steps) x.replies
+    let there' : processor_at u from ≡ processor_at w from =
+    get_or-set_other w.processors processor from k.0 opening (λ e. apart (sym e)) in
+    shown_as w w' (Pull processor from now) r (Pulled task (id_of k.0.running.current) x.settled.by x.settled.steps) x.replies
     (then_kept w u w' (Some (record { processor = processor; now = now; run = Some (id_of k.0.running.current) }))
     (read_there w (record { processor = processor; now = now; run = Some (id_of k.0.running.current) }) k.0
-    (ap (λ (q : Processor). q.running.last) x.here ∙ last-started_if_idle d (with_pulled d c.running taken) c.running.current ∙ last-with_pulled d c.running taken) refl)
+    (ap (λ (q : Processor). q.running.last) x.here ∙ last-started_if_idle d (with_pulled d c.running taken) c.running.current
+    ∙ last-with_pulled d c.running taken) refl)
     (like u (with_processor u from k.1) w' None (ap (λ (v : World). v.processors) (sym k.3))
-    (kept u from k.1
-    (ap (λ (q : Processor). q.running.last) x.there ∙ last-without_task other.running task ∙ ap (λ (v : Processor). v.running.last) (sym there'))
-    (ap (λ (q : Processor). id_of q.running.current) x.there ∙ ap id_of (current-without_task other.running task) ∙ ap (λ (v : Processor). id_of v.running.current) (sym there')))))
+    (kept u from k.1 (ap (λ (q : Processor). q.running.last) x.there ∙ last-without_task other.running task
+    ∙ ap (λ (v : Processor). v.running.last) (sym there'))
+    (ap (λ (q : Processor). id_of q.running.current) x.there ∙ ap id_of (current-without_task other.running task)
+    ∙ ap (λ (v : Processor). id_of v.running.current) (sym there')))))
 
 within_as : (n : ℕ) (e : Event) (r x : Reply) → r ≡ x → IsWithin n (sight e x) → IsWithin n (sight e r)
 within_as n e r x h k = rw h k
 
 -- an event that is not refused names a processor that is there
-within-performs : (s : PolicySemantics) (w : World) (e : Event) (calls : List Asked) (r : Reply) (w' : World) → refusal w e ≡ None → Performs s w e calls r w' → IsWithin (count_in w) (sight e r)
+within-performs : (s : PolicySemantics) (w : World) (e : Event) (calls : List CounterCall) (r : Reply) (w' : World)
+    → refusal w e ≡ None → Performs s w e calls r w' → IsWithin (count_in w) (sight e r)
 within-performs s w (EndWake processor now) calls r w' h k =
-    within_as (count_in w) (EndWake processor now) r (Placed k.0.task.id k.0.to k.0.by k.0.steps) k.3 (not_refused_is_there (count_in w) processor None (accepted w (EndWake processor now) h).0).0
+    within_as (count_in w) (EndWake processor now) r (Placed k.0.task.id k.0.to k.0.by k.0.steps) k.3
+    (not_refused_is_there (count_in w) processor None (accepted w (EndWake processor now) h).0).0
 within-performs s w (Drain processor now) calls r w' h k =
-    within_as (count_in w) (Drain processor now) r (Drained _ _ k.1.0.by k.1.0.steps) k.1.3 (not_refused_is_there (count_in w) processor None (accepted w (Drain processor now) h).0).0
+    within_as (count_in w) (Drain processor now) r (Drained _ _ k.1.0.by k.1.0.steps) k.1.3
+    (not_refused_is_there (count_in w) processor None (accepted w (Drain processor now) h).0).0
 within-performs s w (Tick processor now) calls r w' h k =
-    within_as (count_in w) (Tick processor now) r (Ticked _ k.1.0.by k.1.0.steps) k.1.3 (not_refused_is_there (count_in w) processor None (accepted w (Tick processor now) h).0).0
+    within_as (count_in w) (Tick processor now) r (Ticked _ k.1.0.by k.1.0.steps) k.1.3
+    (not_refused_is_there (count_in w) processor None (accepted w (Tick processor now) h).0).0
 within-performs s w (Block processor now) calls r w' h k =
-    within_as (count_in w) (Block processor now) r (Went k.2.0.id _) k.2.1.2 (not_refused_is_there (count_in w) processor None (accepted w (Block processor now) h).0).0
+    within_as (count_in w) (Block processor now) r (Blocked k.2.0.id _) k.2.1.2
+    (not_refused_is_there (count_in w) processor None (accepted w (Block processor now) h).0).0
 within-performs s w (Pull processor from now) calls r w' h k =
-    within_as (count_in w) (Pull processor from now) r (Moved (task_numbered k.2.settled.choice) _ k.2.settled.by k.2.settled.steps) k.2.replies (not_refused_is_there (count_in w) processor _ (accepted w (Pull processor from now) h).0).0
+    within_as (count_in w) (Pull processor from now) r
+    (Pulled (task_numbered k.2.settled.choice) _ k.2.settled.by k.2.settled.steps) k.2.replies
+    (not_refused_is_there (count_in w) processor _ (accepted w (Pull processor from now) h).0).0
 within-performs s w (Admit id nice mask slice) calls r w' h k = within_as (count_in w) (Admit id nice mask slice) r Admitted k.1.1 tt
 within-performs s w (Retire id) calls r w' h k = within_as (count_in w) (Retire id) r Retired k.1.1 tt
 within-performs s w Draw calls r w' h k = within_as (count_in w) Draw r (Drawn _) k.0 tt
-within-performs s w (Install processor hook g policy) calls r w' h k = within_as (count_in w) (Install processor hook g policy) r Installed k.1.1 tt
+within-performs s w (Install processor hook g policy) calls r w' h k =
+    within_as (count_in w) (Install processor hook g policy) r Installed k.1.1 tt
 within-performs s w (BeginWake processor id) calls r w' h k = within_as (count_in w) (BeginWake processor id) r (Begun id _) k.2.replies tt
 
 -- each step shows what its answer says, refused or not
-shown-step : (s : PolicySemantics) (w : World) (e : Event) (calls : List Asked) (a : Result Reply Refusal) (w' : World) → WorldStep s w e calls a w' → Shown w w' (sight_of e a) × IsWithin (count_in w) (sight_of e a)
+shown-step : (s : PolicySemantics) (w : World) (e : Event) (calls : List CounterCall) (a : Result Reply Refusal) (w' : World)
+    → WorldStep s w e calls a w' → Shown w w' (sight_of e a) × IsWithin (count_in w) (sight_of e a)
 shown-step s w e calls (Ok r) w' k = (shown-performs s w e calls r w' k.0 k.1, within-performs s w e calls r w' k.0 k.1)
 shown-step s w e calls (Err r) w' k = (like w w w' None (ap (λ (v : World). v.processors) (sym k.1)) (same w), tt)
 
 -- a world's clocks and who runs are those of a history
-pub record IsTold (count : ℕ) (w : World) (past : History) : Type 0 where
+pub record HasClocksOf (count : ℕ) (w : World) (past : History) : Type 0 where
   pub many : count_in w ≡ count
-  pub within : IsOf count past
+  pub within : IsOfProcessors count past
   pub last : (j : ℕ) → j < count → last_at w j ≡ clock j past
   pub who : (j : ℕ) → j < count → who_at w j ≡ runner j past
 
-told-step : (count : ℕ) (s : PolicySemantics) (w : World) (past : History) (e : Event) (calls : List Asked) (a : Result Reply Refusal) (w' : World) → IsTold count w past → WorldStep s w e calls a w' →
-    IsTold count w' (record { event = e; answer = a } ∷ past)
-told-step count s w past e calls a w' t k =
+reported-step : (count : ℕ) (s : PolicySemantics) (w : World) (past : History) (e : Event) (calls : List CounterCall)
+    (a : Result Reply Refusal) (w' : World)
+    → HasClocksOf count w past → WorldStep s w e calls a w'
+    → HasClocksOf count w' (record { event = e; answer = a } ∷ past)
+reported-step count s w past e calls a w' t k =
     let h = shown-step s w e calls a w' k in
     record {
       many = h.0.count ∙ t.many;
@@ -245,15 +272,18 @@ told-step count s w past e calls a w' t k =
       who = λ j inside. h.0.who j (rw t.many inside) ∙ ap (λ n. runner_after j n (sight_of e a)) (t.who j inside);
     }
 
-told-run : (count : ℕ) (s : PolicySemantics) (w : World) (past : History) (es : List Event) (calls : List (List Asked)) (answers : List (Result Reply Refusal)) (w' : World) → IsTold count w past →
-    WorldRun s w es calls answers w' → IsTold count w' (grown past es answers)
-told-run count s w past [] [] [] w' t k = rw k t
-told-run count s w past (e ∷ es) (c ∷ calls) (a ∷ answers) w' t k =
-    told-run count s k.0 (record { event = e; answer = a } ∷ past) es calls answers w' (told-step count s w past e c a k.0 t k.1) k.2
-told-run count s w past es calls answers w' t k = absurd k
+reported-run : (count : ℕ) (s : PolicySemantics) (w : World) (past : History) (es : List Event)
+    (calls : List (List CounterCall)) (answers : List (Result Reply Refusal)) (w' : World)
+    → HasClocksOf count w past → WorldRun s w es calls answers w'
+    → HasClocksOf count w' (grown past es answers)
+reported-run count s w past [] [] [] w' t k = rw k t
+reported-run count s w past (e ∷ es) (c ∷ calls) (a ∷ answers) w' t k =
+    reported-run count s k.0 (record { event = e; answer = a } ∷ past) es calls answers w'
+    (reported-step count s w past e c a k.0 t k.1) k.2
+reported-run count s w past es calls answers w' t k = absurd k
 
-opening-told : (count : ℕ) → IsTold count (opening_world count) []
-opening-told count = record {
+opening-reported : (count : ℕ) → HasClocksOf count (opening_world count) []
+opening-reported count = record {
   many = length-replicate count opening;
   within = tt;
   last = λ j inside. ap (λ (p : Processor). p.running.last) (get_or-replicate count j opening opening inside);
@@ -263,5 +293,5 @@ opening-told count = record {
 -- in each history of a world every processor's last reading, and its current task, are those of the history
 pub is_charged : IsCharged
 is_charged d count es calls answers w' run =
-    let t = told-run count (under_any_answers d) (opening_world count) [] es calls answers w' (opening-told count) run in
+    let t = reported-run count (under_any_answers d) (opening_world count) [] es calls answers w' (opening-reported count) run in
     (t.within, λ processor inside. (t.last processor inside, t.who processor inside))

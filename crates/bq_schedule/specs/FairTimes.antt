@@ -1,4 +1,4 @@
--- Fair times: what each reading of a clock gives to those that are runnable there.
+-- Fair times: what each reading of a clock gives to the tasks that are runnable there.
 use Rattle.std.specs.Prelude.{ℕ, ◌*◌, Option, Some, None, if◌then◌else◌}
 use Rattle.std.specs.List.{sum_by}
 use Rattle.bq_schedule.specs.declared.figures.TaskFigures.{TaskFigures}
@@ -8,26 +8,28 @@ use Rattle.bq_schedule.specs.Passing.{slice_at, length_of, part_of}
 use Rattle.bq_schedule.specs.Runnable.{fair_at}
 use Rattle.bq_schedule.specs.Slices.{is_this, Sight}
 
--- the weight that a task has at a processor: its own where it is runnable there
+-- the weight that a task has at a processor: its own if it is runnable there, otherwise 0
 abbrev pub weight_there : ℕ → TaskFigures → ℕ
 weight_there processor t = if is_this processor t.place then t.weight else 0
 
--- the weights together of all that are runnable at a processor
+-- the sum of the weights of all tasks that are runnable at a processor
 abbrev pub weights_at : Figures → ℕ → ℕ
 weights_at s processor = sum_by (weight_there processor) s.tasks
 
--- what a reading gives to a task: its weight there, times what each unit of weight is given of the slice
+-- what a reading gives to a task: its weight there, times what the slice gives to each unit of weight
 abbrev pub share : Figures → Option Sight → ℕ → ℕ
 share s None id = 0
 share s (Some x) id =
     weight_there x.processor (task_of s id) * part_of (length_of (slice_at x.processor (processor_of s x.processor) x.now)) (weights_at s x.processor)
 
--- the fair times of all tasks together, what was not shared out, and the time in which any task ran
+-- the sum of the fair times of all tasks
 abbrev pub all_fair : Figures → ℕ
 all_fair s = sum_by (λ (t : TaskFigures). fair_at s t t.place) s.tasks
 
+-- the parts that all processors could not share out
 abbrev pub all_unshared : Figures → ℕ
 all_unshared s = sum_by (λ (p : ProcessorFigures). p.unshared) s.processors
 
+-- the time in which any task ran, over all processors
 abbrev pub all_busy : Figures → ℕ
 all_busy s = sum_by (λ (p : ProcessorFigures). p.busy) s.processors

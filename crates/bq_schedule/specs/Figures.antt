@@ -5,16 +5,17 @@ use Rattle.bq_schedule.specs.declared.figures.TaskFigures.{TaskFigures}
 use Rattle.bq_schedule.specs.declared.figures.ProcessorFigures.{ProcessorFigures}
 use Rattle.bq_schedule.specs.declared.figures.HookFigures.{HookFigures}
 
--- of each processor by its number and each task by its id, and how many events were refused
+-- the figures of each processor by its number and of each task by its id, and how many events were refused
 pub record Figures : Type 0 where
   pub processors : List ProcessorFigures
   pub tasks : List TaskFigures
   pub refused : ℕ
 
+-- the figures of a hook before anything is decided there
 abbrev pub unasked : HookFigures
 unasked = record { asked = 0; overruled = 0; steps = 0 }
 
--- a processor whose clock was never read
+-- the figures of a processor whose clock was never read
 abbrev pub unread : ProcessorFigures
 unread = record {
   first = None;
@@ -33,7 +34,7 @@ unread = record {
   pull = unasked;
 }
 
--- an id that was never admitted
+-- the figures of an id that was never admitted
 abbrev pub unknown : TaskFigures
 unknown = record {
   is_admitted = false;
@@ -57,18 +58,22 @@ unknown = record {
   migrations = 0;
 }
 
--- nothing has happened yet
+-- the figures of this many processors before the first event
 abbrev pub opening : ℕ → Figures
 opening count = record { processors = replicate count unread; tasks = replicate TASKS unknown; refused = 0 }
 
+-- the figures of a processor; if it does not exist, those of one that was never read
 abbrev pub processor_of : Figures → ℕ → ProcessorFigures
 processor_of s processor = slice_index_or s.processors processor unread
 
+-- the figures of a task; if the id is out of range, those of one that was never admitted
 abbrev pub task_of : Figures → ℕ → TaskFigures
 task_of s id = slice_index_or s.tasks id unknown
 
+-- the figures with those of one processor replaced
 abbrev pub with_processor : Figures → ℕ → ProcessorFigures → Figures
 with_processor s processor p = record s { processors = slice_set s.processors processor p }
 
+-- the figures with those of one task replaced
 abbrev pub with_task : Figures → ℕ → TaskFigures → Figures
 with_task s id t = record s { tasks = slice_set s.tasks id t }

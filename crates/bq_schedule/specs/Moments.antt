@@ -1,4 +1,4 @@
--- What has happened: events, and what each was answered.
+-- What has happened: events and their answers.
 use Rattle.std.specs.Prelude.{List, Result}
 use Rattle.bq_parts.specs.declared.event.Event.{Event}
 use Rattle.bq_parts.specs.declared.reply.Reply.{Reply}
@@ -9,6 +9,6 @@ pub record Moment : Type 0 where
   pub event : Event
   pub answer : Result Reply Refusal
 
--- a history: the moment that came last stands first
+-- a history, with its last moment first
 abbrev pub History : Type 0
 History = List Moment

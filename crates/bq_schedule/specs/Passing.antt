@@ -1,4 +1,4 @@
--- A clock is read: what the processor's task is charged, how slices make runs, and what each runnable task's share is.
+-- A clock is read: what the processor's task is charged, how slices make runs, and what each unit of weight is given.
 use Rattle.std.specs.Prelude.{ℕ, ◌-◌, ◌*◌, ◌/◌, Bool, ◌==◌, ◌&&◌, nat_lt, Option, Some, None, is_some, if◌then◌else◌}
 use Rattle.bq_disc.specs.OneProcessor.{reading}
 use Rattle.bq_schedule.specs.declared.slice.Slice.{Slice}
@@ -6,48 +6,50 @@ use Rattle.bq_schedule.specs.declared.change.Start.{Start}
 use Rattle.bq_schedule.specs.declared.change.ClockReading.{ClockReading}
 use Rattle.bq_schedule.specs.declared.figures.TaskFigures.{TaskFigures}
 use Rattle.bq_schedule.specs.declared.figures.ProcessorFigures.{ProcessorFigures}
-use Rattle.bq_parts.specs.Counts.{counted}
-use Rattle.bq_schedule.specs.Counts.{counted_wide, parts}
+use Rattle.bq_parts.specs.Counts.{saturating_sum}
+use Rattle.bq_schedule.specs.Counts.{counted_wide, parts_per_nanosecond}
 use Rattle.bq_schedule.specs.Figures.{Figures, processor_of, task_of, with_processor, with_task}
 
--- the reading itself. It goes back where it is below the last
+-- the reading of a clock as it counts; the clock goes back if it reads less than the last time
 abbrev pub reading_at : ℕ → ProcessorFigures → ℕ → ClockReading
 reading_at processor p now = record { processor = processor; from = p.last; to = reading p.last now; is_back = nat_lt now p.last }
 
--- the stretch from one reading to another, of the task that ran; one of no length does not count
+-- the slice of the running task from one reading to another, unless it is empty
 abbrev pub slice_between : ℕ → ℕ → ℕ → Option Start → Option Slice
 slice_between processor from to None = None
 slice_between processor from to (Some start) =
     if nat_lt from to then Some (record { processor = processor; task = start.task; from = from; to = to }) else None
 
+-- the slice that a reading ends at a processor
 abbrev pub slice_at : ℕ → ProcessorFigures → ℕ → Option Slice
 slice_at processor p now = slice_between processor p.last (reading p.last now) p.running
 
+-- how long a slice is; 0 if there is no slice
 abbrev pub length_of : Option Slice → ℕ
 length_of None = 0
 length_of (Some s) = s.to - s.from
 
--- a slice goes on from a run: it is of the same task, and begins where the run ends
+-- a slice continues a run: it is of the same task, and begins where the run ends
 abbrev pub goes_on : Slice → Slice → Bool
 goes_on run s = run.task == s.task && run.to == s.from
 
--- the run that goes on last, after another slice
+-- the last run, after another slice: the slice continues it, or begins a new one
 abbrev pub joined_run : Option Slice → Option Slice → Option Slice
 joined_run run None = run
 joined_run None (Some s) = Some s
 joined_run (Some run) (Some s) = if goes_on run s then Some (record run { to = s.to }) else Some s
 
--- the run that another slice does not go on from
+-- the run that ends because the next slice does not continue it
 abbrev pub ended_run : Option Slice → Option Slice → Option Slice
 ended_run run None = None
 ended_run None (Some s) = None
 ended_run (Some run) (Some s) = if goes_on run s then None else Some run
 
--- what each unit of weight is given of this many nanoseconds, in whole parts: none where nothing is runnable
+-- what this many nanoseconds give to each unit of weight, in whole parts; 0 if nothing is runnable
 abbrev pub part_of : ℕ → ℕ → ℕ
-part_of time weight = time * parts / weight
+part_of time weight = time * parts_per_nanosecond / weight
 
--- the clock comes to a reading, and what ran is charged and shared out among those that are runnable
+-- the clock comes to a reading, and the slice is charged and shared out among the tasks that are runnable
 abbrev pub passed : ProcessorFigures → ℕ → Option Slice → ProcessorFigures
 passed p to s =
     let part = part_of (length_of s) p.weight in
@@ -55,31 +57,35 @@ passed p to s =
       first = (if is_some p.first then p.first else Some to);
       last = to;
       run = joined_run p.run s;
-      busy = counted p.busy (length_of s);
+      busy = saturating_sum p.busy (length_of s);
       shared = counted_wide p.shared part;
-      unshared = counted_wide p.unshared (length_of s * parts - p.weight * part);
+      unshared = counted_wide p.unshared (length_of s * parts_per_nanosecond - p.weight * part);
     }
 
+-- a processor's figures after a reading of its clock
 abbrev pub processor_read : ℕ → ProcessorFigures → ℕ → ProcessorFigures
 processor_read processor p now = passed p (reading p.last now) (slice_at processor p now)
 
+-- a task's figures after it was charged this length
 abbrev pub task_charged : TaskFigures → ℕ → TaskFigures
-task_charged t length = record t { time = counted t.time length }
+task_charged t length = record t { time = saturating_sum t.time length }
 
--- the slice counts for its task
+-- the figures after the slice was added to the time of its task
 abbrev pub with_charged : Figures → Option Slice → Figures
 with_charged s None = s
 with_charged s (Some slice) = with_task s slice.task (task_charged (task_of s slice.task) (length_of (Some slice)))
 
+-- the figures after a reading of a processor's clock
 abbrev pub read_at : ℕ → ℕ → Figures → Figures
 read_at processor now s =
     let p = processor_of s processor in
     with_charged (with_processor s processor (processor_read processor p now)) (slice_at processor p now)
 
--- the time from the first reading to the last in which nothing ran
+-- how much of the time from the first reading to the last was idle
 abbrev pub idle_since : Option ℕ → ℕ → ℕ → ℕ
 idle_since None last busy = 0
 idle_since (Some first) last busy = last - first - busy
 
+-- how long nothing ran at a processor, from its first reading to its last
 abbrev pub idle_of : ProcessorFigures → ℕ
 idle_of p = idle_since p.first p.last p.busy

@@ -1,8 +1,8 @@
--- Where a task is runnable: it comes to a processor, and leaves it. Meanwhile it has its share of what is shared out there.
+-- Where a task is runnable: it comes to a processor, and leaves it. In between it gets its share of what is shared out there.
 use Rattle.std.specs.Prelude.{ℕ, ◌-◌, ◌*◌, ◌^◌, min, ◌==◌, Option, Some, None, if◌then◌else◌}
 use Rattle.bq_schedule.specs.declared.figures.TaskFigures.{TaskFigures}
 use Rattle.bq_schedule.specs.declared.figures.ProcessorFigures.{ProcessorFigures}
-use Rattle.bq_parts.specs.Counts.{counted}
+use Rattle.bq_parts.specs.Counts.{saturating_sum}
 use Rattle.bq_schedule.specs.Counts.{counted_wide}
 use Rattle.bq_schedule.specs.Figures.{Figures, processor_of, task_of, with_processor, with_task}
 
@@ -10,29 +10,33 @@ use Rattle.bq_schedule.specs.Figures.{Figures, processor_of, task_of, with_proce
 abbrev pub pending : ProcessorFigures → TaskFigures → ℕ
 pending p t = min (t.weight * (p.shared - t.joined)) (2 ^ 128 - 1)
 
--- the fair time of a task, in parts: at all processors where it was, and where it is
+-- the fair time of a task, in parts: what it got at all processors where it was before, and what it got where it is
 abbrev pub fair_at : Figures → TaskFigures → Option ℕ → ℕ
 fair_at s t None = t.accrued
 fair_at s t (Some processor) = counted_wide t.accrued (pending (processor_of s processor) t)
 
+-- the fair time of the task with this id, in parts
 abbrev pub fair_of : Figures → ℕ → ℕ
 fair_of s id = let t = task_of s id in fair_at s t t.place
 
--- the processor on which it was placed, where that has made no more drains since
+-- the processor on which a task was placed, if that processor has made no more drains since
 abbrev pub undrained_at : Figures → Option ℕ → Option ℕ → Option ℕ
 undrained_at s (Some processor) (Some drains) = if (processor_of s processor).drains == drains then Some processor else None
 undrained_at s place drains = None
 
+-- the processor on which the task with this id was placed, if that processor has not drained its inbox since
 abbrev pub undrained : Figures → ℕ → Option ℕ
 undrained s id = let t = task_of s id in undrained_at s t.place t.drains
 
+-- a processor's figures after a task of this weight left
 abbrev pub processor_left : ProcessorFigures → ℕ → ProcessorFigures
 processor_left p weight = record p { runnable = p.runnable - 1; weight = p.weight - weight }
 
+-- a processor's figures after a task of this weight came
 abbrev pub processor_joined : ProcessorFigures → ℕ → ProcessorFigures
-processor_joined p weight = record p { runnable = counted p.runnable 1; weight = counted p.weight weight }
+processor_joined p weight = record p { runnable = saturating_sum p.runnable 1; weight = saturating_sum p.weight weight }
 
--- a task is runnable no longer, where it was
+-- a task is no longer runnable, if it was runnable at this place
 abbrev pub left_from : ℕ → Figures → Option ℕ → Figures
 left_from id s None = s
 left_from id s (Some processor) =
@@ -40,10 +44,11 @@ left_from id s (Some processor) =
     with_task (with_processor s processor (processor_left (processor_of s processor) t.weight)) id
     (record t { accrued = fair_at s t (Some processor); place = None; drains = None })
 
+-- a task is no longer runnable, if it was
 abbrev pub leaves : ℕ → Figures → Figures
 leaves id s = left_from id s (task_of s id).place
 
--- a task that is runnable nowhere is runnable here from now on, and waits
+-- a task that is not runnable becomes runnable here now, and waits
 abbrev pub joins : ℕ → ℕ → ℕ → Figures → Figures
 joins id processor now s =
     let t = task_of s id in
@@ -51,6 +56,6 @@ joins id processor now s =
     with_task (with_processor s processor (processor_joined p t.weight)) id
     (record t { place = Some processor; since = now; joined = p.shared })
 
--- a task comes from wherever it was
+-- a task becomes runnable here, and nowhere else
 abbrev pub comes : ℕ → ℕ → ℕ → Figures → Figures
 comes id processor now s = joins id processor now (leaves id s)

@@ -1,4 +1,4 @@
--- What each moment changes: in the figures, and as it is reported.
+-- What each moment changes in the figures, and what is reported of it.
 use Rattle.std.specs.Prelude.{ℕ, ◌-◌, ℤ, true, false, Bool, ◌||◌, ◌&&◌, not, nat_lt, [], ◌∷◌, length, Option, Some, None, Result, Ok, Err, if◌then◌else◌}
 use Rattle.std.specs.Option.{option_map}
 use Rattle.bq_weights.specs.VirtualTime.{is_nice, weight_of}
@@ -18,7 +18,7 @@ use Rattle.bq_schedule.specs.declared.change.PulledTask.{PulledTask}
 use Rattle.bq_schedule.specs.declared.change.Left.TheVariants.{Preempted, Blocked}
 use Rattle.bq_schedule.specs.declared.figures.ProcessorFigures.{ProcessorFigures}
 use Rattle.bq_schedule.specs.declared.figures.HookFigures.{HookFigures}
-use Rattle.bq_parts.specs.Counts.{counted}
+use Rattle.bq_parts.specs.Counts.{saturating_sum}
 use Rattle.bq_schedule.specs.Moments.{History}
 use Rattle.bq_schedule.specs.Figures.{Figures, opening, processor_of, task_of, with_processor, with_task}
 use Rattle.bq_schedule.specs.Passing.{reading_at, slice_at, ended_run, read_at}
@@ -29,34 +29,38 @@ use Rattle.bq_schedule.specs.Running.{switched, stop_at, start_at}
 abbrev pub nothing : Change
 nothing = record { reading = None; slice = None; run = None; decision = None; wake = None; pull = None; stop = None; start = None }
 
--- a policy was asked: it took steps, or its answer stands
+-- whether a policy decided
 abbrev pub is_by_policy : By → Bool
 is_by_policy who.Policy = true
 is_by_policy who.Discipline = false
 
+-- whether a policy was asked: it took steps, or it decided
 abbrev pub was_asked : Decision → Bool
 was_asked d = is_by_policy d.by || nat_lt 0 d.steps
 
--- it was asked, and the discipline chose all the same
+-- a policy was asked, and the discipline decided nonetheless
 abbrev pub was_overruled : Decision → Bool
 was_overruled d = not (is_by_policy d.by) && nat_lt 0 d.steps
 
+-- a hook's figures after a decision
 abbrev pub hook_asked : HookFigures → Decision → HookFigures
 hook_asked h d = record {
-  asked = counted h.asked (if was_asked d then 1 else 0);
-  overruled = counted h.overruled (if was_overruled d then 1 else 0);
-  steps = counted h.steps d.steps;
+  asked = saturating_sum h.asked (if was_asked d then 1 else 0);
+  overruled = saturating_sum h.overruled (if was_overruled d then 1 else 0);
+  steps = saturating_sum h.steps d.steps;
 }
 
+-- a processor's figures after a decision of one of its hooks
 abbrev pub processor_asked : ProcessorFigures → Decision → Hook → ProcessorFigures
 processor_asked p d Place = record p { place = hook_asked p.place d }
 processor_asked p d Preempt = record p { preempt = hook_asked p.preempt d }
 processor_asked p d OnPull = record p { pull = hook_asked p.pull d }
 
+-- the figures after a decision of a processor's hook
 abbrev pub asked : ℕ → Decision → Figures → Figures
 asked processor d s = with_processor s processor (processor_asked (processor_of s processor) d d.hook)
 
--- the weight of a nice value; none is outside the table
+-- the weight of a nice value; 0 if the value is outside the table
 abbrev pub weight_at : ℤ → ℕ
 weight_at nice = if is_nice nice then weight_of nice else 0
 
@@ -64,23 +68,23 @@ weight_at nice = if is_nice nice then weight_of nice else 0
 abbrev pub admitted : ℕ → ℤ → Figures → Figures
 admitted id nice s = with_task s id (record (task_of s id) { is_admitted = true; nice = nice; weight = weight_at nice })
 
--- a wake of the task ended then
+-- the wake of a placed task ended at this moment
 abbrev pub woken : ℕ → ℕ → ℕ → Figures → Figures
 woken id processor now s =
     let t = task_of s id in
-    with_task s id (record t { wakes = counted t.wakes 1; woken = Some now; drains = Some (processor_of s processor).drains })
+    with_task s id (record t { wakes = saturating_sum t.wakes 1; woken = Some now; drains = Some (processor_of s processor).drains })
 
--- how long it has waited where it is taken from counts
+-- the figures after a task's wait was counted where it was
 abbrev pub waited_there : ℕ → ℕ → Figures → Figures
 waited_there id now s =
     let t = task_of s id in
-    with_task s id (record t { waited = counted t.waited (now - t.since) })
+    with_task s id (record t { waited = saturating_sum t.waited (now - t.since) })
 
--- the inbox was drained
+-- the figures after a processor drained its inbox
 abbrev pub emptied : ℕ → Figures → Figures
-emptied processor s = let p = processor_of s processor in with_processor s processor (record p { drains = counted p.drains 1 })
+emptied processor s = let p = processor_of s processor in with_processor s processor (record p { drains = saturating_sum p.drains 1 })
 
--- a task may have been pulled
+-- the figures after a task was pulled, if one was
 abbrev pub taken : ℕ → ℕ → Option ℕ → Figures → Figures
 taken processor now None s = s
 taken processor now (Some id) s = comes id processor now (waited_there id now s)
@@ -89,6 +93,7 @@ taken processor now (Some id) s = comes id processor now (waited_there id now s)
 abbrev pub move_of : ℕ → ℕ → ℕ → ℕ → Figures → PulledTask
 move_of from to at id s = record { task = id; from = from; to = to; at = at; waited = at - (task_of s id).since }
 
+-- what is reported of the task that is pulled, if one is
 abbrev pub moves_as : ℕ → ℕ → ℕ → Option ℕ → Figures → Option PulledTask
 moves_as from to at task s = option_map (λ (id : ℕ). move_of from to at id s) task
 
@@ -96,60 +101,65 @@ moves_as from to at task s = option_map (λ (id : ℕ). move_of from to at id s)
 abbrev pub time_at : ℕ → ℕ → Figures → ℕ
 time_at processor now s = reading (processor_of s processor).last now
 
--- where nothing but a reading is reported
-abbrev pub read_told : ℕ → ℕ → Figures → Change
-read_told processor now s =
+-- what is reported of only a reading
+abbrev pub report_of_reading : ℕ → ℕ → Figures → Change
+report_of_reading processor now s =
     let p = processor_of s processor in
     record nothing { reading = Some (reading_at processor p now); slice = slice_at processor p now; run = ended_run p.run (slice_at processor p now) }
 
+-- the figures after a wake ended and its task was placed
 abbrev pub placed : ℕ → ℕ → Decision → ℕ → ℕ → Figures → Figures
 placed processor now d id to s =
     let at = time_at processor now s in
     woken id to at (comes id to at (asked processor d (read_at processor now s)))
 
-abbrev pub placed_told : ℕ → ℕ → Decision → ℕ → ℕ → Figures → Change
-placed_told processor now d id to s =
-    record (read_told processor now s) { decision = Some d; wake = Some (record { task = id; from = processor; to = to; at = time_at processor now s }) }
+-- what is reported of a wake that ended
+abbrev pub report_of_placement : ℕ → ℕ → Decision → ℕ → ℕ → Figures → Change
+report_of_placement processor now d id to s =
+    record (report_of_reading processor now s) { decision = Some d; wake = Some (record { task = id; from = processor; to = to; at = time_at processor now s }) }
 
--- a hook has answered, and this task runs
+-- the figures after the hook `preempt` decided, and this task runs
 abbrev pub decided : ℕ → ℕ → Decision → Option ℕ → Figures → Figures
 decided processor now d run s = switched Preempted processor (time_at processor now s) run (asked processor d (read_at processor now s))
 
-abbrev pub decided_told : ℕ → ℕ → Decision → Option ℕ → Figures → Change
-decided_told processor now d run s =
+-- what is reported of a decision of the hook `preempt`
+abbrev pub report_of_decision : ℕ → ℕ → Decision → Option ℕ → Figures → Change
+report_of_decision processor now d run s =
     let s' = asked processor d (read_at processor now s) in
     let at = time_at processor now s in
-    record (read_told processor now s) { decision = Some d; stop = stop_at Preempted processor at run s'; start = start_at Preempted processor at run s' }
+    record (report_of_reading processor now s) { decision = Some d; stop = stop_at Preempted processor at run s'; start = start_at Preempted processor at run s' }
 
--- the task went to sleep, and this one runs
+-- the figures after the running task went to sleep, and this one runs
 abbrev pub blocked : ℕ → ℕ → ℕ → Option ℕ → Figures → Figures
 blocked processor now id run s = switched Blocked processor (time_at processor now s) run (leaves id (read_at processor now s))
 
-abbrev pub blocked_told : ℕ → ℕ → ℕ → Option ℕ → Figures → Change
-blocked_told processor now id run s =
+-- what is reported of a task that went to sleep
+abbrev pub report_of_block : ℕ → ℕ → ℕ → Option ℕ → Figures → Change
+report_of_block processor now id run s =
     let s' = leaves id (read_at processor now s) in
     let at = time_at processor now s in
-    record (read_told processor now s) { stop = stop_at Blocked processor at run s'; start = start_at Blocked processor at run s' }
+    record (report_of_reading processor now s) { stop = stop_at Blocked processor at run s'; start = start_at Blocked processor at run s' }
 
--- a task may have been pulled, and this one runs
+-- the figures after a task was pulled, if one was, and this one runs
 abbrev pub pulled : ℕ → ℕ → Decision → Option ℕ → Option ℕ → Figures → Figures
 pulled processor now d task run s =
     let at = time_at processor now s in
     switched Preempted processor at run (taken processor at task (asked processor d (read_at processor now s)))
 
-abbrev pub pulled_told : ℕ → ℕ → ℕ → Decision → Option ℕ → Option ℕ → Figures → Change
-pulled_told processor from now d task run s =
+-- what is reported of a pull
+abbrev pub report_of_pull : ℕ → ℕ → ℕ → Decision → Option ℕ → Option ℕ → Figures → Change
+report_of_pull processor from now d task run s =
     let at = time_at processor now s in
     let s1 = asked processor d (read_at processor now s) in
     let s2 = taken processor at task s1 in
-    record (read_told processor now s) {
+    record (report_of_reading processor now s) {
       decision = Some d;
       pull = moves_as from processor at task s1;
       stop = stop_at Preempted processor at run s2;
       start = start_at Preempted processor at run s2;
     }
 
--- What an answer changes in the figures. One that is not of its event's kind changes nothing
+-- What an answer changes in the figures. An answer that is not of its event's kind changes nothing
 abbrev pub performed : Figures → Event → Reply → Figures
 performed s (Admit id nice mask slice) Admitted = admitted id nice (leaves id s)
 performed s (EndWake processor now) (Placed task to by steps) = placed processor now (record { hook = Place; by = by; steps = steps }) task to s
@@ -159,16 +169,16 @@ performed s (Block processor now) (Went task run) = blocked processor now task r
 performed s (Pull processor from now) (Pulled task run by steps) = pulled processor now (record { hook = OnPull; by = by; steps = steps }) task run s
 performed s e r = s
 
--- and what is reported of it
-abbrev pub performed_told : Figures → Event → Reply → Change
-performed_told s (EndWake processor now) (Placed task to by steps) = placed_told processor now (record { hook = Place; by = by; steps = steps }) task to s
-performed_told s (Drain processor now) (Drained count run by steps) = decided_told processor now (record { hook = Preempt; by = by; steps = steps }) run s
-performed_told s (Tick processor now) (Ticked run by steps) = decided_told processor now (record { hook = Preempt; by = by; steps = steps }) run s
-performed_told s (Block processor now) (Went task run) = blocked_told processor now task run s
-performed_told s (Pull processor from now) (Pulled task run by steps) = pulled_told processor from now (record { hook = OnPull; by = by; steps = steps }) task run s
-performed_told s e r = nothing
+-- what is reported of an answer
+abbrev pub report_of_answer : Figures → Event → Reply → Change
+report_of_answer s (EndWake processor now) (Placed task to by steps) = report_of_placement processor now (record { hook = Place; by = by; steps = steps }) task to s
+report_of_answer s (Drain processor now) (Drained count run by steps) = report_of_decision processor now (record { hook = Preempt; by = by; steps = steps }) run s
+report_of_answer s (Tick processor now) (Ticked run by steps) = report_of_decision processor now (record { hook = Preempt; by = by; steps = steps }) run s
+report_of_answer s (Block processor now) (Went task run) = report_of_block processor now task run s
+report_of_answer s (Pull processor from now) (Pulled task run by steps) = report_of_pull processor from now (record { hook = OnPull; by = by; steps = steps }) task run s
+report_of_answer s e r = nothing
 
--- the processor whose clock the event reads is there, if it reads one
+-- the processor exists whose clock the event reads; true if the event reads no clock
 abbrev pub is_there : Figures → Event → Bool
 is_there s (EndWake processor now) = nat_lt processor (length s.processors)
 is_there s (Drain processor now) = nat_lt processor (length s.processors)
@@ -180,11 +190,11 @@ is_there s e = true
 -- the figures after an event and its answer. A refused event is counted, and changes nothing else
 abbrev pub after : Figures → Event → Result Reply Refusal → Figures
 after s e (Ok r) = if is_there s e then performed s e r else s
-after s e (Err r) = record s { refused = counted s.refused 1 }
+after s e (Err r) = record s { refused = saturating_sum s.refused 1 }
 
--- what is reported of it
+-- what is reported of an event and its answer
 abbrev pub change : Figures → Event → Result Reply Refusal → Change
-change s e (Ok r) = if is_there s e then performed_told s e r else nothing
+change s e (Ok r) = if is_there s e then report_of_answer s e r else nothing
 change s e (Err r) = nothing
 
 -- the figures that a history leaves

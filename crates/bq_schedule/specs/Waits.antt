@@ -1,4 +1,4 @@
--- Since when a task waits to run, and how long it has waited as its pulls and starts tell it.
+-- When a task began to wait, and how long it has waited by what its pulls and starts report.
 use Rattle.std.specs.Prelude.{ℕ, ◌+◌, Bool, not, ◌&&◌, ◌||◌, ◌==◌, [], ◌∷◌, Option, Some, None, Result, Ok, if◌then◌else◌, unwrap_or}
 use Rattle.bq_disc.specs.OneProcessor.{reading}
 use Rattle.bq_parts.specs.declared.event.Event.{Event}
@@ -13,15 +13,15 @@ use Rattle.bq_schedule.specs.Moments.{History}
 use Rattle.bq_schedule.specs.Slices.{clock, runner, is_this}
 use Rattle.bq_schedule.specs.Steps.{change, figures}
 
--- the task gives way: it ran, and from now on does not
+-- the task gives way: it ran, and does not run from now on
 abbrev pub gives_way : ℕ → Option ℕ → Option ℕ → Bool
 gives_way id who run = is_this id who && not (is_this id run)
 
--- then, where that is so
+-- this moment, if a condition holds
 abbrev pub then_if : Bool → ℕ → Option ℕ
 then_if b at = if b then Some at else None
 
--- when a moment has the task wait, by the clock of the event's processor: it is placed, pulled or preempted
+-- when a moment makes the task wait, by the clock of the event's processor: the task is placed, pulled or preempted
 abbrev pub wait_begins : ℕ → History → Event → Result Reply Refusal → Option ℕ
 wait_begins id past (EndWake processor now) (Ok (Placed task to by steps)) = then_if (task == id) (reading (clock processor past) now)
 wait_begins id past (Drain processor now) (Ok (Drained count run by steps)) = then_if (gives_way id (runner processor past) run) (reading (clock processor past) now)
@@ -30,24 +30,26 @@ wait_begins id past (Pull processor from now) (Ok (Pulled task run by steps)) =
     then_if (is_this id task || gives_way id (runner processor past) run) (reading (clock processor past) now)
 wait_begins id past e a = None
 
--- since when the task waits, or has waited before it ran: 0 where it never has
+-- when the task's last wait began; 0 if it never waited
 abbrev pub waits_since : ℕ → History → ℕ
 waits_since id [] = 0
 waits_since id (m ∷ past) = unwrap_or (wait_begins id past m.event m.answer) (waits_since id past)
 
--- how long a task has waited as a pull of it tells, and as a start of it does
+-- how long a task has waited, as a pull reports it; 0 if the pull is not of this task
 abbrev pub wait_of_pull : ℕ → Option PulledTask → ℕ
 wait_of_pull id None = 0
 wait_of_pull id (Some p) = if p.task == id then p.waited else 0
 
+-- how long a task has waited, as a start reports it; 0 if the start is not of this task
 abbrev pub wait_of_start : ℕ → Option Start → ℕ
 wait_of_start id None = 0
 wait_of_start id (Some s) = if s.task == id then s.waited else 0
 
-abbrev pub wait_told : ℕ → Change → ℕ
-wait_told id c = wait_of_pull id c.pull + wait_of_start id c.start
+-- how long a task has waited, as one change reports it
+abbrev pub reported_wait : ℕ → Change → ℕ
+reported_wait id c = wait_of_pull id c.pull + wait_of_start id c.start
 
--- how long it has waited as all of them tell
-abbrev pub waits_told : ℕ → ℕ → History → ℕ
-waits_told count id [] = 0
-waits_told count id (m ∷ past) = waits_told count id past + wait_told id (change (figures count past) m.event m.answer)
+-- how long a task has waited in all, as a history reports it
+abbrev pub reported_waits : ℕ → ℕ → History → ℕ
+reported_waits count id [] = 0
+reported_waits count id (m ∷ past) = reported_waits count id past + reported_wait id (change (figures count past) m.event m.answer)

@@ -1,4 +1,4 @@
--- Which wakes still wait for their task to run.
+-- Which wakes have not led to a run of their task yet.
 use Rattle.std.specs.Prelude.{ℕ, Bool, false, not, ◌==◌, ◌&&◌, [], ◌∷◌, Option, Some, None, Result, Ok, if◌then◌else◌}
 use Rattle.bq_disc.specs.OneProcessor.{reading}
 use Rattle.bq_parts.specs.declared.event.Event.{Event}
@@ -9,11 +9,12 @@ use Rattle.bq_parts.specs.declared.refusal.Refusal.{Refusal}
 use Rattle.bq_schedule.specs.Moments.{History}
 use Rattle.bq_schedule.specs.Slices.{is_this, Sight, sight_of, clock, runner}
 
--- the task begins to run: from now on it does, and it did not
+-- the task starts running: it runs from now on, and did not before
 abbrev pub begins_as : ℕ → Option ℕ → Option (Option ℕ) → Bool
 begins_as id who None = false
 begins_as id who (Some run) = is_this id run && not (is_this id who)
 
+-- the task starts running with what an answer shows
 abbrev pub begins : ℕ → History → Option Sight → Bool
 begins id past None = false
 begins id past (Some s) = begins_as id (runner s.processor past) s.run
@@ -23,12 +24,12 @@ abbrev pub wake_end : ℕ → History → Event → Result Reply Refusal → Opt
 wake_end id past (EndWake processor now) (Ok (Placed task to by steps)) = if task == id then Some (reading (clock processor past) now) else None
 wake_end id past e a = None
 
--- a wake ends; or the task begins to run, and waits for no wake's run any more; or all stays
+-- the end of the wake that has not led to a run: a new wake's, or none if the task starts running, or the same as before
 abbrev pub awaited_after : Option ℕ → Bool → Option ℕ → Option ℕ
 awaited_after (Some at) has_begun before = Some at
 awaited_after None has_begun before = if has_begun then None else before
 
--- when the last wake of the task ended, where it has not run since: none once it has
+-- when the last wake of the task ended, if the task has not run since
 abbrev pub awaited : ℕ → History → Option ℕ
 awaited id [] = None
 awaited id (m ∷ past) =

@@ -1,6 +1,6 @@
-//! What came of each hook.
+//! How often each hook's policies were asked, and what became of their answers.
 ghost use Rattle.std.specs.Prelude.{◌≡◌, if◌then◌else◌};
-ghost use Rattle.bq_parts.specs.Counts.{counted};
+ghost use Rattle.bq_parts.specs.Counts.{saturating_sum};
 ghost use Rattle.bq_schedule.specs.Steps.{hook_asked, processor_asked, asked};
 
 use crate::change::Decision;
@@ -9,7 +9,7 @@ use crate::schedule::Schedule;
 use bq_hooks::Hook;
 
 impl Schedule {
-    /// A hook of a processor came to its choice.
+    /// Counts a decision of a processor's hook.
     pub(crate) fn ask(&mut self, processor: u8, decision: &Decision)
         ensures { self.new ≡ asked processor decision.now self.old }
     {
@@ -20,7 +20,7 @@ impl Schedule {
 }
 
 impl ProcessorFigures {
-    /// A hook came to its choice.
+    /// Counts a decision of a hook.
     fn ask(&mut self, decision: &Decision)
         ensures { self.new ≡ processor_asked self.old decision.now decision.now.hook }
     {
@@ -33,7 +33,7 @@ impl ProcessorFigures {
 }
 
 impl HookFigures {
-    /// This came of the hook.
+    /// Counts one decision of this hook.
     fn ask(&mut self, decision: &Decision)
         ensures { self.new ≡ hook_asked self.old decision.now }
     {
@@ -43,9 +43,9 @@ impl HookFigures {
     }
 }
 
-/// A count, one further where something holds.
+/// A count, one higher if something holds.
 pub(crate) fn count_if(count: u64, holds: bool) -> u64
-    ensures { result ≡ counted count (if holds then 1 else 0) }
+    ensures { result ≡ saturating_sum count (if holds then 1 else 0) }
 {
     if holds {
         count.saturating_add(1)

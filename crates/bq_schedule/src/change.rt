@@ -5,33 +5,33 @@ ghost use Rattle.std.specs.Prelude.{◌≡◌};
 use crate::slice::Slice;
 use bq_hooks::{By, Hook};
 
-/// What one answer changes. An event that is refused changes nothing, nor does one whose answer is not of its kind, or that
-/// names a processor that is not there. Times are nanoseconds of the clock of the event's processor.
+/// What one answer changes. An event changes nothing if it is refused, if its answer is not of its kind, or if it names a processor
+/// that does not exist. Times are nanoseconds of the clock of the event's processor.
 #[derive(Clone, Copy, PartialEq, Eq)]
 pub struct Change {
-    /// The reading of the processor's clock, where the event has one.
+    /// The reading of the processor's clock, if the event has one.
     pub reading: Option<ClockReading>,
-    /// What the processor's task was charged at that reading.
+    /// The slice that the processor's task was charged at that reading.
     pub slice: Option<Slice>,
-    /// The run before that slice, which ended: the slice does not go on from it. The run that goes on last is with the
+    /// The run before that slice, if it ended because the slice does not continue it. The last run, which may go on, is in the
     /// figures of its processor.
     pub run: Option<Slice>,
-    /// What the policy of a hook, or the discipline, decided.
+    /// What a hook decided, by its policy or by the discipline.
     pub decision: Option<Decision>,
-    /// A wake ended: its task was placed.
+    /// A wake that ended: its task was placed.
     pub wake: Option<Wake>,
-    /// A task was pulled from another processor.
+    /// A task that was pulled from another processor.
     pub pull: Option<PulledTask>,
-    /// The task that ran at the processor no longer does.
+    /// The task that stopped running at the processor.
     pub stop: Option<Stop>,
-    /// Another task runs at the processor now.
+    /// The task that started running at the processor.
     pub start: Option<Start>,
 }
 
 impl Change {
     ghost use Rattle.bq_schedule.specs.Steps.{nothing};
 
-    /// Nothing has changed.
+    /// A change of nothing.
     pub fn nothing() -> Change
         ensures { result ≡ nothing }
     {
@@ -52,41 +52,41 @@ impl Change {
 #[derive(Clone, Copy, PartialEq, Eq)]
 pub struct ClockReading {
     pub processor: u8,
-    /// The reading before, 0 at first.
+    /// The reading before this one, 0 if this is the first.
     pub from: u64,
-    /// The reading as it counts: at most 2^48 - 1, and no less than the one before.
+    /// The reading as it counts: at most 2^48 - 1, and no less than the reading before.
     pub to: u64,
-    /// Whether the clock went back: then it counts as the reading before.
+    /// Whether the clock went back. The reading before counts then.
     pub is_back: bool,
 }
 
-/// A hook came to its choice.
+/// What a hook decided.
 #[derive(Clone, Copy, PartialEq, Eq)]
 pub struct Decision {
     pub hook: Hook,
     pub by: By,
-    /// The instructions that the policy took, 0 where none was asked.
+    /// The instructions that the policy took, 0 if no policy was asked.
     pub steps: u32,
 }
 
 impl Decision {
     ghost use Rattle.bq_schedule.specs.Steps.{was_asked, was_overruled};
 
-    /// The choice of a hook, by whom, and in how many steps of a policy.
+    /// The decision of a hook: who made it, and how many steps a policy took.
     pub(crate) fn new(hook: Hook, by: By, steps: u32) -> Decision
         ensures { result ≡ record { hook = hook; by = by; steps = steps } }
     {
         Decision { hook, by, steps }
     }
 
-    /// Whether a policy was asked: it took steps, or its answer stands.
+    /// Whether a policy was asked: it took steps, or it decided.
     pub fn was_asked(&self) -> bool
         ensures { result ≡ was_asked self.now }
     {
         self.by == By::Policy || self.steps > 0
     }
 
-    /// Whether a policy was asked, and the discipline chose all the same: the policy's answer is not permitted.
+    /// Whether a policy was asked and the discipline decided nonetheless: the policy's answer is not permitted.
     pub fn was_overruled(&self) -> bool
         ensures { result ≡ was_overruled self.now }
     {
@@ -98,11 +98,11 @@ impl Decision {
 #[derive(Clone, Copy, PartialEq, Eq)]
 pub struct Wake {
     pub task: u16,
-    /// The processor that woke it.
+    /// The processor that woke the task.
     pub from: u8,
-    /// The processor on which it was placed.
+    /// The processor on which the task was placed.
     pub to: u8,
-    /// When its wake ended, by the clock of the processor that woke it.
+    /// When the wake ended, by the clock of the processor that woke the task.
     pub at: u64,
 }
 
@@ -113,7 +113,7 @@ pub struct PulledTask {
     pub from: u8,
     pub to: u8,
     pub at: u64,
-    /// How long it had waited where it was taken from: 0 where the two clocks disagree the other way.
+    /// How long the task had waited at the processor that it was taken from. 0 if clocks disagree so that it would be negative.
     pub waited: u64,
 }
 
@@ -123,13 +123,13 @@ pub struct Start {
     pub processor: u8,
     pub task: u16,
     pub at: u64,
-    /// How long it had waited at this processor since it was placed, preempted or pulled: 0 where clocks disagree the other
-    /// way.
+    /// How long the task had waited at this processor since it was placed, preempted or pulled. 0 if clocks disagree so that it
+    /// would be negative.
     pub waited: u64,
-    /// Where this is the first time it runs since its wake: how long it is since that wake ended, 0 where the clocks of the
-    /// two processors disagree the other way.
+    /// How long it is since the task's wake ended, if this is its first run since that wake. 0 if clocks disagree so that it would
+    /// be negative.
     pub latency: Option<u64>,
-    /// The processor where it ran before. It has migrated where that is another.
+    /// The processor where the task ran before. The task has migrated if that is another processor.
     pub before: Option<u8>,
 }
 
@@ -147,20 +147,20 @@ impl Start {
     }
 }
 
-/// A task ceased to run.
+/// A task stopped running.
 #[derive(Clone, Copy, PartialEq, Eq)]
 pub struct Stop {
-    /// How it had begun.
+    /// The start that this stop ends.
     pub start: Start,
     pub at: u64,
     pub left: Left,
 }
 
-/// Why a task ceased to run.
+/// Why a task stopped running.
 #[derive(Clone, Copy, PartialEq, Eq)]
 pub enum Left {
-    /// Another runs in its place, and it waits.
+    /// Another task runs instead, and this one waits.
     Preempted,
-    /// It went to sleep.
+    /// The task went to sleep.
     Blocked,
 }

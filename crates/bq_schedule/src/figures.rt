@@ -5,7 +5,7 @@ ghost use Rattle.std.specs.Prelude.{◌≡◌, ◌-◌};
 use crate::change::Start;
 use crate::slice::Slice;
 
-/// The figures of a task. A count stops at its type's greatest number. An id that is admitted again is counted on.
+/// The figures of a task. A count stops at its type's greatest number. If an id is admitted again, its figures go on.
 #[derive(Clone, Copy)]
 pub struct TaskFigures {
     /// Whether the id was ever admitted.
@@ -14,45 +14,45 @@ pub struct TaskFigures {
     /// The weight of its nice value.
     pub weight: u32,
 
-    /// The processor at which it is runnable: it was placed or pulled there, and has not gone to sleep since.
+    /// The processor at which the task is runnable: the task was placed or pulled there, and has not gone to sleep since.
     pub place: Option<u8>,
-    /// Since when it waits there, or waited before it ran: it was placed, preempted or pulled then.
+    /// When the task's last wait began: it was placed, preempted or pulled then.
     pub since: u64,
-    /// When its last wake ended, where it has not run since.
+    /// When the task's last wake ended, if the task has not run since.
     pub woken: Option<u64>,
-    /// How many drains its processor had made when it was placed there, where it has neither run nor been pulled since.
+    /// How many drains the processor had made when the task was placed there, if the task has neither run nor been pulled since.
     pub drains: Option<u64>,
-    /// The processor where it ran last.
+    /// The processor where the task ran last.
     pub before: Option<u8>,
-    /// How much its processor had shared out to each unit of weight when the task came there.
+    /// How much the processor had given to each unit of weight when the task came there.
     pub joined: u128,
-    /// Its fair time at all processors where it was runnable before this one, in parts of a nanosecond.
+    /// The task's fair time at all processors where it was runnable before this one, in parts of a nanosecond.
     pub accrued: u128,
 
-    /// The time that it ran, in nanoseconds: the sum of its slices.
+    /// How long the task ran, in nanoseconds: the sum of its slices.
     pub time: u64,
-    /// The time that it waited, in nanoseconds.
+    /// How long the task waited, in nanoseconds.
     pub waited: u64,
-    /// How often it was woken.
+    /// How often the task was woken.
     pub wakes: u64,
-    /// How many of these wakes it has run after.
+    /// After how many of these wakes the task has run.
     pub latencies: u64,
-    /// Their latencies together, in nanoseconds.
+    /// The sum of these latencies from wake to run, in nanoseconds.
     pub latency: u64,
-    /// The greatest of them.
+    /// The greatest of these latencies.
     pub greatest_latency: u64,
-    /// How often it began to run.
+    /// How often the task started running.
     pub switches: u64,
-    /// How often another task was put in its place.
+    /// How often another task took its place.
     pub preemptions: u64,
-    /// How often it began to run at another processor than before.
+    /// How often the task started running at another processor than before.
     pub migrations: u64,
 }
 
 impl TaskFigures {
     ghost use Rattle.bq_schedule.specs.Figures.{unknown};
 
-    /// Those of an id that was never admitted.
+    /// The figures of an id that was never admitted.
     pub fn new() -> TaskFigures
         ensures { result ≡ unknown }
     {
@@ -85,27 +85,27 @@ impl TaskFigures {
 pub struct ProcessorFigures {
     /// The first reading of its clock.
     pub first: Option<u64>,
-    /// The last reading, 0 where there was none.
+    /// The last reading, 0 if there was none.
     pub last: u64,
-    /// The task that runs, and how it began.
+    /// How the running task started, if one runs.
     pub running: Option<Start>,
     /// The last run, which may go on.
     pub run: Option<Slice>,
 
-    /// How many tasks are runnable here: the one that runs, those of the queue and those of the inbox.
+    /// How many tasks are runnable here: the running task, those of the queue and those of the inbox.
     pub runnable: u64,
-    /// Their weights together.
+    /// The sum of the weights of the runnable tasks.
     pub weight: u64,
-    /// How much each unit of weight was given that was runnable here all the time, in parts of a nanosecond.
+    /// How much each unit of weight was given that was always runnable here, in parts of a nanosecond.
     pub shared: u128,
-    /// What could not be shared out in whole parts.
+    /// The parts that could not be shared out evenly.
     pub unshared: u128,
 
-    /// The time in which a task ran, in nanoseconds: the sum of its slices.
+    /// How long a task ran here, in nanoseconds: the sum of the processor's slices.
     pub busy: u64,
-    /// How often a task began to run here.
+    /// How often a task started running here.
     pub switches: u64,
-    /// How often its inbox was drained.
+    /// How often the inbox was drained.
     pub drains: u64,
     pub place: HookFigures,
     pub preempt: HookFigures,
@@ -116,7 +116,7 @@ impl ProcessorFigures {
     ghost use Rattle.bq_schedule.specs.Figures.{unread};
     ghost use Rattle.bq_schedule.specs.Passing.{idle_of};
 
-    /// Those of a processor at which nothing has happened.
+    /// The figures of a processor before anything happens there.
     pub fn new() -> ProcessorFigures
         ensures { result ≡ unread }
     {
@@ -154,16 +154,16 @@ impl ProcessorFigures {
 pub struct HookFigures {
     /// How often a policy was asked.
     pub asked: u64,
-    /// How often it was asked, and what it answered was not permitted.
+    /// How often a policy was asked and its answer was not permitted.
     pub overruled: u64,
-    /// The instructions that it took together.
+    /// The sum of the instructions that policies took.
     pub steps: u64,
 }
 
 impl HookFigures {
     ghost use Rattle.bq_schedule.specs.Figures.{unasked};
 
-    /// Those of a hook at which nothing was decided.
+    /// The figures of a hook before anything is decided there.
     pub fn new() -> HookFigures
         ensures { result ≡ unasked }
     {

@@ -6,8 +6,8 @@ ghost use Rattle.bq_schedule.specs.Percentiles.{rank};
 use std::alloc::{AllocError, Global};
 use std::marker::Model;
 
-/// Latencies, in nanoseconds, each kept: the memory grows with them. A schedule itself keeps their number, sum and greatest
-/// only; a caller that wants percentiles pushes the latency of each start that has one.
+/// Latencies in nanoseconds. Each is kept, so the memory grows with their number. A schedule itself keeps only their number, sum
+/// and greatest. A caller that wants percentiles pushes the latency of each start that has one.
 #[derive(Drop)]
 pub struct Latencies {
     values: Vec<u64>,
@@ -22,7 +22,7 @@ impl Model for Latencies {
 }
 
 impl Latencies {
-    /// None yet. It takes no memory until one is pushed.
+    /// No latencies yet. Takes no memory until one is pushed.
     pub fn new(alloc: Global) -> Latencies
         ensures { result ≡ [] }
     {
@@ -31,7 +31,7 @@ impl Latencies {
         }
     }
 
-    /// One more. Where there is no memory for it nothing changes.
+    /// Adds one latency. If memory runs out, nothing changes.
     pub fn push(&mut self, latency: u64) -> Result<(), AllocError>
         ensures ok { OnOk result (self.new ≡ self.old ++ latency ∷ []) }
         ensures err { OnErr result (self.new ≡ self.old) }
@@ -40,8 +40,8 @@ impl Latencies {
         Ok(())
     }
 
-    /// The least of them that at least this many percent of them are not above, by nearest rank; the greatest beyond 100
-    /// percent; `None` if there are none. It sorts them.
+    /// The least latency that at least this many percent of all latencies do not exceed, by nearest rank. The greatest if `percent`
+    /// is above 100. `None` if there are none. Sorts the latencies.
     pub fn percentile(&mut self, percent: u8) -> Option<u64>
         ensures none { IsNone result ↔ (self.old ≡ []) }
         ensures value { IfSome result (λ v. v ≡ slice_index self.new (rank percent (length self.new))) }
@@ -52,7 +52,7 @@ impl Latencies {
         self.at_rank(percent)
     }
 
-    /// Puts them in ascending order.
+    /// Sorts the latencies in ascending order.
     pub(crate) fn sort(&mut self)
         ensures sorted { IsSorted nat_cmp self.new }
         ensures kept { IsPermutation self.old self.new }
@@ -60,7 +60,7 @@ impl Latencies {
         self.values.sort_unstable();
     }
 
-    /// The one at the place of a percentile, as they stand; `None` if there are none.
+    /// The latency at the place of a percentile, in the current order. `None` if there are none.
     pub(crate) fn at_rank(&self, percent: u8) -> Option<u64>
         ensures { result ≡ slice_get self.now (rank percent (length self.now)) }
     {
@@ -72,7 +72,7 @@ impl Latencies {
     }
 }
 
-/// The place of a percentile among this many sorted numbers, of which there is one at least.
+/// The place of a percentile among this many sorted numbers. There must be at least one.
 fn rank(percent: u8, count: usize) -> usize
     requires { 0 < count }
     ensures place { result ≡ rank percent count }

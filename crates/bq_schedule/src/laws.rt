@@ -1,89 +1,89 @@
 //! The laws of schedules, each as the contract of a function that does nothing.
-ghost use Rattle.bq_schedule.specs.Laws.{AddsUpFairTimes, AddsUpSlices, AddsUpWaits, EndsStarts, FillsWindow, IsCharged, LeavesLittle, SharesOut, ShowsClocks, SlicesStandApart, TellsLatencies, TellsRuns, TellsSlices, TellsStarts, TellsStops, TellsWaits};
+ghost use Rattle.bq_schedule.specs.Laws.{AddsUpFairTimes, AddsUpSlices, AddsUpWaits, EndsStarts, FillsWindow, IsCharged, LeavesLittle, SharesOut, ShowsClocks, SlicesStandApart, ReportsLatencies, ReportsRuns, ReportsSlices, ReportsStarts, ReportsStops, ReportsWaits};
 
-/// A schedule shows each processor's last reading, and who runs there.
+/// A schedule shows each processor's last reading, and which task runs there.
 pub fn shows_clocks()
     ensures { ShowsClocks }
 {}
 
-/// Each answer reports the slice that it ends: together they are the slices of the history, in their order.
-pub fn tells_slices()
-    ensures { TellsSlices }
+/// Each answer reports the slice that it ends. Together these are the slices of the history, in their order.
+pub fn reports_slices()
+    ensures { ReportsSlices }
 {}
 
-/// The time of a task is the sum of its slices, and that of a processor is the sum of the slices there.
+/// The time of a task is the sum of its slices, and the time of a processor is the sum of the slices there.
 pub fn adds_up_slices()
     ensures { AddsUpSlices }
 {}
 
-/// In every history of a world the clocks and the running tasks are those by which the slices are cut. So the time of a slice
-/// is what the world charged its task.
+/// In every history of a world, the slices are cut by the world's clocks and running tasks. So the time of a slice is what the
+/// world charged its task.
 pub fn is_charged()
     ensures { IsCharged }
 {}
 
-/// The slices of a processor do not overlap: each ends before the next begins, or where it does, and none is empty.
+/// The slices of a processor do not overlap: each ends no later than the next begins. No slice is empty.
 pub fn slices_stand_apart()
     ensures { SlicesStandApart }
 {}
 
-/// The slices of a processor and its idle time fill the time from its first reading to the last.
+/// The slices of a processor and its idle time together fill the time from its first reading to its last.
 pub fn fills_window()
     ensures { FillsWindow }
 {}
 
-/// A start is reported where its task begins to run, with the distance from the end of its last wake, where it has not run since
-/// that. So a wake has at most one latency: the distance to its task's first run.
-pub fn tells_latencies()
-    ensures { TellsLatencies }
+/// A start is reported when its task starts running. If the task has not run since its last wake, the start reports the time from the
+/// end of that wake. So a wake has at most one latency: the time to its task's first run.
+pub fn reports_latencies()
+    ensures { ReportsLatencies }
 {}
 
-/// The fair time of a task rises at each reading by its weight over all weights that are runnable there, of the slice that the
-/// reading charges, in whole parts; and by nothing else.
+/// The fair time of a task changes only at a reading of its processor's clock. It rises by the task's share of the slice that the
+/// reading charges: its weight over the sum of the weights that are runnable there, in whole parts.
 pub fn shares_out()
     ensures { SharesOut }
 {}
 
-/// All fair times, and what could not be shared in whole parts, add up to the time in which any task ran.
+/// All fair times, and the parts that could not be shared out, add up to the time in which any task ran.
 pub fn adds_up_fair_times()
     ensures { AddsUpFairTimes }
 {}
 
-/// Of a slice fewer parts are left over than there are units of weight.
+/// Each slice leaves over fewer parts than there are units of weight.
 pub fn leaves_little()
     ensures { LeavesLittle }
 {}
 
-/// The runs that are reported of a processor, with the last one, which may go on, are what its slices make where each is joined to
-/// the one that goes on from it.
-pub fn tells_runs()
-    ensures { TellsRuns }
+/// The reported runs of a processor, and its last run, which may go on, are what its slices make if each slice is joined to the one
+/// that continues it.
+pub fn reports_runs()
+    ensures { ReportsRuns }
 {}
 
-/// A start is reported exactly when a task begins to run: of that task, at that processor, at its clock.
-pub fn tells_starts()
-    ensures { TellsStarts }
+/// A start is reported exactly when a task starts running, with the task, the processor and the reading of its clock.
+pub fn reports_starts()
+    ensures { ReportsStarts }
 {}
 
-/// A stop is reported exactly when a task ceases to run, at the processor's clock: it went to sleep with a block, and with any other
-/// event another runs in its place.
-pub fn tells_stops()
-    ensures { TellsStops }
+/// A stop is reported exactly when a task stops running, with the reading of the processor's clock. At a block the task went to sleep;
+/// at any other event another task runs instead.
+pub fn reports_stops()
+    ensures { ReportsStops }
 {}
 
-/// The starts that are reported of a processor are, in their order, those that its stops ended, and the one of the task that runs
-/// there. So each start ends with one stop, and starts and stops alternate.
+/// The reported starts of a processor are, in their order, those that its stops ended, and then the start of the running task, if one
+/// runs. So each start ends with one stop, and starts and stops alternate.
 pub fn ends_starts()
     ensures { EndsStarts }
 {}
 
-/// A start says how long its task has waited there: the distance from the moment at which it was placed, preempted or pulled
-/// to the start. A pull says how long it had waited till then. Where clocks disagree the other way that is 0.
-pub fn tells_waits()
-    ensures { TellsWaits }
+/// A start reports how long its task has waited: from when it was placed, preempted or pulled to the start. A pull reports how long
+/// the task had waited until then. The wait is 0 if the clocks of two processors disagree so that it would be negative.
+pub fn reports_waits()
+    ensures { ReportsWaits }
 {}
 
-/// How long a task has waited in all is the sum of what its pulls and starts tell. It stops at the greatest number.
+/// How long a task has waited in all is the sum of the waits in its pulls and starts. It stops at the greatest number.
 pub fn adds_up_waits()
     ensures { AddsUpWaits }
 {}

@@ -1,6 +1,6 @@
-//! A schedule, from events and their answers: who ran where and when, who waited, what each task's fair share was.
-//! Promises that each answer changes exactly what it reports, and that the figures are those of the slices (laws).
-//! Stands on bq_parts only for events and answers: it holds no world, and asks none.
+//! A schedule, from events and their answers: who ran where and when, who waited, and what each task's fair share was.
+//! Promises that each answer changes exactly what it reports, and that the figures add up the slices (laws).
+//! Uses bq_parts only for events and answers: it holds no world, and asks none.
 #![tactic(auto)]
 
 mod asking;

@@ -1,7 +1,7 @@
-//! A clock is read: the task that ran is charged, and its time is shared out among those that are runnable.
+//! A clock is read: the running task is charged, and its time is shared out among the tasks that are runnable there.
 ghost use Rattle.std.specs.Prelude.{◌≡◌, ◌<◌, length};
 ghost use Rattle.bq_schedule.specs.Passing.{reading_at, slice_between, length_of, joined_run, ended_run, passed, task_charged, with_charged, read_at, goes_on};
-ghost use Rattle.bq_schedule.specs.Steps.{read_told};
+ghost use Rattle.bq_schedule.specs.Steps.{report_of_reading};
 
 use crate::change::{Change, ClockReading, Start};
 use crate::figures::{ProcessorFigures, TaskFigures};
@@ -14,7 +14,7 @@ impl Schedule {
     pub(crate) fn read(&mut self, processor: u8, now: u64) -> Change
         requires { processor < length self.old.processors }
         ensures figures { self.new ≡ read_at processor now self.old }
-        ensures change { result ≡ read_told processor now self.old }
+        ensures change { result ≡ report_of_reading processor now self.old }
     {
         let figures = &mut self.processors[usize::from(processor)];
         let reading = figures.reading(processor, now);
@@ -30,7 +30,7 @@ impl Schedule {
         }
     }
 
-    /// A slice counts for its task.
+    /// Adds a slice to the time of its task.
     fn charge(&mut self, slice: Option<Slice>)
         ensures { self.new ≡ with_charged self.old slice }
     {
@@ -44,14 +44,14 @@ impl Schedule {
 }
 
 impl Slice {
-    /// How long it is, in nanoseconds.
+    /// How long the slice is, in nanoseconds.
     pub fn length(&self) -> u64
         ensures { result ≡ length_of (Some self.now) }
     {
         self.to.saturating_sub(self.from)
     }
 
-    /// Whether another goes on from it: it is of the same task, and begins where this one ends.
+    /// Whether `next` continues this slice: it is of the same task, and begins where this one ends.
     fn goes_on(&self, next: &Slice) -> bool
         ensures { result ≡ goes_on self.now next.now }
     {
@@ -60,7 +60,7 @@ impl Slice {
 }
 
 impl TaskFigures {
-    /// The task ran for so long.
+    /// Adds this length to the time of the task.
     fn charge(&mut self, length: u64)
         ensures { self.new ≡ task_charged self.old length }
     {
@@ -69,7 +69,7 @@ impl TaskFigures {
 }
 
 impl ProcessorFigures {
-    /// A reading of the clock.
+    /// The reading of the clock, as it counts.
     fn reading(&self, processor: u8, now: u64) -> ClockReading
         ensures { result ≡ reading_at processor self.now now }
     {
@@ -81,7 +81,7 @@ impl ProcessorFigures {
         }
     }
 
-    /// The clock is read, and so much of a slice is charged.
+    /// The clock comes to a reading, and a slice is charged, if there is one.
     fn pass(&mut self, to: u64, slice: Option<Slice>)
         ensures { self.new ≡ passed self.old to slice }
     {
@@ -100,7 +100,7 @@ impl ProcessorFigures {
     }
 }
 
-/// The stretch from one reading to another, of the task that ran.
+/// The slice of the running task from one reading to another. `None` if no task runs, or if the slice would be empty.
 fn slice_between(processor: u8, from: u64, to: u64, running: Option<Start>) -> Option<Slice>
     ensures { result ≡ slice_between processor from to running }
 {
@@ -115,7 +115,7 @@ fn slice_between(processor: u8, from: u64, to: u64, running: Option<Start>) -> O
     }
 }
 
-/// How long a slice is, in nanoseconds; 0 for no slice.
+/// How long a slice is, in nanoseconds; 0 if there is no slice.
 fn length_of(slice: Option<Slice>) -> u64
     ensures { result ≡ length_of slice }
 {
@@ -125,7 +125,7 @@ fn length_of(slice: Option<Slice>) -> u64
     }
 }
 
-/// The run that goes on last, after another slice.
+/// The last run, after another slice: the slice continues it, or begins a new one.
 fn joined_run(run: Option<Slice>, slice: Option<Slice>) -> Option<Slice>
     ensures { result ≡ joined_run run slice }
 {
@@ -139,7 +139,7 @@ fn joined_run(run: Option<Slice>, slice: Option<Slice>) -> Option<Slice>
     }
 }
 
-/// The run that another slice does not go on from.
+/// The run that ends because the next slice does not continue it.
 fn ended_run(run: Option<Slice>, slice: Option<Slice>) -> Option<Slice>
     ensures { result ≡ ended_run run slice }
 {

@@ -9,7 +9,7 @@ use std::alloc::{AllocError, Global};
 use std::collections::BTreeMap;
 use std::marker::Model;
 
-/// The latencies of each task's wakes, each kept.
+/// The latencies of each task's wakes. Each latency is kept.
 #[derive(Drop)]
 pub struct WakeLatencies {
     alloc: Global,
@@ -24,8 +24,8 @@ impl Model for WakeLatencies {
     ghost view = { λ l. l.tasks.entries };
 }
 
-/// What this many percent of a task's latencies do not exceed, by nearest rank, and the greatest, in nanoseconds. `None` where it
-/// has none.
+/// The latencies that 50, 95 and 99 percent of a task's latencies do not exceed, by nearest rank, and the greatest, in nanoseconds.
+/// Each is `None` if the task has no latency.
 #[derive(Clone, Copy)]
 pub struct Percentiles {
     pub p50: Option<u64>,
@@ -35,7 +35,7 @@ pub struct Percentiles {
 }
 
 impl WakeLatencies {
-    /// None yet.
+    /// No latencies yet.
     pub fn new(alloc: Global) -> WakeLatencies
         ensures { (task : ℕ) → latencies_of result task ≡ [] }
     {
@@ -45,7 +45,7 @@ impl WakeLatencies {
         }
     }
 
-    /// Takes the latency of a start that has one. Where there is no memory for it nothing changes.
+    /// Takes the latency of the start in a change, if there is one. If memory runs out, nothing changes.
     pub fn take(&mut self, change: &Change) -> Result<(), AllocError>
         ensures ok { OnOk result (TakesStart change.now.start self.old self.new) }
         ensures err { OnErr result (IsSame self.old self.new) }
@@ -63,7 +63,7 @@ impl WakeLatencies {
         latencies.push(latency)
     }
 
-    /// Those of a task. It sorts them.
+    /// The percentiles of a task's latencies. Sorts these latencies.
     pub fn percentiles(&mut self, task: u16) -> Percentiles
         ensures values { result ≡ percentiles_of (latencies_of self.new task) }
         ensures sorted { IsSorted nat_cmp (latencies_of self.new task) }

@@ -1,6 +1,6 @@
 //! What each answer changes.
 ghost use Rattle.std.specs.Prelude.{◌≡◌, ◌-◌, ◌<◌, length, true};
-ghost use Rattle.bq_schedule.specs.Steps.{weight_at, admitted, woken, emptied, taken, waited_there, moves_as, placed, placed_told, decided, decided_told, blocked, blocked_told, pulled, pulled_told, performed, performed_told, is_there};
+ghost use Rattle.bq_schedule.specs.Steps.{weight_at, admitted, woken, emptied, taken, waited_there, moves_as, placed, report_of_placement, decided, report_of_decision, blocked, report_of_block, pulled, report_of_pull, performed, report_of_answer, is_there};
 ghost use Rattle.bq_schedule.specs.Figures.{task_of};
 ghost use Rattle.bq_schedule.specs.Runnable.{leaves};
 
@@ -11,11 +11,11 @@ use bq_parts::{Event, Reply};
 use bq_weights::{is_nice, weight};
 
 impl Schedule {
-    /// What an answer changes. One that is not of its event's kind changes nothing.
+    /// Applies an answer, and reports what it changes. An answer that is not of its event's kind changes nothing.
     pub(crate) fn perform(&mut self, event: &Event, reply: &Reply) -> Change
         requires { is_there self.old event.now ≡ true }
         ensures figures { self.new ≡ performed self.old event.now reply.now }
-        ensures change { result ≡ performed_told self.old event.now reply.now }
+        ensures change { result ≡ report_of_answer self.old event.now reply.now }
     {
         match (event, reply) {
             (
@@ -90,7 +90,7 @@ impl Schedule {
         }
     }
 
-    /// An id is admitted.
+    /// An id is admitted. If it was runnable, it no longer is.
     fn admit(&mut self, id: u16, nice: i8)
         ensures { self.new ≡ admitted id nice (leaves id self.old) }
     {
@@ -102,11 +102,11 @@ impl Schedule {
         self.set_task(id, task);
     }
 
-    /// A wake ended.
+    /// A wake ended: its task is placed.
     fn place(&mut self, processor: u8, now: u64, decision: Decision, id: u16, to: u8) -> Change
         requires { processor < length self.old.processors }
         ensures figures { self.new ≡ placed processor now decision id to self.old }
-        ensures change { result ≡ placed_told processor now decision id to self.old }
+        ensures change { result ≡ report_of_placement processor now decision id to self.old }
     {
         let read = self.read(processor, now);
         let at = self.processor(processor).last;
@@ -125,11 +125,11 @@ impl Schedule {
         }
     }
 
-    /// All placed tasks entered, and a hook came to its choice.
+    /// All placed tasks entered, and the hook `preempt` decided.
     fn drain(&mut self, processor: u8, now: u64, decision: Decision, run: Option<u16>) -> Change
         requires { processor < length self.old.processors }
         ensures figures { self.new ≡ emptied processor (decided processor now decision run self.old) }
-        ensures change { result ≡ decided_told processor now decision run self.old }
+        ensures change { result ≡ report_of_decision processor now decision run self.old }
     {
         let change = self.decide(processor, now, decision, run);
         let mut figures = self.processor(processor);
@@ -138,11 +138,11 @@ impl Schedule {
         change
     }
 
-    /// A hook came to its choice, and this runs.
+    /// The hook `preempt` decided, and `run` runs now.
     fn decide(&mut self, processor: u8, now: u64, decision: Decision, run: Option<u16>) -> Change
         requires { processor < length self.old.processors }
         ensures figures { self.new ≡ decided processor now decision run self.old }
-        ensures change { result ≡ decided_told processor now decision run self.old }
+        ensures change { result ≡ report_of_decision processor now decision run self.old }
     {
         let read = self.read(processor, now);
         let at = self.processor(processor).last;
@@ -156,11 +156,11 @@ impl Schedule {
         }
     }
 
-    /// The running task went to sleep.
+    /// The running task went to sleep, and `run` runs now.
     fn block(&mut self, processor: u8, now: u64, id: u16, run: Option<u16>) -> Change
         requires { processor < length self.old.processors }
         ensures figures { self.new ≡ blocked processor now id run self.old }
-        ensures change { result ≡ blocked_told processor now id run self.old }
+        ensures change { result ≡ report_of_block processor now id run self.old }
     {
         let read = self.read(processor, now);
         let at = self.processor(processor).last;
@@ -173,7 +173,7 @@ impl Schedule {
         }
     }
 
-    /// A task may have been pulled.
+    /// The hook `pull` decided. A task may have been pulled, and `run` runs now.
     fn pull(
         &mut self,
         processor: u8,
@@ -185,7 +185,7 @@ impl Schedule {
     ) -> Change
         requires { processor < length self.old.processors }
         ensures figures { self.new ≡ pulled processor now decision task run self.old }
-        ensures change { result ≡ pulled_told processor from now decision task run self.old }
+        ensures change { result ≡ report_of_pull processor from now decision task run self.old }
     {
         let read = self.read(processor, now);
         let at = self.processor(processor).last;
@@ -201,10 +201,10 @@ impl Schedule {
         }
     }
 
-    /// A task is pulled, if any: what it waited where it was counts, and it waits again.
+    /// If a task is pulled, its wait so far is counted, and it waits again at its new processor.
     fn take_over(&mut self, task: Option<u16>, from: u8, to: u8, at: u64) -> Option<PulledTask>
         ensures figures { self.new ≡ taken to at task self.old }
-        ensures told { result ≡ moves_as from to at task self.old }
+        ensures reported { result ≡ moves_as from to at task self.old }
     {
         let id = task?;
         let waited = self.count_wait(id, at);
@@ -218,7 +218,7 @@ impl Schedule {
         })
     }
 
-    /// How long a task has waited where it is counts.
+    /// Counts how long a task has waited where it is.
     fn count_wait(&mut self, id: u16, now: u64) -> u64
         ensures figures { self.new ≡ waited_there id now self.old }
         ensures waited { result ≡ now - (task_of self.old id).since }
@@ -243,7 +243,7 @@ impl Schedule {
     }
 }
 
-/// The weight of a nice value; 0 outside the table.
+/// The weight of a nice value; 0 if the value is outside the table.
 fn weight_at(nice: i8) -> u32
     ensures { result ≡ weight_at nice }
 {

@@ -1,4 +1,4 @@
-//! Where tasks are runnable: they come to a processor, and leave it.
+//! Where tasks are runnable: a task comes to a processor, and leaves it.
 ghost use Rattle.std.specs.Prelude.{◌≡◌};
 ghost use Rattle.bq_schedule.specs.Runnable.{pending, fair_at, processor_left, processor_joined, leaves, joins, comes};
 
@@ -6,7 +6,7 @@ use crate::figures::{ProcessorFigures, TaskFigures};
 use crate::schedule::Schedule;
 
 impl Schedule {
-    /// The fair time of a task of these figures, in parts.
+    /// The fair time of a task with these figures, in parts of a nanosecond.
     pub(crate) fn fair_of(&self, task: &TaskFigures) -> u128
         ensures { result ≡ fair_at self.now task.now task.now.place }
     {
@@ -18,7 +18,7 @@ impl Schedule {
         }
     }
 
-    /// A task is runnable no longer, where it was.
+    /// A task is no longer runnable, if it was.
     pub(crate) fn leave(&mut self, id: u16)
         ensures { self.new ≡ leaves id self.old }
     {
@@ -35,7 +35,7 @@ impl Schedule {
         self.set_task(id, task);
     }
 
-    /// A task that is runnable nowhere is runnable at a processor from now on.
+    /// A task that is not runnable becomes runnable at a processor now.
     fn join(&mut self, id: u16, processor: u8, now: u64)
         ensures { self.new ≡ joins id processor now self.old }
     {
@@ -49,7 +49,7 @@ impl Schedule {
         self.set_task(id, task);
     }
 
-    /// A task comes to a processor from wherever it was.
+    /// A task becomes runnable at a processor, and nowhere else.
     pub(crate) fn come(&mut self, id: u16, processor: u8, now: u64)
         ensures { self.new ≡ comes id processor now self.old }
     {
@@ -59,14 +59,14 @@ impl Schedule {
 }
 
 impl ProcessorFigures {
-    /// The share that a task of this processor has had since it came, in parts.
+    /// The share that a task of this processor has had since it came, in parts of a nanosecond.
     fn pending(&self, task: &TaskFigures) -> u128
         ensures { result ≡ pending self.now task.now }
     {
         u128::from(task.weight).saturating_mul(self.shared.saturating_sub(task.joined))
     }
 
-    /// A task of this weight is runnable here no longer.
+    /// A task of this weight is no longer runnable here.
     fn leave(&mut self, weight: u32)
         ensures { self.new ≡ processor_left self.old weight }
     {

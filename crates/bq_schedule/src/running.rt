@@ -9,7 +9,7 @@ use crate::figures::{ProcessorFigures, TaskFigures};
 use crate::schedule::Schedule;
 
 impl Schedule {
-    /// From now on this task runs at a processor, or none does. Where it is the one that ran before nothing changes.
+    /// From now on this task runs at a processor, or none does. If it is the one that ran before, nothing changes.
     pub(crate) fn switch(
         &mut self,
         left: Left,
@@ -31,7 +31,7 @@ impl Schedule {
         )
     }
 
-    /// What ran no longer does.
+    /// The task that ran stops, if there was one.
     fn stop(&mut self, left: Left, now: u64, running: Option<Start>) -> Option<Stop>
         ensures figures { self.new ≡ stopped left now running self.old }
         ensures stop { result ≡ stop_of left now running }
@@ -49,7 +49,7 @@ impl Schedule {
         })
     }
 
-    /// A task begins to run, or none.
+    /// A task starts running, or none does.
     fn start(&mut self, processor: u8, now: u64, run: Option<u16>) -> Option<Start>
         ensures figures { self.new ≡ started processor now run self.old }
         ensures start { result ≡ starts_as processor now run self.old }
@@ -64,7 +64,7 @@ impl Schedule {
         start
     }
 
-    /// A task begins to run.
+    /// A task starts running.
     fn begin(&mut self, processor: u8, now: u64, id: u16) -> Start
         ensures figures { self.new ≡ begun processor now id self.old }
         ensures start { result ≡ start_of processor id now (task_of self.old id) }
@@ -78,7 +78,7 @@ impl Schedule {
 }
 
 impl ProcessorFigures {
-    /// This is what runs from now on.
+    /// The processor runs this task from now on, or none.
     fn run(&mut self, start: Option<Start>)
         ensures { self.new ≡ processor_runs self.old start }
     {
@@ -90,7 +90,7 @@ impl ProcessorFigures {
 }
 
 impl TaskFigures {
-    /// How the task begins to run.
+    /// The start of the task, if it starts running now.
     fn starting(&self, processor: u8, at: u64, task: u16) -> Start
         ensures { result ≡ start_of processor task at self.now }
     {
@@ -108,7 +108,7 @@ impl TaskFigures {
         }
     }
 
-    /// The task begins to run.
+    /// Counts a start of the task.
     fn start(&mut self, start: &Start)
         ensures { self.new ≡ task_started self.old start.now }
     {
@@ -121,7 +121,7 @@ impl TaskFigures {
         self.switches = self.switches.saturating_add(1);
     }
 
-    /// One more latency of a wake, if there is one.
+    /// Counts the latency of a wake, if there is one.
     fn count_latency(&mut self, latency: Option<u64>)
         ensures { self.new ≡ with_latency self.old latency }
     {
@@ -133,7 +133,7 @@ impl TaskFigures {
         self.greatest_latency = self.greatest_latency.max(latency);
     }
 
-    /// Another task runs in its place, and it waits from now on.
+    /// Another task runs instead, and this one waits from now on.
     fn preempt(&mut self, now: u64)
         ensures { self.new ≡ task_preempted self.old now }
     {
@@ -142,7 +142,7 @@ impl TaskFigures {
     }
 }
 
-/// Whether what runs is this task, or nothing if no task is given.
+/// Whether the running task is this one. If no task is given: whether nothing runs.
 fn is_run_by(running: Option<Start>, run: Option<u16>) -> bool
     ensures { result ≡ is_run_by running run }
 {

@@ -1,4 +1,4 @@
-//! A schedule as far as answers tell it.
+//! A schedule, from answers only.
 ghost use Rattle.std.specs.Prelude.{◌≡◌, IfOk, length};
 ghost use Rattle.bq_schedule.specs.Figures.{opening, processor_of, task_of, with_processor, with_task};
 ghost use Rattle.bq_schedule.specs.Runnable.{fair_of, undrained};
@@ -11,13 +11,13 @@ use bq_parts::{Event, Refusal, Reply};
 use std::alloc::{AllocError, Global};
 use std::marker::Model;
 
-/// How many parts of a nanosecond there are: fair times are counted in parts.
+/// How many parts a nanosecond has. Fair times are counted in parts.
 pub const PARTS: u128 = 1_000_000_000_000;
 
-/// A schedule: who ran where and when, as events and their answers have told it so far.
+/// A schedule: who ran where and when, as events and their answers have shown it so far.
 ///
-/// It is built one answer at a time, each in a time that does not grow with the history, the tasks or the processors, and
-/// takes no memory after it is made.
+/// It takes one answer at a time. Each takes constant time: it does not grow with the history, the tasks or the processors. A
+/// schedule takes no memory after it is made.
 #[derive(Drop)]
 pub struct Schedule {
     pub(crate) processors: Vec<ProcessorFigures>,
@@ -34,7 +34,7 @@ impl Model for Schedule {
 }
 
 impl Schedule {
-    /// The schedule of this many processors, at which nothing has happened. It takes all the memory that it needs.
+    /// The schedule of this many processors before the first event. Takes all the memory that it ever needs.
     pub fn new(alloc: Global, processors: u8) -> Result<Schedule, AllocError>
         ensures { IfOk result (λ s. s ≡ opening processors) }
     {
@@ -53,8 +53,8 @@ impl Schedule {
         })
     }
 
-    /// Takes an event and its answer, and tells what that changed. A refused event is counted, and changes nothing else; so
-    /// does one whose answer is not of its kind, or that names a processor which is not there.
+    /// Takes an event and its answer, and reports what they changed. A refused event is counted, and changes nothing else. An event
+    /// also changes nothing if its answer is not of its kind, or if it names a processor that does not exist.
     pub fn take(&mut self, event: &Event, answer: &Result<Reply, Refusal>) -> Change
         ensures figures { self.new ≡ after self.old event.now answer.now }
         ensures change { result ≡ change self.old event.now answer.now }
@@ -69,7 +69,7 @@ impl Schedule {
         }
     }
 
-    /// The figures of a processor; of one that is not there, those of one at which nothing happened.
+    /// The figures of a processor. If the processor does not exist: the figures of one where nothing happened.
     pub fn processor(&self, number: u8) -> ProcessorFigures
         ensures { result ≡ processor_of self.now number }
     {
@@ -79,7 +79,7 @@ impl Schedule {
         }
     }
 
-    /// The figures of a task; of an id that was never admitted, those of one to which nothing happened.
+    /// The figures of a task. If the id was never admitted: the figures of one to which nothing happened.
     pub fn task(&self, id: u16) -> TaskFigures
         ensures { result ≡ task_of self.now id }
     {
@@ -89,15 +89,15 @@ impl Schedule {
         }
     }
 
-    /// The fair time of a task, in parts of a nanosecond: for each moment in which a task ran at the processor where this one
-    /// was runnable, its weight over the weights of all that were runnable there.
+    /// The fair time of a task, in parts of a nanosecond. It adds up each moment in which a task ran at the processor where this one
+    /// was runnable, times its weight over the sum of all weights that were runnable there.
     pub fn fair_time(&self, id: u16) -> u128
         ensures { result ≡ fair_of self.now id }
     {
         self.fair_of(&self.task(id))
     }
 
-    /// The processor on which a task was placed, where that has not drained its inbox since.
+    /// The processor on which a task was placed, if that processor has not drained its inbox since.
     pub fn undrained(&self, id: u16) -> Option<u8>
         ensures { result ≡ undrained self.now id }
     {
@@ -118,7 +118,7 @@ impl Schedule {
         self.processors.len()
     }
 
-    /// How many events were refused. It stops at the greatest number.
+    /// How many events were refused. The count stops at its greatest value.
     pub fn refused(&self) -> u64
         ensures { result ≡ self.now.refused }
     {
@@ -127,7 +127,7 @@ impl Schedule {
 }
 
 impl Schedule {
-    /// Whether the processor is there whose clock an event reads, where it reads one.
+    /// Whether the processor exists whose clock an event reads. True for an event that reads no clock.
     fn has_processor(&self, event: &Event) -> bool
         ensures { result ≡ is_there self.now event.now }
     {
@@ -145,7 +145,7 @@ impl Schedule {
         }
     }
 
-    /// The figures of a processor that is there are these.
+    /// Replaces the figures of a processor, if the processor exists.
     pub(crate) fn set_processor(&mut self, number: u8, figures: ProcessorFigures)
         ensures { self.new ≡ with_processor self.old number figures }
     {
@@ -154,7 +154,7 @@ impl Schedule {
         }
     }
 
-    /// The figures of a task whose id is below 1024 are these.
+    /// Replaces the figures of a task, if its id is below 1024.
     pub(crate) fn set_task(&mut self, id: u16, figures: TaskFigures)
         ensures { self.new ≡ with_task self.old id figures }
     {

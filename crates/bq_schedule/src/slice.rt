@@ -2,8 +2,8 @@
 
 /// A stretch of time in which a task ran at a processor, by that processor's clock, in nanoseconds. It is not empty.
 ///
-/// A slice is what one reading of the clock charges: from the reading before to this one. A run is what slices of a task
-/// make that touch each other, as long as no slice of another task or idle time comes between.
+/// A slice is what one reading of the clock charges: from the reading before to this one. Slices of one task that touch each
+/// other make a run, as long as no slice of another task and no idle time comes between.
 #[derive(Clone, Copy, PartialEq, Eq)]
 pub struct Slice {
     pub processor: u8,

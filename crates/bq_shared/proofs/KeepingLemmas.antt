@@ -5,16 +5,16 @@ use mathlib.Core.Option.{some, some-ne-none, some-injective}
 use lib.ListN.{get_elem?}
 use Rattle.std.proofs.lemmas.Bool.Decides.{eqb_tells}
 use Rattle.atomic_table.proofs.Lists.{at_set, at_snoc, set_else}
-use Rattle.bq_bpf.specs.declared.board.Call.{Call}
-use Rattle.bq_bpf.specs.declared.board.Call.TheVariants.{Add, Read}
+use Rattle.bq_bpf.specs.declared.board.CounterCall.{CounterCall}
+use Rattle.bq_bpf.specs.declared.board.CounterCall.TheVariants.{Add, Read}
 use Rattle.bq_bpf.specs.Counters.{added, sum_of}
 use Rattle.bq_history.specs.Whole.{total}
 use Rattle.bq_history.proofs.MoveLemmas.{total_set, total_snoc, total_at}
 use Rattle.bq_shared.specs.declared.account.Account.{Account}
-use Rattle.bq_shared.specs.Sums.{AreSums, AreSumsOf, spent, opened, calling, both, without_one}
+use Rattle.bq_shared.specs.Sums.{AreSums, AreSumsOf, spent, opened, calling, joined_accounts, without_one}
 
 -- the sum over two lists of calls joined
-pub sum-append : (i : ℕ) (v w : List Call) → sum_of i (v ++ w) ≡ sum_of i v + sum_of i w
+pub sum-append : (i : ℕ) (v w : List CounterCall) → sum_of i (v ++ w) ≡ sum_of i v + sum_of i w
 sum-append i [] w = omega arith
 sum-append i (c ∷ cs) w = let h = sum-append i cs w in omega arith
 
@@ -25,8 +25,12 @@ abbrev sums_of : ℕ → Account → ℕ
 sums_of i a = sum_of i a.calls
 
 -- a step on one word by one account
-module _ (seats : ℕ) (words : List ℕ) (accounts : List Account) (id : ℕ) (v w : Account) (i k x : ℕ) (rule : AreSums seats words accounts) (at : get_elem? accounts id ≡ some v) (low : i < 64) where
-  word_at : (j : ℕ) (b : Bool) → j < 64 → x ≡ (slice_index words i + k) % 2 ^ 64 → ((j : ℕ) → j ≡ i → sum_of j w.calls ≡ sum_of j v.calls + k) → ((j : ℕ) → j ≢ i → sum_of j w.calls ≡ sum_of j v.calls) → ((b ≡ true) × (j ≡ i)) ⊎ ((b ≡ false) × (j ≢ i)) → get_or (set words i x) j 0 ≡ total (sums_of j) (set accounts id w) % 2 ^ 64
+module _ (seats : ℕ) (words : List ℕ) (accounts : List Account) (id : ℕ) (v w : Account) (i k x : ℕ)
+    (rule : AreSums seats words accounts) (at : get_elem? accounts id ≡ some v) (low : i < 64) where
+  word_at : (j : ℕ) (b : Bool) → j < 64 → x ≡ (slice_index words i + k) % 2 ^ 64
+      → ((j : ℕ) → j ≡ i → sum_of j w.calls ≡ sum_of j v.calls + k) → ((j : ℕ) → j ≢ i → sum_of j w.calls ≡ sum_of j v.calls)
+      → ((b ≡ true) × (j ≡ i)) ⊎ ((b ≡ false) × (j ≢ i))
+      → get_or (set words i x) j 0 ≡ total (sums_of j) (set accounts id w) % 2 ^ 64
   word_at j b lt is here there (inl (e, same)) =
       let changed = total_set (sums_of j) accounts id v w at in
       let more = here j same in
@@ -42,7 +46,9 @@ module _ (seats : ℕ) (words : List ℕ) (accounts : List Account) (id : ℕ) (
       rw (get_or-set_other words i j x 0 other, same) (rule.sums j lt)
 
   -- a step that adds k to a word and to its account keeps the rule
-  pub steps : x ≡ (slice_index words i + k) % 2 ^ 64 → w.seats ≡ v.seats → (w.seats ≡ 0 → w.calls ≡ []) → ((j : ℕ) → j ≡ i → sum_of j w.calls ≡ sum_of j v.calls + k) → ((j : ℕ) → j ≢ i → sum_of j w.calls ≡ sum_of j v.calls) → AreSums seats (slice_set words i x) (slice_set accounts id w)
+  pub steps : x ≡ (slice_index words i + k) % 2 ^ 64 → w.seats ≡ v.seats → (w.seats ≡ 0 → w.calls ≡ [])
+      → ((j : ℕ) → j ≡ i → sum_of j w.calls ≡ sum_of j v.calls + k) → ((j : ℕ) → j ≢ i → sum_of j w.calls ≡ sum_of j v.calls)
+      → AreSums seats (slice_set words i x) (slice_set accounts id w)
   steps is keeps blank here there = record {
     many = rw length-set rule.many;
     whole = let h = total_set seats_of accounts id v w at in let e = rule.whole in omega (arith, h, e, keeps);
@@ -62,15 +68,25 @@ added_other i j k x b (inl (e, same)) is = absurd (is (sym same))
 added_other i j k x b (inr (e, other)) is = rw e refl
 
 -- an add
-pub sums_after_add : (seats : ℕ) (words : List ℕ) (accounts : List Account) (id i k : ℕ) (v : Account) → AreSums seats words accounts → get_elem? accounts id ≡ some v → i < 64 → 1 ≤ v.seats → AreSums seats (slice_set words i ((slice_index words i + k) % 2 ^ 64)) (slice_set accounts id (calling v (Add i k (slice_index words i))))
+pub sums_after_add : (seats : ℕ) (words : List ℕ) (accounts : List Account) (id i k : ℕ) (v : Account)
+    → AreSums seats words accounts → get_elem? accounts id ≡ some v → i < 64 → 1 ≤ v.seats
+    → AreSums seats (slice_set words i ((slice_index words i + k) % 2 ^ 64))
+    (slice_set accounts id (calling v (Add i k (slice_index words i))))
 sums_after_add seats words accounts id i k v rule at low some_seat =
-    steps seats words accounts id v (calling v (Add i k (slice_index words i))) i k ((slice_index words i + k) % 2 ^ 64) rule at low refl refl
-    (λ none. absurd (omega arith))
-    (λ j same. let h = sum-append j v.calls (Add i k (slice_index words i) ∷ []) in let one : added j (Add i k (slice_index words i)) ≡ k = added_same i j k 0 _ (eqb_tells i j) same in omega (arith, h, one))
-    (λ j other. let h = sum-append j v.calls (Add i k (slice_index words i) ∷ []) in let none : added j (Add i k (slice_index words i)) ≡ 0 = added_other i j k 0 _ (eqb_tells i j) other in omega (arith, h, none))
+    steps seats words accounts id v (calling v (Add i k (slice_index words i))) i k ((slice_index words i + k) % 2 ^ 64) rule
+    at low refl refl (λ none. absurd (omega arith))
+    (λ j same.
+    let h = sum-append j v.calls (Add i k (slice_index words i) ∷ []) in
+    let one : added j (Add i k (slice_index words i)) ≡ k = added_same i j k 0 _ (eqb_tells i j) same in
+    omega (arith, h, one)) (λ j other.
+    let h = sum-append j v.calls (Add i k (slice_index words i) ∷ []) in
+    let none : added j (Add i k (slice_index words i)) ≡ 0 = added_other i j k 0 _ (eqb_tells i j) other in
+    omega (arith, h, none))
 
 -- a read
-pub sums_after_read : (seats : ℕ) (words : List ℕ) (accounts : List Account) (id i : ℕ) (v : Account) → AreSums seats words accounts → get_elem? accounts id ≡ some v → i < 64 → 1 ≤ v.seats → slice_index words i < 2 ^ 64 → AreSums seats (slice_set words i (slice_index words i)) (slice_set accounts id (calling v (Read i (slice_index words i))))
+pub sums_after_read : (seats : ℕ) (words : List ℕ) (accounts : List Account) (id i : ℕ) (v : Account)
+    → AreSums seats words accounts → get_elem? accounts id ≡ some v → i < 64 → 1 ≤ v.seats → slice_index words i < 2 ^ 64
+    → AreSums seats (slice_set words i (slice_index words i)) (slice_set accounts id (calling v (Read i (slice_index words i))))
 sums_after_read seats words accounts id i v rule at low some_seat fits =
     steps seats words accounts id v (calling v (Read i (slice_index words i))) i 0 (slice_index words i) rule at low (omega arith) refl
     (λ none. absurd (omega arith))
@@ -78,13 +94,20 @@ sums_after_read seats words accounts id i v rule at low some_seat fits =
     (λ j other. let h = sum-append j v.calls (Read i (slice_index words i) ∷ []) in omega (arith, h))
 
 -- a look
-pub sums_after_look : (seats : ℕ) (words : List ℕ) (accounts : List Account) (id i : ℕ) (v : Account) → AreSums seats words accounts → get_elem? accounts id ≡ some v → i < 64 → slice_index words i < 2 ^ 64 → AreSums seats (slice_set words i (slice_index words i)) (slice_set accounts id v)
+pub sums_after_look : (seats : ℕ) (words : List ℕ) (accounts : List Account) (id i : ℕ) (v : Account)
+    → AreSums seats words accounts → get_elem? accounts id ≡ some v → i < 64 → slice_index words i < 2 ^ 64
+    → AreSums seats (slice_set words i (slice_index words i)) (slice_set accounts id v)
 sums_after_look seats words accounts id i v rule at low fits =
-    steps seats words accounts id v v i 0 (slice_index words i) rule at low (omega arith) refl (rule.blank id v at) (λ j same. omega arith) (λ j other. refl)
+    steps seats words accounts id v v i 0 (slice_index words i) rule at low (omega arith) refl (rule.blank id v at)
+    (λ j same. omega arith) (λ j other. refl)
 
-module _ (seats : ℕ) (words : List ℕ) (accounts : List Account) (id : ℕ) (v : Account) (rule : AreSums seats words accounts) (at : get_elem? accounts id ≡ some v) where
+module _ (seats : ℕ) (words : List ℕ) (accounts : List Account) (id : ℕ) (v : Account) (rule : AreSums seats words accounts)
+    (at : get_elem? accounts id ≡ some v) where
   -- the account is cut in two
-  pub cuts : (left right : Account) → left.seats + right.seats ≡ v.seats → ((i : ℕ) → sum_of i left.calls + sum_of i right.calls ≡ sum_of i v.calls) → (left.seats ≡ 0 → left.calls ≡ []) → (right.seats ≡ 0 → right.calls ≡ []) → AreSums seats words (slice_set accounts id left ++ right ∷ [])
+  pub cuts : (left right : Account) → left.seats + right.seats ≡ v.seats
+      → ((i : ℕ) → sum_of i left.calls + sum_of i right.calls ≡ sum_of i v.calls) → (left.seats ≡ 0 → left.calls ≡ [])
+      → (right.seats ≡ 0 → right.calls ≡ [])
+      → AreSums seats words (slice_set accounts id left ++ right ∷ [])
   cuts left right whole sums blank_left blank_right = record {
     many = rule.many;
     whole =
@@ -116,35 +139,40 @@ module _ (seats : ℕ) (words : List ℕ) (accounts : List Account) (id : ℕ) (
   takes = cuts spent v (omega arith) (λ i. omega arith) (λ z. refl) (rule.blank id v at)
 
   -- two accounts become one
-  pub joins : (other : ℕ) (w : Account) → ¬ (other ≡ id) → get_elem? (slice_set accounts id (both v w)) other ≡ some w → AreSums seats words (slice_set (slice_set accounts id (both v w)) other spent)
+  pub joins : (other : ℕ) (w : Account) → ¬ (other ≡ id)
+      → get_elem? (slice_set accounts id (joined_accounts v w)) other ≡ some w
+      → AreSums seats words (slice_set (slice_set accounts id (joined_accounts v w)) other spent)
   joins other w apart there =
-      let theirs : get_elem? accounts other ≡ some w = sym (set_else accounts id other (both v w) apart) ∙ there in
+      let theirs : get_elem? accounts other ≡ some w = sym (set_else accounts id other (joined_accounts v w) apart) ∙ there in
       record {
         many = rule.many;
         whole =
-            let a = total_set seats_of accounts id v (both v w) at in
-            let b = total_set seats_of (set accounts id (both v w)) other w spent there in
+            let a = total_set seats_of accounts id v (joined_accounts v w) at in
+            let b = total_set seats_of (set accounts id (joined_accounts v w)) other w spent there in
             let e = rule.whole in
             omega (arith, a, b, e);
-        blank = λ by a e zero_seats. ⊎_elim
-            (λ (y : (by ≡ other) × (spent ≡ a)). subst (λ (u : Account). u.calls ≡ []) y.1 refl)
-            (λ (y : (by ≢ other) × (get_elem? (set accounts id (both v w)) by ≡ some a)). ⊎_elim
-            (λ (z : (by ≡ id) × (both v w ≡ a)).
+        blank = λ by a e zero_seats.
+            ⊎_elim (λ (y : (by ≡ other) × (spent ≡ a)). subst (λ (u : Account). u.calls ≡ []) y.1 refl)
+            (λ (y : (by ≢ other) × (get_elem? (set accounts id (joined_accounts v w)) by ≡ some a)).
+            ⊎_elim (λ (z : (by ≡ id) × (joined_accounts v w ≡ a)).
             let none : v.seats + w.seats ≡ 0 = ap seats_of z.1 ∙ zero_seats in
-            subst (λ (u : Account). u.calls ≡ []) z.1 (rw (rule.blank id v at (omega (arith, none)), rule.blank other w theirs (omega (arith, none))) refl))
+            subst (λ (u : Account). u.calls ≡ []) z.1
+            (rw (rule.blank id v at (omega (arith, none)), rule.blank other w theirs (omega (arith, none))) refl))
             (λ (z : (by ≢ id) × (get_elem? accounts by ≡ some a)). rule.blank by a z.1 zero_seats)
-            (at_set accounts id by (both v w) a y.1))
-            (at_set (set accounts id (both v w)) other by spent a e);
+            (at_set accounts id by (joined_accounts v w) a y.1))
+            (at_set (set accounts id (joined_accounts v w)) other by spent a e);
         sums = λ i lt.
-            let a = total_set (sums_of i) accounts id v (both v w) at in
-            let b = total_set (sums_of i) (set accounts id (both v w)) other w spent there in
+            let a = total_set (sums_of i) accounts id v (joined_accounts v w) at in
+            let b = total_set (sums_of i) (set accounts id (joined_accounts v w)) other w spent there in
             let c = sum-append i v.calls w.calls in
-            let same : total (sums_of i) (set (set accounts id (both v w)) other spent) ≡ total (sums_of i) accounts = omega (arith, a, b, c) in
+            let same : total (sums_of i) (set (set accounts id (joined_accounts v w)) other spent)
+            ≡ total (sums_of i) accounts = omega (arith, a, b, c) in
             rw same (rule.sums i lt);
       }
 
 -- one more account, of no seat
-pub sums_with_one_more : (seats : ℕ) (words : List ℕ) (accounts : List Account) → AreSums seats words accounts → AreSums seats words (accounts ++ spent ∷ [])
+pub sums_with_one_more : (seats : ℕ) (words : List ℕ) (accounts : List Account)
+    → AreSums seats words accounts → AreSums seats words (accounts ++ spent ∷ [])
 sums_with_one_more seats words accounts rule = record {
   many = rule.many;
   whole = let a = total_snoc seats_of accounts spent in let e = rule.whole in omega (arith, a, e);
@@ -159,7 +187,9 @@ sums_with_one_more seats words accounts rule = record {
 }
 
 -- accounts of no seat add nothing
-total_none : (i : ℕ) (accounts : List Account) → ((by : ℕ) (a : Account) → get_elem? accounts by ≡ some a → a.seats ≡ 0 → a.calls ≡ []) → total seats_of accounts ≡ 0 → total (sums_of i) accounts ≡ 0
+total_none : (i : ℕ) (accounts : List Account)
+    → ((by : ℕ) (a : Account) → get_elem? accounts by ≡ some a → a.seats ≡ 0 → a.calls ≡ []) → total seats_of accounts ≡ 0
+    → total (sums_of i) accounts ≡ 0
 total_none i [] blank e = refl
 total_none i (a ∷ rest) blank e =
     let h = total_none i rest (λ by b. blank (suc by) b) (omega (arith, e)) in
@@ -167,7 +197,10 @@ total_none i (a ∷ rest) blank e =
     omega (arith, h, none)
 
 -- an account of all seats has all that was added
-total_alone : (i : ℕ) (accounts : List Account) (id : ℕ) (v : Account) → ((by : ℕ) (a : Account) → get_elem? accounts by ≡ some a → a.seats ≡ 0 → a.calls ≡ []) → get_elem? accounts id ≡ some v → total seats_of accounts ≡ v.seats → total (sums_of i) accounts ≡ sum_of i v.calls
+total_alone : (i : ℕ) (accounts : List Account) (id : ℕ) (v : Account)
+    → ((by : ℕ) (a : Account) → get_elem? accounts by ≡ some a → a.seats ≡ 0 → a.calls ≡ []) → get_elem? accounts id ≡ some v
+    → total seats_of accounts ≡ v.seats
+    → total (sums_of i) accounts ≡ sum_of i v.calls
 total_alone i [] id v blank at e = absurd (some-ne-none v (sym at))
 total_alone i (a ∷ rest) zero v blank at e =
     let is : a ≡ v = some-injective a v at in
@@ -208,16 +241,23 @@ index_at [] i x e = absurd (some-ne-none x (sym e))
 index_at (w ∷ ws) zero x e = some-injective w x e
 index_at (w ∷ ws) (suc i) x e = index_at ws i x e
 
-more_at : (words items : List ℕ) (i x k : ℕ) (b : Bool) → i < length words → ((k : ℕ) → k < i → get_elem? items k ≡ some (slice_index words k)) → get_elem? items i ≡ some x → k < i + 1 → ((b ≡ true) × (k ≡ i)) ⊎ ((b ≡ false) × (k ≢ i)) → get_elem? items k ≡ some (get_or (set words i x) k 0)
+more_at : (words items : List ℕ) (i x k : ℕ) (b : Bool) → i < length words
+    → ((k : ℕ) → k < i → get_elem? items k ≡ some (slice_index words k)) → get_elem? items i ≡ some x → k < i + 1
+    → ((b ≡ true) × (k ≡ i)) ⊎ ((b ≡ false) × (k ≢ i))
+    → get_elem? items k ≡ some (get_or (set words i x) k 0)
 more_at words items i x k b there before at lt (inl (e, same)) = rw (same, get_or-set_same words i x 0 there) at
 more_at words items i x k b there before at lt (inr (e, other)) = rw (get_or-set_other words i k x 0 other) (before k (omega arith))
 
 -- one more word that was read
-pub one_more : (words items : List ℕ) (i x : ℕ) → i < length words → ((k : ℕ) → k < i → get_elem? items k ≡ some (slice_index words k)) → get_elem? items i ≡ some x → (k : ℕ) → k < i + 1 → get_elem? items k ≡ some (slice_index (slice_set words i x) k)
+pub one_more : (words items : List ℕ) (i x : ℕ) → i < length words
+    → ((k : ℕ) → k < i → get_elem? items k ≡ some (slice_index words k)) → get_elem? items i ≡ some x → (k : ℕ) → k < i + 1
+    → get_elem? items k ≡ some (slice_index (slice_set words i x) k)
 one_more words items i x there before at k lt = more_at words items i x k _ there before at lt (eqb_tells k i)
 
 -- the account of all seats has all that was added
-pub sums_at_end : (words : List ℕ) (accounts : List Account) (id : ℕ) (v : Account) (seats : ℕ) → AreSums seats words accounts → get_elem? accounts id ≡ some v → v.seats ≡ seats → AreSumsOf v.calls words
+pub sums_at_end : (words : List ℕ) (accounts : List Account) (id : ℕ) (v : Account) (seats : ℕ)
+    → AreSums seats words accounts → get_elem? accounts id ≡ some v → v.seats ≡ seats
+    → AreSumsOf v.calls words
 sums_at_end words accounts id v seats rule at all i lt =
     let same = total_alone i accounts id v rule.blank at (rule.whole ∙ sym all) in
     rw same at (rule.sums i lt)

@@ -5,14 +5,17 @@ use Rattle.bq_parts.specs.Processors.{Processor, opening, size_of, load_of}
 use Rattle.bq_parts.specs.World.{loads_of}
 
 -- a processor of another load
-pub loads_set : (ps : List Processor) (boxes : List (List Task)) (c : ℕ) (q : Processor) → length boxes ≡ length ps → loads_of (set ps c q) boxes ≡ set (loads_of ps boxes) c (load_of q (get_or boxes c []))
+pub loads_set : (ps : List Processor) (boxes : List (List Task)) (c : ℕ) (q : Processor)
+    → length boxes ≡ length ps
+    → loads_of (set ps c q) boxes ≡ set (loads_of ps boxes) c (load_of q (get_or boxes c []))
 loads_set [] boxes c q e = refl
 loads_set (p ∷ ps) [] c q e = absurd (omega arith)
 loads_set (p ∷ ps) (t ∷ boxes) zero q e = refl
 loads_set (p ∷ ps) (t ∷ boxes) (suc c) q e = ap (λ ns. load_of p t ∷ ns) (loads_set ps boxes c q (omega arith))
 
 -- a processor of the same load
-pub loads_same : (ps : List Processor) (boxes : List (List Task)) (c : ℕ) (q : Processor) → size_of q ≡ size_of (get_or ps c opening) → loads_of (set ps c q) boxes ≡ loads_of ps boxes
+pub loads_same : (ps : List Processor) (boxes : List (List Task)) (c : ℕ) (q : Processor)
+    → size_of q ≡ size_of (get_or ps c opening) → loads_of (set ps c q) boxes ≡ loads_of ps boxes
 loads_same [] boxes c q e = refl
 loads_same (p ∷ ps) [] zero q e = refl
 loads_same (p ∷ ps) [] (suc c) q e = refl
@@ -20,22 +23,28 @@ loads_same (p ∷ ps) (t ∷ boxes) zero q e = ap (λ n. (n + length t) ∷ load
 loads_same (p ∷ ps) (t ∷ boxes) (suc c) q e = ap (λ ns. load_of p t ∷ ns) (loads_same ps boxes c q e)
 
 -- a processor and its inbox, whose loads together are the same
-pub loads_moved : (ps : List Processor) (boxes : List (List Task)) (c : ℕ) (q : Processor) (tasks : List Task) → c < length ps → length boxes ≡ length ps →
-    load_of q tasks ≡ load_of (get_or ps c opening) (get_or boxes c []) → loads_of (set ps c q) (set boxes c tasks) ≡ loads_of ps boxes
+pub loads_moved : (ps : List Processor) (boxes : List (List Task)) (c : ℕ) (q : Processor) (tasks : List Task)
+    → c < length ps → length boxes ≡ length ps → load_of q tasks ≡ load_of (get_or ps c opening) (get_or boxes c [])
+    → loads_of (set ps c q) (set boxes c tasks) ≡ loads_of ps boxes
 loads_moved [] boxes c q tasks l s e = absurd (omega arith)
 loads_moved (p ∷ ps) [] c q tasks l s e = absurd (omega arith)
 loads_moved (p ∷ ps) (t ∷ boxes) zero q tasks l s e = ap (λ n. n ∷ loads_of ps boxes) e
-loads_moved (p ∷ ps) (t ∷ boxes) (suc c) q tasks l s e = ap (λ ns. load_of p t ∷ ns) (loads_moved ps boxes c q tasks (omega arith) (omega arith) e)
+loads_moved (p ∷ ps) (t ∷ boxes) (suc c) q tasks l s e =
+    ap (λ ns. load_of p t ∷ ns) (loads_moved ps boxes c q tasks (omega arith) (omega arith) e)
 
 -- the load of a processor, as it is kept
-pub load_kept : (ps : List Processor) (boxes : List (List Task)) (c : ℕ) → length boxes ≡ length ps → c < length ps → get_or (loads_of ps boxes) c 0 ≡ load_of (get_or ps c opening) (get_or boxes c [])
+pub load_kept : (ps : List Processor) (boxes : List (List Task)) (c : ℕ)
+    → length boxes ≡ length ps → c < length ps
+    → get_or (loads_of ps boxes) c 0 ≡ load_of (get_or ps c opening) (get_or boxes c [])
 load_kept [] boxes c e l = absurd (omega arith)
 load_kept (p ∷ ps) [] c e l = absurd (omega arith)
 load_kept (p ∷ ps) (t ∷ boxes) zero e l = refl
 load_kept (p ∷ ps) (t ∷ boxes) (suc c) e l = load_kept ps boxes c (omega arith) (omega arith)
 
 -- an inbox of another length
-pub loads_box : (ps : List Processor) (boxes : List (List Task)) (b : ℕ) (ys : List Task) → length boxes ≡ length ps → loads_of ps (set boxes b ys) ≡ set (loads_of ps boxes) b (load_of (get_or ps b opening) ys)
+pub loads_box : (ps : List Processor) (boxes : List (List Task)) (b : ℕ) (ys : List Task)
+    → length boxes ≡ length ps
+    → loads_of ps (set boxes b ys) ≡ set (loads_of ps boxes) b (load_of (get_or ps b opening) ys)
 loads_box [] [] b ys e = refl
 loads_box [] (t ∷ boxes) b ys e = absurd (omega arith)
 loads_box (p ∷ ps) [] b ys e = absurd (omega arith)

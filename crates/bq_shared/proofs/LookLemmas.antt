@@ -8,7 +8,7 @@ use Rattle.bq_disc.specs.OneProcessor.{present_at}
 use Rattle.bq_hooks.specs.OwnPlace.{HasPlace}
 use Rattle.bq_parts.specs.declared.carried.Carried.{Carried}
 use Rattle.bq_parts.specs.declared.lobby_entry.LobbyEntry.{LobbyEntry}
-use Rattle.bq_parts.specs.declared.lobby_entry.LobbyEntry.TheVariants.{Absent, Blocked}
+use Rattle.bq_parts.specs.declared.lobby_entry.LobbyEntry.TheVariants.{Absent, Sleeping}
 use Rattle.bq_parts.specs.Processors.{Processor, HasEachOnce, HasLobbyIds}
 use Rattle.bq_parts.specs.World.{World, opening_world, processor_at, inbox}
 use Rattle.bq_parts.proofs.CountLemmas.{count_of-append}
@@ -22,13 +22,16 @@ module _ (d : Discipline) (n c : ℕ) (p : Processor) where
   Seen = (w : World) × IsReached (RecordStep d) (opening_world n) w × HasPart w (cpu_part c p)
 
   pub seen_once : Seen → HasEachOnce (present_at p.running)
-  seen_once k = subst (λ (x : Processor). HasEachOnce (present_at x.running)) k.2.1 (each_once_running k.0 c (reached_sound d n k.0 k.1).orderly)
+  seen_once k =
+      subst (λ (x : Processor). HasEachOnce (present_at x.running)) k.2.1
+      (each_once_running k.0 c (reached_sound d n k.0 k.1).orderly)
 
   pub seen_ids : Seen → HasLobbyIds (present_at p.running)
   seen_ids k =
       let s = reached_sound d n k.0 k.1 in
-      subst (λ (x : Processor). HasLobbyIds (present_at x.running)) k.2.1
-      (λ id h. let p' = (processor_at k.0 c).running in omega (arith, none_beyond_at k.0 c id s.lobby s.orderly h, count_of-append id (present_at p') (inbox k.0 c)))
+      subst (λ (x : Processor). HasLobbyIds (present_at x.running)) k.2.1 (λ id h.
+      let p' = (processor_at k.0 c).running in
+      omega (arith, none_beyond_at k.0 c id s.lobby s.orderly h, count_of-append id (present_at p') (inbox k.0 c)))
 
   usable_by_case : (o : Option Carried) → ((x : Carried) → o ≡ Some x → HasPlace n x.task) → IfSome o (λ x. HasPlace n x.task)
   usable_by_case None h = tt
@@ -38,7 +41,8 @@ module _ (d : Discipline) (n c : ℕ) (p : Processor) where
   pub seen_usable : Seen → IfSome p.hand (λ x. HasPlace n x.task)
   seen_usable k =
       let s = reached_sound d n k.0 k.1 in
-      usable_by_case p.hand (λ x e. subst (λ (m : ℕ). HasPlace m x.task) s.many (s.orderly.places.in_hand c x (ap (λ (y : Processor). y.hand) k.2.1 ∙ e)))
+      usable_by_case p.hand
+      (λ x e. subst (λ (m : ℕ). HasPlace m x.task) s.many (s.orderly.places.in_hand c x (ap (λ (y : Processor). y.hand) k.2.1 ∙ e)))
 
 -- a look at an inbox
 module _ (d : Discipline) (n c : ℕ) (xs : List Task) where
@@ -73,7 +77,14 @@ module _ (d : Discipline) (n c b : ℕ) (p q : Processor) (apart : c ≢ b) wher
       let one = processor_at k.0 c in
       let other = processor_at k.0 b in
       let both : HasEachOnce (present_at one.running ++ present_at other.running) =
-      λ id. omega (arith, standing_once k.0 id s.orderly, held_two id k.0.processors c b apart, count_of-held_by id one, count_of-held_by id other, count_of-append id (present_at one.running) (present_at other.running)) in
+      λ id. omega (
+        arith,
+        standing_once k.0 id s.orderly,
+        held_two id k.0.processors c b apart,
+        count_of-held_by id one,
+        count_of-held_by id other,
+        count_of-append id (present_at one.running) (present_at other.running),
+      ) in
       rw (← k.2.1, ← k.3.1) both
 
   pub two_ids : SeenTwo → HasLobbyIds (present_at p.running ++ present_at q.running)
@@ -98,5 +109,6 @@ module _ (d : Discipline) (n : ℕ) (lobby : List LobbyEntry) where
   SeenLobby = (w : World) × IsReached (RecordStep d) (opening_world n) w × HasPart w (lobby_part lobby)
 
   -- each task stands at its own id
-  pub seen_own : SeenLobby → (id : ℕ) (t : Task) → slice_index_or lobby id Absent ≡ Blocked t → t.id ≡ id
-  seen_own k id t e = (reached_sound d n k.0 k.1).orderly.once.blocked id t (ap (λ (l : List LobbyEntry). slice_index_or l id Absent) k.2 ∙ e)
+  pub seen_own : SeenLobby → (id : ℕ) (t : Task) → slice_index_or lobby id Absent ≡ Sleeping t → t.id ≡ id
+  seen_own k id t e =
+      (reached_sound d n k.0 k.1).orderly.once.blocked id t (ap (λ (l : List LobbyEntry). slice_index_or l id Absent) k.2 ∙ e)

@@ -89,18 +89,25 @@ inboxes_there all c (suc n) e = ((rw length-replicate (omega arith), same_everyw
 
 -- each of the first parts is one that the opening world has
 pub parts_there : (n : ℕ) → Each (HasPart (opening_world n)) (first_parts n)
-parts_there n = (refl, each-append (HasPart (opening_world n)) (cpus_from 0 n) (inboxes_from 0 n) (cpus_there n 0 n (omega arith)) (inboxes_there n 0 n (omega arith)))
+parts_there n = (
+  refl,
+  each-append (HasPart (opening_world n)) (cpus_from 0 n) (inboxes_from 0 n) (cpus_there n 0 n (omega arith))
+      (inboxes_there n 0 n (omega arith)),
+)
 
 -- of the processors' items that are left the next comes first, and then the others
-pub cpu_turn : (i n : ℕ) (rest : List ItemOf) → i < n → cpu_items i (n - i) ++ rest ≡ part_item (part.Cpu i opening) ∷ (cpu_items (i + 1) (n - (i + 1)) ++ rest)
+pub cpu_turn : (i n : ℕ) (rest : List ItemOf) → i < n
+    → cpu_items i (n - i) ++ rest ≡ part_item (part.Cpu i opening) ∷ (cpu_items (i + 1) (n - (i + 1)) ++ rest)
 cpu_turn i n rest b = ap (λ (k : ℕ). cpu_items i k ++ rest) (left_over i n b)
 
 -- of the inboxes' items that are left the next comes first, and then the others
-pub inbox_turn : (i n : ℕ) (rest : List ItemOf) → i < n → inbox_items i (n - i) ++ rest ≡ part_item (part.Inbox i []) ∷ (inbox_items (i + 1) (n - (i + 1)) ++ rest)
+pub inbox_turn : (i n : ℕ) (rest : List ItemOf) → i < n
+    → inbox_items i (n - i) ++ rest ≡ part_item (part.Inbox i []) ∷ (inbox_items (i + 1) (n - (i + 1)) ++ rest)
 inbox_turn i n rest b = ap (λ (k : ℕ). inbox_items i k ++ rest) (left_over i n b)
 
 -- the items of the parts, given out in this order
-cpus_first : (c n : ℕ) (ps : List WorldPart) (rest : List ItemOf) → map part_item (cpus_from c n ++ ps) ++ rest ≡ cpu_items c n ++ (map part_item ps ++ rest)
+cpus_first : (c n : ℕ) (ps : List WorldPart) (rest : List ItemOf)
+    → map part_item (cpus_from c n ++ ps) ++ rest ≡ cpu_items c n ++ (map part_item ps ++ rest)
 cpus_first c zero ps rest = refl
 cpus_first c (suc n) ps rest = ap (λ ys. part_item (part.Cpu c opening) ∷ ys) (cpus_first (c + 1) n ps rest)
 
@@ -109,5 +116,6 @@ inboxes_next c zero rest = refl
 inboxes_next c (suc n) rest = ap (λ ys. part_item (part.Inbox c []) ∷ ys) (inboxes_next (c + 1) n rest)
 
 -- the items of processors and inboxes are those of all processors, and then those of all inboxes
-pub processors_then_inboxes : (n : ℕ) (rest : List ItemOf) → map part_item (cpus_from 0 n ++ inboxes_from 0 n) ++ rest ≡ cpu_items 0 n ++ (inbox_items 0 n ++ rest)
+pub processors_then_inboxes : (n : ℕ) (rest : List ItemOf)
+    → map part_item (cpus_from 0 n ++ inboxes_from 0 n) ++ rest ≡ cpu_items 0 n ++ (inbox_items 0 n ++ rest)
 processors_then_inboxes n rest = cpus_first 0 n (inboxes_from 0 n) rest ∙ ap (λ ys. cpu_items 0 n ++ ys) (inboxes_next 0 n rest)

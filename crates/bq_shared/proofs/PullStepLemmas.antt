@@ -8,7 +8,7 @@ use Rattle.bq_disc.specs.Queues.{can_use}
 use Rattle.bq_disc.specs.Movable.{is_movable_to}
 use Rattle.bq_disc.specs.Discipline.{Discipline, left_at}
 use Rattle.bq_disc.specs.OneProcessor.{Running, present_at}
-use Rattle.bq_bpf.specs.declared.board.Call.{Call as Asked}
+use Rattle.bq_bpf.specs.declared.board.CounterCall.{CounterCall}
 use Rattle.bq_installed.specs.Attachments.{Attachments}
 use Rattle.bq_hooks.specs.declared.settled.By.{By}
 use Rattle.bq_hooks.specs.Contexts.{or_nobody}
@@ -18,7 +18,7 @@ use Rattle.bq_parts.specs.declared.reply.Reply.{Reply}
 use Rattle.bq_parts.specs.declared.reply.Reply.TheVariants.{Pulled}
 use Rattle.bq_parts.specs.Processors.{Processor, opening, size_of, HasEachOnce}
 use Rattle.bq_parts.specs.World.{World, processor_at, count_in, with_processor}
-use Rattle.bq_parts.specs.Choices.{Decision, SettlesPull, policies, own_pull}
+use Rattle.bq_parts.specs.Choices.{SettledChoice, SettlesPull, by_programs, own_pull}
 use Rattle.bq_parts.specs.Moves.{taken_from, without_task, with_pulled, started_if_idle}
 use Rattle.bq_parts.specs.Shares.{after_time, remarked, Pulls}
 use Rattle.bq_parts.proofs.CountLemmas.{each_once_queue}
@@ -34,10 +34,11 @@ use Rattle.bq_shared.proofs.ShapeLemmas.{MayCommitHere, moves_two_cpus}
 use Rattle.bq_shared.proofs.CallStepLemmas.{ones, length_is, time_size, kept_same, kept_less, kept_more}
 
 -- the puller has one more, if a task is taken
-puller_size : (d : Discipline) (now : ℕ) (p o : Processor) (task : Option ℕ) (hooks : Attachments) →
-    let c = after_time d now p in
+puller_size : (d : Discipline) (now : ℕ) (p o : Processor) (task : Option ℕ) (hooks : Attachments)
+    → let c = after_time d now p in
     let taken = taken_from (remarked d o).running task in
-    size_of (record c { running = started_if_idle d (with_pulled d c.running taken) c.running.current; hooks = hooks }) ≡ size_of p + length (option_to_list taken)
+    size_of (record c { running = started_if_idle d (with_pulled d c.running taken) c.running.current; hooks = hooks })
+    ≡ size_of p + length (option_to_list taken)
 puller_size d now p o task hooks =
     let c = after_time d now p in
     let taken = taken_from (remarked d o).running task in
@@ -50,7 +51,7 @@ puller_size d now p o task hooks =
       time_size d now p,
     )
 
--- and the source one less
+-- the source has one task less, if one is taken
 source_size : (d : Discipline) (o : Processor) (task : Option ℕ) →
     let s = remarked d o in
     size_of (record s { running = without_task s.running task }) + length (option_to_list (taken_from s.running task)) ≡ size_of o
@@ -66,21 +67,27 @@ source_size d o task =
       same,
     )
 
-one_by_case : (processor mark : ℕ) (o : Option Task) → option_map_or (can_use processor) o false ≡ true → length (option_to_list (option_map (left_at mark) o)) ≡ 1
+one_by_case : (processor mark : ℕ) (o : Option Task) → option_map_or (can_use processor) o false ≡ true
+    → length (option_to_list (option_map (left_at mark) o)) ≡ 1
 one_by_case processor mark None h = absurd (let no : ⊥ = cc in no)
 one_by_case processor mark (Some t) h = refl
 
 -- a task that may move is there to be taken
-taken_one : (processor id : ℕ) (s : Running) → is_movable_to processor id s.queue ≡ true → length (option_to_list (taken_from s (Some id))) ≡ 1
+taken_one : (processor id : ℕ) (s : Running) → is_movable_to processor id s.queue ≡ true
+    → length (option_to_list (taken_from s (Some id))) ≡ 1
 taken_one processor id s h = one_by_case processor s.kept (with_id id s.queue) h
 
 -- a permitted choice is in the queue
-chosen_there : (d : Discipline) (processor from now id : ℕ) (p o : Processor) (settled : Decision) → HasEachOnce o.running.queue → SettlesPull (policies d) processor from (after_time d now p) (remarked d o) settled → task_numbered settled.choice ≡ Some id →
-    length (option_to_list (taken_from (remarked d o).running (Some id))) ≡ 1
+chosen_there : (d : Discipline) (processor from now id : ℕ) (p o : Processor) (settled : SettledChoice)
+    → HasEachOnce o.running.queue → SettlesPull (by_programs d) processor from (after_time d now p) (remarked d o) settled
+    → task_numbered settled.choice ≡ Some id
+    → length (option_to_list (taken_from (remarked d o).running (Some id))) ≡ 1
 chosen_there d processor from now id p o settled once h e =
     let c = after_time d now p in
     let s = remarked d o in
-    let may = settled_permitted (policies d) _ c.hooks.pull c.running.last processor (may_pull processor s.running.queue) (or_nobody (own_pull processor c s)) settled (own_pull_permitted processor c s once) h in
+    let may =
+    settled_permitted (by_programs d) _ c.hooks.pull c.running.last processor (may_pull processor s.running.queue)
+    (or_nobody (own_pull processor c s)) settled (own_pull_permitted processor c s once) h in
     taken_one processor id s.running (may_pull_names processor s.running.queue settled.choice id may e)
 
 -- a processor beside one that was written
@@ -88,12 +95,14 @@ beside : (w : World) (c b : ℕ) (q o : Processor) → b ≢ c → processor_at 
 beside w c b q o apart at = get_or-set_other w.processors c b q opening apart ∙ at
 
 module _ (d : Discipline) (n : ℕ) where
-  kept_by_task : (w : World) (c b : ℕ) (p q o r : Processor) (k : JournalState) (task run : Option ℕ) (by : By) (steps t : ℕ) → IsSound n w → kept_of w ≡ k → c < count_in w → processor_at w c ≡ p → b < count_in w → processor_at w b ≡ o → c ≢ b →
-      size_of q ≡ size_of p + t → size_of r + t ≡ size_of o → ((id : ℕ) → task ≡ Some id → t ≡ 1) → (task ≡ None → t ≡ 0) →
-      kept_of (with_processor (with_processor w c q) b r) ≡ kept_by_pull c b (Pulled task run by steps) k
+  kept_by_task : (w : World) (c b : ℕ) (p q o r : Processor) (k : JournalState) (task run : Option ℕ) (by : By) (steps t : ℕ)
+      → IsSound n w → kept_of w ≡ k → c < count_in w → processor_at w c ≡ p → b < count_in w → processor_at w b ≡ o → c ≢ b
+      → size_of q ≡ size_of p + t → size_of r + t ≡ size_of o → ((id : ℕ) → task ≡ Some id → t ≡ 1) → (task ≡ None → t ≡ 0)
+      → kept_of (with_processor (with_processor w c q) b r) ≡ kept_by_pull c b (Pulled task run by steps) k
   kept_by_task w c b p q o r k None run by steps t s kw here at there at' apart more less some none =
       let zero : t ≡ 0 = none refl in
-      kept_same d n (with_processor w c q) b o r k (kept_same d n w c p q k kw at (omega (arith, more, zero))) (beside w c b q o (λ e. apart (sym e)) at') (omega (arith, less, zero))
+      kept_same d n (with_processor w c q) b o r k (kept_same d n w c p q k kw at (omega (arith, more, zero)))
+      (beside w c b q o (λ e. apart (sym e)) at') (omega (arith, less, zero))
   kept_by_task w c b p q o r k (Some id) run by steps t s kw here at there at' apart more less some none =
       let one : t ≡ 1 = some id refl in
       let even : length w.inboxes ≡ length w.processors = s.boxes ∙ sym s.many in
@@ -101,21 +110,27 @@ module _ (d : Discipline) (n : ℕ) where
       let first = kept_less w b o r k even kw there at' (omega (arith, less, one)) in
       let few = few_at w c s.lobby s.orderly in
       ap (λ ps. kept_of (record w { processors = ps })) (set_comm w.processors c b q r apart)
-      ∙ kept_more (with_processor w b r) c p q (one_less b k) (even ∙ sym long) first (omega (arith, here, long)) (beside w b c r p apart at) (omega (arith, more, one)) (rw (← at) few)
+      ∙ kept_more (with_processor w b r) c p q (one_less b k) (even ∙ sym long) first (omega (arith, here, long))
+      (beside w b c r p apart at) (omega (arith, more, one)) (rw (← at) few)
 
   none_taken : (s : Running) (task : Option ℕ) → task ≡ None → length (option_to_list (taken_from s task)) ≡ 0
   none_taken s None e = refl
   none_taken s (Some id) e = absurd (let no : ⊥ = cc in no)
 
-  pub pull_kept : (w : World) (c b now : ℕ) (p q o r : Processor) (calls : List Asked) (k : JournalState) (x : Reply) → IsSound n w → kept_of w ≡ k → c < count_in w → processor_at w c ≡ p → b < count_in w → processor_at w b ≡ o → c ≢ b →
-      Pulls (policies d) c b now p o calls x q r → kept_of (with_processor (with_processor w c q) b r) ≡ kept_by_pull c b x k
+  pub pull_kept : (w : World) (c b now : ℕ) (p q o r : Processor) (calls : List CounterCall) (k : JournalState) (x : Reply)
+      → IsSound n w → kept_of w ≡ k → c < count_in w → processor_at w c ≡ p → b < count_in w → processor_at w b ≡ o → c ≢ b
+      → Pulls (by_programs d) c b now p o calls x q r
+      → kept_of (with_processor (with_processor w c q) b r) ≡ kept_by_pull c b x k
   pull_kept w c b now p q o r calls k x s kw here at there at' apart u =
       let source = remarked d o in
       let task = task_numbered u.settled.choice in
       let taken = taken_from source.running task in
-      let once : HasEachOnce o.running.queue = each_once_queue o.running (subst (λ (y : Processor). HasEachOnce (present_at y.running)) at' (each_once_running w b s.orderly)) in
+      let once : HasEachOnce o.running.queue =
+      each_once_queue o.running (subst (λ (y : Processor). HasEachOnce (present_at y.running)) at' (each_once_running w b s.orderly)) in
       let some : (id : ℕ) → task ≡ Some id → length (option_to_list taken) ≡ 1 =
-      λ id e. ap (λ (z : Option ℕ). length (option_to_list (taken_from source.running z))) e ∙ chosen_there d c b now id p o u.settled once u.settles e in
+      λ id e.
+      ap (λ (z : Option ℕ). length (option_to_list (taken_from source.running z))) e
+      ∙ chosen_there d c b now id p o u.settled once u.settles e in
       rw u.replies (
       kept_by_task w c b p q o r k task _ u.settled.by u.settled.steps (length (option_to_list taken)) s kw here at there at' apart
       (ap size_of u.here ∙ puller_size d now p o task (record (after_time d now p).hooks { pull = u.settled.attached }))
@@ -124,8 +139,17 @@ module _ (d : Discipline) (n : ℕ) where
       (λ e. none_taken source.running task e)
       )
 
-  pub pull_moves : (c b now : ℕ) (p q o r : Processor) (calls : List Asked) (k : JournalState) (x : Reply) → c ≢ b → Pulls (policies d) c b now p o calls x q r →
-      MayCommitHere d n k (cpu_part c p ∷ cpu_part b o ∷ []) (record { event = Pull c b now; reply = Ok x; calls = calls }) (kept_by_pull c b x k) (cpu_part c q ∷ cpu_part b r ∷ [])
+  pub pull_moves : (c b now : ℕ) (p q o r : Processor) (calls : List CounterCall) (k : JournalState) (x : Reply)
+      → c ≢ b → Pulls (by_programs d) c b now p o calls x q r
+      → MayCommitHere d n k (cpu_part c p ∷ cpu_part b o ∷ []) (record { event = Pull c b now; reply = Ok x; calls = calls })
+      (kept_by_pull c b x k) (cpu_part c q ∷ cpu_part b r ∷ [])
   pull_moves c b now p q o r calls k x apart u =
-      moves_two_cpus d n c b p q o r k (kept_by_pull c b x k) (record { event = Pull c b now; reply = Ok x; calls = calls }) apart
-      (λ w s kw here at there at'. ((pulls_step d w c b now calls x q r here there apart (rw (at, at') u), rw (in_range_not_refused w c here, in_range_not_refused w b there, ne_eqb c b apart) refl, tt), pull_kept w c b now p q o r calls k x s kw here at there at' apart u))
+      moves_two_cpus d n c b p q o r k (kept_by_pull c b x k)
+      (record { event = Pull c b now; reply = Ok x; calls = calls }) apart (λ w s kw here at there at'. (
+        (
+          pulls_step d w c b now calls x q r here there apart (rw (at, at') u),
+          rw (in_range_not_refused w c here, in_range_not_refused w b there, ne_eqb c b apart) refl,
+          tt,
+        ),
+        pull_kept w c b now p q o r calls k x s kw here at there at' apart u,
+      ))

@@ -11,7 +11,8 @@ pub left_over : (i n : ℕ) → i < n → n - i ≡ suc (n - (i + 1))
 left_over i n b = omega arith
 
 -- the callers that are left, with the next one first
-pub caller_turn : {R P D : Type 0} (i n : ℕ) → i < n → let l : List (Item R P D) = callers_from i (n - i) in l ≡ callers_from i (suc (n - (i + 1)))
+pub caller_turn : {R P D : Type 0} (i n : ℕ) → i < n
+    → let l : List (Item R P D) = callers_from i (n - i) in l ≡ callers_from i (suc (n - (i + 1)))
 caller_turn i n b = ap (λ (k : ℕ). callers_from i k) (left_over i n b)
 
 -- the account that is left, without the next seat

@@ -7,7 +7,7 @@ use Rattle.arrayvec.proofs.array_vec.ArrayVec.TheSendSync as list
 use Rattle.bq_disc.proofs.node.Node.TheLaws.TheKnot as knot
 use Rattle.bq_disc.specs.declared.queue.RunQueue as Queue
 use Rattle.bq_disc.specs.declared.discipline.Discipline
-use Rattle.bq_bpf.proofs.board.Call.TheSendSync as call
+use Rattle.bq_bpf.proofs.board.CounterCall.TheSendSync as call
 use Rattle.bq_hooks.proofs.loads.Loads.TheSendSync as loads
 use Rattle.bq_installed.proofs.scratch.Scratch.TheSendSync as scratch
 use Rattle.bq_parts.proofs.SendLemmas.{cpu_send}
@@ -21,7 +21,8 @@ use Rattle.bq_shared.specs.contracts.calls.Calls as Calls
 use Rattle.bq_shared.specs.contracts.law.JournalState as JournalState
 
 -- a processor with its number
-pub numbered_send : (Q R : RattleType) (g : Queue.Ghosts Q.Denot R.Denot) (h : Discipline.Ghosts R.Denot) → IsSend Q → IsSend (Numbered.the_row Q R g h)
+pub numbered_send : (Q R : RattleType) (g : Queue.Ghosts Q.Denot R.Denot) (h : Discipline.Ghosts R.Denot)
+    → IsSend Q → IsSend (Numbered.the_row Q R g h)
 numbered_send Q R g h s = declared_send (Numbered.the_type Q R g h) (search sendable, (cpu_send Q R g h s, (scratch.the_send, tt)))
 
 -- an inbox with its number

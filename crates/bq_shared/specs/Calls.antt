@@ -1,17 +1,17 @@
 -- The calls of counters in records.
 use Rattle.std.specs.Prelude.{ℕ, zero, suc, ◌+◌, List, [], ◌∷◌, ◌++◌, length}
-use Rattle.bq_bpf.specs.declared.board.Call.{Call}
+use Rattle.bq_bpf.specs.declared.board.CounterCall.{CounterCall}
 use Rattle.bq_history.specs.declared.shared_state.Receipt.{Receipt}
 use Rattle.bq_shared.specs.declared.account.Account.{Account}
 
-module _ {R : Type 0} (calls : R → List Call) where
-  -- the calls that the records tell
-  abbrev pub calls_in : List R → List Call
+module _ {R : Type 0} (calls : R → List CounterCall) where
+  -- the calls in some records
+  abbrev pub calls_in : List R → List CounterCall
   calls_in [] = []
   calls_in (r ∷ rs) = calls r ++ calls_in rs
 
-  -- the calls that the receipts tell
-  abbrev pub calls_of : List (Receipt R) → List Call
+  -- the calls in some receipts
+  abbrev pub calls_of : List (Receipt R) → List CounterCall
   calls_of [] = []
   calls_of (x ∷ xs) = calls x.entry ++ calls_of xs
 
@@ -19,17 +19,17 @@ module _ {R : Type 0} (calls : R → List Call) where
   abbrev pub account_of : List (Receipt R) → Account
   account_of xs = record { seats = 1; calls = calls_of xs }
 
-  -- the account of such a seat after further calls, which no receipt tells yet
-  abbrev pub ahead : List (Receipt R) → List Call → Account
+  -- the account of such a seat after further calls, which no receipt has yet
+  abbrev pub ahead : List (Receipt R) → List CounterCall → Account
   ahead xs [] = account_of xs
   ahead xs (c ∷ cs) = record { seats = 1; calls = calls_of xs ++ c ∷ cs }
 
-  -- the calls that all callers tell
-  abbrev pub calls_by : List (ℕ × List (Receipt R)) → List Call
+  -- the calls in the receipts of all callers
+  abbrev pub calls_by : List (ℕ × List (Receipt R)) → List CounterCall
   calls_by [] = []
   calls_by (c ∷ cs) = calls_of c.1 ++ calls_by cs
 
-  -- the account of all these callers
+  -- the account of all these callers together
   abbrev pub account_by : List (ℕ × List (Receipt R)) → Account
   account_by callers = record { seats = length callers; calls = calls_by callers }
 

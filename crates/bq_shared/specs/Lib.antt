@@ -3,5 +3,5 @@ pub mod Listed
 pub mod Sums
 pub mod Parts
 pub mod Opened
-pub mod Brief
+pub mod PackedReplies
 pub mod Events

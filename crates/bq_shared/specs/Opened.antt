@@ -8,15 +8,16 @@ use Rattle.bq_shared.specs.declared.law.WorldPart.{WorldPart}
 use Rattle.bq_shared.specs.declared.law.WorldPart.TheVariants as part
 use Rattle.bq_shared.specs.declared.record.Record.{Record}
 
--- what a holder has
+-- an item of a holder
 abbrev pub ItemOf : Type 0
 ItemOf = Item Record WorldPart JournalState
 
--- the items of processors from number c on, n of them
+-- the items of n processors at the start, numbered from c on
 abbrev pub cpu_items : ℕ → ℕ → List ItemOf
 cpu_items c zero = []
 cpu_items c (suc n) = part_item (part.Cpu c opening) ∷ cpu_items (c + 1) n
 
+-- the items of n inboxes at the start, numbered from c on
 abbrev pub inbox_items : ℕ → ℕ → List ItemOf
 inbox_items c zero = []
 inbox_items c (suc n) = part_item (part.Inbox c []) ∷ inbox_items (c + 1) n

@@ -2,14 +2,15 @@
 ghost use Rattle.atomic_table.specs.Seated.{TableId};
 
 use atomic_table::{Join, Play, Seat, Split, TableRule};
-use bq_bpf::Call;
+use bq_bpf::CounterCall;
 use std::collections::LinkedList;
 use std::marker::{Brand, Model, PhantomData};
 
-/// How many seats an account is of, and the calls that they made. No value of it is made.
+/// For contracts only, so no value exists at run time: the number of seats that an account covers, and the calls that they
+/// made.
 pub struct Account {
     pub seats: u64,
-    pub calls: LinkedList<Call>,
+    pub calls: LinkedList<CounterCall>,
 }
 
 /// Names the counters of one machine, so that types can say that they belong to them.
@@ -23,7 +24,7 @@ impl Counting for Brand {
     ghost counters = { record { words = 0; slots = 0; views_name = 0; atom = 0; block = 0; offset = 0; slot_names = [] } };
 }
 
-/// An account of the counters that `N` names. It has no bytes.
+/// A tally of the counters that `N` names: it holds an account. It has no bytes.
 #[derive(Drop)]
 pub struct CounterTally<N: Counting> {
     pub(crate) seat: Seat<(), Account>,
@@ -41,7 +42,7 @@ impl<N: Counting> Model for CounterTally<N> {
     ghost invariant = { λ t. (t.seat.table_id ≡ N.counters) × (t.seat.me.1 ≡ []) };
 }
 
-/// The rule of the counters.
+/// The rule of the counters' table.
 pub struct Summed;
 
 impl TableRule<(), Account, u64> for Summed {
@@ -52,29 +53,29 @@ impl TableRule<(), Account, u64> for Summed {
     ghost first = { λ seats. opened seats };
 }
 
-/// An add, which the account gets.
+/// An add, which the account records.
 pub struct Adding;
 
 impl Play<(), Account> for Adding {
     ghost use Rattle.std.specs.Prelude.{◌≡◌};
-    ghost use Rattle.bq_bpf.specs.declared.board.Call.TheVariants.{Add};
+    ghost use Rattle.bq_bpf.specs.declared.board.CounterCall.TheVariants.{Add};
     ghost use Rattle.bq_shared.specs.Sums.{calling};
 
     ghost then = { λ step v found w. (w.0 ≡ calling v.0 (Add step.word step.first found)) × (w.1 ≡ v.1) };
 }
 
-/// A read, which the account gets.
+/// A read, which the account records.
 pub struct Reading;
 
 impl Play<(), Account> for Reading {
     ghost use Rattle.std.specs.Prelude.{◌≡◌};
-    ghost use Rattle.bq_bpf.specs.declared.board.Call.TheVariants.{Read};
+    ghost use Rattle.bq_bpf.specs.declared.board.CounterCall.TheVariants.{Read};
     ghost use Rattle.bq_shared.specs.Sums.{calling};
 
     ghost then = { λ step v found w. (w.0 ≡ calling v.0 (Read step.word found)) × (w.1 ≡ v.1) };
 }
 
-/// A look, which no account gets.
+/// A look, which no account records.
 pub struct Looking;
 
 impl Play<(), Account> for Looking {
@@ -83,7 +84,7 @@ impl Play<(), Account> for Looking {
     ghost then = { λ _ v _ w. (w.0 ≡ v.0) × (w.1 ≡ v.1) };
 }
 
-/// A look by nobody yet, whose account is of no seat.
+/// A look without a seat yet: it makes an account of no seat.
 pub struct UnseatedLook;
 
 impl Play<(), Account> for UnseatedLook {
@@ -93,7 +94,7 @@ impl Play<(), Account> for UnseatedLook {
     ghost then = { λ _ _ _ w. (w.0 ≡ spent) × (w.1 ≡ []) };
 }
 
-/// One seat gets an account of its own.
+/// Gives one seat an account of its own.
 pub struct Apart;
 
 impl Split<Account> for Apart {
@@ -104,7 +105,7 @@ impl Split<Account> for Apart {
     ghost right = { λ _. opened 1 };
 }
 
-/// The whole account goes to another tally.
+/// Gives the whole account to another tally.
 pub struct Whole;
 
 impl Split<Account> for Whole {
@@ -115,13 +116,13 @@ impl Split<Account> for Whole {
     ghost right = { λ v. v };
 }
 
-/// Two accounts become one.
+/// Makes two accounts one.
 pub struct Together;
 
 impl Join<Account> for Together {
-    ghost use Rattle.bq_shared.specs.Sums.{both, spent as empty};
+    ghost use Rattle.bq_shared.specs.Sums.{joined_accounts, spent as empty};
 
-    ghost both = { both };
+    ghost both = { joined_accounts };
 
     ghost spent = { empty };
 }

@@ -1,4 +1,4 @@
-//! Copies of events and their policies, neither of which takes memory.
+//! Copies of events and of their policies. Copying takes no memory.
 ghost use Rattle.std.specs.Prelude.{◌≡◌, IfOk, OnErr, IsTrue, is_some};
 ghost use Rattle.bq_shared.specs.Events.{CarriesPolicy};
 
@@ -6,8 +6,7 @@ use bq_installed::Policy;
 use bq_parts::Event;
 use std::alloc::AllocError;
 
-/// A copy of the event. There is an error only where its policy would then stand in more places than can be
-/// counted.
+/// A copy of the event. Fails only if the reference count of its policy would overflow.
 #[inline(always)]
 pub fn event_again(event: &Event) -> Result<Event, AllocError>
     ensures same { IfOk result (λ again. again ≡ event.now) }
@@ -20,8 +19,7 @@ pub fn event_again(event: &Event) -> Result<Event, AllocError>
     Ok(event.with_policy(policy))
 }
 
-/// None, or a copy of the policy. There is an error only where it would then stand in more places than can be
-/// counted.
+/// A copy of the policy; None if there is no policy. Fails only if the reference count of the policy would overflow.
 #[inline(always)]
 pub fn policy_again(policy: &Option<Policy>) -> Result<Option<Policy>, AllocError>
     ensures same { IfOk result (λ again. again ≡ policy.now) }

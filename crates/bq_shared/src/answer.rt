@@ -1,15 +1,15 @@
-//! An answer in little room, as records and receipts keep it.
+//! An answer in little memory, as records and receipts keep it.
 ghost use Rattle.std.specs.Prelude.{◌≡◌, ◌↔◌, true, false, IsTrue, Ok, Err, is_err, is_some};
 ghost use Rattle.bq_parts.specs.declared.reply.Reply.TheVariants as reply;
-ghost use Rattle.bq_shared.specs.Brief.{has_loads};
+ghost use Rattle.bq_shared.specs.PackedReplies.{has_loads};
 
 use bq_hooks::{By, Loads};
 use bq_parts::{Refusal, Reply};
 use std::marker::Model;
 
-/// A reply or a refusal. Loads stand apart, so that the other answers take no room for them.
+/// A reply or a refusal. Loads are in a box of their own, so that the other answers take no memory for them.
 #[derive(Drop)]
-pub enum Brief {
+pub enum PackedReply {
     Admitted,
     Retired,
     Drawn {
@@ -50,17 +50,17 @@ pub enum Brief {
     Refused(Refusal),
 }
 
-/// What an event was answered, in little room. Contracts see the answer.
+/// The answer to an event, in little memory. Contracts see the answer.
 #[derive(Drop)]
 pub struct PackedAnswer {
-    brief: Brief,
+    brief: PackedReply,
 }
 
 impl Model for PackedAnswer {
     ghost use Rattle.std.specs.Prelude.{Result};
     ghost use Rattle.bq_parts.specs.declared.reply.Reply.{Reply as Replied};
     ghost use Rattle.bq_parts.specs.declared.refusal.Refusal.{Refusal as Refused};
-    ghost use Rattle.bq_shared.specs.Brief.{answer_of};
+    ghost use Rattle.bq_shared.specs.PackedReplies.{answer_of};
 
     ghost Value = { Result Replied Refused };
 
@@ -68,7 +68,7 @@ impl Model for PackedAnswer {
 }
 
 impl PackedAnswer {
-    /// An answer without loads.
+    /// Packs an answer without loads.
     pub fn of(answer: &Result<Reply, Refusal>) -> PackedAnswer
         requires { has_loads answer.now ≡ false }
         ensures { result ≡ answer.now }
@@ -76,26 +76,26 @@ impl PackedAnswer {
         PackedAnswer::kept(answer, None)
     }
 
-    /// A refusal.
+    /// Packs a refusal.
     pub fn refused(refusal: Refusal) -> PackedAnswer
         ensures { result ≡ Err refusal }
     {
         PackedAnswer {
-            brief: Brief::Refused(refusal),
+            brief: PackedReply::Refused(refusal),
         }
     }
 
-    /// That a clock has ticked: who runs from then on, who chose, and how many steps its policy took.
+    /// Packs the answer to a tick: the task that runs from then on, who chose, and how many steps the policy took.
     #[inline(always)]
     pub fn ticked(run: Option<u16>, by: By, steps: u32) -> PackedAnswer
         ensures { result ≡ Ok (reply.Ticked run by steps) }
     {
         PackedAnswer {
-            brief: Brief::Ticked { run, by, steps },
+            brief: PackedReply::Ticked { run, by, steps },
         }
     }
 
-    /// An answer, with room for its loads where it has some.
+    /// Packs an answer. Its loads, if it has any, go into `room`.
     pub fn with_room(answer: &Result<Reply, Refusal>, room: Box<Loads>) -> PackedAnswer
         ensures { result ≡ answer.now }
     {
@@ -107,16 +107,16 @@ impl PackedAnswer {
         ensures { result ≡ answer.now }
     {
         let brief = match answer {
-            Ok(Reply::Admitted) => Brief::Admitted,
-            Ok(Reply::Retired) => Brief::Retired,
-            Ok(Reply::Drawn { generation }) => Brief::Drawn {
+            Ok(Reply::Admitted) => PackedReply::Admitted,
+            Ok(Reply::Retired) => PackedReply::Retired,
+            Ok(Reply::Drawn { generation }) => PackedReply::Drawn {
                 generation: *generation,
             },
-            Ok(Reply::Installed) => Brief::Installed,
+            Ok(Reply::Installed) => PackedReply::Installed,
             Ok(Reply::Begun { task, loads }) => {
                 let Some(mut room) = room else { unreachable!() };
                 *room = loads.copy();
-                Brief::Begun {
+                PackedReply::Begun {
                     task: *task,
                     loads: room,
                 }
@@ -128,7 +128,7 @@ impl PackedAnswer {
                     by,
                     steps,
                 },
-            ) => Brief::Placed {
+            ) => PackedReply::Placed {
                 task: *task,
                 to: *to,
                 by: *by,
@@ -141,18 +141,18 @@ impl PackedAnswer {
                     by,
                     steps,
                 },
-            ) => Brief::Drained {
+            ) => PackedReply::Drained {
                 count: *count,
                 run: *run,
                 by: *by,
                 steps: *steps,
             },
-            Ok(Reply::Ticked { run, by, steps }) => Brief::Ticked {
+            Ok(Reply::Ticked { run, by, steps }) => PackedReply::Ticked {
                 run: *run,
                 by: *by,
                 steps: *steps,
             },
-            Ok(Reply::Blocked { task, run }) => Brief::Blocked {
+            Ok(Reply::Blocked { task, run }) => PackedReply::Blocked {
                 task: *task,
                 run: *run,
             },
@@ -163,33 +163,33 @@ impl PackedAnswer {
                     by,
                     steps,
                 },
-            ) => Brief::Pulled {
+            ) => PackedReply::Pulled {
                 task: *task,
                 run: *run,
                 by: *by,
                 steps: *steps,
             },
-            Err(refusal) => Brief::Refused(*refusal),
+            Err(refusal) => PackedReply::Refused(*refusal),
         };
         PackedAnswer { brief }
     }
 
-    /// The answer.
-    pub fn told(&self) -> Result<Reply, Refusal>
+    /// The answer, unpacked.
+    pub fn reported(&self) -> Result<Reply, Refusal>
         ensures { result ≡ self.now }
     {
         let reply = match &self.brief {
-            Brief::Admitted => Reply::Admitted,
-            Brief::Retired => Reply::Retired,
-            Brief::Drawn { generation } => Reply::Drawn {
+            PackedReply::Admitted => Reply::Admitted,
+            PackedReply::Retired => Reply::Retired,
+            PackedReply::Drawn { generation } => Reply::Drawn {
                 generation: *generation,
             },
-            Brief::Installed => Reply::Installed,
-            Brief::Begun { task, loads } => Reply::Begun {
+            PackedReply::Installed => Reply::Installed,
+            PackedReply::Begun { task, loads } => Reply::Begun {
                 task: *task,
                 loads: loads.copy(),
             },
-            Brief::Placed {
+            PackedReply::Placed {
                 task,
                 to,
                 by,
@@ -200,7 +200,7 @@ impl PackedAnswer {
                 by: *by,
                 steps: *steps,
             },
-            Brief::Drained {
+            PackedReply::Drained {
                 count,
                 run,
                 by,
@@ -211,16 +211,16 @@ impl PackedAnswer {
                 by: *by,
                 steps: *steps,
             },
-            Brief::Ticked { run, by, steps } => Reply::Ticked {
+            PackedReply::Ticked { run, by, steps } => Reply::Ticked {
                 run: *run,
                 by: *by,
                 steps: *steps,
             },
-            Brief::Blocked { task, run } => Reply::Blocked {
+            PackedReply::Blocked { task, run } => Reply::Blocked {
                 task: *task,
                 run: *run,
             },
-            Brief::Pulled {
+            PackedReply::Pulled {
                 task,
                 run,
                 by,
@@ -231,38 +231,38 @@ impl PackedAnswer {
                 by: *by,
                 steps: *steps,
             },
-            Brief::Refused(refusal) => return Err(*refusal),
+            PackedReply::Refused(refusal) => return Err(*refusal),
         };
         Ok(reply)
     }
 
-    /// Whether it is a refusal.
+    /// Whether the answer is a refusal.
     pub fn is_err(&self) -> bool
         ensures { result ≡ is_err self.now }
     {
-        matches!(&self.brief, Brief::Refused(_))
+        matches!(&self.brief, PackedReply::Refused(_))
     }
 
-    /// Whether both are the same answer.
+    /// Whether both answers are equal.
     pub fn is_same(&self, other: &PackedAnswer) -> bool
         ensures { IsTrue result ↔ (self.now ≡ other.now) }
     {
         match (&self.brief, &other.brief) {
-            // as most answers are to ticks, and others are unpacked
+            // Most answers are to ticks, so these are compared here; others are unpacked.
             (
-                Brief::Ticked { run, by, steps },
-                Brief::Ticked {
+                PackedReply::Ticked { run, by, steps },
+                PackedReply::Ticked {
                     run: their_run,
                     by: their_by,
                     steps: their_steps,
                 },
             ) => run == their_run && by == their_by && steps == their_steps,
-            _ => is_same_answer(&self.told(), &other.told()),
+            _ => is_same_answer(&self.reported(), &other.reported()),
         }
     }
 }
 
-/// Whether both are the same answer, by value.
+/// Whether both answers are equal, by value.
 fn is_same_answer(answer: &Result<Reply, Refusal>, other: &Result<Reply, Refusal>) -> bool
     ensures { IsTrue result ↔ (answer.now ≡ other.now) }
 {

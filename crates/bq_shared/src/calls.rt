@@ -2,21 +2,21 @@
 ghost use Rattle.std.specs.Prelude.{◌≡◌, ◌≤◌, [], length, true, is_some};
 
 use arrayvec::ArrayVec;
-use bq_bpf::Call;
+use bq_bpf::CounterCall;
 use bq_bpf::board::MOST_CALLS;
 use std::alloc::{AllocError, Global};
 use std::marker::Model;
 
-/// The calls of counters of one event, at most `MOST_CALLS`. They stand apart, so that an event without calls takes no room for
-/// them. Contracts see the list.
+/// The calls of counters of one event, at most `MOST_CALLS`. They are in a box of their own, so that an event without calls
+/// takes no memory for them. Contracts see the list.
 #[derive(Drop)]
 pub struct Calls {
-    list: Option<Box<ArrayVec<Call, MOST_CALLS>>>,
+    list: Option<Box<ArrayVec<CounterCall, MOST_CALLS>>>,
 }
 
 impl Model for Calls {
     ghost use Rattle.std.specs.Prelude.{List};
-    ghost use Rattle.bq_bpf.specs.declared.board.Call.{Call as Asked};
+    ghost use Rattle.bq_bpf.specs.declared.board.CounterCall.{CounterCall as Asked};
     ghost use Rattle.bq_shared.specs.Listed.{listed};
 
     ghost Value = { List Asked };
@@ -27,7 +27,7 @@ impl Model for Calls {
 impl Calls {
     ghost use Rattle.std.specs.Prelude.{◌↔◌, IsTrue};
 
-    /// No call.
+    /// A list without calls.
     pub fn none() -> Calls
         ensures { result ≡ [] }
     {
@@ -35,7 +35,7 @@ impl Calls {
     }
 
     /// The calls, in order.
-    pub fn as_slice(&self) -> &[Call]
+    pub fn as_slice(&self) -> &[CounterCall]
         ensures { result.now ≡ self.now }
     {
         match &self.list {
@@ -44,12 +44,12 @@ impl Calls {
         }
     }
 
-    /// Whether these are the same calls, with the same answers.
+    /// Whether both have equal calls, with equal answers.
     #[inline(always)]
     pub fn is_same(&self, other: &Calls) -> bool
         ensures { IsTrue result ↔ (self.now ≡ other.now) }
     {
-        // as most events have none, and lists are compared item by item
+        // Most events have no calls; other lists are compared item by item.
         if self.list.is_none() && other.list.is_none() {
             return true;
         }
@@ -60,12 +60,12 @@ impl Calls {
 /// Room for the calls of one event, once for its record and once for its receipt. It is made before any lock is taken.
 #[derive(Drop)]
 pub struct CallRooms {
-    record: Box<ArrayVec<Call, MOST_CALLS>>,
-    receipt: Box<ArrayVec<Call, MOST_CALLS>>,
+    record: Box<ArrayVec<CounterCall, MOST_CALLS>>,
+    receipt: Box<ArrayVec<CounterCall, MOST_CALLS>>,
 }
 
 impl CallRooms {
-    /// Rooms in which nothing stands. Only events with calls use them up, so they are seldom made.
+    /// Empty rooms. Only events with calls use them up, so they are seldom made.
     #[cold]
     #[inline(never)]
     pub fn new(alloc: Global) -> Result<CallRooms, AllocError> {
@@ -75,9 +75,10 @@ impl CallRooms {
     }
 }
 
-/// These calls, for the record and for the receipt. Where there are none the rooms stay for another event.
+/// Puts these calls into the rooms, for the record and for the receipt. If there are no calls, the rooms remain for another
+/// event.
 #[inline(always)]
-pub fn hold_calls(rooms: &mut Option<CallRooms>, calls: &[Call]) -> (Calls, Calls)
+pub fn hold_calls(rooms: &mut Option<CallRooms>, calls: &[CounterCall]) -> (Calls, Calls)
     requires few { length calls.now ≤ MOST_CALLS }
     requires ready { is_some rooms.old ≡ true }
     ensures record { result.0 ≡ calls.now }
@@ -89,9 +90,9 @@ pub fn hold_calls(rooms: &mut Option<CallRooms>, calls: &[Call]) -> (Calls, Call
     filled_twice(rooms, calls)
 }
 
-/// These calls, at least one, for the record and for the receipt. It stands apart, as most events have none.
+/// Puts these calls, at least one, into the rooms. It is a function of its own since most events have no calls.
 #[inline(never)]
-fn filled_twice(rooms: &mut Option<CallRooms>, calls: &[Call]) -> (Calls, Calls)
+fn filled_twice(rooms: &mut Option<CallRooms>, calls: &[CounterCall]) -> (Calls, Calls)
     requires few { length calls.now ≤ MOST_CALLS }
     requires ready { is_some rooms.old ≡ true }
     ensures record { result.0 ≡ calls.now }
@@ -103,7 +104,7 @@ fn filled_twice(rooms: &mut Option<CallRooms>, calls: &[Call]) -> (Calls, Calls)
     (filled(record, calls), filled(receipt, calls))
 }
 
-fn filled(room: Box<ArrayVec<Call, MOST_CALLS>>, calls: &[Call]) -> Calls
+fn filled(room: Box<ArrayVec<CounterCall, MOST_CALLS>>, calls: &[CounterCall]) -> Calls
     requires { length calls.now ≤ MOST_CALLS }
     ensures { result ≡ calls.now }
 {

@@ -1,4 +1,4 @@
-//! What lies under each lock.
+//! The contents of the locks.
 
 use crate::law::{JournalState, WorldPart};
 use crate::record::Record;
@@ -7,7 +7,7 @@ use bq_history::{AsPart, HasContent, Locked, Placed};
 use bq_installed::Scratch;
 use bq_parts::{Cpu, Inbox, Lobby};
 
-/// What lies under a lock: content with the holder of its part.
+/// The content of a lock, with the holder of its part.
 pub type UnderLock<A, N> = Locked<A, Record, WorldPart, JournalState, N>;
 
 /// A processor and its number, with the space in which its policies run.

@@ -1,4 +1,4 @@
-//! The end of both tables.
+//! The end of both tables: the history and the counters.
 ghost use Rattle.std.specs.Prelude.{◌≡◌, ◌≤◌, ◌++◌, map};
 ghost use Rattle.bq_history.specs.Whole.{count, Each};
 ghost use Rattle.bq_history.specs.History.{IsHistory, EachOnce, AreReceiptsOf};
@@ -6,13 +6,13 @@ ghost use Rattle.bq_history.specs.Items.{caller_of, part_item, parts_of};
 ghost use Rattle.bq_shared.specs.Sums.{AreSumsOf};
 ghost use Rattle.bq_shared.specs.Calls.{account_by, calls_in};
 
-use crate::seat::{Seat, TellsCalls};
+use crate::seat::{ReportsCalls, Seat};
 use crate::{CounterTally, Counters, Counting};
 use bq_bpf::board::COUNTERS;
 use bq_history::{ClosedRecords, History, HolderOf, JournalOf, Naming, World, finish};
 
-/// The history, and the counters, which are the sums of the adds that it tells. It takes no memory.
-pub fn close<R: TellsCalls + Drop, M: World<Record = R>, N: Naming + Counting>(
+/// The records of the history, and the counters: each is the sum of the adds in the history. It takes no memory.
+pub fn close<R: ReportsCalls + Drop, M: World<Record = R>, N: Naming + Counting>(
     history: History<M, N>,
     journal: JournalOf<M, N>,
     parts: HolderOf<M, N>,
@@ -35,8 +35,8 @@ pub fn close<R: TellsCalls + Drop, M: World<Record = R>, N: Naming + Counting>(
     (log, words)
 }
 
-/// What all seats have goes to a holder, in their order; and the account of all of them.
-fn leave_all<R: TellsCalls + Drop, M: World<Record = R>, N: Naming + Counting>(
+/// Gives what all seats have to a holder, in their order, and makes one account of theirs.
+fn leave_all<R: ReportsCalls + Drop, M: World<Record = R>, N: Naming + Counting>(
     history: &History<M, N>,
     all: &mut HolderOf<M, N>,
     counters: &Counters<N>,

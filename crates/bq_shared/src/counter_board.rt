@@ -3,7 +3,7 @@ ghost use Rattle.std.specs.Prelude.{◌≡◌, ◌≤◌};
 
 use crate::account::{CounterTally, Counting};
 use crate::counters::Counters;
-use bq_bpf::{Board, Call};
+use bq_bpf::{Board, CounterCall};
 
 /// The counters of a machine, with the account of the seat that runs a program.
 #[derive(Drop)]

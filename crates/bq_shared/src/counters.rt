@@ -1,7 +1,7 @@
 //! The counters.
 ghost use Rattle.std.specs.Prelude.{◌≡◌, ◌<◌, ◌≤◌, IfOk, []};
-ghost use Rattle.bq_bpf.specs.declared.board.Call.TheVariants.{Add, Read};
-ghost use Rattle.bq_shared.specs.Sums.{AreSumsOf, both, calling, opened, spent, without_one};
+ghost use Rattle.bq_bpf.specs.declared.board.CounterCall.TheVariants.{Add, Read};
+ghost use Rattle.bq_shared.specs.Sums.{AreSumsOf, joined_accounts, calling, opened, spent, without_one};
 
 use crate::account::{
     Account, Adding, Apart, CounterTally, Counting, Looking, Reading, Summed, Together,
@@ -12,7 +12,7 @@ use bq_bpf::board::COUNTERS;
 use std::alloc::{AllocError, Global};
 use std::marker::{Model, PhantomData};
 
-/// Counters that have no name yet. Contracts see them as the table's name and the number of seats.
+/// Counters that have no name yet. Contracts see the name of their table and the number of seats.
 #[derive(Drop)]
 pub struct UnnamedCounters {
     table: Table<(), Account, u64, Summed, Global>,
@@ -33,7 +33,7 @@ impl Model for UnnamedCounters {
     ghost invariant = { λ u. IsOfWords COUNTERS u.table.shared.table_id × (u.seat.table_id ≡ u.table.shared.table_id) × (u.seat.me ≡ (opened u.table.shared.key, [])) };
 }
 
-/// The counters of a machine. Contracts see them as the number of seats.
+/// The counters of a machine. Contracts see the number of seats.
 #[derive(Drop)]
 pub struct Counters<N: Counting> {
     table: Table<(), Account, u64, Summed, Global>,
@@ -53,7 +53,7 @@ impl<N: Counting> Model for Counters<N> {
 }
 
 impl UnnamedCounters {
-    /// All counters are 0.
+    /// New counters, all of them 0.
     pub fn new(alloc: Global, seats: u64) -> Result<UnnamedCounters, AllocError>
         ensures { IfOk result (λ u. u.1 ≡ seats) }
     {
@@ -61,7 +61,7 @@ impl UnnamedCounters {
         Ok(UnnamedCounters { table, seat })
     }
 
-    /// The counters, and the account of all seats.
+    /// The counters under their name, and the account of all seats.
     pub fn named<N: Counting>(self) -> (Counters<N>, CounterTally<N>)
         requires { self.0 ≡ N.counters }
         ensures { (result.0 ≡ self.1) × (result.1 ≡ opened self.1) }
@@ -92,7 +92,7 @@ impl<N: Counting> Counters<N> {
         }
     }
 
-    /// The account of one more seat.
+    /// Takes the account of one seat out of another account.
     pub fn part(&self, from: &mut CounterTally<N>) -> CounterTally<N>
         requires { (1 ≤ from.old.seats) × (from.old.calls ≡ []) }
         ensures { (from.new ≡ without_one from.old) × (result ≡ opened 1) }
@@ -104,7 +104,7 @@ impl<N: Counting> Counters<N> {
         }
     }
 
-    /// The whole account goes to a new tally.
+    /// Gives the whole account to a new tally.
     pub fn take(&self, from: &mut CounterTally<N>) -> CounterTally<N>
         ensures { (from.new ≡ spent) × (result ≡ from.old) }
     {
@@ -115,15 +115,15 @@ impl<N: Counting> Counters<N> {
         }
     }
 
-    /// One tally takes the account of another.
+    /// Gives the account of one tally to another.
     pub fn join(&self, to: &mut CounterTally<N>, other: CounterTally<N>)
-        ensures { to.new ≡ both to.old other }
+        ensures { to.new ≡ joined_accounts to.old other }
     {
         let CounterTally { seat, of: _ } = other;
         self.table.shared.join_seat::<Together>(&mut to.seat, seat);
     }
 
-    /// Adds to a counter, and answers what it was.
+    /// Adds to a counter, and answers the value before.
     pub fn add(&self, tally: &mut CounterTally<N>, counter: u8, amount: u64) -> u64
         requires counter { counter < COUNTERS }
         requires seat { 1 ≤ tally.old.seats }
@@ -134,7 +134,7 @@ impl<N: Counting> Counters<N> {
             .fetch_add::<Adding>(&mut tally.seat, usize::from(counter), amount)
     }
 
-    /// What a counter is, told to the account.
+    /// The value of a counter. The account records this read.
     pub fn read(&self, tally: &mut CounterTally<N>, counter: u8) -> u64
         requires counter { counter < COUNTERS }
         requires seat { 1 ≤ tally.old.seats }
@@ -145,7 +145,7 @@ impl<N: Counting> Counters<N> {
             .load::<Reading>(&mut tally.seat, usize::from(counter))
     }
 
-    /// What a counter is.
+    /// The value of a counter. No account records this look.
     pub fn counter(&self, tally: &mut CounterTally<N>, counter: u8) -> u64
         requires { counter < COUNTERS }
         ensures { tally.new ≡ tally.old }
@@ -155,7 +155,7 @@ impl<N: Counting> Counters<N> {
             .load::<Looking>(&mut tally.seat, usize::from(counter))
     }
 
-    /// The counters at the end: with the account of all seats, each is the sum of the recorded adds.
+    /// The counters at the end. Given the account of all seats, each counter is the sum of the recorded adds, modulo 2^64.
     pub fn close(self, all: CounterTally<N>) -> [u64; COUNTERS]
         requires whole { all.seats ≡ self }
         ensures { AreSumsOf all.calls result }

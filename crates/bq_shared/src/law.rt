@@ -1,4 +1,4 @@
-//! The world's parts as what the holders know.
+//! The world in parts, as the holders know them.
 ghost use Rattle.std.specs.Prelude.{◌≡◌};
 ghost use Rattle.bq_history.specs.Items.{kept_after};
 ghost use Rattle.bq_shared.specs.Parts.{kept_by_block, kept_by_pull, one_less, one_more};
@@ -10,7 +10,7 @@ use bq_hooks::Loads;
 use bq_parts::{Inbox, Lobby, Refusal, Reply};
 use std::marker::{Model, PhantomData};
 
-/// A processor as the world sees it. No value of it is made.
+/// For contracts only, so no value exists at run time: a processor as the world sees it.
 pub struct CpuState;
 
 impl Model for CpuState {
@@ -21,7 +21,7 @@ impl Model for CpuState {
     ghost view = { λ _. opening };
 }
 
-/// The world. No value of it is made.
+/// For contracts only, so no value exists at run time: the world.
 pub struct WorldState;
 
 impl Model for WorldState {
@@ -32,14 +32,14 @@ impl Model for WorldState {
     ghost view = { λ _. opening_world 0 };
 }
 
-/// A part of the world. No value of it is made.
+/// For contracts only, so no value exists at run time: a part of the world.
 pub enum WorldPart {
     Cpu(u8, CpuState),
     Inbox(u8, Inbox),
     Lobby(Lobby),
 }
 
-/// What the journal keeps of the world: the number drawn last, and the load of each processor.
+/// What the journal keeps of the world: the last number drawn, and the load of each processor.
 #[derive(Drop)]
 pub struct JournalState {
     pub drawn: u64,
@@ -47,7 +47,7 @@ pub struct JournalState {
 }
 
 impl JournalState {
-    /// A copy of it.
+    /// A copy of what is kept.
     pub fn again(&self) -> JournalState
         ensures { result ≡ self.now }
     {
@@ -57,7 +57,7 @@ impl JournalState {
         }
     }
 
-    /// A task has come to a processor.
+    /// Counts a task that has come to a processor.
     pub fn one_more(&mut self, processor: u8)
         ensures { self.new ≡ one_more processor self.old }
     {
@@ -66,7 +66,7 @@ impl JournalState {
         self.loads.set(index, load);
     }
 
-    /// A task has left a processor.
+    /// Counts a task that has left a processor.
     pub fn one_less(&mut self, processor: u8)
         ensures { self.new ≡ one_less processor self.old }
     {
@@ -75,8 +75,8 @@ impl JournalState {
         self.loads.set(index, load);
     }
 
-    /// What is kept once a processor has answered a block, or nothing where that is the same: its task has left, unless that
-    /// was refused.
+    /// What is kept after a processor has answered a block, or None if that does not change. Its task has left, unless the
+    /// block was refused.
     pub fn after_block(
         &self,
         processor: u8,
@@ -92,8 +92,8 @@ impl JournalState {
         Some(kept)
     }
 
-    /// What is kept once a processor has answered a pull from another, or nothing where that is the same: a task has gone from
-    /// the one to the other, or none has.
+    /// What is kept after a processor has answered a pull from another, or None if that does not change. A task has gone
+    /// from `from` to `processor`, or none has.
     pub fn after_pull(&self, processor: u8, from: u8, reply: &Reply) -> Option<JournalState>
         ensures { kept_after self.now result ≡ kept_by_pull processor from reply.now self.now }
     {
@@ -107,15 +107,15 @@ impl JournalState {
     }
 }
 
-/// The law of the world under the discipline of a queue. Fixed is how many processors there are.
-pub struct Sched<Q> {
+/// The law of the world under the discipline of a queue. The number of processors is fixed.
+pub struct SchedulerLaw<Q> {
     of: PhantomData<Q>,
 }
 
 /// The history, as all callers share it.
-pub type Shared<Q, N> = History<Sched<Q>, N>;
+pub type Shared<Q, N> = History<SchedulerLaw<Q>, N>;
 
-impl<Q: RunQueue> World for Sched<Q> {
+impl<Q: RunQueue> World for SchedulerLaw<Q> {
     type Record = Record;
 
     type State = WorldState;

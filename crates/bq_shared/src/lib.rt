@@ -1,7 +1,8 @@
-//! What threads share: the processors, inboxes and sleeping tasks under their locks, 64 counters without one, and a seat a caller.
+//! What threads share: the processors, inboxes and sleeping tasks under their locks, 64 counters without a lock, and a seat
+//! for each caller.
 //! Promises that each event's share over the parts that it touches is a move of the history, that a packed answer is the
 //! answer, and that at the end each counter is the sum of the adds in the history.
-//! Stands on bq_parts for the shares, on bq_core for the laws of worlds, and on bq_history for what a move is.
+//! Builds on bq_parts for the shares, on bq_core for the laws of worlds, and on bq_history for what a move is.
 #![tactic(auto)]
 
 mod account;
@@ -27,9 +28,9 @@ pub use cells::{NumberedCpu, NumberedInbox, OneLobby, UnderLock};
 pub use closed::close;
 pub use counter_board::CounterBoard;
 pub use counters::{Counters, UnnamedCounters};
-pub use law::{CpuState, JournalState, Sched, Shared, WorldPart, WorldState};
+pub use law::{CpuState, JournalState, SchedulerLaw, Shared, WorldPart, WorldState};
 pub use opened::seats;
 pub use record::{Record, call_rooms, loads_room, record_room};
 pub use same::is_same_event;
-pub use seat::{Seat, TellsCalls};
+pub use seat::{ReportsCalls, Seat};
 pub use working::Working;

@@ -5,14 +5,14 @@ ghost use Rattle.bq_history.specs.Items.{caller_item, callers_from};
 ghost use Rattle.bq_shared.specs.Sums.{opened, without_one};
 ghost use Rattle.bq_shared.specs.Calls.{fresh};
 
-use crate::seat::{Seat, TellsCalls};
+use crate::seat::{ReportsCalls, Seat};
 use crate::{CounterTally, Counters, Counting};
 use bq_history::{Caller, History, HolderOf, Naming, World};
 use std::alloc::{AllocError, Global};
 
-/// A seat for each caller, numbered from 0 on, none of which has called anything. The callers are all that the holder has,
-/// and the account is that of all seats.
-pub fn seats<R: TellsCalls + Drop, M: World<Record = R>, N: Naming + Counting>(
+/// A seat for each caller, numbered from 0. None of them has called anything. The holder must have the callers and nothing
+/// else, and the account must be that of all seats.
+pub fn seats<R: ReportsCalls + Drop, M: World<Record = R>, N: Naming + Counting>(
     alloc: Global,
     history: &History<M, N>,
     all: &mut HolderOf<M, N>,
@@ -32,8 +32,8 @@ pub fn seats<R: TellsCalls + Drop, M: World<Record = R>, N: Naming + Counting>(
     Ok(seats)
 }
 
-/// The seat of the first caller that is left, with an account of its own.
-fn next_seat<R: TellsCalls + Drop, M: World<Record = R>, N: Naming + Counting>(
+/// The seat of the holder's first caller, with an account of its own.
+fn next_seat<R: ReportsCalls + Drop, M: World<Record = R>, N: Naming + Counting>(
     history: &History<M, N>,
     all: &mut HolderOf<M, N>,
     counters: &Counters<N>,

@@ -1,14 +1,14 @@
-//! What the history tells of each event.
+//! What the history records of each event.
 ghost use Rattle.std.specs.Prelude.{◌≡◌, true, is_some, IfErr, OnOk};
 ghost use Rattle.bq_parts.specs.declared.refusal.Refusal.TheVariants as no;
 
-use crate::{CallRooms, Calls, PackedAnswer, TellsCalls, is_same_event};
+use crate::{CallRooms, Calls, PackedAnswer, ReportsCalls, is_same_event};
 use bq_history::{Compared, Room};
 use bq_hooks::Loads;
 use bq_parts::{Event, Refusal};
 use std::alloc::Global;
 
-/// An event, what it was answered, and its calls of counters in their order.
+/// An event, its answer, and its calls of counters in their order.
 #[derive(Drop)]
 pub struct Record {
     pub event: Event,
@@ -16,13 +16,13 @@ pub struct Record {
     pub calls: Calls,
 }
 
-impl TellsCalls for Record {
-    ghost use Rattle.bq_shared.specs.Parts.{told_calls};
+impl ReportsCalls for Record {
+    ghost use Rattle.bq_shared.specs.Parts.{reported_calls};
 
-    ghost calls = { told_calls };
+    ghost calls = { reported_calls };
 }
 
-/// Two records are alike where event, answer and calls are the same; policies are compared by their contents.
+/// Two records are alike if their events, answers and calls are equal. Policies are compared by their contents.
 impl Compared for Record {
     ghost use Rattle.std.specs.Prelude.{◌≡◌};
 
@@ -35,7 +35,7 @@ impl Compared for Record {
     }
 }
 
-/// Room for a record, if there is no room yet.
+/// Makes room for a record, if there is no room yet.
 #[inline(always)]
 pub fn record_room(alloc: Global, room: &mut Room<Record>) -> Result<(), Refusal>
     ensures memory { IfErr result (λ refusal. refusal ≡ no.OutOfMemory) }
@@ -44,7 +44,7 @@ pub fn record_room(alloc: Global, room: &mut Room<Record>) -> Result<(), Refusal
     room.prepare(alloc).map_err(|_| Refusal::OutOfMemory)
 }
 
-/// Room for the calls of counters of an event, once for its record and once for its receipt, if there is no room yet.
+/// Makes room for the calls of counters of an event, once for its record and once for its receipt, if there is no room yet.
 #[inline(always)]
 pub fn call_rooms(alloc: Global, rooms: &mut Option<CallRooms>) -> Result<(), Refusal>
     ensures memory { IfErr result (λ refusal. refusal ≡ no.OutOfMemory) }
@@ -59,7 +59,7 @@ pub fn call_rooms(alloc: Global, rooms: &mut Option<CallRooms>) -> Result<(), Re
     Ok(())
 }
 
-/// Room for the loads that a wake gets as it begins.
+/// Makes room for the loads that a wake gets as it begins.
 pub fn loads_room(alloc: Global) -> Result<Box<Loads>, Refusal>
     ensures memory { IfErr result (λ refusal. refusal ≡ no.OutOfMemory) }
 {

@@ -1,10 +1,10 @@
-//! Whether two events are the same by their contents.
+//! Compares events by their contents.
 ghost use Rattle.std.specs.Prelude.{◌≡◌, ◌↔◌, IsTrue};
 
 use bq_installed::Policy;
 use bq_parts::Event;
 
-/// Whether both are the same event; policies are the same where what was accepted of them is: instructions, shapes of maps, hook,
+/// Whether both events are equal. Policies are equal if what was accepted of them is: instructions, shapes of maps, hook,
 /// version and budget.
 pub fn is_same_event(event: &Event, other: &Event) -> bool
     ensures { IsTrue result ↔ (event.now ≡ other.now) }
@@ -94,7 +94,7 @@ pub fn is_same_event(event: &Event, other: &Event) -> bool
     }
 }
 
-/// Whether both are none, or the same policy.
+/// Whether both are none, or equal policies.
 fn same_policy(policy: &Option<Policy>, other: &Option<Policy>) -> bool
     ensures { IsTrue result ↔ (policy.now ≡ other.now) }
 {

@@ -1,9 +1,9 @@
-//! A seat of both tables.
+//! A seat: a caller of the history with its account of the counters.
 ghost use Rattle.std.specs.Prelude.{◌≡◌, ◌<◌, ◌∷◌, ◌++◌, ℕ, List, []};
-ghost use Rattle.bq_bpf.specs.declared.board.Call.{Call};
+ghost use Rattle.bq_bpf.specs.declared.board.CounterCall.{CounterCall};
 ghost use Rattle.bq_history.specs.declared.shared_state.Receipt.{Receipt as ReceiptOf};
 ghost use Rattle.bq_history.specs.Items.{caller_of};
-ghost use Rattle.bq_shared.specs.Sums.{both, opened};
+ghost use Rattle.bq_shared.specs.Sums.{joined_accounts, opened};
 ghost use Rattle.bq_shared.specs.Calls.{account_of};
 
 use crate::calls::CallRooms;
@@ -13,24 +13,24 @@ use bq_bpf::board::COUNTERS;
 use bq_history::{Caller, History, Holder, Item, Naming, Numbered, Room, World};
 use std::marker::Model;
 
-/// A record that tells the calls of counters of its event.
-pub trait TellsCalls {
-    ghost calls: { Self → List Call };
+/// A record that includes the calls of counters of its event.
+pub trait ReportsCalls {
+    ghost calls: { Self → List CounterCall };
 }
 
-/// A caller with its account of the counters. Contracts see it as its number and its receipts, in order; its account is
-/// of the calls in its own receipts.
+/// A caller with its account of the counters. Contracts see its number and its receipts, in order. The account has exactly
+/// the calls in those receipts.
 #[derive(Drop)]
-pub struct Seat<R: TellsCalls + Drop, P, D, N: Naming + Counting> {
+pub struct Seat<R: ReportsCalls + Drop, P, D, N: Naming + Counting> {
     pub working: Working<R, P, D, N>,
-    // Room for the record of the next event, and for that of the event after it, where two come together.
+    // Room for the record of the next event, and of the one after it if two come together.
     pub first: Room<R>,
     pub second: Room<R>,
-    // Room for the calls of the next event that has some, or none yet.
+    // Room for the calls of the next event that has some, or None.
     pub rooms: Option<CallRooms>,
 }
 
-impl<R: TellsCalls + Drop, P, D, N: Naming + Counting> Model for Seat<R, P, D, N> {
+impl<R: ReportsCalls + Drop, P, D, N: Naming + Counting> Model for Seat<R, P, D, N> {
     ghost use Rattle.std.specs.Prelude.{◌≡◌, ℕ, List};
     ghost use Rattle.bq_history.specs.declared.shared_state.Receipt.{Receipt as ReceiptOf};
 
@@ -43,7 +43,7 @@ impl<R: TellsCalls + Drop, P, D, N: Naming + Counting> Model for Seat<R, P, D, N
     ghost invariant = { λ s. s.working.tally ≡ account_of R.calls s.working.caller.1 };
 }
 
-impl<R: TellsCalls + Drop, P, D, N: Naming + Counting> Seat<R, P, D, N> {
+impl<R: ReportsCalls + Drop, P, D, N: Naming + Counting> Seat<R, P, D, N> {
     /// A seat that has called nothing.
     pub fn new(caller: Caller<R, P, D, N>, tally: CounterTally<N>) -> Seat<R, P, D, N>
         requires caller { caller.1 ≡ [] }
@@ -58,7 +58,7 @@ impl<R: TellsCalls + Drop, P, D, N: Naming + Counting> Seat<R, P, D, N> {
         }
     }
 
-    /// What the seat has goes to a holder and to an account of all seats.
+    /// Gives what the seat has to a holder and to an account of all seats.
     pub(crate) fn leave<M: World<Record = R, Part = P, Kept = D>>(
         self,
         history: &History<M, N>,
@@ -67,7 +67,7 @@ impl<R: TellsCalls + Drop, P, D, N: Naming + Counting> Seat<R, P, D, N> {
         account: &mut CounterTally<N>,
     )
         ensures caller { all.new ≡ all.old ++ caller_of self ∷ [] }
-        ensures tally { account.new ≡ both account.old (account_of R.calls self.1) }
+        ensures tally { account.new ≡ joined_accounts account.old (account_of R.calls self.1) }
     {
         let Seat { working, .. } = self;
         let Working { caller, tally } = working;
@@ -75,7 +75,7 @@ impl<R: TellsCalls + Drop, P, D, N: Naming + Counting> Seat<R, P, D, N> {
         counters.join(account, tally);
     }
 
-    /// What a counter is. It takes no lock, and no record tells it.
+    /// The value of a counter. It takes no lock, and no record mentions it.
     pub fn counter(&mut self, counters: &Counters<N>, counter: u8) -> u64
         requires { counter < COUNTERS }
         ensures { self.new ≡ self.old }
@@ -84,7 +84,7 @@ impl<R: TellsCalls + Drop, P, D, N: Naming + Counting> Seat<R, P, D, N> {
     }
 }
 
-impl<R: TellsCalls + Drop, P, D, N: Naming + Counting> Numbered for Seat<R, P, D, N> {
+impl<R: ReportsCalls + Drop, P, D, N: Naming + Counting> Numbered for Seat<R, P, D, N> {
     ghost use Rattle.std.specs.Prelude.{◌≡◌};
 
     ghost number = { λ s. s.0 };

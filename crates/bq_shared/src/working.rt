@@ -4,23 +4,23 @@ ghost use Rattle.bq_history.specs.Items.{kept_after, part_item, MayCommit, MayCo
 ghost use Rattle.bq_shared.specs.Sums.{spent};
 ghost use Rattle.bq_shared.specs.Calls.{account_of, ahead};
 
-use crate::seat::TellsCalls;
+use crate::seat::ReportsCalls;
 use crate::{CounterBoard, CounterTally, Counters, Counting};
 use bq_history::{
     AsPart, Caller, Cell, CommitDraft, History, Journal, Naming, Receipt, World, commit,
     commit_one, commit_two,
 };
 
-/// What a seat holds: its caller, and its account of the counters. While an event is under way the account may be ahead of
-/// the receipts by the calls of that event, or lie on a counter_board.
+/// What a seat holds: its caller, and its account of the counters. While an event is under way, the account may have more calls
+/// than the receipts, namely those of that event; or it may be on the counter board on which a policy runs.
 #[derive(Drop)]
 pub struct Working<R, P, D, N: Naming + Counting> {
     pub caller: Caller<R, P, D, N>,
     pub tally: CounterTally<N>,
 }
 
-impl<R: TellsCalls, P, D, N: Naming + Counting> Working<R, P, D, N> {
-    /// The account goes to a counter_board, on which a policy may run.
+impl<R: ReportsCalls, P, D, N: Naming + Counting> Working<R, P, D, N> {
+    /// Moves the account to a counter board, on which a policy may run.
     pub fn open_board<'a>(&mut self, counters: &'a Counters<N>) -> CounterBoard<'a, N>
         requires { 1 ≤ self.old.tally.seats }
         ensures counter_board { result.tally ≡ self.old.tally }
@@ -31,7 +31,7 @@ impl<R: TellsCalls, P, D, N: Naming + Counting> Working<R, P, D, N> {
         CounterBoard { counters, tally }
     }
 
-    /// The account comes back from the counter_board, with the calls that were made there.
+    /// Moves the account back from the counter board, with the calls that were made there.
     pub fn close_board(&mut self, counter_board: CounterBoard<'_, N>)
         requires { self.old.tally ≡ spent }
         ensures caller { self.new.caller ≡ self.old.caller }
@@ -41,7 +41,7 @@ impl<R: TellsCalls, P, D, N: Naming + Counting> Working<R, P, D, N> {
         counters.join(&mut self.tally, tally);
     }
 
-    /// Commits what changes no part. The record tells the calls by which the account is ahead.
+    /// Commits a record that changes no part. The record has the calls that the account has more than the receipts.
     pub fn commit<M: World<Record = R, Part = P, Kept = D>>(
         &mut self,
         history: &History<M, N>,
@@ -53,11 +53,11 @@ impl<R: TellsCalls, P, D, N: Naming + Counting> Working<R, P, D, N> {
         D: Drop,
         requires fits { length journal.old.0 + 1 < 2 ^ 64 }
         requires ready { draft.room.now ≡ true }
-        requires same { draft.logged ≡ draft.told }
-        requires told { self.old.tally ≡ ahead R.calls self.old.caller.1 (R.calls draft.told) }
-        requires may { MayCommit (M.step history.now.about) (M.opening history.now.about) M.kept M.same M.fits journal.old.1 [] draft.told (kept_after journal.old.1 draft.kept) [] }
-        ensures receipt { (result.place ≡ length journal.old.0) × (result.entry ≡ draft.entry.told) }
-        ensures journal { journal.new ≡ (journal.old.0 ++ draft.entry.told ∷ [], kept_after journal.old.1 draft.entry.kept) }
+        requires same { draft.logged ≡ draft.reported }
+        requires reported { self.old.tally ≡ ahead R.calls self.old.caller.1 (R.calls draft.reported) }
+        requires may { MayCommit (M.step history.now.about) (M.opening history.now.about) M.kept M.same M.fits journal.old.1 [] draft.reported (kept_after journal.old.1 draft.kept) [] }
+        ensures receipt { (result.place ≡ length journal.old.0) × (result.entry ≡ draft.entry.reported) }
+        ensures journal { journal.new ≡ (journal.old.0 ++ draft.entry.reported ∷ [], kept_after journal.old.1 draft.entry.kept) }
         ensures caller { self.new.caller ≡ (self.old.caller.0, self.old.caller.1 ++ result ∷ []) }
         ensures tally { self.new.tally ≡ account_of R.calls self.new.caller.1 }
     {
@@ -78,11 +78,11 @@ impl<R: TellsCalls, P, D, N: Naming + Counting> Working<R, P, D, N> {
         D: Drop,
         requires fits { length journal.old.0 + 1 < 2 ^ 64 }
         requires ready { draft.room.now ≡ true }
-        requires same { draft.logged ≡ draft.told }
-        requires told { self.old.tally ≡ ahead R.calls self.old.caller.1 (R.calls draft.told) }
-        requires may { MayCommitCell (M.step history.now.about) (M.opening history.now.about) M.kept M.same M.fits A.part a.old journal.old.1 draft.told draft.kept }
-        ensures receipt { (result.place ≡ length journal.old.0) × (result.entry ≡ draft.entry.told) }
-        ensures journal { journal.new ≡ (journal.old.0 ++ draft.entry.told ∷ [], kept_after journal.old.1 draft.entry.kept) }
+        requires same { draft.logged ≡ draft.reported }
+        requires reported { self.old.tally ≡ ahead R.calls self.old.caller.1 (R.calls draft.reported) }
+        requires may { MayCommitCell (M.step history.now.about) (M.opening history.now.about) M.kept M.same M.fits A.part a.old journal.old.1 draft.reported draft.kept }
+        ensures receipt { (result.place ≡ length journal.old.0) × (result.entry ≡ draft.entry.reported) }
+        ensures journal { journal.new ≡ (journal.old.0 ++ draft.entry.reported ∷ [], kept_after journal.old.1 draft.entry.kept) }
         ensures caller { self.new.caller ≡ (self.old.caller.0, self.old.caller.1 ++ result ∷ []) }
         ensures tally { self.new.tally ≡ account_of R.calls self.new.caller.1 }
         ensures a { (a.new.content ≡ a.old.content) × (a.new.holder ≡ part_item (A.part a.old.content) ∷ []) }
@@ -104,11 +104,11 @@ impl<R: TellsCalls, P, D, N: Naming + Counting> Working<R, P, D, N> {
         D: Drop,
         requires fits { length journal.old.0 + 1 < 2 ^ 64 }
         requires ready { draft.room.now ≡ true }
-        requires same { draft.logged ≡ draft.told }
-        requires told { self.old.tally ≡ ahead R.calls self.old.caller.1 (R.calls draft.told) }
-        requires may { MayCommitCells (M.step history.now.about) (M.opening history.now.about) M.kept M.same M.fits A.part B.part a.old b.old journal.old.1 draft.told draft.kept }
-        ensures receipt { (result.place ≡ length journal.old.0) × (result.entry ≡ draft.entry.told) }
-        ensures journal { journal.new ≡ (journal.old.0 ++ draft.entry.told ∷ [], kept_after journal.old.1 draft.entry.kept) }
+        requires same { draft.logged ≡ draft.reported }
+        requires reported { self.old.tally ≡ ahead R.calls self.old.caller.1 (R.calls draft.reported) }
+        requires may { MayCommitCells (M.step history.now.about) (M.opening history.now.about) M.kept M.same M.fits A.part B.part a.old b.old journal.old.1 draft.reported draft.kept }
+        ensures receipt { (result.place ≡ length journal.old.0) × (result.entry ≡ draft.entry.reported) }
+        ensures journal { journal.new ≡ (journal.old.0 ++ draft.entry.reported ∷ [], kept_after journal.old.1 draft.entry.kept) }
         ensures caller { self.new.caller ≡ (self.old.caller.0, self.old.caller.1 ++ result ∷ []) }
         ensures tally { self.new.tally ≡ account_of R.calls self.new.caller.1 }
         ensures a { (a.new.content ≡ a.old.content) × (a.new.holder ≡ part_item (A.part a.old.content) ∷ []) }

@@ -13,18 +13,38 @@ use Rattle.bq_simulate.specs.Chronicles.{Deed, Happens}
 use Rattle.bq_simulate.specs.Steps.{AreAdmitted, AreAllAdmitted, AreJust, IsAdmission, IsJoin}
 
 -- a task is admitted, and then it is there
-pub admission-of : (processors number : ℕ) (kind : TaskKind) (task home : ℕ) (xs ys : List Deed) → IsFirstAllowed processors kind.mask home → AreJust (Admit task kind.nice kind.mask kind.slice ∷ []) xs → IsJoin number home ys → IsAdmission processors number kind task (xs ++ ys)
+pub admission-of : (processors number : ℕ) (kind : TaskKind) (task home : ℕ) (xs ys : List Deed)
+    → IsFirstAllowed processors kind.mask home → AreJust (Admit task kind.nice kind.mask kind.slice ∷ []) xs
+    → IsJoin number home ys
+    → IsAdmission processors number kind task (xs ++ ys)
 admission-of processors number kind task home xs ys first admit join =
-    let begin : Deed = Happens (Admit task kind.nice kind.mask kind.slice) admit.0 in
-    (admit.0, home, first, ap (λ (l : List Deed). l ++ ys) (admit.2 ∙ ap (λ (l : List Deed). begin ∷ l) admit.3) ∙ ap (λ (l : List Deed). begin ∷ l) join)
+    let begin : Deed = Happens (Admit task kind.nice kind.mask kind.slice) admit.0 in (
+      admit.0,
+      home,
+      first,
+      ap (λ (l : List Deed). l ++ ys) (admit.2 ∙ ap (λ (l : List Deed). begin ∷ l) admit.3)
+          ∙ ap (λ (l : List Deed). begin ∷ l) join,
+    )
 
 -- one task more of a kind
-pub AreAdmitted-more : (processors number : ℕ) (kind : TaskKind) (task count next : ℕ) (xs ys : List Deed) → next ≡ task + count → AreAdmitted processors number kind task count xs → IsAdmission processors number kind next ys → AreAdmitted processors number kind task (suc count) (xs ++ ys)
+pub AreAdmitted-more : (processors number : ℕ) (kind : TaskKind) (task count next : ℕ) (xs ys : List Deed)
+    → next ≡ task + count → AreAdmitted processors number kind task count xs → IsAdmission processors number kind next ys
+    → AreAdmitted processors number kind task (suc count) (xs ++ ys)
 AreAdmitted-more processors number kind task zero next xs ys at none one =
-    let here : next ≡ task = omega (arith, at) in
-    (ys, [], ap (λ (l : List Deed). l ++ ys) none ∙ sym (append-nil ys), subst (λ (n : ℕ). IsAdmission processors number kind n ys) here one, refl)
-AreAdmitted-more processors number kind task (suc count) next xs ys at (some, more, whole, is, rest) one =
-    (some, more ++ ys, ap (λ (l : List Deed). l ++ ys) whole ∙ append_assoc some more ys, is, AreAdmitted-more processors number kind (task + 1) count next more ys (omega (arith, at)) rest one)
+    let here : next ≡ task = omega (arith, at) in (
+      ys,
+      [],
+      ap (λ (l : List Deed). l ++ ys) none ∙ sym (append-nil ys),
+      subst (λ (n : ℕ). IsAdmission processors number kind n ys) here one,
+      refl,
+    )
+AreAdmitted-more processors number kind task (suc count) next xs ys at (some, more, whole, is, rest) one = (
+  some,
+  more ++ ys,
+  ap (λ (l : List Deed). l ++ ys) whole ∙ append_assoc some more ys,
+  is,
+  AreAdmitted-more processors number kind (task + 1) count next more ys (omega (arith, at)) rest one,
+)
 
 tasks_in-cons : (kind : TaskKind) (kinds : List TaskKind) → tasks_in (kind ∷ kinds) ≡ kind.count + tasks_in kinds
 tasks_in-cons kind kinds =
@@ -33,22 +53,37 @@ tasks_in-cons kind kinds =
     sum_by-append count (kind ∷ []) kinds ∙ ap (λ n. n + tasks_in kinds) one
 
 -- one kind more
-AreAllAdmitted-more : (processors number task : ℕ) (kinds : List TaskKind) (kind : TaskKind) (n t : ℕ) (xs ys : List Deed) → n ≡ number + length kinds → t ≡ task + tasks_in kinds → AreAllAdmitted processors number task kinds xs → AreAdmitted processors n kind t kind.count ys → AreAllAdmitted processors number task (kinds ++ kind ∷ []) (xs ++ ys)
+AreAllAdmitted-more : (processors number task : ℕ) (kinds : List TaskKind) (kind : TaskKind) (n t : ℕ) (xs ys : List Deed)
+    → n ≡ number + length kinds → t ≡ task + tasks_in kinds → AreAllAdmitted processors number task kinds xs
+    → AreAdmitted processors n kind t kind.count ys
+    → AreAllAdmitted processors number task (kinds ++ kind ∷ []) (xs ++ ys)
 AreAllAdmitted-more processors number task [] kind n t xs ys at from none are =
     let here : n ≡ number = omega (arith, at) in
     let first : t ≡ task = omega (arith, from) in
     let P : ℕ → Type 0 = λ k. AreAdmitted processors k kind t kind.count ys in
     let Q : ℕ → Type 0 = λ k. AreAdmitted processors number kind k kind.count ys in
     (ys, [], ap (λ (l : List Deed). l ++ ys) none ∙ sym (append-nil ys), subst Q first (subst P here are), refl)
-AreAllAdmitted-more processors number task (k ∷ kinds) kind n t xs ys at from (some, more, whole, is, rest) are =
-    (some, more ++ ys, ap (λ (l : List Deed). l ++ ys) whole ∙ append_assoc some more ys, is, AreAllAdmitted-more processors (number + 1) (task + k.count) kinds kind n t more ys (omega (arith, at)) (omega (arith, from, tasks_in-cons k kinds)) rest are)
+AreAllAdmitted-more processors number task (k ∷ kinds) kind n t xs ys at from (some, more, whole, is, rest) are = (
+  some,
+  more ++ ys,
+  ap (λ (l : List Deed). l ++ ys) whole ∙ append_assoc some more ys,
+  is,
+  AreAllAdmitted-more processors (number + 1) (task + k.count) kinds kind n t more ys (omega (arith, at))
+      (omega (arith, from, tasks_in-cons k kinds)) rest are,
+)
 
 -- the kind of this number, after those before it
-pub AreAllAdmitted-next : (processors : ℕ) (kinds : List TaskKind) (number : ℕ) (kind : TaskKind) (xs ys : List Deed) → slice_get kinds number ≡ Some kind → AreAllAdmitted processors 0 0 (take number kinds) xs → AreAdmitted processors number kind (first_of kinds number) kind.count ys → AreAllAdmitted processors 0 0 (take (number + 1) kinds) (xs ++ ys)
+pub AreAllAdmitted-next : (processors : ℕ) (kinds : List TaskKind) (number : ℕ) (kind : TaskKind) (xs ys : List Deed)
+    → slice_get kinds number ≡ Some kind → AreAllAdmitted processors 0 0 (take number kinds) xs
+    → AreAdmitted processors number kind (first_of kinds number) kind.count ys
+    → AreAllAdmitted processors 0 0 (take (number + 1) kinds) (xs ++ ys)
 AreAllAdmitted-next processors kinds number kind xs ys there before are =
     let within = slice_get_within kinds number kind there in
     let low : number ≤ length kinds = omega (arith, within) in
-    let is : take (number + 1) kinds ≡ take number kinds ++ kind ∷ [] = take_more kinds number kind within ∙ ap (λ (k : TaskKind). take number kinds ++ k ∷ []) (get_or_from_slice_get kinds number kind kind there) in
+    let is : take (number + 1) kinds ≡ take number kinds ++ kind ∷ [] =
+    take_more kinds number kind within
+    ∙ ap (λ (k : TaskKind). take number kinds ++ k ∷ []) (get_or_from_slice_get kinds number kind kind there) in
     let at : number ≡ 0 + length (take number kinds) = omega (arith, length-take-le number kinds low) in
     let from : first_of kinds number ≡ 0 + tasks_in (take number kinds) = omega arith in
-    subst (λ (l : List TaskKind). AreAllAdmitted processors 0 0 l (xs ++ ys)) (sym is) (AreAllAdmitted-more processors 0 0 (take number kinds) kind number (first_of kinds number) xs ys at from before are)
+    subst (λ (l : List TaskKind). AreAllAdmitted processors 0 0 l (xs ++ ys)) (sym is)
+    (AreAllAdmitted-more processors 0 0 (take number kinds) kind number (first_of kinds number) xs ys at from before are)

@@ -7,7 +7,7 @@ use Rattle.std.proofs.lemmas.List.{length-set}
 use Rattle.std.proofs.Math.Nat.{mul-pos}
 use Rattle.std.proofs.lemmas.Nat.{mod-pow-add, pow_pos}
 use Rattle.std.proofs.lemmas.Option.{same_Some, slice_get_past}
-use Rattle.bq_bpf.specs.declared.board.Call.{Call as Asked}
+use Rattle.bq_bpf.specs.declared.board.CounterCall.{CounterCall}
 use Rattle.bq_disc.specs.Discipline.{Discipline}
 use Rattle.bq_disc.specs.Masks.{allows}
 use Rattle.bq_disc.specs.Tasks.{Task}
@@ -15,9 +15,9 @@ use Rattle.bq_disc.specs.declared.limits.TheConstants.{GREATEST_SLICE, LEAST_SLI
 use Rattle.bq_weights.specs.VirtualTime.{is_nice}
 use Rattle.bq_parts.specs.declared.event.Event.TheVariants.{Admit}
 use Rattle.bq_parts.specs.declared.lobby_entry.LobbyEntry.{LobbyEntry}
-use Rattle.bq_parts.specs.declared.lobby_entry.LobbyEntry.TheVariants.{Absent, Blocked}
+use Rattle.bq_parts.specs.declared.lobby_entry.LobbyEntry.TheVariants.{Absent, Sleeping}
 use Rattle.bq_parts.specs.declared.reply.Reply.{Reply}
-use Rattle.bq_parts.specs.Choices.{policies}
+use Rattle.bq_parts.specs.Choices.{by_programs}
 use Rattle.bq_parts.specs.Moves.{admitted}
 use Rattle.bq_parts.specs.Steps.{WorldStep}
 use Rattle.bq_parts.specs.World.{World, entry, count_in, with_lobby}
@@ -53,7 +53,12 @@ numbers_of kind h =
     let to_three = and_parts three (nat_le kind.slice GREATEST_SLICE) to_four.0 in
     let to_two = and_parts two (nat_le LEAST_SLICE kind.slice) to_three.0 in
     let to_one = and_parts one (is_nice kind.nice) to_two.0 in
-    record { some = leb-true 1 kind.count to_one.0; nice = to_one.1; least = leb-true LEAST_SLICE kind.slice to_two.1; greatest = leb-true kind.slice GREATEST_SLICE to_three.1 }
+    record {
+      some = leb-true 1 kind.count to_one.0;
+      nice = to_one.1;
+      least = leb-true LEAST_SLICE kind.slice to_two.1;
+      greatest = leb-true kind.slice GREATEST_SLICE to_three.1;
+    }
 
 product : (a b : ℕ) → 1 ≤ a → 1 ≤ b → a * b ≡ 0 → ⊥
 product a b h k z = omega (arith, mul-pos {m = a} {n = b} h k, z)
@@ -76,7 +81,7 @@ pub appended : {A : Type 0} (xs : List A) (x : A) → slice_get (xs ++ x ∷ [])
 appended [] x = refl
 appended (y ∷ ys) x = appended ys x
 
--- and what stands before it
+-- what stands before one more at the end of a list stays
 pub appended_others : {A : Type 0} (xs : List A) (x : A) (k : ℕ) → k ≢ length xs → slice_get (xs ++ x ∷ []) k ≡ slice_get xs k
 appended_others [] x zero h = absurd (h refl)
 appended_others [] x (suc k) h = refl
@@ -88,30 +93,37 @@ abbrev state_of : Option TaskProgress → Option TaskState
 state_of o = option_map_or (λ (c : TaskProgress). Some c.task_state) o None
 
 -- a task that is admitted, and is there, leaves them in agreement
-pub admit_kept : (d : Discipline) (w v : World) (a : Accounts) (c : TaskProgress) (kind : TaskKind) (calls : List Asked) (r : Reply) → AgreesWith w a → length a.by_task < 1024 → c.task_state ≡ Asleep → c.home < count_in w → WorldStep (policies d) w (Admit (length a.by_task) kind.nice kind.mask kind.slice) calls (Ok r) v
+pub admit_kept : (d : Discipline) (w v : World) (a : Accounts) (c : TaskProgress) (kind : TaskKind)
+    (calls : List CounterCall) (r : Reply)
+    → AgreesWith w a → length a.by_task < 1024 → c.task_state ≡ Asleep → c.home < count_in w
+    → WorldStep (by_programs d) w (Admit (length a.by_task) kind.nice kind.mask kind.slice) calls (Ok r) v
     → AgreesWith v (with_task c a)
 admit_kept d w v a c kind calls r h few asleep low step =
     let k = step.1 in
     let n : ℕ = length a.by_task in
     let t : Task = admitted (count_in w) n kind.nice kind.mask kind.slice in
     let b : Accounts = with_task c a in
-    let form : World = with_lobby w (slice_set w.lobby n (Blocked t)) in
+    let form : World = with_lobby w (slice_set w.lobby n (Sleeping t)) in
     let is : v ≡ form = k.3 ∙ ap (with_lobby w) k.1.2 in
     let m = h.mirrors.processors in
     let here : state_at b.by_task n ≡ Some Asleep = ap state_of (appended a.by_task c) ∙ ap (λ s. Some s) asleep in
     let homes : HaveProcessors (count_in w) b = λ task x at. elim (cases_eq task n) [
-      | inl same ↦ subst (λ (y : TaskProgress). y.home < count_in w) (same_Some c x (sym (appended a.by_task c) ∙ ap (slice_get b.by_task) (sym same) ∙ at)) low
+      | inl same ↦
+          subst (λ (y : TaskProgress). y.home < count_in w)
+          (same_Some c x (sym (appended a.by_task c) ∙ ap (slice_get b.by_task) (sym same) ∙ at)) low
       | inr apart ↦ h.homes task x (sym (appended_others a.by_task c task apart) ∙ at)
     ] in
-    agree_after (policies d) w form v (Admit n kind.nice kind.mask kind.slice) calls r b h.orderly step is (length-set w.lobby n (Blocked t) ∙ h.entries)
-    (record { hands = h.settled.hands; inboxes = h.settled.inboxes })
+    agree_after (by_programs d) w form v (Admit n kind.nice kind.mask kind.slice) calls r b h.orderly step is
+    (length-set w.lobby n (Sleeping t) ∙ h.entries) (record { hands = h.settled.hands; inboxes = h.settled.inboxes })
     (record {
-      tasks = at_set_else (λ i (s : LobbyEntry). StandsAs (state_at b.by_task i) s) w.lobby n (Blocked t) Absent (omega (arith, h.entries, few)) (subst (λ o. StandsAs o (Blocked t)) (sym here) (refl, refl)) (λ i apart. subst (λ o. StandsAs o (entry w i)) (sym (ap state_of (appended_others a.by_task c i apart))) (h.mirrors.tasks i));
+      tasks =
+          at_set_else (λ i (s : LobbyEntry). StandsAs (state_at b.by_task i) s) w.lobby n (Sleeping t) Absent
+          (omega (arith, h.entries, few)) (subst (λ o. StandsAs o (Sleeping t)) (sym here) (refl, refl))
+          (λ i apart. subst (λ o. StandsAs o (entry w i)) (sym (ap state_of (appended_others a.by_task c i apart))) (h.mirrors.tasks i));
       processors = record { many = m.many; runs = m.runs; sizes = m.sizes };
-    })
-    homes
+    }) homes
 
--- so an admission is taken
+-- an admission is taken
 pub admissions_are_taken : AdmissionsAreTaken
 admissions_are_taken d w a number home kind h may =
     let n : ℕ = length a.by_task in
@@ -125,7 +137,8 @@ admissions_are_taken d w a number home kind h may =
             lt-leb 1024 n few,
             ne_eqb (kind.mask % 2 ^ count_in w) 0 (mask_has kind.mask home (count_in w) first.within first.allowed),
             its.nice,
-            or_from (nat_lt kind.slice LEAST_SLICE) (nat_lt GREATEST_SLICE kind.slice) (le-ltb kind.slice LEAST_SLICE its.least) (le-ltb GREATEST_SLICE kind.slice its.greatest),
+            or_from (nat_lt kind.slice LEAST_SLICE) (nat_lt GREATEST_SLICE kind.slice)
+                (le-ltb kind.slice LEAST_SLICE its.least) (le-ltb GREATEST_SLICE kind.slice its.greatest),
             absent,
           ) refl;
       leaves = λ calls r v step. admit_kept d w v a (fresh number home kind.start) kind calls r h few refl first.within step;

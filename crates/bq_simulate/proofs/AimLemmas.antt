@@ -32,19 +32,30 @@ counted_there kinds number woken low = elim (some_or_none (slice_get kinds numbe
 ]
 
 -- its first task is kept
-pub first_kept : (w : Workload) (now kind woken : ℕ) (s : Simulation) → GoesWell w now s → woken < count_of w.tasks.items kind → slice_get s.firsts.items kind ≡ None → ⊥
-first_kept w now kind woken s h low none = none-some _ (sym none ∙ slice_get-get_or s.firsts.items kind 0 (omega (arith, counted_there w.tasks.items kind woken low, h.all_firsts)))
+pub first_kept : (w : Workload) (now kind woken : ℕ) (s : Simulation)
+    → GoesWell w now s → woken < count_of w.tasks.items kind → slice_get s.firsts.items kind ≡ None → ⊥
+first_kept w now kind woken s h low none =
+    none-some _
+    (sym none ∙ slice_get-get_or s.firsts.items kind 0 (omega (arith, counted_there w.tasks.items kind woken low, h.all_firsts)))
 
--- so the task to which a wake comes next is one of those that are there
-aim_low : (w : Workload) (now kind woken first : ℕ) (s : Simulation) → GoesWell w now s → woken < count_of w.tasks.items kind → slice_get s.firsts.items kind ≡ Some first → first + woken < tasks_in w.tasks.items
+-- the task that a wake wakes next is one of those that are there
+aim_low : (w : Workload) (now kind woken first : ℕ) (s : Simulation)
+    → GoesWell w now s → woken < count_of w.tasks.items kind → slice_get s.firsts.items kind ≡ Some first
+    → first + woken < tasks_in w.tasks.items
 aim_low w now kind woken first s h low at = omega (arith, h.firsts kind first at, kind_within w.tasks.items kind, low)
 
 -- 16 bits count it
-pub aim_counted : (w : Workload) (now kind woken first : ℕ) (s : Simulation) → GoesWell w now s → woken < count_of w.tasks.items kind → slice_get s.firsts.items kind ≡ Some first → first + woken < 1024
+pub aim_counted : (w : Workload) (now kind woken first : ℕ) (s : Simulation)
+    → GoesWell w now s → woken < count_of w.tasks.items kind → slice_get s.firsts.items kind ≡ Some first
+    → first + woken < 1024
 aim_counted w now kind woken first s h low at = omega (arith, aim_low w now kind woken first s h low at, sound_tasks w h.sound)
 
--- and it is there
-pub aim_there : (w : Workload) (now kind woken first : ℕ) (s : Simulation) → GoesWell w now s → woken < count_of w.tasks.items kind → slice_get s.firsts.items kind ≡ Some first → slice_get s.roster.by_task.items (first + woken) ≡ None → ⊥
+-- the task that a wake wakes next is there, and 16 bits count it
+pub aim_there : (w : Workload) (now kind woken first : ℕ) (s : Simulation)
+    → GoesWell w now s → woken < count_of w.tasks.items kind → slice_get s.firsts.items kind ≡ Some first
+    → slice_get s.roster.by_task.items (first + woken) ≡ None
+    → ⊥
 aim_there w now kind woken first s h low at none =
     let any : TaskProgress = fresh 0 0 0 in
-    none-some _ (sym none ∙ slice_get-get_or s.roster.by_task.items (first + woken) any (omega (arith, aim_low w now kind woken first s h low at, h.kept.all)))
+    none-some _ (sym none
+    ∙ slice_get-get_or s.roster.by_task.items (first + woken) any (omega (arith, aim_low w now kind woken first s h low at, h.kept.all)))

@@ -3,12 +3,12 @@ use Rattle.std.proofs.Common.{◌≡◌, ℕ, ◌<◌, inl, inr, false, Some, No
 use Rattle.std.specs.Prelude.{Ok, slice_get}
 use Rattle.bq_parts.specs.declared.event.Event.{Event}
 use Rattle.bq_parts.specs.declared.event.Event.TheVariants.{Admit, BeginWake, Block, Drain, Draw, EndWake, Install, Pull, Tick}
-use Rattle.bq_parts.specs.Choices.{policies}
+use Rattle.bq_parts.specs.Choices.{by_programs}
 use Rattle.bq_parts.specs.Refusals.{refusal}
 use Rattle.bq_parts.specs.Steps.{WorldStep}
 use Rattle.bq_parts.specs.World.{count_in}
 use Rattle.bq_trace.specs.Machines.{discipline_of}
-use Rattle.bq_trace.specs.TraceEvents.{Told}
+use Rattle.bq_trace.specs.TraceEvents.{Reported}
 use Rattle.bq_workload.specs.declared.progress.TaskProgress.{TaskProgress}
 use Rattle.bq_workload.specs.declared.roster.Periods.{Periods}
 use Rattle.bq_workload.specs.Accounts.{Accounts}
@@ -32,38 +32,58 @@ any_periods = record { end = 0; tick = 0; balance = 0; migration_cost = 0 }
 for_memory : (d : Driver) (event : Event) → IsReadable d.now (reading_of event) → refusal (world_of d) event ≡ None → FailsForMemory d event
 for_memory d event readable taken = λ why fails. only_memory_is_wanted d event why readable taken fails
 
-wake_fails : (d : Driver) (a : Accounts) (from task now : ℕ) (c : TaskProgress) (why : DriveFault) → IsReady d a now → from < count_in (world_of d) → slice_get a.by_task task ≡ Some c → can_run c.task_state ≡ false → IsWakeFault d from task now why → why ≡ OutOfMemory
+wake_fails : (d : Driver) (a : Accounts) (from task now : ℕ) (c : TaskProgress) (why : DriveFault)
+    → IsReady d a now → from < count_in (world_of d) → slice_get a.by_task task ≡ Some c → can_run c.task_state ≡ false
+    → IsWakeFault d from task now why
+    → why ≡ OutOfMemory
 wake_fails d a from task now c why ready low at sleeps (inl fails) =
     let begin = wakes_are_taken (discipline_of d.machine.rule) any_periods (world_of d) a from task now c ready.agrees low at sleeps in
     for_memory d (BeginWake from task) tt begin.taken why fails
-wake_fails d a from task now c why ready low at sleeps (inr (begun, told, mid, does, fails)) =
+wake_fails d a from task now c why ready low at sleeps (inr (begun, reported, mid, does, fails)) =
     let begin = wakes_are_taken (discipline_of d.machine.rule) any_periods (world_of d) a from task now c ready.agrees low at sleeps in
-    let end = begin.leaves does.happens.moves.step.calls begun (world_of mid) (step_of d (BeginWake from task) begun told mid does) in
+    let end = begin.leaves does.happens.moves.step.calls begun (world_of mid) (step_of d (BeginWake from task) begun reported mid does) in
     for_memory mid (EndWake from now) (subst (λ n. IsReadable n (Some now)) (sym does.rises) ready.reading) end.taken why fails
 
-drain_fails : (d e : Driver) (a : Accounts) (from task to now : ℕ) (c : TaskProgress) (told : Told) → IsReady d a now → from < count_in (world_of d) → slice_get a.by_task task ≡ Some c → can_run c.task_state ≡ false → Places d from task now to told e → FailsForMemory e (Drain to now)
-drain_fails d e a from task to now c told ready low at sleeps places =
+drain_fails : (d e : Driver) (a : Accounts) (from task to now : ℕ) (c : TaskProgress) (reported : Reported)
+    → IsReady d a now → from < count_in (world_of d) → slice_get a.by_task task ≡ Some c → can_run c.task_state ≡ false
+    → Places d from task now to reported e
+    → FailsForMemory e (Drain to now)
+drain_fails d e a from task to now c reported ready low at sleeps places =
     let mid : Driver = places.mid in
     let begins = places.begins in
     let ends = places.ends in
     let r = discipline_of d.machine.rule in
     let begin = wakes_are_taken r any_periods (world_of d) a from task now c ready.agrees low at sleeps in
-    let end = begin.leaves begins.happens.moves.step.calls places.begun (world_of mid) (step_of d (BeginWake from task) places.begun places.first mid begins) in
+    let end =
+    begin.leaves begins.happens.moves.step.calls places.begun (world_of mid)
+    (step_of d (BeginWake from task) places.begun places.first mid begins) in
     let rule = same_rule d (BeginWake from task) places.begun places.first mid begins in
-    let step = subst (λ x. WorldStep (policies x) (world_of mid) (EndWake from now) ends.happens.moves.step.calls (Ok places.placed) (world_of e)) rule (step_of mid (EndWake from now) places.placed places.more e ends) in
+    let step =
+    subst (λ x. WorldStep (by_programs x) (world_of mid) (EndWake from now) ends.happens.moves.step.calls (Ok places.placed) (world_of e))
+    rule (step_of mid (EndWake from now) places.placed places.more e ends) in
     let drain = end.leaves ends.happens.moves.step.calls places.placed (world_of e) step to places.place in
     let read : e.now ≡ now = ends.rises.2 in
     for_memory e (Drain to now) (omega (arith, read), ready.reading.1) drain.taken
 
--- so each call fails only if memory is wanted
+-- each call fails only if memory is wanted
 pub calls_fail_for_memory : CallsFailForMemory
 calls_fail_for_memory = record {
   draws = λ d. for_memory d Draw tt refl;
-  installs = λ d a processor generation policy h low newer drawn. for_memory d (Install processor policy.hook generation (Some policy)) tt (installs_are_taken (discipline_of d.machine.rule) any_periods (world_of d) a processor generation policy h low newer drawn).taken;
-  admissions = λ d a home kind h may. for_memory d (Admit _ kind.nice kind.mask kind.slice) tt (admissions_are_taken (discipline_of d.machine.rule) (world_of d) a 0 home kind h may).taken;
-  ticks = λ d a processor now ready low. for_memory d (Tick processor now) ready.reading (ticks_are_taken (discipline_of d.machine.rule) any_periods (world_of d) a processor now ready.agrees low).taken;
-  blocks = λ d a processor task now h reading low runs. for_memory d (Block processor now) reading (blocks_are_taken (discipline_of d.machine.rule) any_periods (world_of d) a processor task now h low runs).taken;
-  pulls = λ d a processor from now ready low there apart. for_memory d (Pull processor from now) ready.reading (pulls_are_taken (discipline_of d.machine.rule) any_periods (world_of d) a processor from now ready.agrees low there apart).taken;
+  installs = λ d a processor generation policy h low newer drawn.
+      for_memory d (Install processor policy.hook generation (Some policy)) tt
+      (installs_are_taken (discipline_of d.machine.rule) any_periods (world_of d) a processor generation policy h low newer drawn).taken;
+  admissions = λ d a home kind h may.
+      for_memory d (Admit _ kind.nice kind.mask kind.slice) tt
+      (admissions_are_taken (discipline_of d.machine.rule) (world_of d) a 0 home kind h may).taken;
+  ticks = λ d a processor now ready low.
+      for_memory d (Tick processor now) ready.reading
+      (ticks_are_taken (discipline_of d.machine.rule) any_periods (world_of d) a processor now ready.agrees low).taken;
+  blocks = λ d a processor task now h reading low runs.
+      for_memory d (Block processor now) reading
+      (blocks_are_taken (discipline_of d.machine.rule) any_periods (world_of d) a processor task now h low runs).taken;
+  pulls = λ d a processor from now ready low there apart.
+      for_memory d (Pull processor from now) ready.reading
+      (pulls_are_taken (discipline_of d.machine.rule) any_periods (world_of d) a processor from now ready.agrees low there apart).taken;
   wakes = wake_fails;
   drains = drain_fails;
 }

@@ -25,7 +25,7 @@ ticks_now end processor now a comes = elim (some_or_none (slice_get a.by_process
   | inr (l, at) ↦ record { processor_state = l; at = at; tick = comes_then end now l.tick (sym (tick-of end processor a l at) ∙ comes) }
 ]
 
--- and when a look comes it looks then
+-- when a look comes its processor looks then
 pub looks_now : (end processor now : ℕ) (a : Accounts) → comes_at end a (Pull processor) ≡ Some now → LooksAt a processor now
 looks_now end processor now a comes = elim (some_or_none (slice_get a.by_processor processor)) [
   | inl none ↦ absurd (none-some now (sym (ap (λ (o : Option ProcessorState). option_and_then (look_at end) o) none) ∙ comes))
@@ -40,17 +40,20 @@ sized_there ls processor some = elim (some_or_none (slice_get ls processor)) [
 ]
 
 -- what is another than a processor
-other_is : (b : Bool) (processor best from : ℕ) → (best == processor) ≡ b → (if b then None else Some best) ≡ Some from → (best ≡ from) × (processor ≢ from)
+other_is : (b : Bool) (processor best from : ℕ) → (best == processor) ≡ b → (if b then None else Some best) ≡ Some from
+    → (best ≡ from) × (processor ≢ from)
 other_is true processor best from test h = absurd (none-some from h)
 other_is false processor best from test h =
     let same : best ≡ from = same_Some best from h in
     (same, λ e. let equal : best ≡ processor = same ∙ sym e in let yes = eq-eqb best processor equal in cc)
 
 -- the processor from which one pulls is another, and is there
-pub pulls_from : (ls : List ProcessorState) (processor from : ℕ) → IsSource ls processor (Some from) → (from < length ls) × (processor ≢ from)
+pub pulls_from : (ls : List ProcessorState) (processor from : ℕ)
+    → IsSource ls processor (Some from) → (from < length ls) × (processor ≢ from)
 pulls_from ls processor from h = by_case h.largest h.has h.other
   where
-    by_case : (largest : Option ℕ) → HasLargest ls 64 largest → Some from ≡ other_than processor largest → (from < length ls) × (processor ≢ from)
+    by_case : (largest : Option ℕ) → HasLargest ls 64 largest → Some from ≡ other_than processor largest
+        → (from < length ls) × (processor ≢ from)
     by_case None has is = absurd (none-some from (sym is))
     by_case (Some best) has is =
         let o = other_is (best == processor) processor best from refl (sym is) in

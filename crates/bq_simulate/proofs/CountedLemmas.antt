@@ -43,16 +43,32 @@ rest-at (suc n) i [] = refl
 rest-at (suc n) i (c ∷ cs) = let e : suc (n + i) ≡ suc n + i = omega arith in rest-at n i cs ∙ ap (slice_get (c ∷ cs)) e
 
 -- one number in place of another that is the same
-renumbered : (f g : ℕ → TaskProgress → ℕ) (cs : List TaskProgress) → ((i : ℕ) (c : TaskProgress) → f i c ≤ g i c) → in_all f cs ≤ in_all g cs
-renumbered f g cs h = in_all-no_more f g cs cs refl (λ i x y at there. subst (λ (z : TaskProgress). f i x ≤ g i z) (same_Some x y (sym at ∙ there)) (h i x))
+renumbered : (f g : ℕ → TaskProgress → ℕ) (cs : List TaskProgress)
+    → ((i : ℕ) (c : TaskProgress) → f i c ≤ g i c) → in_all f cs ≤ in_all g cs
+renumbered f g cs h =
+    in_all-no_more f g cs cs refl (λ i x y at there. subst (λ (z : TaskProgress). f i x ≤ g i z) (same_Some x y (sym at ∙ there)) (h i x))
 
 -- each of the first tasks has so much at most, and the rest as much as is known
-front-most : (n m rest : ℕ) (f : ℕ → TaskProgress → ℕ) (cs : List TaskProgress) → n ≤ length cs → ((i : ℕ) (c : TaskProgress) → i < n → slice_get cs i ≡ Some c → f i c ≤ m * 2) → in_all (λ i. f (n + i)) (drop n cs) ≤ rest * 2 → in_all f cs ≤ (n * m + rest) * 2
-front-most zero m rest f cs long h last = omega (arith, last, renumbered f (λ i. f (0 + i)) cs (λ i c. let e : i ≡ 0 + i = omega arith in subst (λ k. f i c ≤ f k c) e (omega arith)))
+front-most : (n m rest : ℕ) (f : ℕ → TaskProgress → ℕ) (cs : List TaskProgress)
+    → n ≤ length cs → ((i : ℕ) (c : TaskProgress) → i < n → slice_get cs i ≡ Some c → f i c ≤ m * 2)
+    → in_all (λ i. f (n + i)) (drop n cs) ≤ rest * 2
+    → in_all f cs ≤ (n * m + rest) * 2
+front-most zero m rest f cs long h last = omega (
+  arith,
+  last,
+  renumbered f (λ i. f (0 + i)) cs (λ i c. let e : i ≡ 0 + i = omega arith in subst (λ k. f i c ≤ f k c) e (omega arith)),
+)
 front-most (suc n) m rest f [] long h last = absurd (omega (arith, long))
 front-most (suc n) m rest f (c ∷ cs) long h last =
-    let same : in_all (λ i. f (suc (n + i))) (drop n cs) ≤ in_all (λ i. f (suc n + i)) (drop n cs) = renumbered (λ i. f (suc (n + i))) (λ i. f (suc n + i)) (drop n cs) (λ i x. let e : suc (n + i) ≡ suc n + i = omega arith in subst (λ k. f (suc (n + i)) x ≤ f k x) e (omega arith)) in
-    omega (arith, h 0 c (omega arith) refl, front-most n m rest (λ i. f (suc i)) cs (omega (arith, long)) (λ i x low. h (suc i) x (omega (arith, low))) (omega (arith, last, same)))
+    let same : in_all (λ i. f (suc (n + i))) (drop n cs) ≤ in_all (λ i. f (suc n + i)) (drop n cs) =
+    renumbered (λ i. f (suc (n + i))) (λ i. f (suc n + i)) (drop n cs)
+    (λ i x. let e : suc (n + i) ≡ suc n + i = omega arith in subst (λ k. f (suc (n + i)) x ≤ f k x) e (omega arith)) in
+    omega (
+      arith,
+      h 0 c (omega arith) refl,
+      front-most n m rest (λ i. f (suc i)) cs (omega (arith, long)) (λ i x low. h (suc i) x (omega (arith, low)))
+          (omega (arith, last, same)),
+    )
 
 -- a task of one of these kinds has twice so much at most as that kind says
 pub record IsMost (kinds : List TaskKind) (f : ℕ → TaskProgress → ℕ) (g : TaskKind → ℕ) (task : ℕ) (c : TaskProgress) : Type 0 where
@@ -61,39 +77,60 @@ pub record IsMost (kinds : List TaskKind) (f : ℕ → TaskProgress → ℕ) (g 
   pub most : f task c ≤ g of.kind * 2
 
 -- the tasks of the kinds behind the first come behind its own
-first-behind : (kind : TaskKind) (kinds : List TaskKind) (number : ℕ) → first_of (kind ∷ kinds) (suc number) ≡ kind.count + first_of kinds number
+first-behind : (kind : TaskKind) (kinds : List TaskKind) (number : ℕ)
+    → first_of (kind ∷ kinds) (suc number) ≡ kind.count + first_of kinds number
 first-behind kind kinds number = sum_by-cons (λ (k : TaskKind). k.count) kind (take number kinds)
 
-first-is : (kind : TaskKind) (kinds : List TaskKind) (f : ℕ → TaskProgress → ℕ) (g : TaskKind → ℕ) (task : ℕ) (c : TaskProgress) → task < kind.count → IsMost (kind ∷ kinds) f g task c → f task c ≤ g kind * 2
+first-is : (kind : TaskKind) (kinds : List TaskKind) (f : ℕ → TaskProgress → ℕ) (g : TaskKind → ℕ)
+    (task : ℕ) (c : TaskProgress)
+    → task < kind.count → IsMost (kind ∷ kinds) f g task c → f task c ≤ g kind * 2
 first-is kind kinds f g task c low h = go h.number h.of h.most
   where
     go : (number : ℕ) (of : IsOfKind (kind ∷ kinds) task number) → f task c ≤ g of.kind * 2 → f task c ≤ g kind * 2
     go zero of most = subst (λ (k : TaskKind). f task c ≤ g k * 2) (sym (same_Some kind of.kind of.there)) most
     go (suc number) of most = absurd (omega (arith, of.from, low, first-behind kind kinds number))
 
-behind-is : (kind : TaskKind) (kinds : List TaskKind) (f : ℕ → TaskProgress → ℕ) (g : TaskKind → ℕ) (task : ℕ) (c : TaskProgress) → IsMost (kind ∷ kinds) f g (kind.count + task) c → IsMost kinds (λ i. f (kind.count + i)) g task c
+behind-is : (kind : TaskKind) (kinds : List TaskKind) (f : ℕ → TaskProgress → ℕ) (g : TaskKind → ℕ)
+    (task : ℕ) (c : TaskProgress)
+    → IsMost (kind ∷ kinds) f g (kind.count + task) c → IsMost kinds (λ i. f (kind.count + i)) g task c
 behind-is kind kinds f g task c h = go h.number h.of h.most
   where
-    go : (number : ℕ) (of : IsOfKind (kind ∷ kinds) (kind.count + task) number) → f (kind.count + task) c ≤ g of.kind * 2 → IsMost kinds (λ i. f (kind.count + i)) g task c
+    go : (number : ℕ) (of : IsOfKind (kind ∷ kinds) (kind.count + task) number)
+        → f (kind.count + task) c ≤ g of.kind * 2 → IsMost kinds (λ i. f (kind.count + i)) g task c
     go zero of most =
         let none : first_of (kind ∷ kinds) 0 ≡ 0 = refl in
         absurd (omega (arith, of.below, none, ap (λ (k : TaskKind). k.count) (same_Some kind of.kind of.there)))
     go (suc number) of most = record {
       number = number;
-      of = record { kind = of.kind; there = of.there; from = omega (arith, of.from, first-behind kind kinds number); below = omega (arith, of.below, first-behind kind kinds number) };
+      of = record {
+        kind = of.kind;
+        there = of.there;
+        from = omega (arith, of.from, first-behind kind kinds number);
+        below = omega (arith, of.below, first-behind kind kinds number);
+      };
       most = most;
     }
 
-by-kind : (f : ℕ → TaskProgress → ℕ) (g : TaskKind → ℕ) (kinds : List TaskKind) (cs : List TaskProgress) → length cs ≡ tasks_in kinds → ((task : ℕ) (c : TaskProgress) → slice_get cs task ≡ Some c → IsMost kinds f g task c)
+by-kind : (f : ℕ → TaskProgress → ℕ) (g : TaskKind → ℕ) (kinds : List TaskKind) (cs : List TaskProgress)
+    → length cs ≡ tasks_in kinds → ((task : ℕ) (c : TaskProgress) → slice_get cs task ≡ Some c → IsMost kinds f g task c)
     → in_all f cs ≤ sum_by (λ (kind : TaskKind). kind.count * g kind) kinds * 2
 by-kind f g [] [] long h = omega arith
 by-kind f g [] (c ∷ cs) long h = absurd (omega (arith, long))
 by-kind f g (kind ∷ kinds) cs long h =
     let n : ℕ = kind.count in
     let all : tasks_in (kind ∷ kinds) ≡ n + tasks_in kinds = sum_by-cons (λ (k : TaskKind). k.count) kind kinds in
-    let sums : sum_by (λ (k : TaskKind). k.count * g k) (kind ∷ kinds) ≡ n * g kind + sum_by (λ (k : TaskKind). k.count * g k) kinds = sum_by-cons (λ (k : TaskKind). k.count * g k) kind kinds in
-    let rest = by-kind (λ i. f (n + i)) g kinds (drop n cs) (omega (arith, length-drop n cs, long, all)) (λ task c at. behind-is kind kinds f g task c (h (n + task) c (sym (rest-at n task cs) ∙ at))) in
-    omega (arith, sums, front-most n (g kind) (sum_by (λ (k : TaskKind). k.count * g k) kinds) f cs (omega (arith, long, all)) (λ i c low at. first-is kind kinds f g i c low (h i c at)) rest)
+    let sums : sum_by (λ (k : TaskKind). k.count * g k) (kind ∷ kinds)
+    ≡ n * g kind + sum_by (λ (k : TaskKind). k.count * g k) kinds =
+    sum_by-cons (λ (k : TaskKind). k.count * g k) kind kinds in
+    let rest =
+    by-kind (λ i. f (n + i)) g kinds (drop n cs) (omega (arith, length-drop n cs, long, all))
+    (λ task c at. behind-is kind kinds f g task c (h (n + task) c (sym (rest-at n task cs) ∙ at))) in
+    omega (
+      arith,
+      sums,
+      front-most n (g kind) (sum_by (λ (k : TaskKind). k.count * g k) kinds) f cs (omega (arith, long, all))
+          (λ i c low at. first-is kind kinds f g i c low (h i c at)) rest,
+    )
 
 -- One task and one processor
 
@@ -106,13 +143,17 @@ in-most Runnable rings false steps = omega arith
 in-most Over rings done steps = omega arith
 
 -- a task takes no more steps at once than its kind does once, and one for its timer
-task-most : (w : Workload) (now : ℕ) (ls : List ProcessorState) (task : ℕ) (c : TaskProgress) → first_flaw w ≡ None → (of : IsOfKind w.tasks.items task c.kind) → left_of_task w.tasks.items now ls task c ≤ steps_of w.tasks.items of.kind.actions.items * 2
+task-most : (w : Workload) (now : ℕ) (ls : List ProcessorState) (task : ℕ) (c : TaskProgress)
+    → first_flaw w ≡ None → (of : IsOfKind w.tasks.items task c.kind)
+    → left_of_task w.tasks.items now ls task c ≤ steps_of w.tasks.items of.kind.actions.items * 2
 task-most w now ls task c sound of =
     let kinds = w.tasks.items in
     let good : IsSoundKind (length kinds) of.kind = sound_kind w c.kind of.kind sound of.there in
-    let actions : actions_in kinds c.kind ≡ of.kind.actions.items = ap (λ (o : Option TaskKind). option_map_or (λ (x : TaskKind). x.actions.items) o []) of.there in
+    let actions : actions_in kinds c.kind ≡ of.kind.actions.items =
+    ap (λ (o : Option TaskKind). option_map_or (λ (x : TaskKind). x.actions.items) o []) of.there in
     let round : steps_ahead kinds c ≤ sum_by (steps_for kinds) of.kind.actions.items =
-    subst (λ (l : List Action). steps_ahead kinds c ≤ sum_by (steps_for kinds) l) actions (steps-round kinds c.woken c.action (actions_in kinds c.kind) (ap (list_any takes_time) actions ∙ good.time)) in
+    subst (λ (l : List Action). steps_ahead kinds c ≤ sum_by (steps_for kinds) l) actions
+    (steps-round kinds c.woken c.action (actions_in kinds c.kind) (ap (list_any takes_time) actions ∙ good.time)) in
     omega (arith, round, in-most c.task_state (c.timer == now) (nat_le c.due (c.got + uncounted now ls task)) (steps_ahead kinds c))
 
 processor-most : (now : ℕ) (l : ProcessorState) → left_of_processor now l ≤ 2
@@ -143,22 +184,32 @@ processors_in-some ThirtyTwo = lit≤ tt
 processors_in-some SixtyFour = lit≤ tt
 
 -- where there are no tasks, nothing runs, and no processor ticks
-none-ticks : (w : Workload) (now : ℕ) (d : Driver) (b : Book) → IsKept w.tasks.items now d b → tasks_in w.tasks.items ≡ 0 → (n : ℕ) (l : ProcessorState) → slice_get b.accounts.by_processor n ≡ Some l → left_of_processor now l ≤ 1
+none-ticks : (w : Workload) (now : ℕ) (d : Driver) (b : Book)
+    → IsKept w.tasks.items now d b → tasks_in w.tasks.items ≡ 0 → (n : ℕ) (l : ProcessorState)
+    → slice_get b.accounts.by_processor n ≡ Some l
+    → left_of_processor now l ≤ 1
 none-ticks w now d b h none n l at = elim (some_or_none l.run) [
   | inl idle ↦ idle-most now l ((h.on_time.processors n l at).rests idle)
-  | inr (task, runs) ↦ absurd (omega (arith, runner_low d.machine.world b.accounts n task h.agrees (run_of b.accounts n l at ∙ runs), h.all, none))
+  | inr (task, runs) ↦
+      absurd (omega (arith, runner_low d.machine.world b.accounts n task h.agrees (run_of b.accounts n l at ∙ runs), h.all, none))
 ]
 
 -- at no instant may as many things still come as are counted for one
-pub few-left : (w : Workload) (now : ℕ) (d : Driver) (b : Book) → first_flaw w ≡ None → IsKept w.tasks.items now d b → length b.accounts.by_processor ≡ processors_in w.machine.size → left_at w.tasks.items now b.accounts < steps_at_once w
+pub few-left : (w : Workload) (now : ℕ) (d : Driver) (b : Book)
+    → first_flaw w ≡ None → IsKept w.tasks.items now d b → length b.accounts.by_processor ≡ processors_in w.machine.size
+    → left_at w.tasks.items now b.accounts < steps_at_once w
 few-left w now d b sound h many =
     let kinds = w.tasks.items in
     let a : Accounts = b.accounts in
     let tasks : in_all (left_of_task kinds now a.by_processor) a.by_task ≤ steps_of_tasks kinds kinds * 2 =
-    by-kind (left_of_task kinds now a.by_processor) (λ (kind : TaskKind). steps_of kinds kind.actions.items) kinds a.by_task h.all
-    (λ task c at. let of = (h.standing.tasks task c at).of_kind in record { number = c.kind; of = of; most = task-most w now a.by_processor task c sound of }) in
+    by-kind (left_of_task kinds now a.by_processor) (λ (kind : TaskKind). steps_of kinds kind.actions.items)
+    kinds a.by_task h.all (λ task c at.
+    let of = (h.standing.tasks task c at).of_kind in
+    record { number = c.kind; of = of; most = task-most w now a.by_processor task c sound of }) in
     let some = processors_in-some w.machine.size in
     elim (cases_eq (tasks_in kinds) 0) [
       | inl none ↦ omega (arith, tasks, some, many, sum-most (left_of_processor now) 1 a.by_processor (none-ticks w now d b h none))
-      | inr there ↦ let one : 1 ≤ tasks_in kinds = omega (arith, there) in omega (arith, tasks, one, many, sum-most (left_of_processor now) 2 a.by_processor (λ n l at. processor-most now l))
+      | inr there ↦
+          let one : 1 ≤ tasks_in kinds = omega (arith, there) in
+          omega (arith, tasks, one, many, sum-most (left_of_processor now) 2 a.by_processor (λ n l at. processor-most now l))
     ]

@@ -5,7 +5,7 @@ use Rattle.std.specs.Prelude.{slice_get, slice_set}
 use Rattle.bq_parts.specs.declared.event.Event.{Event}
 use Rattle.bq_parts.specs.declared.event.Event.TheVariants.{BeginWake, EndWake, Drain}
 use Rattle.bq_parts.specs.declared.reply.Reply.{Reply}
-use Rattle.bq_trace.specs.TraceEvents.{TraceEvent, Told, Gets}
+use Rattle.bq_trace.specs.TraceEvents.{TraceEvent, Reported, Gets}
 use Rattle.bq_trace.proofs.TakingLemmas.{TakesAll-append}
 use Rattle.bq_simulate.specs.declared.driver.Driver.{Driver}
 use Rattle.bq_simulate.specs.Drives.{Did, Drives, Drove, Places}
@@ -23,46 +23,92 @@ use Rattle.bq_workload.proofs.DueLemmas.{same-accounts}
 use Rattle.bq_simulate.specs.declared.simulation.Simulation.{Simulation}
 use Rattle.bq_simulate.specs.Actions.{IsOfKind, acted, aim_of, asked_by, first_of, next_action, start_of}
 use Rattle.bq_simulate.specs.Chronicles.{Acts, Beats, Book, Deed, Happens, IsDue, IsWoken, Joins, Lives, Looks, Misses, Reaches, Rings, after_act, after_answer, after_beat, after_event, after_look, drawn_with, events_of, joined, length_taken}
-use Rattle.bq_simulate.specs.Simulations.{BeginsMore, Befell, DrawsFor, Goes, HasDrawn, HasFirsts, Lived, Same, Silent, Stays, book_of, streams_after}
+use Rattle.bq_simulate.specs.Simulations.{BeginsMore, Befell, DrawsFor, GoesByDeeds, HasDrawn, HasFirsts, Lived, Same, Silent, Stays, book_of, streams_after}
 use Rattle.bq_simulate.specs.Steps.{AreJust, AreWake, Follow, IsAct, IsJoin}
 use Rattle.bq_simulate.proofs.KindLemmas.{firsts-pushed}
 use Rattle.bq_simulate.proofs.StreamLemmas.{gives_if_asked, opened-streams}
 
 -- some, and then others
-pub Lives-append : (kinds : List TaskKind) (seed : ℕ) (periods : Periods) (d m e : Driver) (a b c : Book) (xs ys : List Deed) (told more : Told) → Lives kinds seed periods d a xs told m b → Lives kinds seed periods m b ys more e c → Lives kinds seed periods d a (xs ++ ys) (told ++ more) e c
-Lives-append kinds seed periods d m e a b c [] ys told more h k =
-    let P : Told → Type 0 = λ t. Lives kinds seed periods d a ys (t ++ more) e c in
+pub Lives-append : (kinds : List TaskKind) (seed : ℕ) (periods : Periods) (d m e : Driver) (a b c : Book)
+    (xs ys : List Deed) (reported more : Reported)
+    → Lives kinds seed periods d a xs reported m b → Lives kinds seed periods m b ys more e c
+    → Lives kinds seed periods d a (xs ++ ys) (reported ++ more) e c
+Lives-append kinds seed periods d m e a b c [] ys reported more h k =
+    let P : Reported → Type 0 = λ t. Lives kinds seed periods d a ys (t ++ more) e c in
     let Q : Driver → Type 0 = λ x. Lives kinds seed periods x a ys more e c in
     let R : Book → Type 0 = λ x. Lives kinds seed periods m x ys more e c in
     subst P (sym h.0) (subst Q h.1 (subst R h.2 k))
-Lives-append kinds seed periods d m e a b c (Happens event reply ∷ xs) ys told more (due, mid, first, rest, does, lives, whole) k =
-    (due, mid, first, rest ++ more, does, Lives-append kinds seed periods mid m e (after_answer periods event reply a) b c xs ys rest more lives k, ap (λ t. t ++ more) whole ∙ append_assoc first rest more)
-Lives-append kinds seed periods d m e a b c (Joins kind home ∷ xs) ys told more (of, lives) k = (of, Lives-append kinds seed periods d m e (joined kinds kind home a) b c xs ys told more lives k)
-Lives-append kinds seed periods d m e a b c (Acts at task now action aim ∷ xs) ys told more (c', done, is, to, lives) k = (c', done, is, to, Lives-append kinds seed periods d m e (after_act kinds seed at task now c' a) b c xs ys told more lives k)
-Lives-append kinds seed periods d m e a b c (Rings task now ∷ xs) ys told more (c', there, asleep, timer, lives) k = (c', there, asleep, timer, Lives-append kinds seed periods d m e a b c xs ys told more lives k)
-Lives-append kinds seed periods d m e a b c (Reaches task ∷ xs) ys told more (c', there, waits, lives) k = (c', there, waits, Lives-append kinds seed periods d m e a b c xs ys told more lives k)
-Lives-append kinds seed periods d m e a b c (Misses task ∷ xs) ys told more (c', there, waits, lives) k = (c', there, waits, Lives-append kinds seed periods d m e a b c xs ys told more lives k)
-Lives-append kinds seed periods d m e a b c (Beats at now ∷ xs) ys told more (ticks, lives) k = (ticks, Lives-append kinds seed periods d m e (after_beat periods at now a) b c xs ys told more lives k)
-Lives-append kinds seed periods d m e a b c (Looks at now source ∷ xs) ys told more (looks, from, lives) k = (looks, from, Lives-append kinds seed periods d m e (after_look periods at now a) b c xs ys told more lives k)
+Lives-append kinds seed periods d m e a b c (Happens event reply ∷ xs) ys reported more
+    (due, mid, first, rest, does, lives, whole) k = (
+      due,
+      mid,
+      first,
+      rest ++ more,
+      does,
+      Lives-append kinds seed periods mid m e (after_answer periods event reply a) b c xs ys rest more lives k,
+      ap (λ t. t ++ more) whole ∙ append_assoc first rest more,
+    )
+Lives-append kinds seed periods d m e a b c (Joins kind home ∷ xs) ys reported more (of, lives) k =
+    (of, Lives-append kinds seed periods d m e (joined kinds kind home a) b c xs ys reported more lives k)
+Lives-append kinds seed periods d m e a b c (Acts at task now action aim ∷ xs) ys reported more (c', done, is, to, lives) k = (
+  c',
+  done,
+  is,
+  to,
+  Lives-append kinds seed periods d m e (after_act kinds seed at task now c' a) b c xs ys reported more lives k,
+)
+Lives-append kinds seed periods d m e a b c (Rings task now ∷ xs) ys reported more (c', there, asleep, timer, lives) k =
+    (c', there, asleep, timer, Lives-append kinds seed periods d m e a b c xs ys reported more lives k)
+Lives-append kinds seed periods d m e a b c (Reaches task ∷ xs) ys reported more (c', there, waits, lives) k =
+    (c', there, waits, Lives-append kinds seed periods d m e a b c xs ys reported more lives k)
+Lives-append kinds seed periods d m e a b c (Misses task ∷ xs) ys reported more (c', there, waits, lives) k =
+    (c', there, waits, Lives-append kinds seed periods d m e a b c xs ys reported more lives k)
+Lives-append kinds seed periods d m e a b c (Beats at now ∷ xs) ys reported more (ticks, lives) k =
+    (ticks, Lives-append kinds seed periods d m e (after_beat periods at now a) b c xs ys reported more lives k)
+Lives-append kinds seed periods d m e a b c (Looks at now source ∷ xs) ys reported more (looks, from, lives) k =
+    (looks, from, Lives-append kinds seed periods d m e (after_look periods at now a) b c xs ys reported more lives k)
 
 -- the events among them were driven
-pub drives-of-lives : (kinds : List TaskKind) (seed : ℕ) (periods : Periods) (d e : Driver) (a b : Book) (xs : List Deed) (told : Told) → Lives kinds seed periods d a xs told e b → Drives d (events_of xs) told e
-drives-of-lives kinds seed periods d e a b [] told h = (h.0, h.1)
-drives-of-lives kinds seed periods d e a b (Happens event reply ∷ xs) told (due, mid, first, rest, does, lives, whole) = (reply, mid, first, rest, does, drives-of-lives kinds seed periods mid e (after_answer periods event reply a) b xs rest lives, whole)
-drives-of-lives kinds seed periods d e a b (Joins kind home ∷ xs) told (of, lives) = drives-of-lives kinds seed periods d e (joined kinds kind home a) b xs told lives
-drives-of-lives kinds seed periods d e a b (Acts at task now action aim ∷ xs) told (c, done, is, to, lives) = drives-of-lives kinds seed periods d e (after_act kinds seed at task now c a) b xs told lives
-drives-of-lives kinds seed periods d e a b (Rings task now ∷ xs) told (c, there, asleep, timer, lives) = drives-of-lives kinds seed periods d e a b xs told lives
-drives-of-lives kinds seed periods d e a b (Reaches task ∷ xs) told (c, there, waits, lives) = drives-of-lives kinds seed periods d e a b xs told lives
-drives-of-lives kinds seed periods d e a b (Misses task ∷ xs) told (c, there, waits, lives) = drives-of-lives kinds seed periods d e a b xs told lives
-drives-of-lives kinds seed periods d e a b (Beats at now ∷ xs) told (ticks, lives) = drives-of-lives kinds seed periods d e (after_beat periods at now a) b xs told lives
-drives-of-lives kinds seed periods d e a b (Looks at now source ∷ xs) told (looks, from, lives) = drives-of-lives kinds seed periods d e (after_look periods at now a) b xs told lives
+pub drives-of-lives : (kinds : List TaskKind) (seed : ℕ) (periods : Periods) (d e : Driver) (a b : Book) (xs : List Deed)
+    (reported : Reported)
+    → Lives kinds seed periods d a xs reported e b → Drives d (events_of xs) reported e
+drives-of-lives kinds seed periods d e a b [] reported h = (h.0, h.1)
+drives-of-lives kinds seed periods d e a b (Happens event reply ∷ xs) reported (due, mid, first, rest, does, lives, whole) = (
+  reply,
+  mid,
+  first,
+  rest,
+  does,
+  drives-of-lives kinds seed periods mid e (after_answer periods event reply a) b xs rest lives,
+  whole,
+)
+drives-of-lives kinds seed periods d e a b (Joins kind home ∷ xs) reported (of, lives) =
+    drives-of-lives kinds seed periods d e (joined kinds kind home a) b xs reported lives
+drives-of-lives kinds seed periods d e a b (Acts at task now action aim ∷ xs) reported (c, done, is, to, lives) =
+    drives-of-lives kinds seed periods d e (after_act kinds seed at task now c a) b xs reported lives
+drives-of-lives kinds seed periods d e a b (Rings task now ∷ xs) reported (c, there, asleep, timer, lives) =
+    drives-of-lives kinds seed periods d e a b xs reported lives
+drives-of-lives kinds seed periods d e a b (Reaches task ∷ xs) reported (c, there, waits, lives) =
+    drives-of-lives kinds seed periods d e a b xs reported lives
+drives-of-lives kinds seed periods d e a b (Misses task ∷ xs) reported (c, there, waits, lives) =
+    drives-of-lives kinds seed periods d e a b xs reported lives
+drives-of-lives kinds seed periods d e a b (Beats at now ∷ xs) reported (ticks, lives) =
+    drives-of-lives kinds seed periods d e (after_beat periods at now a) b xs reported lives
+drives-of-lives kinds seed periods d e a b (Looks at now source ∷ xs) reported (looks, from, lives) =
+    drives-of-lives kinds seed periods d e (after_look periods at now a) b xs reported lives
 
 -- from what its streams have given a simulation goes on, and then on
-pub Goes-join : {S : Type 0} (takes : S → ℕ → TraceEvent → S → Type 0) (kinds : List TaskKind) (A B C : List Deed → Type 0) (x y z : S) (s t u : Simulation) (drawn : List ℕ) (first : Goes takes kinds A x s drawn y t) (second : Goes takes kinds B y t first.after z u) → C (first.deeds ++ second.deeds)
-    → Goes takes kinds C x s drawn z u
-Goes-join takes kinds A B C x y z s t u drawn first second are =
-    let P : Periods → Type 0 = λ periods. Lives kinds t.seed periods t.driver (book_of t first.after) second.deeds second.tells.told u.driver (book_of u second.after) in
-    let Q : ℕ → Type 0 = λ seed. Lives kinds seed s.roster.periods t.driver (book_of t first.after) second.deeds second.tells.told u.driver (book_of u second.after) in
+pub GoesByDeeds-join : {S : Type 0} (takes : S → ℕ → TraceEvent → S → Type 0) (kinds : List TaskKind)
+    (A B C : List Deed → Type 0) (x y z : S) (s t u : Simulation) (drawn : List ℕ)
+    (first : GoesByDeeds takes kinds A x s drawn y t) (second : GoesByDeeds takes kinds B y t first.after z u)
+    → C (first.deeds ++ second.deeds) → GoesByDeeds takes kinds C x s drawn z u
+GoesByDeeds-join takes kinds A B C x y z s t u drawn first second are =
+    let P : Periods → Type 0 = λ periods.
+    Lives kinds t.seed periods t.driver (book_of t first.after) second.deeds second.reports.reported u.driver
+    (book_of u second.after) in
+    let Q : ℕ → Type 0 = λ seed.
+    Lives kinds seed s.roster.periods t.driver (book_of t first.after) second.deeds second.reports.reported u.driver
+    (book_of u second.after) in
     record {
       deeds = first.deeds ++ second.deeds;
       after = second.after;
@@ -72,39 +118,77 @@ Goes-join takes kinds A B C x y z s t u drawn first second are =
       firsts = second.firsts;
       begun = omega (arith, first.begun, second.begun);
       agrees = λ h. second.agrees (first.agrees h);
-      tells = record {
-        told = first.tells.told ++ second.tells.told;
-        taken = TakesAll-append takes x y z first.tells.told second.tells.told first.tells.taken second.tells.taken;
-        holds = Lives-append kinds s.seed s.roster.periods s.driver t.driver u.driver (book_of s drawn) (book_of t first.after) (book_of u second.after) first.deeds second.deeds first.tells.told second.tells.told first.tells.holds (subst Q first.seed (subst P first.periods second.tells.holds));
+      reports = record {
+        reported = first.reports.reported ++ second.reports.reported;
+        taken = TakesAll-append takes x y z first.reports.reported second.reports.reported first.reports.taken second.reports.taken;
+        holds =
+            Lives-append kinds s.seed s.roster.periods s.driver t.driver u.driver (book_of s drawn) (book_of t first.after)
+            (book_of u second.after) first.deeds second.deeds first.reports.reported second.reports.reported
+            first.reports.holds (subst Q first.seed (subst P first.periods second.reports.holds));
       };
       are = are;
     }
 
 -- a simulation goes on, and then on
-pub Lived-join : {S : Type 0} (takes : S → ℕ → TraceEvent → S → Type 0) (kinds : List TaskKind) (A B C : List Deed → Type 0) → ((xs ys : List Deed) → A xs → B ys → C (xs ++ ys)) → (x y z : S) (s t u : Simulation)
-    → Lived takes kinds A x s y t → Lived takes kinds B y t z u → Lived takes kinds C x s z u
+pub Lived-join : {S : Type 0} (takes : S → ℕ → TraceEvent → S → Type 0) (kinds : List TaskKind) (A B C : List Deed → Type 0)
+    → ((xs ys : List Deed) → A xs → B ys → C (xs ++ ys)) → (x y z : S) (s t u : Simulation) → Lived takes kinds A x s y t
+    → Lived takes kinds B y t z u
+    → Lived takes kinds C x s z u
 Lived-join takes kinds A B C join x y z s t u goes more drawn had firsts =
     let first = goes drawn had firsts in
     let second = more first.after first.streams first.firsts in
-    Goes-join takes kinds A B C x y z s t u drawn first second (join first.deeds second.deeds first.are second.are)
+    GoesByDeeds-join takes kinds A B C x y z s t u drawn first second (join first.deeds second.deeds first.are second.are)
 
 -- what holds of the deeds by which it goes on holds in other words
-pub Goes-weaker : {S : Type 0} (takes : S → ℕ → TraceEvent → S → Type 0) (kinds : List TaskKind) (A B : List Deed → Type 0) → ((xs : List Deed) → A xs → B xs) → (x y : S) (s : Simulation) (drawn : List ℕ) (t : Simulation) → Goes takes kinds A x s drawn y t → Goes takes kinds B x s drawn y t
-Goes-weaker takes kinds A B weaker x y s drawn t h = record { deeds = h.deeds; after = h.after; periods = h.periods; seed = h.seed; streams = h.streams; firsts = h.firsts; begun = h.begun; agrees = h.agrees; tells = h.tells; are = weaker h.deeds h.are }
+pub GoesByDeeds-weaker : {S : Type 0} (takes : S → ℕ → TraceEvent → S → Type 0) (kinds : List TaskKind)
+    (A B : List Deed → Type 0)
+    → ((xs : List Deed) → A xs → B xs) → (x y : S) (s : Simulation) (drawn : List ℕ) (t : Simulation)
+    → GoesByDeeds takes kinds A x s drawn y t
+    → GoesByDeeds takes kinds B x s drawn y t
+GoesByDeeds-weaker takes kinds A B weaker x y s drawn t h = record {
+  deeds = h.deeds;
+  after = h.after;
+  periods = h.periods;
+  seed = h.seed;
+  streams = h.streams;
+  firsts = h.firsts;
+  begun = h.begun;
+  agrees = h.agrees;
+  reports = h.reports;
+  are = weaker h.deeds h.are;
+}
 
 -- what holds of its deeds holds in other words
-pub Lived-weaker : {S : Type 0} (takes : S → ℕ → TraceEvent → S → Type 0) (kinds : List TaskKind) (A B : List Deed → Type 0) → ((xs : List Deed) → A xs → B xs) → (x y : S) (s t : Simulation) → Lived takes kinds A x s y t → Lived takes kinds B x s y t
-Lived-weaker takes kinds A B weaker x y s t goes drawn had firsts = Goes-weaker takes kinds A B weaker x y s drawn t (goes drawn had firsts)
+pub Lived-weaker : {S : Type 0} (takes : S → ℕ → TraceEvent → S → Type 0) (kinds : List TaskKind) (A B : List Deed → Type 0)
+    → ((xs : List Deed) → A xs → B xs) → (x y : S) (s t : Simulation) → Lived takes kinds A x s y t
+    → Lived takes kinds B x s y t
+Lived-weaker takes kinds A B weaker x y s t goes drawn had firsts =
+    GoesByDeeds-weaker takes kinds A B weaker x y s drawn t (goes drawn had firsts)
 
 -- what holds of its events holds in other words
-pub Befell-weaker : {S : Type 0} (takes : S → ℕ → TraceEvent → S → Type 0) (A B : List Deed → Type 0) → ((xs : List Deed) → A xs → B xs) → (x y : S) (s t : Simulation) → Befell takes A x s y t → Befell takes B x s y t
+pub Befell-weaker : {S : Type 0} (takes : S → ℕ → TraceEvent → S → Type 0) (A B : List Deed → Type 0)
+    → ((xs : List Deed) → A xs → B xs) → (x y : S) (s t : Simulation) → Befell takes A x s y t
+    → Befell takes B x s y t
 Befell-weaker takes A B weaker x y s t befell kinds = Lived-weaker takes kinds A B weaker x y s t (befell kinds)
 
 -- of deeds of which nothing is reported a sink gets nothing
-pub Lived-silent : {S : Type 0} (takes : S → ℕ → TraceEvent → S → Type 0) (kinds : List TaskKind) (A : List Deed → Type 0) (x : S) (s t : Simulation) → Silent kinds A s t → Lived takes kinds A x s x t
+pub Lived-silent : {S : Type 0} (takes : S → ℕ → TraceEvent → S → Type 0) (kinds : List TaskKind) (A : List Deed → Type 0)
+    (x : S) (s t : Simulation)
+    → Silent kinds A s t → Lived takes kinds A x s x t
 Lived-silent takes kinds A x s t silent drawn had firsts =
     let h = silent drawn had firsts in
-    record { deeds = h.deeds; after = h.after; periods = h.periods; seed = h.seed; streams = h.streams; firsts = h.firsts; begun = h.begun; agrees = h.agrees; tells = record { told = []; taken = refl; holds = h.lives }; are = h.are }
+    record {
+      deeds = h.deeds;
+      after = h.after;
+      periods = h.periods;
+      seed = h.seed;
+      streams = h.streams;
+      firsts = h.firsts;
+      begun = h.begun;
+      agrees = h.agrees;
+      reports = record { reported = []; taken = refl; holds = h.lives };
+      are = h.are;
+    }
 
 -- streams that have not changed
 pub streams-stay : (s t : Simulation) (drawn : List ℕ) → Stays s t → HasDrawn s drawn → HasDrawn t drawn
@@ -114,7 +198,7 @@ streams-stay s t drawn stays had = ap (λ v. v.items) stays.streams ∙ had ∙ 
 pub firsts-stay : (kinds : List TaskKind) (s t : Simulation) → Stays s t → HasFirsts kinds s → HasFirsts kinds t
 firsts-stay kinds s t stays had number first there = had number first (ap (λ v. slice_get v.items number) (sym stays.firsts) ∙ there)
 
--- nor are they fewer
+-- where the first tasks of kinds have not changed they are not fewer
 begun-same : (s t : Simulation) → t.firsts ≡ s.firsts → BeginsMore s t
 begun-same s t same = omega (arith, ap (λ v. length v.items) same)
 
@@ -122,7 +206,8 @@ begun-stay : (s t : Simulation) → Stays s t → BeginsMore s t
 begun-stay s t stays = begun-same s t stays.firsts
 
 -- nothing was done
-pub Lived-same : {S : Type 0} (takes : S → ℕ → TraceEvent → S → Type 0) (A : List Deed → Type 0) → A [] → (x : S) (s t : Simulation) → Same s t → Befell takes A x s x t
+pub Lived-same : {S : Type 0} (takes : S → ℕ → TraceEvent → S → Type 0) (A : List Deed → Type 0)
+    → A [] → (x : S) (s t : Simulation) → Same s t → Befell takes A x s x t
 Lived-same takes A none x s t same kinds drawn had firsts = record {
   deeds = [];
   after = drawn;
@@ -132,7 +217,11 @@ Lived-same takes A none x s t same kinds drawn had firsts = record {
   firsts = firsts-stay kinds s t same.stays firsts;
   begun = begun-stay s t same.stays;
   agrees = same.stays.agrees;
-  tells = record { told = []; taken = refl; holds = (refl, same.driver, ap (λ (a : Accounts). record { accounts = a; drawn = drawn }) same.accounts) };
+  reports = record {
+    reported = [];
+    taken = refl;
+    holds = (refl, same.driver, ap (λ (a : Accounts). record { accounts = a; drawn = drawn }) same.accounts);
+  };
   are = none;
 }
 
@@ -141,38 +230,61 @@ abbrev AreNone : List Deed → Type 0
 AreNone deeds = deeds ≡ []
 
 -- nothing was done before
-pub Lived-after : {S : Type 0} (takes : S → ℕ → TraceEvent → S → Type 0) (kinds : List TaskKind) (A : List Deed → Type 0) (x y : S) (s t u : Simulation) → Same s t → Lived takes kinds A x t y u → Lived takes kinds A x s y u
+pub Lived-after : {S : Type 0} (takes : S → ℕ → TraceEvent → S → Type 0) (kinds : List TaskKind) (A : List Deed → Type 0)
+    (x y : S) (s t u : Simulation)
+    → Same s t → Lived takes kinds A x t y u → Lived takes kinds A x s y u
 Lived-after takes kinds A x y s t u same more =
-    Lived-join takes kinds AreNone A A (λ xs ys none are. subst (λ (l : List Deed). A (l ++ ys)) (sym none) are) x x y s t u (Lived-same takes AreNone refl x s t same kinds) more
+    Lived-join takes kinds AreNone A A (λ xs ys none are. subst (λ (l : List Deed). A (l ++ ys)) (sym none) are) x x y s t u
+    (Lived-same takes AreNone refl x s t same kinds) more
 
--- or after
-pub Lived-then : {S : Type 0} (takes : S → ℕ → TraceEvent → S → Type 0) (kinds : List TaskKind) (A : List Deed → Type 0) (x y : S) (s t u : Simulation) → Lived takes kinds A x s y t → Same t u → Lived takes kinds A x s y u
+-- nothing was done after
+pub Lived-then : {S : Type 0} (takes : S → ℕ → TraceEvent → S → Type 0) (kinds : List TaskKind) (A : List Deed → Type 0)
+    (x y : S) (s t u : Simulation)
+    → Lived takes kinds A x s y t → Same t u → Lived takes kinds A x s y u
 Lived-then takes kinds A x y s t u first same =
-    Lived-join takes kinds A AreNone A (λ xs ys are none. subst (λ (l : List Deed). A (xs ++ l)) (sym none) (subst A (sym (append-nil xs)) are)) x y y s t u first (Lived-same takes AreNone refl y t u same kinds)
+    Lived-join takes kinds A AreNone A
+    (λ xs ys are none. subst (λ (l : List Deed). A (xs ++ l)) (sym none) (subst A (sym (append-nil xs)) are)) x y y s t u
+    first (Lived-same takes AreNone refl y t u same kinds)
 
 -- what follows an action of a task, and comes to the one that it aims at
 abbrev follows : List TaskKind → TaskProgress → ℕ → ℕ → Option Action → List Deed → Type 0
 follows kinds c processor now action deeds = Follow action (aim_of kinds c action) processor now deeds
 
 -- an action is followed by what follows that action
-pub Follow-same : {S : Type 0} (takes : S → ℕ → TraceEvent → S → Type 0) (kinds : List TaskKind) (c : TaskProgress) (a b : Option Action) (processor now : ℕ) (x y : S) (s t : Simulation) → a ≡ b
-    → Lived takes kinds (Follow b (aim_of kinds c b) processor now) x s y t → Lived takes kinds (Follow a (aim_of kinds c a) processor now) x s y t
-Follow-same takes kinds c a b processor now x y s t is lived = subst (λ (o : Option Action). Lived takes kinds (follows kinds c processor now o) x s y t) (sym is) lived
+pub Follow-same : {S : Type 0} (takes : S → ℕ → TraceEvent → S → Type 0) (kinds : List TaskKind) (c : TaskProgress)
+    (a b : Option Action) (processor now : ℕ) (x y : S) (s t : Simulation)
+    → a ≡ b → Lived takes kinds (Follow b (aim_of kinds c b) processor now) x s y t
+    → Lived takes kinds (Follow a (aim_of kinds c a) processor now) x s y t
+Follow-same takes kinds c a b processor now x y s t is lived =
+    subst (λ (o : Option Action). Lived takes kinds (follows kinds c processor now o) x s y t) (sym is) lived
 
 -- in one simulation nothing was done
 pub Same-here : (s : Simulation) → Same s s
-Same-here s = record { driver = refl; accounts = refl; stays = record { agrees = λ h. h; periods = refl; seed = refl; streams = refl; firsts = refl } }
+Same-here s = record {
+  driver = refl;
+  accounts = refl;
+  stays = record { agrees = λ h. h; periods = refl; seed = refl; streams = refl; firsts = refl };
+}
 
 -- what a task becomes, where it is there
-of_task_at : (f : TaskProgress → TaskProgress) (task : ℕ) (a : Accounts) (c : TaskProgress) → slice_get a.by_task task ≡ Some c → of_task f task a ≡ both (slice_set a.by_task task (f c)) a.by_processor
-of_task_at f task a c there = ap (λ (o : Option TaskProgress). both (option_map_or (λ x. slice_set a.by_task task (f x)) o a.by_task) a.by_processor) there
+of_task_at : (f : TaskProgress → TaskProgress) (task : ℕ) (a : Accounts) (c : TaskProgress)
+    → slice_get a.by_task task ≡ Some c
+    → of_task f task a ≡ both (slice_set a.by_task task (f c)) a.by_processor
+of_task_at f task a c there =
+    ap (λ (o : Option TaskProgress). both (option_map_or (λ x. slice_set a.by_task task (f x)) o a.by_task) a.by_processor)
+    there
 
 -- a phase has ended, and the task does its next action, for which a length is drawn where it takes one
-pub Silent-acts : (kinds : List TaskKind) (s m n t : Simulation) (processor task now length : ℕ) (action : Option Action) (c next : TaskProgress) → action ≡ next_action kinds c
-    → Stays s m → m.driver ≡ s.driver → accounts_of m.roster ≡ charged processor now (accounts_of s.roster) → IsDone (accounts_of m.roster) processor task c
+pub Silent-acts : (kinds : List TaskKind) (s m n t : Simulation) (processor task now length : ℕ) (action : Option Action)
+    (c next : TaskProgress)
+    → action ≡ next_action kinds c → Stays s m → m.driver ≡ s.driver
+    → accounts_of m.roster ≡ charged processor now (accounts_of s.roster) → IsDone (accounts_of m.roster) processor task c
     → DrawsFor task (asked_by (next_action kinds c)) m length n → next ≡ acted kinds (next_action kinds c) length now c
-    → Stays n t → t.driver ≡ n.driver → t.roster.by_task.items ≡ slice_set n.roster.by_task.items task next → t.roster.by_processor.items ≡ n.roster.by_processor.items → Silent kinds (IsAct processor task now action (aim_of kinds c action)) s t
-Silent-acts kinds s m n t processor task now length action c next is ended driver counted done draws does set driver' by_task by_processor drawn had firsts =
+    → Stays n t → t.driver ≡ n.driver → t.roster.by_task.items ≡ slice_set n.roster.by_task.items task next
+    → t.roster.by_processor.items ≡ n.roster.by_processor.items
+    → Silent kinds (IsAct processor task now action (aim_of kinds c action)) s t
+Silent-acts kinds s m n t processor task now length action c next is ended driver counted done draws does set
+    driver' by_task by_processor drawn had firsts =
     let asked = asked_by (next_action kinds c) in
     let g = gives_if_asked task asked m length n draws drawn (streams-stay s m drawn ended had) in
     let P : Accounts → Type 0 = λ a. IsDone a processor task c in
@@ -180,7 +292,9 @@ Silent-acts kinds s m n t processor task now length action c next is ended drive
     let there : slice_get n.roster.by_task.items task ≡ Some c = ap (λ (a : Accounts). slice_get a.by_task task) same ∙ done.there in
     let value : length ≡ length_taken s.seed task drawn asked = g.value ∙ ap (λ k. length_taken k task drawn asked) ended.seed in
     let becomes = does ∙ ap (λ l. acted kinds (next_action kinds c) l now c) value in
-    let accounts = same-accounts _ _ _ _ by_task by_processor ∙ sym (of_task_at (λ _. next) task (accounts_of n.roster) c there) ∙ ap (of_task (λ _. next) task) (same ∙ counted)
+    let accounts =
+    same-accounts _ _ _ _ by_task by_processor ∙ sym (of_task_at (λ _. next) task (accounts_of n.roster) c there)
+    ∙ ap (of_task (λ _. next) task) (same ∙ counted)
     ∙ ap (λ (k : TaskProgress). of_task (λ _. k) task (charged processor now (accounts_of s.roster))) becomes in
     record {
       deeds = Acts processor task now action (aim_of kinds c action) ∷ [];
@@ -188,18 +302,32 @@ Silent-acts kinds s m n t processor task now length action c next is ended drive
       periods = set.periods ∙ ap (λ r. r.periods) g.roster ∙ ended.periods;
       seed = set.seed ∙ g.seed ∙ ended.seed;
       streams = streams-stay n t (drawn_with task drawn asked) set g.streams;
-      firsts = λ number first there. firsts number first (ap (λ v. slice_get v.items number) (sym (set.firsts ∙ g.firsts ∙ ended.firsts)) ∙ there);
+      firsts = λ number first there.
+          firsts number first (ap (λ v. slice_get v.items number) (sym (set.firsts ∙ g.firsts ∙ ended.firsts)) ∙ there);
       begun = begun-same s t (set.firsts ∙ g.firsts ∙ ended.firsts);
       agrees = λ h. set.agrees (subst IsAgreed (sym g.roster) (ended.agrees h));
-      lives = (c, subst P counted done, is, ap (aim_of kinds c) is, (refl, driver' ∙ g.driver ∙ driver, ap (λ (a : Accounts). record { accounts = a; drawn = drawn_with task drawn asked }) accounts));
+      lives = (
+        c,
+        subst P counted done,
+        is,
+        ap (aim_of kinds c) is,
+        (
+          refl,
+          driver' ∙ g.driver ∙ driver,
+          ap (λ (a : Accounts). record { accounts = a; drawn = drawn_with task drawn asked }) accounts,
+        ),
+      );
       are = refl;
     }
 
 -- a task is there, with its stream
-pub Silent-joins : (kinds : List TaskKind) (s t : Simulation) (kind home : ℕ) → StaysAgreed s.roster t.roster → t.roster.periods ≡ s.roster.periods → t.seed ≡ s.seed → t.driver ≡ s.driver → t.firsts ≡ s.firsts
-    → t.roster.by_task.items ≡ s.roster.by_task.items ++ fresh kind home (start_of kinds kind) ∷ [] → t.roster.by_processor.items ≡ s.roster.by_processor.items
+pub Silent-joins : (kinds : List TaskKind) (s t : Simulation) (kind home : ℕ)
+    → StaysAgreed s.roster t.roster → t.roster.periods ≡ s.roster.periods → t.seed ≡ s.seed → t.driver ≡ s.driver
+    → t.firsts ≡ s.firsts → t.roster.by_task.items ≡ s.roster.by_task.items ++ fresh kind home (start_of kinds kind) ∷ []
+    → t.roster.by_processor.items ≡ s.roster.by_processor.items
     → t.streams.items ≡ s.streams.items ++ stream_of_task s.seed (length s.streams.items) ∷ []
-    → IsOfKind kinds (length s.roster.by_task.items) kind → Silent kinds (IsJoin kind home) s t
+    → IsOfKind kinds (length s.roster.by_task.items) kind
+    → Silent kinds (IsJoin kind home) s t
 Silent-joins kinds s t kind home agrees periods seed driver kept by_task by_processor streams of drawn had firsts = record {
   deeds = Joins kind home ∷ [];
   after = drawn ++ 0 ∷ [];
@@ -209,20 +337,30 @@ Silent-joins kinds s t kind home agrees periods seed driver kept by_task by_proc
   firsts = λ number first there. firsts number first (ap (λ v. slice_get v.items number) (sym kept) ∙ there);
   begun = begun-same s t kept;
   agrees = agrees;
-  lives = (of, (refl, driver, ap (λ (a : Accounts). record { accounts = a; drawn = drawn ++ 0 ∷ [] }) (same-accounts _ _ _ _ by_task by_processor)));
+  lives = (
+    of,
+    (
+      refl,
+      driver,
+      ap (λ (a : Accounts). record { accounts = a; drawn = drawn ++ 0 ∷ [] }) (same-accounts _ _ _ _ by_task by_processor),
+    ),
+  );
   are = refl;
 }
 
 -- the first task of the next kind is kept
-pub Silent-begins : (kinds : List TaskKind) (s t : Simulation) (number : ℕ) → length s.firsts.items ≡ number → t.roster ≡ s.roster → t.seed ≡ s.seed → t.streams ≡ s.streams → t.driver ≡ s.driver
-    → t.firsts.items ≡ s.firsts.items ++ first_of kinds number ∷ [] → Silent kinds (AreJust []) s t
+pub Silent-begins : (kinds : List TaskKind) (s t : Simulation) (number : ℕ)
+    → length s.firsts.items ≡ number → t.roster ≡ s.roster → t.seed ≡ s.seed → t.streams ≡ s.streams → t.driver ≡ s.driver
+    → t.firsts.items ≡ s.firsts.items ++ first_of kinds number ∷ []
+    → Silent kinds (AreJust []) s t
 Silent-begins kinds s t number long roster seed streams driver pushed drawn had firsts = record {
   deeds = [];
   after = drawn;
   periods = ap (λ r. r.periods) roster;
   seed = seed;
   streams = ap (λ v. v.items) streams ∙ had ∙ ap (λ n. streams_after n 0 drawn) (sym seed);
-  firsts = λ n first there. firsts-pushed kinds s.firsts.items number long firsts n first (ap (λ (l : List ℕ). slice_get l n) (sym pushed) ∙ there);
+  firsts = λ n first there.
+      firsts-pushed kinds s.firsts.items number long firsts n first (ap (λ (l : List ℕ). slice_get l n) (sym pushed) ∙ there);
   begun = omega (arith, ap (λ (l : List ℕ). length l) pushed, length-append s.firsts.items (first_of kinds number ∷ []));
   agrees = λ h. subst IsAgreed (sym roster) h;
   lives = (refl, driver, ap (λ r. record { accounts = accounts_of r; drawn = drawn }) roster);
@@ -230,36 +368,64 @@ Silent-begins kinds s t number long roster seed streams driver pushed drawn had 
 }
 
 -- one deed of which nothing is reported and for which no length is drawn, and then what befalls
-pub Befell-first : {S : Type 0} (takes : S → ℕ → TraceEvent → S → Type 0) (A B : List Deed → Type 0) (x y : S) (s t u : Simulation) (deed : Deed) → Stays s t
-    → ((kinds : List TaskKind) (drawn : List ℕ) → Lives kinds s.seed s.roster.periods s.driver (book_of s drawn) (deed ∷ []) [] t.driver (book_of t drawn))
-    → ((xs : List Deed) → A xs → B (deed ∷ xs)) → Befell takes A x t y u → Befell takes B x s y u
+pub Befell-first : {S : Type 0} (takes : S → ℕ → TraceEvent → S → Type 0) (A B : List Deed → Type 0)
+    (x y : S) (s t u : Simulation) (deed : Deed)
+    → Stays s t → ((kinds : List TaskKind) (drawn : List ℕ) →
+    Lives kinds s.seed s.roster.periods s.driver (book_of s drawn) (deed ∷ []) [] t.driver (book_of t drawn))
+    → ((xs : List Deed) → A xs → B (deed ∷ xs)) → Befell takes A x t y u
+    → Befell takes B x s y u
 Befell-first takes A B x y s t u deed stays lives first befell kinds =
     let one : List Deed → Type 0 = λ xs. xs ≡ deed ∷ [] in
     let silent : Silent kinds one s t =
-    λ drawn had firsts. record { deeds = deed ∷ []; after = drawn; periods = stays.periods; seed = stays.seed; streams = streams-stay s t drawn stays had; firsts = firsts-stay kinds s t stays firsts; begun = begun-stay s t stays; agrees = stays.agrees; lives = lives kinds drawn; are = refl } in
-    Lived-join takes kinds one A B (λ xs ys is are. subst (λ (l : List Deed). B (l ++ ys)) (sym is) (first ys are)) x x y s t u (Lived-silent takes kinds one x s t silent) (befell kinds)
+    λ drawn had firsts. record {
+      deeds = deed ∷ [];
+      after = drawn;
+      periods = stays.periods;
+      seed = stays.seed;
+      streams = streams-stay s t drawn stays had;
+      firsts = firsts-stay kinds s t stays firsts;
+      begun = begun-stay s t stays;
+      agrees = stays.agrees;
+      lives = lives kinds drawn;
+      are = refl;
+    } in
+    Lived-join takes kinds one A B (λ xs ys is are. subst (λ (l : List Deed). B (l ++ ys)) (sym is) (first ys are)) x x y s t
+    u (Lived-silent takes kinds one x s t silent) (befell kinds)
 
 -- in one simulation nothing changes
 pub Stays-here : (s : Simulation) → Stays s s
 Stays-here s = record { agrees = λ h. h; periods = refl; seed = refl; streams = refl; firsts = refl }
 
 -- a clock beats, and then what befalls
-pub Befell-beats : {S : Type 0} (takes : S → ℕ → TraceEvent → S → Type 0) (A B : List Deed → Type 0) (x y : S) (s t u : Simulation) (processor now : ℕ) → TicksAt (accounts_of s.roster) processor now → Stays s t
-    → t.driver ≡ s.driver → accounts_of t.roster ≡ beaten processor now s.roster.periods.tick (accounts_of s.roster)
-    → ((xs : List Deed) → A xs → B (Beats processor now ∷ xs)) → Befell takes A x t y u → Befell takes B x s y u
+pub Befell-beats : {S : Type 0} (takes : S → ℕ → TraceEvent → S → Type 0) (A B : List Deed → Type 0) (x y : S)
+    (s t u : Simulation) (processor now : ℕ)
+    → TicksAt (accounts_of s.roster) processor now → Stays s t → t.driver ≡ s.driver
+    → accounts_of t.roster ≡ beaten processor now s.roster.periods.tick (accounts_of s.roster)
+    → ((xs : List Deed) → A xs → B (Beats processor now ∷ xs)) → Befell takes A x t y u
+    → Befell takes B x s y u
 Befell-beats takes A B x y s t u processor now ticks stays driver accounts first befell =
-    Befell-first takes A B x y s t u (Beats processor now) stays (λ kinds drawn. (ticks, (refl, driver, ap (λ (a : Accounts). record { accounts = a; drawn = drawn }) accounts))) first befell
+    Befell-first takes A B x y s t u (Beats processor now) stays
+    (λ kinds drawn. (ticks, (refl, driver, ap (λ (a : Accounts). record { accounts = a; drawn = drawn }) accounts))) first
+    befell
 
 -- a processor looks for a task to pull, and then what befalls
-pub Befell-looks : {S : Type 0} (takes : S → ℕ → TraceEvent → S → Type 0) (A B : List Deed → Type 0) (x y : S) (s t u : Simulation) (processor now : ℕ) (source : Option ℕ) → LooksAt (accounts_of s.roster) processor now → IsSource s.roster.by_processor.items processor source → Stays s t
+pub Befell-looks : {S : Type 0} (takes : S → ℕ → TraceEvent → S → Type 0) (A B : List Deed → Type 0) (x y : S)
+    (s t u : Simulation) (processor now : ℕ) (source : Option ℕ)
+    → LooksAt (accounts_of s.roster) processor now → IsSource s.roster.by_processor.items processor source → Stays s t
     → t.driver ≡ s.driver → accounts_of t.roster ≡ looked processor now s.roster.periods.balance (accounts_of s.roster)
-    → ((xs : List Deed) → A xs → B (Looks processor now source ∷ xs)) → Befell takes A x t y u → Befell takes B x s y u
+    → ((xs : List Deed) → A xs → B (Looks processor now source ∷ xs)) → Befell takes A x t y u
+    → Befell takes B x s y u
 Befell-looks takes A B x y s t u processor now source looks from stays driver accounts first befell =
-    Befell-first takes A B x y s t u (Looks processor now source) stays (λ kinds drawn. (looks, from, (refl, driver, ap (λ (a : Accounts). record { accounts = a; drawn = drawn }) accounts))) first befell
+    Befell-first takes A B x y s t u (Looks processor now source) stays
+    (λ kinds drawn. (looks, from, (refl, driver, ap (λ (a : Accounts). record { accounts = a; drawn = drawn }) accounts)))
+    first befell
 
 -- an event happens
-pub Lived-event : {S : Type 0} (takes : S → ℕ → TraceEvent → S → Type 0) (A : List Deed → Type 0) (x y : S) (s t : Simulation) (event : Event) (reply : Reply) → A (Happens event reply ∷ []) → IsDue event (accounts_of s.roster) → Stays s t → Did takes x s.driver event reply y t.driver
-    → accounts_of t.roster ≡ after_event s.roster.periods event reply (accounts_of s.roster) → Befell takes A x s y t
+pub Lived-event : {S : Type 0} (takes : S → ℕ → TraceEvent → S → Type 0) (A : List Deed → Type 0) (x y : S)
+    (s t : Simulation) (event : Event) (reply : Reply)
+    → A (Happens event reply ∷ []) → IsDue event (accounts_of s.roster) → Stays s t → Did takes x s.driver event reply y t.driver
+    → accounts_of t.roster ≡ after_event s.roster.periods event reply (accounts_of s.roster)
+    → Befell takes A x s y t
 Lived-event takes A x y s t event reply are due stays did accounts kinds drawn had firsts = record {
   deeds = Happens event reply ∷ [];
   after = drawn;
@@ -269,17 +435,29 @@ Lived-event takes A x y s t event reply are due stays did accounts kinds drawn h
   firsts = firsts-stay kinds s t stays firsts;
   begun = begun-stay s t stays;
   agrees = stays.agrees;
-  tells = record {
-    told = did.told;
+  reports = record {
+    reported = did.reported;
     taken = did.taken;
-    holds = (due, t.driver, did.told, [], did.holds, (refl, refl, ap (λ (a : Accounts). record { accounts = a; drawn = drawn }) accounts), sym (append-nil did.told));
+    holds = (
+      due,
+      t.driver,
+      did.reported,
+      [],
+      did.holds,
+      (refl, refl, ap (λ (a : Accounts). record { accounts = a; drawn = drawn }) accounts),
+      sym (append-nil did.reported),
+    );
   };
   are = are;
 }
 
 -- an event of which the accounts know nothing
-pub Lived-drove : {S : Type 0} (takes : S → ℕ → TraceEvent → S → Type 0) (A : List Deed → Type 0) (x y : S) (s t : Simulation) (event : Event) → ((reply : Reply) → A (Happens event reply ∷ [])) → IsDue event (accounts_of s.roster) → Stays s t → ((reply : Reply) (a : Accounts) → after_event s.roster.periods event reply a ≡ a)
-    → Drove takes x s.driver (event ∷ []) y t.driver → accounts_of t.roster ≡ accounts_of s.roster → Befell takes A x s y t
+pub Lived-drove : {S : Type 0} (takes : S → ℕ → TraceEvent → S → Type 0) (A : List Deed → Type 0)
+    (x y : S) (s t : Simulation) (event : Event)
+    → ((reply : Reply) → A (Happens event reply ∷ [])) → IsDue event (accounts_of s.roster)
+    → Stays s t → ((reply : Reply) (a : Accounts) → after_event s.roster.periods event reply a ≡ a)
+    → Drove takes x s.driver (event ∷ []) y t.driver → accounts_of t.roster ≡ accounts_of s.roster
+    → Befell takes A x s y t
 Lived-drove takes A x y s t event are due stays quiet drove accounts kinds drawn had firsts =
     let h = drove.holds in
     record {
@@ -291,18 +469,33 @@ Lived-drove takes A x y s t event are due stays quiet drove accounts kinds drawn
       firsts = firsts-stay kinds s t stays firsts;
       begun = begun-stay s t stays;
       agrees = stays.agrees;
-      tells = record {
-        told = drove.told;
+      reports = record {
+        reported = drove.reported;
         taken = drove.taken;
-        holds = (due, h.1, h.2, h.3, h.4, (h.5.0, h.5.1, ap (λ (a : Accounts). record { accounts = a; drawn = drawn }) (accounts ∙ sym (quiet h.0 (accounts_of s.roster)))), h.6);
+        holds = (
+          due,
+          h.1,
+          h.2,
+          h.3,
+          h.4,
+          (
+            h.5.0,
+            h.5.1,
+            ap (λ (a : Accounts). record { accounts = a; drawn = drawn }) (accounts ∙ sym (quiet h.0 (accounts_of s.roster))),
+          ),
+          h.6,
+        );
       };
       are = are h.0;
     }
 
 -- a task is woken, and the processor on which it was placed takes it in
-pub Lived-wakes : {S : Type 0} (takes : S → ℕ → TraceEvent → S → Type 0) (x y z : S) (s t : Simulation) (m : Driver) (from task to now : ℕ) (reply : Reply) → IsWoken (accounts_of s.roster) from task → Stays s t
-    → Gets takes x y (λ told. Places s.driver from task now to told m) → Did takes y m (Drain to now) reply z t.driver
-    → accounts_of t.roster ≡ after_event s.roster.periods (Drain to now) reply (of_task woken task (accounts_of s.roster)) → Befell takes (AreWake from task now) x s z t
+pub Lived-wakes : {S : Type 0} (takes : S → ℕ → TraceEvent → S → Type 0) (x y z : S) (s t : Simulation)
+    (m : Driver) (from task to now : ℕ) (reply : Reply)
+    → IsWoken (accounts_of s.roster) from task → Stays s t
+    → Gets takes x y (λ reported. Places s.driver from task now to reported m) → Did takes y m (Drain to now) reply z t.driver
+    → accounts_of t.roster ≡ after_event s.roster.periods (Drain to now) reply (of_task woken task (accounts_of s.roster))
+    → Befell takes (AreWake from task now) x s z t
 Lived-wakes takes x y z s t m from task to now reply due stays woke did accounts kinds drawn had firsts =
     let h = woke.holds in
     let kept = ap (λ (a : Accounts). record { accounts = a; drawn = drawn }) accounts in
@@ -315,10 +508,26 @@ Lived-wakes takes x y z s t m from task to now reply due stays woke did accounts
       firsts = firsts-stay kinds s t stays firsts;
       begun = begun-stay s t stays;
       agrees = stays.agrees;
-      tells = record {
-        told = woke.told ++ did.told;
-        taken = TakesAll-append takes x y z woke.told did.told woke.taken did.taken;
-        holds = (due, h.mid, h.first, h.more ++ did.told, h.begins, (tt, m, h.more, did.told, h.ends, (tt, t.driver, did.told, [], did.holds, (refl, refl, kept), sym (append-nil did.told)), refl), ap (λ (x : Told). x ++ did.told) h.whole ∙ append_assoc h.first h.more did.told);
+      reports = record {
+        reported = woke.reported ++ did.reported;
+        taken = TakesAll-append takes x y z woke.reported did.reported woke.taken did.taken;
+        holds = (
+          due,
+          h.mid,
+          h.first,
+          h.more ++ did.reported,
+          h.begins,
+          (
+            tt,
+            m,
+            h.more,
+            did.reported,
+            h.ends,
+            (tt, t.driver, did.reported, [], did.holds, (refl, refl, kept), sym (append-nil did.reported)),
+            refl,
+          ),
+          ap (λ (x : Reported). x ++ did.reported) h.whole ∙ append_assoc h.first h.more did.reported,
+        );
       };
       are = (h.begun, h.placed, reply, to, h.place, refl);
     }

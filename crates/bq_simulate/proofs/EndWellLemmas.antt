@@ -8,7 +8,7 @@ use Rattle.bq_parts.specs.declared.event.Event.TheVariants.{Tick}
 use Rattle.bq_parts.specs.declared.reply.Reply.{Reply}
 use Rattle.bq_parts.specs.World.{World, count_in}
 use Rattle.bq_core.proofs.OrderLemmas.{accepted, not_refused_is_there}
-use Rattle.bq_trace.specs.TraceEvents.{TraceEvent, Told}
+use Rattle.bq_trace.specs.TraceEvents.{TraceEvent, Reported}
 use Rattle.bq_workload.specs.declared.processor_state.ProcessorState.{ProcessorState}
 use Rattle.bq_workload.specs.declared.progress.TaskProgress.{TaskProgress}
 use Rattle.bq_workload.specs.declared.roster.Periods.{Periods}
@@ -23,7 +23,7 @@ use Rattle.bq_simulate.specs.declared.simulation.Simulation.{Simulation}
 use Rattle.bq_simulate.specs.Agreement.{IsOnTime}
 use Rattle.bq_simulate.specs.AgreementLaws.{Agree}
 use Rattle.bq_simulate.specs.Chronicles.{Book, Deed, Lives, after_answer, is_busy}
-use Rattle.bq_simulate.specs.Drives.{Does, runs_now}
+use Rattle.bq_simulate.specs.Drives.{DrivesEvent, runs_now}
 use Rattle.bq_simulate.specs.Order.{GoesWell, HasGoneWell}
 use Rattle.bq_simulate.specs.Simulations.{Lived, periods_of, with_seed}
 use Rattle.bq_simulate.specs.Steps.{AreJust, last_ticks}
@@ -42,47 +42,74 @@ abbrev Fits : ℕ → Driver → Book → Type 0
 Fits now d b = Agree d b × IsOnTime now b.accounts
 
 -- a tick keeps that
-tick_fits : (periods : Periods) (d e : Driver) (b : Book) (processor now : ℕ) (reply : Reply) (told : Told) → 1 ≤ periods.tick → Does d (Tick processor now) reply told e → Fits now d b → Fits now e (after_answer periods (Tick processor now) reply b)
-tick_fits periods d e b processor now reply told tick does h =
+tick_fits : (periods : Periods) (d e : Driver) (b : Book) (processor now : ℕ) (reply : Reply) (reported : Reported)
+    → 1 ≤ periods.tick → DrivesEvent d (Tick processor now) reply reported e → Fits now d b
+    → Fits now e (after_answer periods (Tick processor now) reply b)
+tick_fits periods d e b processor now reply reported tick does h =
     let w : World = world_of d in
     let a : Accounts = b.accounts in
-    let step = step_of d (Tick processor now) reply told e does in
+    let step = step_of d (Tick processor now) reply reported e does in
     let low = (not_refused_is_there (count_in w) processor _ (accepted w (Tick processor now) step.0).0).0 in
     let there = state_there w a processor h.0.mirrors.processors low in
-    let after = tick_agrees periods d e b processor now reply told does h.0 in
-    (after, switched_kept periods now processor (runs_now reply) (world_of e) a there.0 tick there.1 (tasks_run_alone w a processor h.0) after h.1)
+    let after = tick_agrees periods d e b processor now reply reported does h.0 in (
+      after,
+      switched_kept periods now processor (runs_now reply) (world_of e) a there.0 tick there.1
+          (tasks_run_alone w a processor h.0) after h.1,
+    )
 
--- so do ticks of some processors
-ticks_fit : (kinds : List TaskKind) (seed : ℕ) (periods : Periods) (d e : Driver) (b c : Book) (now : ℕ) (processors : List ℕ) (deeds : List Deed) (told : Told) → 1 ≤ periods.tick → AreJust (map (λ processor. Tick processor now) processors) deeds → Lives kinds seed periods d b deeds told e c
-    → Fits now d b → Fits now e c
-ticks_fit kinds seed periods d e b c now [] deeds told tick none lives h = none_kept (Fits now) kinds seed periods d e b c deeds told none lives h
-ticks_fit kinds seed periods d e b c now (processor ∷ processors) deeds told tick (reply, more, is, just) lives h =
-    let (due, mid, first, rest, does, later, whole) = subst (λ l. Lives kinds seed periods d b l told e c) is lives in
-    ticks_fit kinds seed periods mid e (after_answer periods (Tick processor now) reply b) c now processors more rest tick just later (tick_fits periods d mid b processor now reply first tick does h)
+-- ticks of some processors keep that phases fit
+ticks_fit : (kinds : List TaskKind) (seed : ℕ) (periods : Periods) (d e : Driver) (b c : Book) (now : ℕ) (processors : List ℕ)
+    (deeds : List Deed) (reported : Reported)
+    → 1 ≤ periods.tick → AreJust (map (λ processor. Tick processor now) processors) deeds
+    → Lives kinds seed periods d b deeds reported e c → Fits now d b
+    → Fits now e c
+ticks_fit kinds seed periods d e b c now [] deeds reported tick none lives h =
+    none_kept (Fits now) kinds seed periods d e b c deeds reported none lives h
+ticks_fit kinds seed periods d e b c now (processor ∷ processors) deeds reported tick (reply, more, is, just) lives h =
+    let (due, mid, first, rest, does, later, whole) = subst (λ l. Lives kinds seed periods d b l reported e c) is lives in
+    ticks_fit kinds seed periods mid e (after_answer periods (Tick processor now) reply b) c now processors more rest tick
+    just later (tick_fits periods d mid b processor now reply first tick does h)
 
 -- with readings that are no later
-ticks_by : (now : ℕ) (processors : List ℕ) (deeds : List Deed) → AreJust (map (λ processor. Tick processor now) processors) deeds → AreBy now deeds
+ticks_by : (now : ℕ) (processors : List ℕ) (deeds : List Deed)
+    → AreJust (map (λ processor. Tick processor now) processors) deeds → AreBy now deeds
 ticks_by now [] deeds none = subst (λ l. AreBy now l) (sym none) tt
 ticks_by now (processor ∷ processors) deeds (reply, more, is, just) =
     let same : now ≤ now = omega arith in
     subst (λ l. AreBy now l) (sym is) (same, ticks_by now processors more just)
 
--- so they keep all
-ticks_keep : (w : Workload) (seed now : ℕ) (processors : List ℕ) → first_flaw w ≡ None → KeepAll w seed now (AreJust (map (λ processor. Tick processor now) processors))
-ticks_keep w seed now processors sound d e b c deeds told are leads h =
+-- ticks of some processors keep all
+ticks_keep : (w : Workload) (seed now : ℕ) (processors : List ℕ)
+    → first_flaw w ≡ None → KeepAll w seed now (AreJust (map (λ processor. Tick processor now) processors))
+ticks_keep w seed now processors sound d e b c deeds reported are leads h =
     let v = with_seed w seed in
     let kinds = w.tasks.items in
     let periods = periods_of v.machine in
-    let fit = ticks_fit kinds seed periods d e b c now processors deeds told (sound_times v sound).tick are leads (h.agrees, h.on_time) in
-    let by = by_kept kinds seed periods d e b c now deeds told (ticks_by now processors deeds are) leads h.read in
-    record { agrees = fit.0; on_time = fit.1; read = by.0; standing = standing_is_kept v d e b c deeds told sound leads h.standing; all = by.1 ∙ h.all; few = omega (arith, by.2, h.few) }
+    let fit =
+    ticks_fit kinds seed periods d e b c now processors deeds reported (sound_times v sound).tick are leads
+    (h.agrees, h.on_time) in
+    let by = by_kept kinds seed periods d e b c now deeds reported (ticks_by now processors deeds are) leads h.read in
+    record {
+      agrees = fit.0;
+      on_time = fit.1;
+      read = by.0;
+      standing = standing_is_kept v d e b c deeds reported sound leads h.standing;
+      all = by.1 ∙ h.all;
+      few = omega (arith, by.2, h.few);
+    }
 
--- and a simulation goes on well by them
-pub ticked-well : {S : Type 0} (takes : S → ℕ → TraceEvent → S → Type 0) (x y : S) (w : Workload) (now : ℕ) (processors : List ℕ) (a : Accounts) (s t : Simulation) → Lived takes w.tasks.items (AreJust (last_ticks now processors a)) x s y t → GoesWell w now s → GoesWell w now t
-ticked-well takes x y w now processors a s t lived h = goes-well takes (AreJust (last_ticks now processors a)) x y w now s t (ticks_keep w s.seed now (filter (is_busy a) processors) h.sound) lived h
+-- a simulation goes on well by ticks of some processors
+pub ticked-well : {S : Type 0} (takes : S → ℕ → TraceEvent → S → Type 0) (x y : S) (w : Workload) (now : ℕ)
+    (processors : List ℕ) (a : Accounts) (s t : Simulation)
+    → Lived takes w.tasks.items (AreJust (last_ticks now processors a)) x s y t → GoesWell w now s
+    → GoesWell w now t
+ticked-well takes x y w now processors a s t lived h =
+    goes-well takes (AreJust (last_ticks now processors a)) x y w now s t
+    (ticks_keep w s.seed now (filter (is_busy a) processors) h.sound) lived h
 
 -- once nothing comes any more it has come to its end
-pub ended-well : (w : Workload) (s : Simulation) → NothingComes s.roster.periods.end (accounts_of s.roster) → HasGoneWell w s → GoesWell w w.machine.duration s
+pub ended-well : (w : Workload) (s : Simulation) → NothingComes s.roster.periods.end (accounts_of s.roster) → HasGoneWell w s
+    → GoesWell w w.machine.duration s
 ended-well w s none gone =
     let h = gone.well in
     let k = h.kept in
@@ -107,15 +134,18 @@ ended-well w s none gone =
       agreed = h.agreed;
     }
 
--- and no task has run past its phase
+-- no task has run past its phase
 pub keep_phases : (now : ℕ) (a : Accounts) → IsOnTime now a → list_all keeps_phase a.by_task ≡ true
 keep_phases now a h = all a.by_task (λ task c at. (h.tasks task c at).phase)
   where
-    all : (cs : List TaskProgress) → ((task : ℕ) (c : TaskProgress) → slice_get cs task ≡ Some c → c.got ≤ c.due) → list_all keeps_phase cs ≡ true
+    all : (cs : List TaskProgress) → ((task : ℕ) (c : TaskProgress) → slice_get cs task ≡ Some c → c.got ≤ c.due)
+        → list_all keeps_phase cs ≡ true
     all [] each = refl
-    all (c ∷ cs) each = and_from (keeps_phase c) (list_all keeps_phase cs) (le-leb c.got c.due (each 0 c refl)) (all cs (λ task k at. each (suc task) k at))
+    all (c ∷ cs) each =
+        and_from (keeps_phase c) (list_all keeps_phase cs) (le-leb c.got c.due (each 0 c refl))
+        (all cs (λ task k at. each (suc task) k at))
 
--- a processor of so many is there
+-- a processor whose number is below the number of processors is there
 pub within_there : (processor : ℕ) (ls : List ProcessorState) → processor < length ls → slice_get ls processor ≢ None
 within_there processor [] low none = omega (arith, low)
 within_there zero (l ∷ ls) low none = none-some l (sym none)

@@ -13,7 +13,7 @@ readable last None h falls = falls
 readable last (Some now) h (inl early) = omega (arith, h.0, early)
 readable last (Some now) h (inr late) = omega (arith, h.1, late)
 
--- so what can be read and is not refused fails only if memory is wanted
+-- what can be read and is not refused fails only if memory is wanted
 pub only_memory_is_wanted : OnlyMemoryIsWanted
 only_memory_is_wanted d event fault.OutOfMemory h taken why = refl
 only_memory_is_wanted d event (fault.Refused refusal) h taken why = absurd (none-some refusal (sym taken ∙ why))

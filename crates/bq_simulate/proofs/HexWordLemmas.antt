@@ -29,11 +29,12 @@ hex_plain (b ∷ rest) h =
 pub plain_hex : (bytes : List ℕ) → IsBytes bytes → 0 < length bytes → IsPlain (encode_lower bytes)
 plain_hex bytes h some = record { some = let len = length-encode_with lower_digits bytes in omega arith; each = hex_plain bytes h }
 
--- which is not `none`
+-- the hex of bytes is not `none`
 pub hex_not_none : (bytes : List ℕ) → IsBytes bytes → bytes_eq (encode_lower bytes) (codes "none") ≡ false
 unfolding encode_with
 hex_not_none [] h = refl
 hex_not_none (b ∷ rest) h =
     let fits : b < 256 = h 0 in
-    let first : eqb (slice_index lower_digits (b / 16)) 110 ≡ false = not_n (slice_index lower_digits (b / 16)) (b / 16) (IsDigits-lower_digits (b / 16) (omega arith)) in
+    let first : eqb (slice_index lower_digits (b / 16)) 110 ≡ false =
+    not_n (slice_index lower_digits (b / 16)) (b / 16) (IsDigits-lower_digits (b / 16) (omega arith)) in
     rw first refl

@@ -11,7 +11,9 @@ use Rattle.bq_simulate.specs.Steps.{AreInstalled, IsInstalled, all_processors, i
 use Rattle.bq_simulate.proofs.ProcessorStateLemmas.{numbers_more}
 
 -- the policy at one processor more
-pub installs_more : (count generation : ℕ) (policy : Accepted) → installs_of (count + 1) generation policy ≡ installs_of count generation policy ++ Install count policy.hook generation (Some policy) ∷ []
+pub installs_more : (count generation : ℕ) (policy : Accepted)
+    → installs_of (count + 1) generation policy
+    ≡ installs_of count generation policy ++ Install count policy.hook generation (Some policy) ∷ []
 installs_more count generation policy =
     let at : 0 + count ≡ count = omega arith in
     let all = all_processors count in
@@ -19,13 +21,26 @@ installs_more count generation policy =
     ap (map install) (numbers_more 0 count) ∙ ap (λ (k : ℕ). map install (all ++ k ∷ [])) at ∙ map-append install all (count ∷ [])
 
 -- one policy more
-AreInstalled-more : (processors : ℕ) (policies : List Accepted) (policy : Accepted) (xs ys : List Deed) → AreInstalled processors policies xs → IsInstalled processors policy ys → AreInstalled processors (policies ++ policy ∷ []) (xs ++ ys)
+AreInstalled-more : (processors : ℕ) (policies : List Accepted) (policy : Accepted) (xs ys : List Deed)
+    → AreInstalled processors policies xs → IsInstalled processors policy ys
+    → AreInstalled processors (policies ++ policy ∷ []) (xs ++ ys)
 AreInstalled-more processors [] policy xs ys none one = (ys, [], ap (λ (l : List Deed). l ++ ys) none ∙ sym (append-nil ys), one, refl)
-AreInstalled-more processors (p ∷ policies) policy xs ys (some, more, whole, is, rest) one =
-    (some, more ++ ys, ap (λ (l : List Deed). l ++ ys) whole ∙ append_assoc some more ys, is, AreInstalled-more processors policies policy more ys rest one)
+AreInstalled-more processors (p ∷ policies) policy xs ys (some, more, whole, is, rest) one = (
+  some,
+  more ++ ys,
+  ap (λ (l : List Deed). l ++ ys) whole ∙ append_assoc some more ys,
+  is,
+  AreInstalled-more processors policies policy more ys rest one,
+)
 
 -- the policy of this number, after those before it
-pub AreInstalled-next : (processors : ℕ) (policies : List Accepted) (number : ℕ) (policy : Accepted) (xs ys : List Deed) → slice_get policies number ≡ Some policy → AreInstalled processors (take number policies) xs → IsInstalled processors policy ys → AreInstalled processors (take (number + 1) policies) (xs ++ ys)
+pub AreInstalled-next : (processors : ℕ) (policies : List Accepted) (number : ℕ) (policy : Accepted) (xs ys : List Deed)
+    → slice_get policies number ≡ Some policy → AreInstalled processors (take number policies) xs
+    → IsInstalled processors policy ys
+    → AreInstalled processors (take (number + 1) policies) (xs ++ ys)
 AreInstalled-next processors policies number policy xs ys there before one =
-    let is : take (number + 1) policies ≡ take number policies ++ policy ∷ [] = take_more policies number policy (slice_get_within policies number policy there) ∙ ap (λ (p : Accepted). take number policies ++ p ∷ []) (get_or_from_slice_get policies number policy policy there) in
-    subst (λ (l : List Accepted). AreInstalled processors l (xs ++ ys)) (sym is) (AreInstalled-more processors (take number policies) policy xs ys before one)
+    let is : take (number + 1) policies ≡ take number policies ++ policy ∷ [] =
+    take_more policies number policy (slice_get_within policies number policy there)
+    ∙ ap (λ (p : Accepted). take number policies ++ p ∷ []) (get_or_from_slice_get policies number policy policy there) in
+    subst (λ (l : List Accepted). AreInstalled processors l (xs ++ ys)) (sym is)
+    (AreInstalled-more processors (take number policies) policy xs ys before one)

@@ -3,12 +3,12 @@ use Rattle.std.proofs.Common.{◌≡◌, ℕ, ◌≤◌, inl, inr, List, [], ◌
 use Rattle.std.specs.Prelude.{Ok}
 use Rattle.std.proofs.lemmas.Option.{none-some}
 use Rattle.bq_core.proofs.SizeLemmas.{step_count}
-use Rattle.bq_parts.specs.Choices.{policies}
+use Rattle.bq_parts.specs.Choices.{by_programs}
 use Rattle.bq_parts.specs.World.{count_in}
 use Rattle.bq_trace.specs.Machines.{discipline_of}
 use Rattle.bq_parts.specs.declared.event.Event.{Event}
 use Rattle.bq_parts.specs.declared.event.Event.TheVariants.{Block, Pull, Tick}
-use Rattle.bq_trace.specs.TraceEvents.{Told}
+use Rattle.bq_trace.specs.TraceEvents.{Reported}
 use Rattle.bq_verify.specs.Accepted.{Accepted}
 use Rattle.bq_words.specs.Sizes.{processors_in}
 use Rattle.bq_words.proofs.SizeLemmas.{processors_in-few}
@@ -73,7 +73,8 @@ wakes_by : (now task processor : ℕ) (deeds : List Deed) → Wakes task process
 wakes_by now task processor deeds (inl is) = subst (λ l. AreBy now l) (sym is) tt
 wakes_by now task processor deeds (inr (more, is, wake)) = subst (λ l. AreBy now l) (sym is) (wake_by now processor task more wake)
 
-follow_by : (action : Option Action) (aim : Option ℕ) (processor now : ℕ) (deeds : List Deed) → Follow action aim processor now deeds → AreBy now deeds
+follow_by : (action : Option Action) (aim : Option ℕ) (processor now : ℕ) (deeds : List Deed)
+    → Follow action aim processor now deeds → AreBy now deeds
 follow_by None aim processor now deeds follow = one_by now (Block processor now) deeds (omega arith) follow
 follow_by (Some (Run asked)) aim processor now deeds follow = none_by now deeds follow
 follow_by (Some (Sleep asked)) aim processor now deeds follow = one_by now (Block processor now) deeds (omega arith) follow
@@ -86,38 +87,60 @@ pulls_by None processor now deeds none = none_by now deeds none
 pulls_by (Some from) processor now deeds just = one_by now (Pull processor from now) deeds (omega arith) just
 
 met_by : (due : Due) (now : ℕ) (deeds : List Deed) → Meet due now deeds → AreBy now deeds
-met_by (due.End processor) now deeds (task, action, aim, more, is, follow) = subst (λ l. AreBy now l) (sym is) (follow_by action aim processor now more follow)
+met_by (due.End processor) now deeds (task, action, aim, more, is, follow) =
+    subst (λ l. AreBy now l) (sym is) (follow_by action aim processor now more follow)
 met_by (due.Wake task) now deeds (home, more, is, wake) = subst (λ l. AreBy now l) (sym is) (wake_by now home task more wake)
-met_by (due.Tick processor) now deeds (more, is, just) = subst (λ l. AreBy now l) (sym is) (one_by now (Tick processor now) more (omega arith) just)
+met_by (due.Tick processor) now deeds (more, is, just) =
+    subst (λ l. AreBy now l) (sym is) (one_by now (Tick processor now) more (omega arith) just)
 met_by (due.Pull processor) now deeds (source, more, is, just) = subst (λ l. AreBy now l) (sym is) (pulls_by source processor now more just)
 
 rises_by : (now last next : ℕ) (reading : Option ℕ) → IsReadBy now reading → Rises last reading next → last ≤ now → next ≤ now
 rises_by now last next None read rises low = omega (arith, rises, low)
 rises_by now last next (Some reading) read rises low = omega (arith, rises.2, read)
 
-act_count : (kinds : List TaskKind) (seed processor task now : ℕ) (c : TaskProgress) (b : Book) → length (after_act kinds seed processor task now c b).accounts.by_task ≡ length b.accounts.by_task
+act_count : (kinds : List TaskKind) (seed processor task now : ℕ) (c : TaskProgress) (b : Book)
+    → length (after_act kinds seed processor task now c b).accounts.by_task ≡ length b.accounts.by_task
 act_count kinds seed processor task now c b =
-    changed_at-length _ (charged processor now b.accounts).by_task task ∙ charged_keeps (λ (x : Accounts). length x.by_task ≡ length b.accounts.by_task) (count_of_places (length b.accounts.by_task)) processor now b.accounts refl
+    changed_at-length _ (charged processor now b.accounts).by_task task
+    ∙ charged_keeps (λ (x : Accounts). length x.by_task ≡ length b.accounts.by_task)
+    (count_of_places (length b.accounts.by_task)) processor now b.accounts refl
 
 -- no clock was given a later reading, and there are as many tasks and processors
-pub by_kept : (kinds : List TaskKind) (seed : ℕ) (periods : Periods) (d e : Driver) (b c : Book) (now : ℕ) (deeds : List Deed) (told : Told) → AreBy now deeds → Lives kinds seed periods d b deeds told e c → d.now ≤ now → (e.now ≤ now) × (length c.accounts.by_task ≡ length b.accounts.by_task) × (count_in (world_of e) ≡ count_in (world_of d))
-by_kept kinds seed periods d e b c now [] told are (none, same, kept) low = (subst (λ (x : Driver). x.now ≤ now) (sym same) low, ap (λ (x : Book). length x.accounts.by_task) kept, ap (λ (x : Driver). count_in (world_of x)) same)
-by_kept kinds seed periods d e b c now (Happens event reply ∷ deeds) told are (due, mid, first, rest, does, lives, whole) low =
-    let later = by_kept kinds seed periods mid e (after_answer periods event reply b) c now deeds rest are.1 lives (rises_by now d.now mid.now (reading_of event) are.0 does.rises low) in
+pub by_kept : (kinds : List TaskKind) (seed : ℕ) (periods : Periods) (d e : Driver) (b c : Book) (now : ℕ)
+    (deeds : List Deed) (reported : Reported)
+    → AreBy now deeds → Lives kinds seed periods d b deeds reported e c → d.now ≤ now
+    → (e.now ≤ now) × (length c.accounts.by_task ≡ length b.accounts.by_task) × (count_in (world_of e) ≡ count_in (world_of d))
+by_kept kinds seed periods d e b c now [] reported are (none, same, kept) low = (
+  subst (λ (x : Driver). x.now ≤ now) (sym same) low,
+  ap (λ (x : Book). length x.accounts.by_task) kept,
+  ap (λ (x : Driver). count_in (world_of x)) same,
+)
+by_kept kinds seed periods d e b c now (Happens event reply ∷ deeds) reported are
+    (due, mid, first, rest, does, lives, whole) low =
+    let later =
+    by_kept kinds seed periods mid e (after_answer periods event reply b) c now deeds rest are.1 lives
+    (rises_by now d.now mid.now (reading_of event) are.0 does.rises low) in
     let step = step_of d event reply first mid does in (
       later.0,
-      later.1 ∙ event_keeps (λ (x : Accounts). length x.by_task ≡ length b.accounts.by_task) (count_of_places (length b.accounts.by_task)) periods event reply b.accounts refl,
-      later.2 ∙ step_count (policies (discipline_of d.machine.rule)) (world_of d) event does.happens.moves.step.calls (Ok reply) (world_of mid) step,
+      later.1 ∙ event_keeps (λ (x : Accounts). length x.by_task ≡ length b.accounts.by_task)
+          (count_of_places (length b.accounts.by_task)) periods event reply b.accounts refl,
+      later.2 ∙ step_count (by_programs (discipline_of d.machine.rule)) (world_of d) event does.happens.moves.step.calls
+          (Ok reply) (world_of mid) step,
     )
-by_kept kinds seed periods d e b c now (Joins kind home ∷ deeds) told are lives low = absurd are
-by_kept kinds seed periods d e b c now (Acts at task then action aim ∷ deeds) told are (k, done, is, to, lives) low =
-    let later = by_kept kinds seed periods d e (after_act kinds seed at task then k b) c now deeds told are lives low in
+by_kept kinds seed periods d e b c now (Joins kind home ∷ deeds) reported are lives low = absurd are
+by_kept kinds seed periods d e b c now (Acts at task then action aim ∷ deeds) reported are (k, done, is, to, lives) low =
+    let later = by_kept kinds seed periods d e (after_act kinds seed at task then k b) c now deeds reported are lives low in
     (later.0, later.1 ∙ act_count kinds seed at task then k b, later.2)
-by_kept kinds seed periods d e b c now (Rings task then ∷ deeds) told are (k, there, asleep, timer, lives) low = by_kept kinds seed periods d e b c now deeds told are lives low
-by_kept kinds seed periods d e b c now (Reaches task ∷ deeds) told are (k, there, waits, lives) low = by_kept kinds seed periods d e b c now deeds told are lives low
-by_kept kinds seed periods d e b c now (Misses task ∷ deeds) told are (k, there, waits, lives) low = by_kept kinds seed periods d e b c now deeds told are lives low
-by_kept kinds seed periods d e b c now (Beats at then ∷ deeds) told are (ticks, lives) low = by_kept kinds seed periods d e (after_beat periods at then b) c now deeds told are lives low
-by_kept kinds seed periods d e b c now (Looks at then source ∷ deeds) told are (looks, from, lives) low = by_kept kinds seed periods d e (after_look periods at then b) c now deeds told are lives low
+by_kept kinds seed periods d e b c now (Rings task then ∷ deeds) reported are (k, there, asleep, timer, lives) low =
+    by_kept kinds seed periods d e b c now deeds reported are lives low
+by_kept kinds seed periods d e b c now (Reaches task ∷ deeds) reported are (k, there, waits, lives) low =
+    by_kept kinds seed periods d e b c now deeds reported are lives low
+by_kept kinds seed periods d e b c now (Misses task ∷ deeds) reported are (k, there, waits, lives) low =
+    by_kept kinds seed periods d e b c now deeds reported are lives low
+by_kept kinds seed periods d e b c now (Beats at then ∷ deeds) reported are (ticks, lives) low =
+    by_kept kinds seed periods d e (after_beat periods at then b) c now deeds reported are lives low
+by_kept kinds seed periods d e b c now (Looks at then source ∷ deeds) reported are (looks, from, lives) low =
+    by_kept kinds seed periods d e (after_look periods at then b) c now deeds reported are lives low
 
 -- From one thing to the next
 
@@ -125,68 +148,93 @@ by_kept kinds seed periods d e b c now (Looks at then source ∷ deeds) told are
 pub none_stands : (w : Workload) → StandAtActions w.tasks.items (opening_book w.machine)
 none_stands w = record { tasks = λ task c at. absurd (none-some c at); streams = refl }
 
-opened : (policies : List Accepted) (w : Workload) (d e : Driver) (b : Book) (deeds : List Deed) (first told : Told) → first_flaw w ≡ None → Starts w.machine.rule w.machine.size first d → Opens policies (processors_in w.machine.size) w.tasks.items deeds
-    → Leads w d (opening_book w.machine) deeds told e b → IsKept w.tasks.items 0 e b
-opened policies w d e b deeds first told sound starts opens leads =
-    let o = opened_open policies w d e b deeds first told starts opens leads in
+opened : (policies : List Accepted) (w : Workload) (d e : Driver) (b : Book) (deeds : List Deed) (first reported : Reported)
+    → first_flaw w ≡ None → Starts w.machine.rule w.machine.size first d
+    → Opens policies (processors_in w.machine.size) w.tasks.items deeds
+    → Leads w d (opening_book w.machine) deeds reported e b
+    → IsKept w.tasks.items 0 e b
+opened policies w d e b deeds first reported sound starts opens leads =
+    let o = opened_open policies w d e b deeds first reported starts opens leads in
     record {
       agrees = o.agree;
       on_time = o.on_time;
       read = omega (arith, o.read);
-      standing = standing_is_kept w d e (opening_book w.machine) b deeds told sound leads (none_stands w);
+      standing = standing_is_kept w d e (opening_book w.machine) b deeds reported sound leads (none_stands w);
       all = o.tasks_there;
       few = omega (arith, o.processors_there, processors_in-few w.machine.size);
     }
 
-comes : (w : Workload) (d : Driver) (b : Book) (due : Due) (now time : ℕ) → first_flaw w ≡ None → IsKept w.tasks.items now d b → IsNext w.machine.duration b.accounts due time → (now ≤ time) × (time ≤ w.machine.duration) × IsKept w.tasks.items time d b
+comes : (w : Workload) (d : Driver) (b : Book) (due : Due) (now time : ℕ)
+    → first_flaw w ≡ None → IsKept w.tasks.items now d b → IsNext w.machine.duration b.accounts due time
+    → (now ≤ time) × (time ≤ w.machine.duration) × IsKept w.tasks.items time d b
 comes w d b due now time sound h next =
-    let m = nothing_is_missed w.machine.duration now time b.accounts due (sound_times w sound).duration h.on_time next in
-    (m.0, m.1, record { agrees = h.agrees; on_time = m.2; read = omega (arith, h.read, m.0); standing = h.standing; all = h.all; few = h.few })
+    let m = nothing_is_missed w.machine.duration now time b.accounts due (sound_times w sound).duration h.on_time next in (
+      m.0,
+      m.1,
+      record { agrees = h.agrees; on_time = m.2; read = omega (arith, h.read, m.0); standing = h.standing; all = h.all; few = h.few },
+    )
 
-met : (w : Workload) (d e : Driver) (b c : Book) (due : Due) (now : ℕ) (deeds : List Deed) (told : Told) → first_flaw w ≡ None → now ≤ w.machine.duration → Meet due now deeds → Leads w d b deeds told e c → IsKept w.tasks.items now d b → IsKept w.tasks.items now e c
-met w d e b c due now deeds told sound until meet leads h =
+met : (w : Workload) (d e : Driver) (b c : Book) (due : Due) (now : ℕ) (deeds : List Deed) (reported : Reported)
+    → first_flaw w ≡ None → now ≤ w.machine.duration → Meet due now deeds → Leads w d b deeds reported e c
+    → IsKept w.tasks.items now d b
+    → IsKept w.tasks.items now e c
+met w d e b c due now deeds reported sound until meet leads h =
     let kinds = w.tasks.items in
     let seed = w.machine.seed in
     let periods = periods_of w.machine in
     let times = sound_times w sound in
-    let by = by_kept kinds seed periods d e b c now deeds told (met_by due now deeds meet) leads h.read in
+    let by = by_kept kinds seed periods d e b c now deeds reported (met_by due now deeds meet) leads h.read in
     record {
-      agrees = meetings_agree kinds seed periods d e b c due now deeds told meet leads h.agrees;
-      on_time = meetings_are_on_time kinds seed periods d e b c due now deeds told times.tick times.balance (omega (arith, times.duration, until)) meet leads h.agrees h.on_time;
+      agrees = meetings_agree kinds seed periods d e b c due now deeds reported meet leads h.agrees;
+      on_time =
+          meetings_are_on_time kinds seed periods d e b c due now deeds reported times.tick times.balance
+          (omega (arith, times.duration, until)) meet leads h.agrees h.on_time;
       read = by.0;
-      standing = standing_is_kept w d e b c deeds told sound leads h.standing;
+      standing = standing_is_kept w d e b c deeds reported sound leads h.standing;
       all = by.1 ∙ h.all;
       few = omega (arith, by.2, h.few);
     }
 
--- so all is kept from one thing to the next
+-- all is kept from one thing to the next
 pub all_is_kept : AllIsKept
 all_is_kept = record { opened = opened; comes = comes; met = met }
 
 -- along all that is met
-steps_kept : (w : Workload) (d e : Driver) (b c : Book) (steps : List Step) (told : Told) (now : ℕ) → first_flaw w ≡ None → AreInOrder w.tasks.items w.machine.seed (periods_of w.machine) b steps → Leads w d b (deeds_of steps) told e c → now ≤ w.machine.duration → IsKept w.tasks.items now d b
+steps_kept : (w : Workload) (d e : Driver) (b c : Book) (steps : List Step) (reported : Reported) (now : ℕ)
+    → first_flaw w ≡ None → AreInOrder w.tasks.items w.machine.seed (periods_of w.machine) b steps
+    → Leads w d b (deeds_of steps) reported e c → now ≤ w.machine.duration → IsKept w.tasks.items now d b
     → (last : ℕ) × (last ≤ w.machine.duration) × IsKept w.tasks.items last e c
-steps_kept w d e b c [] told now sound order leads low h = (now, low, none_kept (IsKept w.tasks.items now) w.tasks.items w.machine.seed (periods_of w.machine) d e b c [] told refl leads h)
-steps_kept w d e b c (step ∷ steps) told now sound order leads low h =
+steps_kept w d e b c [] reported now sound order leads low h = (
+  now,
+  low,
+  none_kept (IsKept w.tasks.items now) w.tasks.items w.machine.seed (periods_of w.machine) d e b c []
+      reported refl leads h,
+)
+steps_kept w d e b c (step ∷ steps) reported now sound order leads low h =
     let kinds = w.tasks.items in
     let seed = w.machine.seed in
     let periods = periods_of w.machine in
-    let s = part kinds seed periods d e b c step.deeds (deeds_of steps) told leads in
+    let s = part kinds seed periods d e b c step.deeds (deeds_of steps) reported leads in
     let next = comes w d b step.due now step.at sound h order.0 in
     let after = met w d s.mid b s.book step.due step.at step.deeds s.first sound next.1 step.meet s.one next.2 in
     let book = kept-by kinds seed periods d s.mid b s.book step.deeds s.first s.one in
-    steps_kept w s.mid e s.book c steps s.more step.at sound (subst (λ x. AreInOrder kinds seed periods x steps) (sym book) order.1) s.two next.1 after
+    steps_kept w s.mid e s.book c steps s.more step.at sound
+    (subst (λ x. AreInOrder kinds seed periods x steps) (sym book) order.1) s.two next.1 after
 
--- and wherever a simulation has been followed to
+-- all is kept wherever a simulation has been followed to
 pub beginnings_are_kept : BeginningsAreKept
-beginnings_are_kept policies w told sound s =
+beginnings_are_kept policies w reported sound s =
     let kinds = w.tasks.items in
     let seed = w.machine.seed in
     let periods = periods_of w.machine in
     let start = opening_book w.machine in
     let p = s.proceeds in
     let m = p.meets in
-    let t = part kinds seed periods s.opening s.closing start s.book p.opening p.met s.more (subst (λ l. Lives kinds seed periods s.opening start l s.more s.closing s.book) p.whole s.lives) in
+    let t =
+    part kinds seed periods s.opening s.closing start s.book p.opening p.met s.more
+    (subst (λ l. Lives kinds seed periods s.opening start l s.more s.closing s.book) p.whole s.lives) in
     let start_kept = opened policies w s.opening t.mid t.book p.opening s.first t.first sound s.starts p.opens t.one in
     let book = kept-by kinds seed periods s.opening t.mid start t.book p.opening t.first t.one in
-    steps_kept w t.mid s.closing t.book s.book m.steps t.more 0 sound (subst (λ x. AreInOrder kinds seed periods x m.steps) (sym book) m.order) (subst (λ l. Lives kinds seed periods t.mid t.book l t.more s.closing s.book) m.whole t.two) (omega arith) start_kept
+    steps_kept w t.mid s.closing t.book s.book m.steps t.more 0 sound
+    (subst (λ x. AreInOrder kinds seed periods x m.steps) (sym book) m.order)
+    (subst (λ l. Lives kinds seed periods t.mid t.book l t.more s.closing s.book) m.whole t.two) (omega arith) start_kept

@@ -42,7 +42,7 @@ pub mod NumberWordLemmas
 pub mod OpenWellLemmas
 pub mod PlainWordLemmas
 pub mod ReadingLemmas
-pub mod RetellingLemmas
+pub mod ReplayLemmas
 pub mod SimulationAgreeLemmas
 pub mod TakenLemmas
 pub mod TakenUpLemmas

@@ -8,20 +8,25 @@ use Rattle.bq_lines.specs.Bytes.{is_allowed}
 use Rattle.bq_simulate.specs.Spelling.{asking_line, event_words, machine_line}
 use Rattle.bq_simulate.specs.Laws.{AreLines, EventsAreRead, MachinesAreRead, IsWholeLine}
 use Rattle.bq_simulate.proofs.PlainWordLemmas.{allowed-spaced}
-use Rattle.bq_simulate.proofs.ReadingLemmas.{reading-spaced, plain_words, room_words, words_say, machine_words, plain_machine, room_machine, machine_says}
+use Rattle.bq_simulate.proofs.ReadingLemmas.{reading-spaced, plain_words, room_words, words_read, machine_words, plain_machine, room_machine, machine_reads}
 
 -- the line that asks for an event is read as just that
 pub events_are_read : EventsAreRead
-events_are_read image event can fits = reading-spaced (event_words image event) (plain_words image event can fits) (room_words image event can fits) ∙ words_say image event can fits
+events_are_read image event can fits =
+    reading-spaced (event_words image event) (plain_words image event can fits) (room_words image event can fits)
+    ∙ words_read image event can fits
 
 -- the line that asks for a machine is read as just that
 pub machines_are_read : MachinesAreRead
-machines_are_read rule size = reading-spaced (machine_words rule size) (plain_machine rule size) (room_machine rule size) ∙ machine_says rule size
+machines_are_read rule size =
+    reading-spaced (machine_words rule size) (plain_machine rule size) (room_machine rule size) ∙ machine_reads rule size
 
 -- what each allowed byte is, each byte of a line of such is
-of_each : (P : ℕ → Type 0) → ((b : ℕ) → is_allowed b ≡ true → P b) → (line : List ℕ) → list_all is_allowed line ≡ true → AllByRecursion P line
+of_each : (P : ℕ → Type 0) → ((b : ℕ) → is_allowed b ≡ true → P b) → (line : List ℕ) → list_all is_allowed line ≡ true
+    → AllByRecursion P line
 of_each P along [] h = tt
-of_each P along (b ∷ line) h = let parts = and_parts (is_allowed b) (list_all is_allowed line) h in (along b parts.0, of_each P along line parts.1)
+of_each P along (b ∷ line) h =
+    let parts = and_parts (is_allowed b) (list_all is_allowed line) h in (along b parts.0, of_each P along line parts.1)
 
 no_feed : (b : ℕ) → is_allowed b ≡ true → eqb b 10 ≡ false
 no_feed b h = grind (arith, nat_tests)
@@ -44,6 +49,7 @@ allowed_whole line h = record {
 -- the text that asks for an event or for a machine is one whole line
 pub are_lines : AreLines
 are_lines = record {
-  events = λ image event can fits. allowed_whole (asking_line image event) (allowed-spaced (event_words image event) (plain_words image event can fits));
+  events = λ image event can fits.
+      allowed_whole (asking_line image event) (allowed-spaced (event_words image event) (plain_words image event can fits));
   machines = λ rule size. allowed_whole (machine_line rule size) (allowed-spaced (machine_words rule size) (plain_machine rule size));
 }

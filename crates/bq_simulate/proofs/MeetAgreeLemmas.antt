@@ -10,7 +10,7 @@ use Rattle.bq_parts.specs.declared.event.Event.{Event}
 use Rattle.bq_parts.specs.declared.event.Event.TheVariants.{BeginWake, Block, Drain, EndWake, Pull, Tick}
 use Rattle.bq_parts.specs.declared.reply.Reply.{Reply}
 use Rattle.bq_parts.specs.declared.refusal.Refusal.TheVariants as no
-use Rattle.bq_parts.specs.Choices.{policies}
+use Rattle.bq_parts.specs.Choices.{by_programs}
 use Rattle.bq_parts.specs.Processors.{Processor, count_of}
 use Rattle.bq_parts.specs.Refusals.{is_away}
 use Rattle.bq_parts.specs.StandsOnce.{IsOrderly}
@@ -20,7 +20,7 @@ use Rattle.bq_parts.proofs.CountLemmas.{one_self}
 use Rattle.bq_parts.proofs.OnceLemmas.{count_of-held_by, held_le}
 use Rattle.bq_core.proofs.OrderLemmas.{accepted, first_refusal_passed, not_refused_is_there}
 use Rattle.bq_trace.specs.Machines.{discipline_of}
-use Rattle.bq_trace.specs.TraceEvents.{Told}
+use Rattle.bq_trace.specs.TraceEvents.{Reported}
 use Rattle.bq_workload.specs.declared.action.Action.{Action}
 use Rattle.bq_workload.specs.declared.action.Action.TheVariants.{Run, Sleep, Wait, Wake}
 use Rattle.bq_workload.specs.declared.due.Due.TheVariants as due
@@ -40,7 +40,7 @@ use Rattle.bq_simulate.specs.Actions.{acted, actions_of, advanced_in, asked_by, 
 use Rattle.bq_simulate.specs.Agreement.{AgreesBut, AgreesWith, StandsAs, can_run, run_at, state_at}
 use Rattle.bq_simulate.specs.AgreementLaws.{Agree, MeetingsAgree}
 use Rattle.bq_simulate.specs.Chronicles.{Book, Deed, Happens, IsFrom, Lives, after_act, after_answer, after_beat, after_look, length_taken}
-use Rattle.bq_simulate.specs.Drives.{Does, placed_at}
+use Rattle.bq_simulate.specs.Drives.{DrivesEvent, placed_at}
 use Rattle.bq_simulate.specs.Steps.{AreJust, AreWake, Follow, Meet, Wakes, pulls_of}
 use Rattle.bq_simulate.proofs.AccountLemmas.{changed_at-length, read_changed, read_kept, reads_charged, state_others}
 use Rattle.bq_simulate.proofs.MirrorLemmas.{homes_charged, homes_task, tasks_kept}
@@ -60,14 +60,24 @@ counted_true : (b : Bool) → 1 ≤ as_number b → b ≡ true
 counted_true true h = refl
 counted_true false h = absurd (omega arith)
 
--- so the entry of a task that runs says that it is away
-pub runs_away : (w : World) (processor task : ℕ) → IsOrderly w → id_of (processor_at w processor).running.current ≡ Some task → is_away (entry w task) ≡ true
+-- the entry of a task that runs says that it is away
+pub runs_away : (w : World) (processor task : ℕ) → IsOrderly w → id_of (processor_at w processor).running.current ≡ Some task
+    → is_away (entry w task) ≡ true
 runs_away w processor task o runs =
     let p : Processor = processor_at w processor in
-    counted_true (is_away (entry w task)) (omega (arith, o.once.away task, held_le task w.processors processor, count_of-held_by task p, current_counted p.running.current p.running.queue task runs))
+    counted_true (is_away (entry w task))
+    (omega (
+      arith,
+      o.once.away task,
+      held_le task w.processors processor,
+      count_of-held_by task p,
+      current_counted p.running.current p.running.queue task runs,
+    ))
 
 -- a processor's state has changed, but not what runs there and how many tasks it has
-pub agrees_processor : (f : ProcessorState → ProcessorState) → ((l : ProcessorState) → (f l).run ≡ l.run) → ((l : ProcessorState) → (f l).size ≡ l.size) → (w : World) (a : Accounts) (processor : ℕ) → AgreesWith w a → AgreesWith w (of_processor f processor a)
+pub agrees_processor : (f : ProcessorState → ProcessorState) → ((l : ProcessorState) → (f l).run ≡ l.run)
+    → ((l : ProcessorState) → (f l).size ≡ l.size) → (w : World) (a : Accounts) (processor : ℕ) → AgreesWith w a
+    → AgreesWith w (of_processor f processor a)
 agrees_processor f run size w a processor h =
     let m = h.mirrors.processors in
     record {
@@ -90,12 +100,18 @@ pub agrees_charged : (w : World) (a : Accounts) (processor now : ℕ) → Agrees
 agrees_charged w a processor now h =
     let m = h.mirrors.processors in
     elim (some_or_none (slice_get a.by_processor processor)) [
-      | inl none ↦ subst (λ (x : Accounts). AgreesWith w x) (sym (ap (λ (o : Option ProcessorState). option_map_or (λ (l : ProcessorState). of_processor (λ x. record x { since = now }) processor (charged_by l now a)) o a) none)) h
+      | inl none ↦
+          subst (λ (x : Accounts). AgreesWith w x)
+          (sym (ap (λ (o : Option ProcessorState).
+          option_map_or (λ (l : ProcessorState). of_processor (λ x. record x { since = now }) processor (charged_by l now a))
+          o a) none)) h
       | inr (l, at) ↦
           let b : Accounts = charged processor now a in
           let reads = reads_charged processor now a l at in
-          let run : l.run ≡ run_at a.by_processor processor = sym (ap (λ (o : Option ProcessorState). option_map_or (λ (x : ProcessorState). x.run) o None) at) in
-          let size : l.size ≡ size_at a.by_processor processor = sym (ap (λ (o : Option ProcessorState). option_map_or (λ (x : ProcessorState). x.size) o 0) at) in
+          let run : l.run ≡ run_at a.by_processor processor =
+          sym (ap (λ (o : Option ProcessorState). option_map_or (λ (x : ProcessorState). x.run) o None) at) in
+          let size : l.size ≡ size_at a.by_processor processor =
+          sym (ap (λ (o : Option ProcessorState). option_map_or (λ (x : ProcessorState). x.size) o 0) at) in
           record {
             orderly = h.orderly;
             entries = h.entries;
@@ -109,7 +125,9 @@ agrees_charged w a processor now h =
                   | inr apart ↦ reads.runs k apart ∙ m.runs k
                 ];
                 sizes = λ k. elim (cases_eq k processor) [
-                  | inl same ↦ ap (size_at b.by_processor) same ∙ reads.size_here ∙ size ∙ ap (size_at a.by_processor) (sym same) ∙ m.sizes k
+                  | inl same ↦
+                      ap (size_at b.by_processor) same ∙ reads.size_here ∙ size
+                      ∙ ap (size_at a.by_processor) (sym same) ∙ m.sizes k
                   | inr apart ↦ reads.sizes k apart ∙ m.sizes k
                 ];
               };
@@ -119,16 +137,23 @@ agrees_charged w a processor now h =
     ]
 
 -- the state of a task that is given another progress
-state_given : (a : Accounts) (task : ℕ) (c new : TaskProgress) → slice_get a.by_task task ≡ Some c → state_at (of_task (λ _. new) task a).by_task task ≡ Some new.task_state
+state_given : (a : Accounts) (task : ℕ) (c new : TaskProgress)
+    → slice_get a.by_task task ≡ Some c
+    → state_at (of_task (λ _. new) task a).by_task task ≡ Some new.task_state
 state_given a task c new at = read_changed (λ _. new) (λ (x : TaskProgress). Some x.task_state) None a.by_task task c at
 
 -- a task has come further in the state that it was in
-pub agrees_further : (w : World) (a : Accounts) (task : ℕ) (c new : TaskProgress) → slice_get a.by_task task ≡ Some c → new.task_state ≡ c.task_state → new.home ≡ c.home → AgreesWith w a → AgreesWith w (of_task (λ _. new) task a)
+pub agrees_further : (w : World) (a : Accounts) (task : ℕ) (c new : TaskProgress)
+    → slice_get a.by_task task ≡ Some c → new.task_state ≡ c.task_state → new.home ≡ c.home → AgreesWith w a
+    → AgreesWith w (of_task (λ _. new) task a)
 agrees_further w a task c new at state home h =
     let b : Accounts = of_task (λ _. new) task a in
-    let was : state_at a.by_task task ≡ Some c.task_state = ap (λ (o : Option TaskProgress). option_map_or (λ (x : TaskProgress). Some x.task_state) o None) at in
+    let was : state_at a.by_task task ≡ Some c.task_state =
+    ap (λ (o : Option TaskProgress). option_map_or (λ (x : TaskProgress). Some x.task_state) o None) at in
     let same : (k : ℕ) → state_at b.by_task k ≡ state_at a.by_task k = λ k. elim (cases_eq k task) [
-      | inl here ↦ ap (state_at b.by_task) here ∙ state_given a task c new at ∙ ap (λ (s : TaskState). Some s) state ∙ sym was ∙ ap (state_at a.by_task) (sym here)
+      | inl here ↦
+          ap (state_at b.by_task) here ∙ state_given a task c new at ∙ ap (λ (s : TaskState). Some s) state
+          ∙ sym was ∙ ap (state_at a.by_task) (sym here)
       | inr apart ↦ state_others (λ _. new) task k a apart
     ] in
     let m = h.mirrors.processors in
@@ -136,12 +161,16 @@ agrees_further w a task c new at state home h =
       orderly = h.orderly;
       entries = h.entries;
       settled = h.settled;
-      mirrors = record { tasks = tasks_kept w a b same h.mirrors.tasks; processors = record { many = m.many; runs = m.runs; sizes = m.sizes } };
+      mirrors =
+          record { tasks = tasks_kept w a b same h.mirrors.tasks; processors = record { many = m.many; runs = m.runs; sizes = m.sizes } };
       homes = homes_task (count_in w) task (λ _. new) a (λ x low. subst (λ n. n < count_in w) (sym home) (h.homes task c at)) h.homes;
     }
 
 -- a task that runs goes to sleep: the accounts say so already
-pub agrees_but_it : (w : World) (a : Accounts) (task processor : ℕ) (c new : TaskProgress) → slice_get a.by_task task ≡ Some c → can_run new.task_state ≡ false → new.home ≡ c.home → run_at a.by_processor processor ≡ Some task → AgreesWith w a → AgreesBut task w (of_task (λ _. new) task a)
+pub agrees_but_it : (w : World) (a : Accounts) (task processor : ℕ) (c new : TaskProgress)
+    → slice_get a.by_task task ≡ Some c → can_run new.task_state ≡ false → new.home ≡ c.home
+    → run_at a.by_processor processor ≡ Some task → AgreesWith w a
+    → AgreesBut task w (of_task (λ _. new) task a)
 agrees_but_it w a task processor c new at sleeps home runs h =
     let b : Accounts = of_task (λ _. new) task a in
     let m = h.mirrors.processors in
@@ -162,39 +191,52 @@ agrees_but_it w a task processor c new at sleeps home runs h =
 
 -- after an event that is done the sink has its answer, and that is all
 pub record LivedOne (periods : Periods) (d : Driver) (b : Book) (event : Event) (reply : Reply) (e : Driver) (c : Book) : Type 0 where
-  pub told : Told
-  pub does : Does d event reply told e
+  pub reported : Reported
+  pub does : DrivesEvent d event reply reported e
   pub kept : c ≡ after_answer periods event reply b
 
 -- the step that it made in the world
-pub step_of : (d : Driver) (event : Event) (reply : Reply) (told : Told) (e : Driver) (does : Does d event reply told e) → WorldStep (policies (discipline_of d.machine.rule)) (world_of d) event does.happens.moves.step.calls (Ok reply) (world_of e)
-step_of d event reply told e does = does.happens.moves.step.step
+pub step_of : (d : Driver) (event : Event) (reply : Reply) (reported : Reported) (e : Driver)
+    (does : DrivesEvent d event reply reported e)
+    → WorldStep (by_programs (discipline_of d.machine.rule)) (world_of d) event does.happens.moves.step.calls (Ok reply) (world_of e)
+step_of d event reply reported e does = does.happens.moves.step.step
 
 -- a tick
-pub tick_agrees : (periods : Periods) (d e : Driver) (b : Book) (processor now : ℕ) (reply : Reply) (told : Told) → Does d (Tick processor now) reply told e → Agree d b → Agree e (after_answer periods (Tick processor now) reply b)
-tick_agrees periods d e b processor now reply told does h =
+pub tick_agrees : (periods : Periods) (d e : Driver) (b : Book) (processor now : ℕ) (reply : Reply) (reported : Reported)
+    → DrivesEvent d (Tick processor now) reply reported e → Agree d b
+    → Agree e (after_answer periods (Tick processor now) reply b)
+tick_agrees periods d e b processor now reply reported does h =
     let w : World = world_of d in
-    let step = step_of d (Tick processor now) reply told e does in
+    let step = step_of d (Tick processor now) reply reported e does in
     let low = (not_refused_is_there (count_in w) processor None (accepted w (Tick processor now) step.0).0).0 in
-    (ticks_are_taken (discipline_of d.machine.rule) periods w b.accounts processor now h low).leaves does.happens.moves.step.calls reply (world_of e) step
+    (ticks_are_taken (discipline_of d.machine.rule) periods w b.accounts processor now h low).leaves
+    does.happens.moves.step.calls reply (world_of e) step
 
 -- a block, once its task sleeps by the accounts
-pub block_agrees : (periods : Periods) (d e : Driver) (b : Book) (processor task now : ℕ) (reply : Reply) (told : Told) → Does d (Block processor now) reply told e → AgreesBut task (world_of d) b.accounts → run_at b.accounts.by_processor processor ≡ Some task → Agree e (after_answer periods (Block processor now) reply b)
-block_agrees periods d e b processor task now reply told does h runs =
+pub block_agrees : (periods : Periods) (d e : Driver) (b : Book) (processor task now : ℕ) (reply : Reply)
+    (reported : Reported)
+    → DrivesEvent d (Block processor now) reply reported e → AgreesBut task (world_of d) b.accounts
+    → run_at b.accounts.by_processor processor ≡ Some task
+    → Agree e (after_answer periods (Block processor now) reply b)
+block_agrees periods d e b processor task now reply reported does h runs =
     let w : World = world_of d in
-    let step = step_of d (Block processor now) reply told e does in
+    let step = step_of d (Block processor now) reply reported e does in
     let low = (not_refused_is_there (count_in w) processor None (accepted w (Block processor now) step.0).0).0 in
-    (blocks_are_taken (discipline_of d.machine.rule) periods w b.accounts processor task now h low runs).leaves does.happens.moves.step.calls reply (world_of e) step
+    (blocks_are_taken (discipline_of d.machine.rule) periods w b.accounts processor task now h low runs).leaves
+    does.happens.moves.step.calls reply (world_of e) step
 
 -- a pull of one processor from another
-pub pull_agrees : (periods : Periods) (d e : Driver) (b : Book) (processor from now : ℕ) (reply : Reply) (told : Told) → Does d (Pull processor from now) reply told e → Agree d b → Agree e (after_answer periods (Pull processor from now) reply b)
-pull_agrees periods d e b processor from now reply told does h =
+pub pull_agrees : (periods : Periods) (d e : Driver) (b : Book) (processor from now : ℕ) (reply : Reply) (reported : Reported)
+    → DrivesEvent d (Pull processor from now) reply reported e → Agree d b
+    → Agree e (after_answer periods (Pull processor from now) reply b)
+pull_agrees periods d e b processor from now reply reported does h =
     let w : World = world_of d in
-    let step = step_of d (Pull processor from now) reply told e does in
+    let step = step_of d (Pull processor from now) reply reported e does in
     let f = not_refused_is_there (count_in w) processor _ (accepted w (Pull processor from now) step.0).0 in
     let g = not_refused_is_there (count_in w) from _ f.1 in
     let apart = eqb-false processor from (first_refusal_passed (processor == from) no.SameProcessor None g.1).0 in
-    (pulls_are_taken (discipline_of d.machine.rule) periods w b.accounts processor from now h f.0 g.0 apart).leaves does.happens.moves.step.calls reply (world_of e) step
+    (pulls_are_taken (discipline_of d.machine.rule) periods w b.accounts processor from now h f.0 g.0 apart).leaves
+    does.happens.moves.step.calls reply (world_of e) step
 
 -- a task that may be woken sleeps
 pub sleeps_if_woken : (a : Accounts) (s : TaskState) (home from : ℕ) → IsFrom a s home from → can_run s ≡ false
@@ -203,152 +245,240 @@ sleeps_if_woken a Waiting home from h = refl
 sleeps_if_woken a Runnable home from h = absurd h
 sleeps_if_woken a Over home from h = absurd h
 
--- the same machine under one rule
-pub same_rule : (d : Driver) (event : Event) (reply : Reply) (told : Told) (e : Driver) → Does d event reply told e → discipline_of e.machine.rule ≡ discipline_of d.machine.rule
-same_rule d event reply told e does = ap discipline_of does.happens.moves.same_rule
+-- an event leaves the machine under the same rule
+pub same_rule : (d : Driver) (event : Event) (reply : Reply) (reported : Reported) (e : Driver)
+    → DrivesEvent d event reply reported e → discipline_of e.machine.rule ≡ discipline_of d.machine.rule
+same_rule d event reply reported e does = ap discipline_of does.happens.moves.same_rule
 
-wake_agrees : (kinds : List TaskKind) (seed : ℕ) (periods : Periods) (d e : Driver) (b c : Book) (from task now to : ℕ) (begun placed drained : Reply) (told : Told) → placed_at placed ≡ Some to
-    → Lives kinds seed periods d b (Happens (BeginWake from task) begun ∷ Happens (EndWake from now) placed ∷ Happens (Drain to now) drained ∷ []) told e c → Agree d b → Agree e c
-wake_agrees kinds seed periods d e b c from task now to begun placed drained told at (woken, one, first, rest, begins, (due, two, second, more, ends, (too, three, third, last, drains, (none, is, kept), whole3), whole2), whole) h =
+wake_agrees : (kinds : List TaskKind) (seed : ℕ) (periods : Periods) (d e : Driver) (b c : Book) (from task now to : ℕ)
+    (begun placed drained : Reply) (reported : Reported)
+    → placed_at placed ≡ Some to
+    → Lives kinds seed periods d b
+    (Happens (BeginWake from task) begun ∷ Happens (EndWake from now) placed ∷ Happens (Drain to now) drained ∷ []) reported e
+    c
+    → Agree d b
+    → Agree e c
+wake_agrees kinds seed periods d e b c from task now to begun placed drained reported at (
+  woken,
+  one,
+  first,
+  rest,
+  begins,
+  (due, two, second, more, ends, (too, three, third, last, drains, (none, is, kept), whole3), whole2),
+  whole,
+) h =
     let w : World = world_of d in
     let r = discipline_of d.machine.rule in
-    let P : Driver → Type 0 = λ x. Agree x (after_answer periods (Drain to now) drained (after_answer periods (BeginWake from task) begun b)) in
+    let P : Driver → Type 0 =
+    λ x. Agree x (after_answer periods (Drain to now) drained (after_answer periods (BeginWake from task) begun b)) in
     let step = step_of d (BeginWake from task) begun first one begins in
     let low = (not_refused_is_there (count_in w) from _ (accepted w (BeginWake from task) step.0).0).0 in
-    let begin = wakes_are_taken r periods w b.accounts from task now woken.progress h low woken.there (sleeps_if_woken b.accounts woken.progress.task_state woken.progress.home from woken.place) in
+    let begin =
+    wakes_are_taken r periods w b.accounts from task now woken.progress h low woken.there
+    (sleeps_if_woken b.accounts woken.progress.task_state woken.progress.home from woken.place) in
     let end = begin.leaves begins.happens.moves.step.calls begun (world_of one) step in
     let rule2 = same_rule d (BeginWake from task) begun first one begins in
-    let step2 = subst (λ x. WorldStep (policies x) (world_of one) (EndWake from now) ends.happens.moves.step.calls (Ok placed) (world_of two)) rule2 (step_of one (EndWake from now) placed second two ends) in
+    let step2 =
+    subst (λ x. WorldStep (by_programs x) (world_of one) (EndWake from now) ends.happens.moves.step.calls (Ok placed) (world_of two))
+    rule2 (step_of one (EndWake from now) placed second two ends) in
     let drain = end.leaves ends.happens.moves.step.calls placed (world_of two) step2 to at in
     let rule3 = same_rule one (EndWake from now) placed second two ends ∙ rule2 in
-    let step3 = subst (λ x. WorldStep (policies x) (world_of two) (Drain to now) drains.happens.moves.step.calls (Ok drained) (world_of three)) rule3 (step_of two (Drain to now) drained third three drains) in
+    let step3 =
+    subst (λ x. WorldStep (by_programs x) (world_of two) (Drain to now) drains.happens.moves.step.calls (Ok drained) (world_of three))
+    rule3 (step_of two (Drain to now) drained third three drains) in
     let done : P three = (drain.leaves drains.happens.moves.step.calls drained (world_of three) step3).1 in
     subst (λ x. Agree e x) (sym kept) (subst P (sym is) done)
 
 -- a wake as it is met
-wake_met : (kinds : List TaskKind) (seed : ℕ) (periods : Periods) (d e : Driver) (b c : Book) (from task now : ℕ) (deeds : List Deed) (told : Told) → AreWake from task now deeds → Lives kinds seed periods d b deeds told e c → Agree d b → Agree e c
-wake_met kinds seed periods d e b c from task now deeds told (begun, placed, drained, to, at, is) lives h =
-    wake_agrees kinds seed periods d e b c from task now to begun placed drained told at (subst (λ l. Lives kinds seed periods d b l told e c) is lives) h
+wake_met : (kinds : List TaskKind) (seed : ℕ) (periods : Periods) (d e : Driver) (b c : Book) (from task now : ℕ)
+    (deeds : List Deed) (reported : Reported)
+    → AreWake from task now deeds → Lives kinds seed periods d b deeds reported e c → Agree d b → Agree e c
+wake_met kinds seed periods d e b c from task now deeds reported (begun, placed, drained, to, at, is) lives h =
+    wake_agrees kinds seed periods d e b c from task now to begun placed drained reported at
+    (subst (λ l. Lives kinds seed periods d b l reported e c) is lives) h
 
 -- What an action leaves
 
 -- a task that has done its action is in the state that it was in
 pub advanced_state : (actions : ℕ) (c : TaskProgress) → (advanced actions c).task_state ≡ c.task_state
 advanced_state actions c =
-    elim (nat_le actions (c.action + 1)) as (λ b. (if b then record c { action = 0; woken = 0; loops = min (c.loops + 1) 18446744073709551615 } else record c { action = c.action + 1; woken = 0 }).task_state ≡ c.task_state) [ true ↦ refl | false ↦ refl ]
+    elim (nat_le actions (c.action + 1)) as (λ b.
+    (if b
+    then record c { action = 0; woken = 0; loops = min (c.loops + 1) 18446744073709551615 }
+    else record c { action = c.action + 1; woken = 0 }).task_state
+    ≡ c.task_state) [ true ↦ refl | false ↦ refl ]
 
--- and was last where it was
+-- a task that has done its action was last where it was
 pub advanced_home : (actions : ℕ) (c : TaskProgress) → (advanced actions c).home ≡ c.home
 advanced_home actions c =
-    elim (nat_le actions (c.action + 1)) as (λ b. (if b then record c { action = 0; woken = 0; loops = min (c.loops + 1) 18446744073709551615 } else record c { action = c.action + 1; woken = 0 }).home ≡ c.home) [ true ↦ refl | false ↦ refl ]
+    elim (nat_le actions (c.action + 1)) as (λ b.
+    (if b
+    then record c { action = 0; woken = 0; loops = min (c.loops + 1) 18446744073709551615 }
+    else record c { action = c.action + 1; woken = 0 }).home
+    ≡ c.home) [ true ↦ refl | false ↦ refl ]
 
 -- a task whose wake has come to one more is in the state that it was in
 pub woken_one_state : (kinds : List TaskKind) (kind : ℕ) (c : TaskProgress) → (woken_one_in kinds kind c).task_state ≡ c.task_state
 woken_one_state kinds kind c =
-    elim (nat_lt (c.woken + 1) (count_of_kind kinds kind)) as (λ b. (if b then record c { woken = c.woken + 1 } else advanced_in kinds c).task_state ≡ c.task_state) [ true ↦ refl | false ↦ advanced_state (actions_of kinds c) c ]
+    elim (nat_lt (c.woken + 1) (count_of_kind kinds kind))
+    as (λ b. (if b then record c { woken = c.woken + 1 } else advanced_in kinds c).task_state ≡ c.task_state)
+    [ true ↦ refl | false ↦ advanced_state (actions_of kinds c) c ]
 
--- and was last where it was
+-- a task whose wake has woken one more was last where it was
 pub woken_one_home : (kinds : List TaskKind) (kind : ℕ) (c : TaskProgress) → (woken_one_in kinds kind c).home ≡ c.home
 woken_one_home kinds kind c =
-    elim (nat_lt (c.woken + 1) (count_of_kind kinds kind)) as (λ b. (if b then record c { woken = c.woken + 1 } else advanced_in kinds c).home ≡ c.home) [ true ↦ refl | false ↦ advanced_home (actions_of kinds c) c ]
+    elim (nat_lt (c.woken + 1) (count_of_kind kinds kind))
+    as (λ b. (if b then record c { woken = c.woken + 1 } else advanced_in kinds c).home ≡ c.home)
+    [ true ↦ refl | false ↦ advanced_home (actions_of kinds c) c ]
 
 -- a block, and nothing beside it
-block_one : (kinds : List TaskKind) (seed : ℕ) (periods : Periods) (d e : Driver) (b c : Book) (processor task now : ℕ) (reply : Reply) (told : Told) → Lives kinds seed periods d b (Happens (Block processor now) reply ∷ []) told e c
-    → AgreesBut task (world_of d) b.accounts → run_at b.accounts.by_processor processor ≡ Some task → Agree e c
-block_one kinds seed periods d e b c processor task now reply told (due, mid, first, rest, does, (nothing, same, kept), whole) h runs =
-    subst (λ x. Agree e x) (sym kept) (subst (λ x. Agree x (after_answer periods (Block processor now) reply b)) (sym same) (block_agrees periods d mid b processor task now reply first does h runs))
+block_one : (kinds : List TaskKind) (seed : ℕ) (periods : Periods) (d e : Driver) (b c : Book) (processor task now : ℕ)
+    (reply : Reply) (reported : Reported)
+    → Lives kinds seed periods d b (Happens (Block processor now) reply ∷ []) reported e c
+    → AgreesBut task (world_of d) b.accounts → run_at b.accounts.by_processor processor ≡ Some task
+    → Agree e c
+block_one kinds seed periods d e b c processor task now reply reported
+    (due, mid, first, rest, does, (nothing, same, kept), whole) h runs =
+    subst (λ x. Agree e x) (sym kept)
+    (subst (λ x. Agree x (after_answer periods (Block processor now) reply b)) (sym same)
+    (block_agrees periods d mid b processor task now reply first does h runs))
 
-block_met : (kinds : List TaskKind) (seed : ℕ) (periods : Periods) (d e : Driver) (b c : Book) (processor task now : ℕ) (deeds : List Deed) (told : Told) → AreJust (Block processor now ∷ []) deeds → Lives kinds seed periods d b deeds told e c
-    → AgreesBut task (world_of d) b.accounts → run_at b.accounts.by_processor processor ≡ Some task → Agree e c
-block_met kinds seed periods d e b c processor task now deeds told (reply, more, is, none) lives h runs =
+block_met : (kinds : List TaskKind) (seed : ℕ) (periods : Periods) (d e : Driver) (b c : Book) (processor task now : ℕ)
+    (deeds : List Deed) (reported : Reported)
+    → AreJust (Block processor now ∷ []) deeds → Lives kinds seed periods d b deeds reported e c
+    → AgreesBut task (world_of d) b.accounts → run_at b.accounts.by_processor processor ≡ Some task
+    → Agree e c
+block_met kinds seed periods d e b c processor task now deeds reported (reply, more, is, none) lives h runs =
     let whole : deeds ≡ Happens (Block processor now) reply ∷ [] = is ∙ ap (λ l. Happens (Block processor now) reply ∷ l) none in
-    block_one kinds seed periods d e b c processor task now reply told (subst (λ l. Lives kinds seed periods d b l told e c) whole lives) h runs
+    block_one kinds seed periods d e b c processor task now reply reported
+    (subst (λ l. Lives kinds seed periods d b l reported e c) whole lives) h runs
 
 -- an event after which world and accounts agree, if they did before
 abbrev pub KeepsAgreement : Event → Type 0
-KeepsAgreement event = (periods : Periods) (d e : Driver) (b : Book) (reply : Reply) (told : Told) → Does d event reply told e → Agree d b → Agree e (after_answer periods event reply b)
+KeepsAgreement event =
+    (periods : Periods) (d e : Driver) (b : Book) (reply : Reply) (reported : Reported) →
+    DrivesEvent d event reply reported e → Agree d b → Agree e (after_answer periods event reply b)
 
 -- such an event, and nothing beside it
-pub one_event : (event : Event) → KeepsAgreement event → (kinds : List TaskKind) (seed : ℕ) (periods : Periods) (d e : Driver) (b c : Book) (reply : Reply) (told : Told) → Lives kinds seed periods d b (Happens event reply ∷ []) told e c → Agree d b → Agree e c
-one_event event keeps kinds seed periods d e b c reply told (due, mid, first, rest, does, (nothing, same, kept), whole) h =
-    subst (λ x. Agree e x) (sym kept) (subst (λ x. Agree x (after_answer periods event reply b)) (sym same) (keeps periods d mid b reply first does h))
+pub one_event : (event : Event) → KeepsAgreement event
+    → (kinds : List TaskKind) (seed : ℕ) (periods : Periods) (d e : Driver) (b c : Book) (reply : Reply) (reported : Reported)
+    → Lives kinds seed periods d b (Happens event reply ∷ []) reported e c → Agree d b
+    → Agree e c
+one_event event keeps kinds seed periods d e b c reply reported
+    (due, mid, first, rest, does, (nothing, same, kept), whole) h =
+    subst (λ x. Agree e x) (sym kept)
+    (subst (λ x. Agree x (after_answer periods event reply b)) (sym same) (keeps periods d mid b reply first does h))
 
 -- a single event, as it is met
-pub event_met : (event : Event) → KeepsAgreement event → (kinds : List TaskKind) (seed : ℕ) (periods : Periods) (d e : Driver) (b c : Book) (deeds : List Deed) (told : Told) → AreJust (event ∷ []) deeds → Lives kinds seed periods d b deeds told e c → Agree d b → Agree e c
-event_met event keeps kinds seed periods d e b c deeds told (reply, more, is, none) lives h =
+pub event_met : (event : Event) → KeepsAgreement event
+    → (kinds : List TaskKind) (seed : ℕ) (periods : Periods) (d e : Driver) (b c : Book) (deeds : List Deed) (reported : Reported)
+    → AreJust (event ∷ []) deeds → Lives kinds seed periods d b deeds reported e c → Agree d b
+    → Agree e c
+event_met event keeps kinds seed periods d e b c deeds reported (reply, more, is, none) lives h =
     let whole : deeds ≡ Happens event reply ∷ [] = is ∙ ap (λ l. Happens event reply ∷ l) none in
-    one_event event keeps kinds seed periods d e b c reply told (subst (λ l. Lives kinds seed periods d b l told e c) whole lives) h
+    one_event event keeps kinds seed periods d e b c reply reported (subst (λ l. Lives kinds seed periods d b l reported e c) whole lives) h
 
 -- nothing happens
-pub nothing_met : (kinds : List TaskKind) (seed : ℕ) (periods : Periods) (d e : Driver) (b c : Book) (deeds : List Deed) (told : Told) → deeds ≡ [] → Lives kinds seed periods d b deeds told e c → Agree d b → Agree e c
-nothing_met kinds seed periods d e b c deeds told none lives h =
-    let (nothing, same, kept) = subst (λ l. Lives kinds seed periods d b l told e c) none lives in
+pub nothing_met : (kinds : List TaskKind) (seed : ℕ) (periods : Periods) (d e : Driver) (b c : Book)
+    (deeds : List Deed) (reported : Reported)
+    → deeds ≡ [] → Lives kinds seed periods d b deeds reported e c → Agree d b → Agree e c
+nothing_met kinds seed periods d e b c deeds reported none lives h =
+    let (nothing, same, kept) = subst (λ l. Lives kinds seed periods d b l reported e c) none lives in
     subst (λ x. Agree e x) (sym kept) (subst (λ x. Agree x b) (sym same) h)
 
 -- the wake of another task
-wakes_met : (kinds : List TaskKind) (seed : ℕ) (periods : Periods) (d e : Driver) (b c : Book) (processor task now : ℕ) (deeds : List Deed) (told : Told) → Wakes task processor now deeds → Lives kinds seed periods d b deeds told e c → Agree d b → Agree e c
-wakes_met kinds seed periods d e b c processor task now deeds told (inl is) lives h =
-    let (k, there, waits, rest) = subst (λ l. Lives kinds seed periods d b l told e c) is lives in
-    nothing_met kinds seed periods d e b c [] told refl rest h
-wakes_met kinds seed periods d e b c processor task now deeds told (inr (more, is, wake)) lives h =
-    let (k, there, waits, rest) = subst (λ l. Lives kinds seed periods d b l told e c) is lives in
-    wake_met kinds seed periods d e b c processor task now more told wake rest h
+wakes_met : (kinds : List TaskKind) (seed : ℕ) (periods : Periods) (d e : Driver) (b c : Book) (processor task now : ℕ)
+    (deeds : List Deed) (reported : Reported)
+    → Wakes task processor now deeds → Lives kinds seed periods d b deeds reported e c → Agree d b
+    → Agree e c
+wakes_met kinds seed periods d e b c processor task now deeds reported (inl is) lives h =
+    let (k, there, waits, rest) = subst (λ l. Lives kinds seed periods d b l reported e c) is lives in
+    nothing_met kinds seed periods d e b c [] reported refl rest h
+wakes_met kinds seed periods d e b c processor task now deeds reported (inr (more, is, wake)) lives h =
+    let (k, there, waits, rest) = subst (λ l. Lives kinds seed periods d b l reported e c) is lives in
+    wake_met kinds seed periods d e b c processor task now more reported wake rest h
 
 -- what follows an action of the task that runs at a processor
-follow_met : (action : Option Action) (aim : Option ℕ) (kinds : List TaskKind) (seed : ℕ) (periods : Periods) (d e : Driver) (a : Accounts) (b f : Book) (processor task length now : ℕ) (c : TaskProgress) (deeds : List Deed) (told : Told)
-    → Follow action aim processor now deeds → b.accounts ≡ of_task (λ _. acted kinds action length now c) task a → slice_get a.by_task task ≡ Some c → run_at a.by_processor processor ≡ Some task → AgreesWith (world_of d) a → Lives kinds seed periods d b deeds told e f → Agree e f
-follow_met None aim kinds seed periods d e a b f processor task length now c deeds told follow is at runs h lives =
+follow_met : (action : Option Action) (aim : Option ℕ) (kinds : List TaskKind) (seed : ℕ) (periods : Periods) (d e : Driver)
+    (a : Accounts) (b f : Book) (processor task length now : ℕ) (c : TaskProgress) (deeds : List Deed) (reported : Reported)
+    → Follow action aim processor now deeds → b.accounts ≡ of_task (λ _. acted kinds action length now c) task a
+    → slice_get a.by_task task ≡ Some c → run_at a.by_processor processor ≡ Some task → AgreesWith (world_of d) a
+    → Lives kinds seed periods d b deeds reported e f
+    → Agree e f
+follow_met None aim kinds seed periods d e a b f processor task length now c deeds reported follow is at runs h lives =
     let new : TaskProgress = acted kinds None length now c in
-    block_met kinds seed periods d e b f processor task now deeds told follow lives
+    block_met kinds seed periods d e b f processor task now deeds reported follow lives
     (subst (λ x. AgreesBut task (world_of d) x) (sym is) (agrees_but_it (world_of d) a task processor c new at refl refl runs h))
     (ap (λ (x : Accounts). run_at x.by_processor processor) is ∙ runs)
-follow_met (Some (Run asked)) aim kinds seed periods d e a b f processor task length now c deeds told follow is at runs h lives =
+follow_met (Some (Run asked)) aim kinds seed periods d e a b f processor task length now c deeds reported follow
+    is at runs h lives =
     let new : TaskProgress = acted kinds (Some (Run asked)) length now c in
-    nothing_met kinds seed periods d e b f deeds told follow lives
-    (subst (λ x. AgreesWith (world_of d) x) (sym is) (agrees_further (world_of d) a task c new at (advanced_state (actions_of kinds c) c) (advanced_home (actions_of kinds c) c) h))
-follow_met (Some (Sleep asked)) aim kinds seed periods d e a b f processor task length now c deeds told follow is at runs h lives =
+    nothing_met kinds seed periods d e b f deeds reported follow lives
+    (subst (λ x. AgreesWith (world_of d) x) (sym is)
+    (agrees_further (world_of d) a task c new at (advanced_state (actions_of kinds c) c) (advanced_home (actions_of kinds c) c) h))
+follow_met (Some (Sleep asked)) aim kinds seed periods d e a b f processor task length now c deeds reported follow
+    is at runs h lives =
     let new : TaskProgress = acted kinds (Some (Sleep asked)) length now c in
-    block_met kinds seed periods d e b f processor task now deeds told follow lives
-    (subst (λ x. AgreesBut task (world_of d) x) (sym is) (agrees_but_it (world_of d) a task processor c new at refl (advanced_home (actions_of kinds c) c) runs h))
+    block_met kinds seed periods d e b f processor task now deeds reported follow lives
+    (subst (λ x. AgreesBut task (world_of d) x) (sym is)
+    (agrees_but_it (world_of d) a task processor c new at refl (advanced_home (actions_of kinds c) c) runs h))
     (ap (λ (x : Accounts). run_at x.by_processor processor) is ∙ runs)
-follow_met (Some Wait) aim kinds seed periods d e a b f processor task length now c deeds told follow is at runs h lives =
+follow_met (Some Wait) aim kinds seed periods d e a b f processor task length now c deeds reported follow is at runs h lives =
     let new : TaskProgress = acted kinds (Some Wait) length now c in
-    block_met kinds seed periods d e b f processor task now deeds told follow lives
-    (subst (λ x. AgreesBut task (world_of d) x) (sym is) (agrees_but_it (world_of d) a task processor c new at refl (advanced_home (actions_of kinds c) c) runs h))
+    block_met kinds seed periods d e b f processor task now deeds reported follow lives
+    (subst (λ x. AgreesBut task (world_of d) x) (sym is)
+    (agrees_but_it (world_of d) a task processor c new at refl (advanced_home (actions_of kinds c) c) runs h))
     (ap (λ (x : Accounts). run_at x.by_processor processor) is ∙ runs)
-follow_met (Some (Wake kind)) None kinds seed periods d e a b f processor task length now c deeds told follow is at runs h lives = absurd follow
-follow_met (Some (Wake kind)) (Some other) kinds seed periods d e a b f processor task length now c deeds told follow is at runs h lives =
+follow_met (Some (Wake kind)) None kinds seed periods d e a b f processor task length now c deeds reported follow
+    is at runs h lives = absurd follow
+follow_met (Some (Wake kind)) (Some other) kinds seed periods d e a b f processor task length now c
+    deeds reported follow is at runs h lives =
     let new : TaskProgress = acted kinds (Some (Wake kind)) length now c in
-    wakes_met kinds seed periods d e b f processor other now deeds told follow lives
-    (subst (λ x. AgreesWith (world_of d) x) (sym is) (agrees_further (world_of d) a task c new at (woken_one_state kinds kind c) (woken_one_home kinds kind c) h))
+    wakes_met kinds seed periods d e b f processor other now deeds reported follow lives
+    (subst (λ x. AgreesWith (world_of d) x) (sym is)
+    (agrees_further (world_of d) a task c new at (woken_one_state kinds kind c) (woken_one_home kinds kind c) h))
 
 -- the end of a phase
-end_met : (kinds : List TaskKind) (seed : ℕ) (periods : Periods) (d e : Driver) (b c : Book) (processor now : ℕ) (deeds : List Deed) (told : Told) → Meet (due.End processor) now deeds → Lives kinds seed periods d b deeds told e c → Agree d b → Agree e c
-end_met kinds seed periods d e b c processor now deeds told (task, action, aim, more, is, follow) lives h =
-    let (k, done, its, to, rest) = subst (λ l. Lives kinds seed periods d b l told e c) is lives in
+end_met : (kinds : List TaskKind) (seed : ℕ) (periods : Periods) (d e : Driver) (b c : Book) (processor now : ℕ)
+    (deeds : List Deed) (reported : Reported)
+    → Meet (due.End processor) now deeds → Lives kinds seed periods d b deeds reported e c → Agree d b
+    → Agree e c
+end_met kinds seed periods d e b c processor now deeds reported (task, action, aim, more, is, follow) lives h =
+    let (k, done, its, to, rest) = subst (λ l. Lives kinds seed periods d b l reported e c) is lives in
     let a : Accounts = charged processor now b.accounts in
     let next : Option Action = next_action kinds k in
-    follow_met next aim kinds seed periods d e a (after_act kinds seed processor task now k b) c processor task (length_taken seed task b.drawn (asked_by next)) now k more told (subst (λ o. Follow o aim processor now more) its follow) refl done.there
+    follow_met next aim kinds seed periods d e a (after_act kinds seed processor task now k b)
+    c processor task (length_taken seed task b.drawn (asked_by next)) now k more reported
+    (subst (λ o. Follow o aim processor now more) its follow) refl done.there
     (ap (λ (o : Option ProcessorState). option_map_or (λ (l : ProcessorState). l.run) o None) done.at ∙ done.runs)
     (agrees_charged (world_of d) b.accounts processor now h) rest
 
 -- a look for a task
-look_met : (source : Option ℕ) (kinds : List TaskKind) (seed : ℕ) (periods : Periods) (d e : Driver) (b c : Book) (processor now : ℕ) (deeds : List Deed) (told : Told) → AreJust (pulls_of processor now source) deeds → Lives kinds seed periods d b deeds told e c → Agree d b → Agree e c
-look_met None kinds seed periods d e b c processor now deeds told none lives h = nothing_met kinds seed periods d e b c deeds told none lives h
-look_met (Some from) kinds seed periods d e b c processor now deeds told just lives h =
-    event_met (Pull processor from now) (λ p x y k reply some does agree. pull_agrees p x y k processor from now reply some does agree) kinds seed periods d e b c deeds told just lives h
+look_met : (source : Option ℕ) (kinds : List TaskKind) (seed : ℕ) (periods : Periods) (d e : Driver) (b c : Book)
+    (processor now : ℕ) (deeds : List Deed) (reported : Reported)
+    → AreJust (pulls_of processor now source) deeds → Lives kinds seed periods d b deeds reported e c → Agree d b
+    → Agree e c
+look_met None kinds seed periods d e b c processor now deeds reported none lives h =
+    nothing_met kinds seed periods d e b c deeds reported none lives h
+look_met (Some from) kinds seed periods d e b c processor now deeds reported just lives h =
+    event_met (Pull processor from now) (λ p x y k reply some does agree. pull_agrees p x y k processor from now reply some does agree)
+    kinds seed periods d e b c deeds reported just lives h
 
--- so they agree after each thing that is met
+-- accounts and world agree after each thing that is met
 pub meetings_agree : MeetingsAgree
-meetings_agree kinds seed periods d e b c (due.End processor) now deeds told meet lives h = end_met kinds seed periods d e b c processor now deeds told meet lives h
-meetings_agree kinds seed periods d e b c (due.Wake task) now deeds told (home, more, is, wake) lives h =
-    let (k, there, asleep, timer, rest) = subst (λ l. Lives kinds seed periods d b l told e c) is lives in
-    wake_met kinds seed periods d e b c home task now more told wake rest h
-meetings_agree kinds seed periods d e b c (due.Tick processor) now deeds told (more, is, just) lives h =
-    let (ticks, rest) = subst (λ l. Lives kinds seed periods d b l told e c) is lives in
-    event_met (Tick processor now) (λ p x y k reply some does agree. tick_agrees p x y k processor now reply some does agree) kinds seed periods d e (after_beat periods processor now b) c more told just rest
-    (agrees_processor (λ l. record l { tick = Some (next_multiple periods.tick now) }) (λ l. refl) (λ l. refl) (world_of d) b.accounts processor h)
-meetings_agree kinds seed periods d e b c (due.Pull processor) now deeds told (source, more, is, just) lives h =
-    let (looks, from, rest) = subst (λ l. Lives kinds seed periods d b l told e c) is lives in
-    look_met source kinds seed periods d e (after_look periods processor now b) c processor now more told just rest
-    (agrees_processor (λ l. record l { look = Some (next_multiple periods.balance now) }) (λ l. refl) (λ l. refl) (world_of d) b.accounts processor h)
+meetings_agree kinds seed periods d e b c (due.End processor) now deeds reported meet lives h =
+    end_met kinds seed periods d e b c processor now deeds reported meet lives h
+meetings_agree kinds seed periods d e b c (due.Wake task) now deeds reported (home, more, is, wake) lives h =
+    let (k, there, asleep, timer, rest) = subst (λ l. Lives kinds seed periods d b l reported e c) is lives in
+    wake_met kinds seed periods d e b c home task now more reported wake rest h
+meetings_agree kinds seed periods d e b c (due.Tick processor) now deeds reported (more, is, just) lives h =
+    let (ticks, rest) = subst (λ l. Lives kinds seed periods d b l reported e c) is lives in
+    event_met (Tick processor now) (λ p x y k reply some does agree. tick_agrees p x y k processor now reply some does agree)
+    kinds seed periods d e (after_beat periods processor now b) c more reported just rest
+    (agrees_processor (λ l. record l { tick = Some (next_multiple periods.tick now) }) (λ l. refl)
+    (λ l. refl) (world_of d) b.accounts processor h)
+meetings_agree kinds seed periods d e b c (due.Pull processor) now deeds reported (source, more, is, just) lives h =
+    let (looks, from, rest) = subst (λ l. Lives kinds seed periods d b l reported e c) is lives in
+    look_met source kinds seed periods d e (after_look periods processor now b) c processor now more reported just rest
+    (agrees_processor (λ l. record l { look = Some (next_multiple periods.balance now) }) (λ l. refl)
+    (λ l. refl) (world_of d) b.accounts processor h)

@@ -6,7 +6,7 @@ use Rattle.std.proofs.lemmas.Bool.{cases_eq, true≢false}
 use Rattle.std.proofs.lemmas.Option.{none-some, same_Some}
 use Rattle.bq_parts.specs.declared.event.Event.TheVariants.{Block, Pull, Tick}
 use Rattle.bq_parts.specs.World.{World, entry}
-use Rattle.bq_trace.specs.TraceEvents.{Told}
+use Rattle.bq_trace.specs.TraceEvents.{Reported}
 use Rattle.bq_workload.specs.declared.action.Action.{Action}
 use Rattle.bq_workload.specs.declared.action.Action.TheVariants.{Run, Sleep, Wait, Wake}
 use Rattle.bq_workload.specs.declared.due.Due.TheVariants as due
@@ -34,83 +34,120 @@ use Rattle.bq_simulate.proofs.TimeKeptLemmas.{beaten_kept, carried, charged_on_t
 same_accounts : (now : ℕ) (a b : Accounts) → b ≡ a → IsOnTime now a → IsOnTime now b
 same_accounts now a b is h = subst (λ (x : Accounts). IsOnTime now x) (sym is) h
 
--- another task runs, as an answer says, where there is such a processor
-switched_any : (periods : Periods) (now processor : ℕ) (run : Option ℕ) (v : World) (a : Accounts) → 1 ≤ periods.tick → RunsAlone a processor → AgreesWith v (switched processor run now periods a) → IsOnTime now a → IsOnTime now (switched processor run now periods a)
+-- where there is such a processor another task runs, as an answer says
+switched_any : (periods : Periods) (now processor : ℕ) (run : Option ℕ) (v : World) (a : Accounts)
+    → 1 ≤ periods.tick → RunsAlone a processor → AgreesWith v (switched processor run now periods a) → IsOnTime now a
+    → IsOnTime now (switched processor run now periods a)
 switched_any periods now processor run v a some alone agrees h =
     let over : Accounts = taken_over processor run now periods (charged processor now a) in
     elim (some_or_none (slice_get a.by_processor processor)) [
-      | inl none ↦ same_accounts now a (switched processor run now periods a) (ap (λ (o : Option ProcessorState). option_map_or (λ (l : ProcessorState). if is_same l.run run then a else over) o a) none) h
+      | inl none ↦
+          same_accounts now a (switched processor run now periods a)
+          (ap (λ (o : Option ProcessorState). option_map_or (λ (l : ProcessorState). if is_same l.run run then a else over) o a) none) h
       | inr (l, at) ↦ switched_kept periods now processor run v a l some at alone agrees h
     ]
 
 -- how many tasks a processor has changes no time
-pub sized_on_time : (now processor : ℕ) (g : ℕ → ℕ) (a : Accounts) → IsOnTime now a → IsOnTime now (of_processor (λ l. record l { size = g l.size }) processor a)
+pub sized_on_time : (now processor : ℕ) (g : ℕ → ℕ) (a : Accounts)
+    → IsOnTime now a → IsOnTime now (of_processor (λ l. record l { size = g l.size }) processor a)
 sized_on_time now processor g a h =
     let f : ProcessorState → ProcessorState = λ l. record l { size = g l.size } in
     record {
       tasks = h.tasks;
-      processors = processors_changed now a.by_task a.by_task a.by_processor f processor (λ k task x apart there runs. refl)
-          (λ l there. let p : ProcessorIsOnTime now a.by_task l = h.processors processor l there in record {
+      processors =
+          processors_changed now a.by_task a.by_task a.by_processor f processor (λ k task x apart there runs. refl)
+          (λ l there.
+          let p : ProcessorIsOnTime now a.by_task l = h.processors processor l there in
+          record {
             since = p.since;
             looks = p.looks;
-            runs = λ task runs. let r : RunsOnTime now a.by_task l task = p.runs task runs in record { progress = r.progress; there = r.there; phase = r.phase; next = r.next; tick = r.tick; later = r.later };
+            runs = λ task runs.
+                let r : RunsOnTime now a.by_task l task = p.runs task runs in
+                record { progress = r.progress; there = r.there; phase = r.phase; next = r.next; tick = r.tick; later = r.later };
             rests = p.rests;
-          })
-          h.processors;
+          }) h.processors;
     }
 
--- nor who runs
-pub sized_alone : (at processor : ℕ) (g : ℕ → ℕ) (a : Accounts) → RunsAlone a processor → RunsAlone (of_processor (λ l. record l { size = g l.size }) at a) processor
+-- how many tasks a processor has changes nothing of who runs
+pub sized_alone : (at processor : ℕ) (g : ℕ → ℕ) (a : Accounts)
+    → RunsAlone a processor → RunsAlone (of_processor (λ l. record l { size = g l.size }) at a) processor
 sized_alone at processor g a alone other task here there =
     let f : ProcessorState → ProcessorState = λ l. record l { size = g l.size } in
-    let kept : (k : ℕ) → run_at (of_processor f at a).by_processor k ≡ run_at a.by_processor k = λ k. read_kept f (λ (l : ProcessorState). l.run) None (λ l. refl) a.by_processor at k in
+    let kept : (k : ℕ) → run_at (of_processor f at a).by_processor k ≡ run_at a.by_processor k =
+    λ k. read_kept f (λ (l : ProcessorState). l.run) None (λ l. refl) a.by_processor at k in
     alone other task (sym (kept processor) ∙ here) (sym (kept other) ∙ there)
 
 -- Single events
 
-tick_time : (kinds : List TaskKind) (seed : ℕ) (periods : Periods) (d e : Driver) (b c : Book) (processor now : ℕ) (deeds : List Deed) (told : Told) → 1 ≤ periods.tick → AreJust (Tick processor now ∷ []) deeds → Lives kinds seed periods d b deeds told e c → Agree d b → Agree e c
-    → (is_busy b.accounts processor ≡ true → IsOnTime now b.accounts) → IsOnTime now c.accounts
-tick_time kinds seed periods d e b c processor now deeds told some (reply, more, is, none) lives h after time =
+tick_time : (kinds : List TaskKind) (seed : ℕ) (periods : Periods) (d e : Driver) (b c : Book) (processor now : ℕ)
+    (deeds : List Deed) (reported : Reported)
+    → 1 ≤ periods.tick → AreJust (Tick processor now ∷ []) deeds → Lives kinds seed periods d b deeds reported e c → Agree d b
+    → Agree e c → (is_busy b.accounts processor ≡ true → IsOnTime now b.accounts)
+    → IsOnTime now c.accounts
+tick_time kinds seed periods d e b c processor now deeds reported some (reply, more, is, none) lives h after time =
     let whole : deeds ≡ Happens (Tick processor now) reply ∷ [] = is ∙ ap (λ l. Happens (Tick processor now) reply ∷ l) none in
-    let (busy, mid, first, rest, does, (nothing, same, kept), all) = subst (λ l. Lives kinds seed periods d b l told e c) whole lives in
+    let (busy, mid, first, rest, does, (nothing, same, kept), all) = subst (λ l. Lives kinds seed periods d b l reported e c) whole lives in
     let a : Accounts = b.accounts in
     let its : c.accounts ≡ switched processor (runs_now reply) now periods a = ap (λ (x : Book). x.accounts) kept in
-    same_accounts now (switched processor (runs_now reply) now periods a) c.accounts its (switched_any periods now processor (runs_now reply) (world_of e) a some (tasks_run_alone (world_of d) a processor h) (subst (λ (x : Accounts). AgreesWith (world_of e) x) its after) (time busy))
+    same_accounts now (switched processor (runs_now reply) now periods a) c.accounts its
+    (switched_any periods now processor (runs_now reply) (world_of e) a some (tasks_run_alone (world_of d) a processor h)
+    (subst (λ (x : Accounts). AgreesWith (world_of e) x) its after) (time busy))
 
-passed_on_time : (now processor from : ℕ) (task : Option ℕ) (a : Accounts) → IsOnTime now a → IsOnTime now (option_map_or (λ _. passed from processor a) task a)
+passed_on_time : (now processor from : ℕ) (task : Option ℕ) (a : Accounts)
+    → IsOnTime now a → IsOnTime now (option_map_or (λ _. passed from processor a) task a)
 passed_on_time now processor from None a h = h
-passed_on_time now processor from (Some id) a h = sized_on_time now processor (λ n. n + 1) (shrunk from a) (sized_on_time now from (λ n. n - 1) a h)
+passed_on_time now processor from (Some id) a h =
+    sized_on_time now processor (λ n. n + 1) (shrunk from a) (sized_on_time now from (λ n. n - 1) a h)
 
-passed_alone : (processor from : ℕ) (task : Option ℕ) (a : Accounts) → RunsAlone a processor → RunsAlone (option_map_or (λ _. passed from processor a) task a) processor
+passed_alone : (processor from : ℕ) (task : Option ℕ) (a : Accounts)
+    → RunsAlone a processor → RunsAlone (option_map_or (λ _. passed from processor a) task a) processor
 passed_alone processor from None a alone = alone
-passed_alone processor from (Some id) a alone = sized_alone processor processor (λ n. n + 1) (shrunk from a) (sized_alone from processor (λ n. n - 1) a alone)
+passed_alone processor from (Some id) a alone =
+    sized_alone processor processor (λ n. n + 1) (shrunk from a) (sized_alone from processor (λ n. n - 1) a alone)
 
-nothing_time : (kinds : List TaskKind) (seed : ℕ) (periods : Periods) (d e : Driver) (b c : Book) (now : ℕ) (deeds : List Deed) (told : Told) → deeds ≡ [] → Lives kinds seed periods d b deeds told e c → IsOnTime now b.accounts → IsOnTime now c.accounts
-nothing_time kinds seed periods d e b c now deeds told none lives h =
-    let (nothing, same, kept) = subst (λ l. Lives kinds seed periods d b l told e c) none lives in
+nothing_time : (kinds : List TaskKind) (seed : ℕ) (periods : Periods) (d e : Driver) (b c : Book) (now : ℕ)
+    (deeds : List Deed) (reported : Reported)
+    → deeds ≡ [] → Lives kinds seed periods d b deeds reported e c → IsOnTime now b.accounts
+    → IsOnTime now c.accounts
+nothing_time kinds seed periods d e b c now deeds reported none lives h =
+    let (nothing, same, kept) = subst (λ l. Lives kinds seed periods d b l reported e c) none lives in
     same_accounts now b.accounts c.accounts (ap (λ (x : Book). x.accounts) kept) h
 
-look_time : (source : Option ℕ) (kinds : List TaskKind) (seed : ℕ) (periods : Periods) (d e : Driver) (b c : Book) (processor now : ℕ) (deeds : List Deed) (told : Told) → 1 ≤ periods.tick → AreJust (pulls_of processor now source) deeds → Lives kinds seed periods d b deeds told e c → Agree d b → Agree e c
-    → IsOnTime now b.accounts → IsOnTime now c.accounts
-look_time None kinds seed periods d e b c processor now deeds told some none lives h after time = nothing_time kinds seed periods d e b c now deeds told none lives time
-look_time (Some from) kinds seed periods d e b c processor now deeds told some (reply, more, is, none) lives h after time =
+look_time : (source : Option ℕ) (kinds : List TaskKind) (seed : ℕ) (periods : Periods) (d e : Driver) (b c : Book)
+    (processor now : ℕ) (deeds : List Deed) (reported : Reported)
+    → 1 ≤ periods.tick → AreJust (pulls_of processor now source) deeds → Lives kinds seed periods d b deeds reported e c
+    → Agree d b → Agree e c → IsOnTime now b.accounts
+    → IsOnTime now c.accounts
+look_time None kinds seed periods d e b c processor now deeds reported some none lives h after time =
+    nothing_time kinds seed periods d e b c now deeds reported none lives time
+look_time (Some from) kinds seed periods d e b c processor now deeds reported some (reply, more, is, none)
+    lives h after time =
     let whole : deeds ≡ Happens (Pull processor from now) reply ∷ [] = is ∙ ap (λ l. Happens (Pull processor from now) reply ∷ l) none in
-    let (due, mid, first, rest, does, (nothing, same, kept), all) = subst (λ l. Lives kinds seed periods d b l told e c) whole lives in
+    let (due, mid, first, rest, does, (nothing, same, kept), all) = subst (λ l. Lives kinds seed periods d b l reported e c) whole lives in
     let a : Accounts = option_map_or (λ _. passed from processor b.accounts) (task_pulled reply) b.accounts in
     let its : c.accounts ≡ switched processor (runs_now reply) now periods a = ap (λ (x : Book). x.accounts) kept in
     same_accounts now (switched processor (runs_now reply) now periods a) c.accounts its
-    (switched_any periods now processor (runs_now reply) (world_of e) a some (passed_alone processor from (task_pulled reply) b.accounts (tasks_run_alone (world_of d) b.accounts processor h)) (subst (λ (x : Accounts). AgreesWith (world_of e) x) its after) (passed_on_time now processor from (task_pulled reply) b.accounts time))
+    (switched_any periods now processor (runs_now reply) (world_of e) a some
+    (passed_alone processor from (task_pulled reply) b.accounts (tasks_run_alone (world_of d) b.accounts processor h))
+    (subst (λ (x : Accounts). AgreesWith (world_of e) x) its after)
+    (passed_on_time now processor from (task_pulled reply) b.accounts time))
 
 -- Wakes
 
 -- a task that sleeps runs nowhere
-pub sleeper_rests : (w : World) (a : Accounts) (task : ℕ) (c : TaskProgress) → AgreesWith w a → slice_get a.by_task task ≡ Some c → can_run c.task_state ≡ false → (k : ℕ) → run_at a.by_processor k ≢ Some task
+pub sleeper_rests : (w : World) (a : Accounts) (task : ℕ) (c : TaskProgress)
+    → AgreesWith w a → slice_get a.by_task task ≡ Some c → can_run c.task_state ≡ false
+    → (k : ℕ) → run_at a.by_processor k ≢ Some task
 sleeper_rests w a task c h at sleeps k runs =
-    let stands : StandsAs (Some c.task_state) (entry w task) = subst (λ o. StandsAs o (entry w task)) (ap (λ (o : Option TaskProgress). option_map_or (λ (x : TaskProgress). Some x.task_state) o None) at) (h.mirrors.tasks task) in
+    let stands : StandsAs (Some c.task_state) (entry w task) =
+    subst (λ o. StandsAs o (entry w task))
+    (ap (λ (o : Option TaskProgress). option_map_or (λ (x : TaskProgress). Some x.task_state) o None) at)
+    (h.mirrors.tasks task) in
     true≢false (sym (runs_away w k task h.orderly (sym (h.mirrors.processors.runs k) ∙ runs)) ∙ stands.1 ∙ sleeps)
 
 -- a task that is woken, and ran nowhere, has no phase that is past
-pub woken_on_time : (now task : ℕ) (a : Accounts) → ((k : ℕ) → run_at a.by_processor k ≢ Some task) → IsOnTime now a → IsOnTime now (of_task woken task a)
+pub woken_on_time : (now task : ℕ) (a : Accounts) → ((k : ℕ) → run_at a.by_processor k ≢ Some task) → IsOnTime now a
+    → IsOnTime now (of_task woken task a)
 woken_on_time now task a rests h = record {
   tasks = tasks_changed now woken a.by_task task (λ c at. record { phase = omega arith; timer = λ asleep. cc }) h.tasks;
   processors = λ k l at. carried now a.by_task (changed_at woken a.by_task task) l
@@ -118,37 +155,60 @@ woken_on_time now task a rests h = record {
       (h.processors k l at);
 }
 
-wake_time : (kinds : List TaskKind) (seed : ℕ) (periods : Periods) (d e : Driver) (b c : Book) (from task now : ℕ) (deeds : List Deed) (told : Told) → 1 ≤ periods.tick → AreWake from task now deeds → Lives kinds seed periods d b deeds told e c → Agree d b → Agree e c → IsOnTime now b.accounts → IsOnTime now c.accounts
-wake_time kinds seed periods d e b c from task now deeds told some (begun, placed, drained, to, at, is) lives h after time =
-    let (woke, one, first, rest, begins, (due, two, second, more, ends, (too, three, third, last, drains, (none, same, kept), whole3), whole2), whole) = subst (λ l. Lives kinds seed periods d b l told e c) is lives in
+wake_time : (kinds : List TaskKind) (seed : ℕ) (periods : Periods) (d e : Driver) (b c : Book) (from task now : ℕ)
+    (deeds : List Deed) (reported : Reported)
+    → 1 ≤ periods.tick → AreWake from task now deeds → Lives kinds seed periods d b deeds reported e c
+    → Agree d b → Agree e c → IsOnTime now b.accounts
+    → IsOnTime now c.accounts
+wake_time kinds seed periods d e b c from task now deeds reported some (begun, placed, drained, to, at, is)
+    lives h after time =
+    let (
+      woke,
+      one,
+      first,
+      rest,
+      begins,
+      (due, two, second, more, ends, (too, three, third, last, drains, (none, same, kept), whole3), whole2),
+      whole,
+    ) = subst (λ l. Lives kinds seed periods d b l reported e c) is lives in
     let sleeps = sleeps_if_woken b.accounts woke.progress.task_state woke.progress.home from woke.place in
     let a : Accounts = of_task woken task b.accounts in
     let mid : Accounts = grown to (count_entered drained) a in
     let its : c.accounts ≡ switched to (runs_now drained) now periods mid = ap (λ (x : Book). x.accounts) kept in
-    let awake : IsOnTime now a = woken_on_time now task b.accounts (sleeper_rests (world_of d) b.accounts task woke.progress h woke.there sleeps) time in
+    let awake : IsOnTime now a =
+    woken_on_time now task b.accounts (sleeper_rests (world_of d) b.accounts task woke.progress h woke.there sleeps) time in
     let alone : RunsAlone a to = λ other k here there. tasks_run_alone (world_of d) b.accounts to h other k here there in
     same_accounts now (switched to (runs_now drained) now periods mid) c.accounts its
-    (switched_any periods now to (runs_now drained) (world_of e) mid some (sized_alone to to (λ n. n + count_entered drained) a alone) (subst (λ (x : Accounts). AgreesWith (world_of e) x) its after) (sized_on_time now to (λ n. n + count_entered drained) a awake))
+    (switched_any periods now to (runs_now drained) (world_of e) mid some
+    (sized_alone to to (λ n. n + count_entered drained) a alone) (subst (λ (x : Accounts). AgreesWith (world_of e) x) its after)
+    (sized_on_time now to (λ n. n + count_entered drained) a awake))
 
-wakes_time : (kinds : List TaskKind) (seed : ℕ) (periods : Periods) (d e : Driver) (b c : Book) (processor task now : ℕ) (deeds : List Deed) (told : Told) → 1 ≤ periods.tick → Wakes task processor now deeds → Lives kinds seed periods d b deeds told e c → Agree d b → Agree e c → IsOnTime now b.accounts → IsOnTime now c.accounts
-wakes_time kinds seed periods d e b c processor task now deeds told some (inl is) lives h after time =
-    let (k, there, waits, rest) = subst (λ l. Lives kinds seed periods d b l told e c) is lives in
-    nothing_time kinds seed periods d e b c now [] told refl rest time
-wakes_time kinds seed periods d e b c processor task now deeds told some (inr (more, is, wake)) lives h after time =
-    let (k, there, waits, rest) = subst (λ l. Lives kinds seed periods d b l told e c) is lives in
-    wake_time kinds seed periods d e b c processor task now more told some wake rest h after time
+wakes_time : (kinds : List TaskKind) (seed : ℕ) (periods : Periods) (d e : Driver) (b c : Book) (processor task now : ℕ)
+    (deeds : List Deed) (reported : Reported)
+    → 1 ≤ periods.tick → Wakes task processor now deeds → Lives kinds seed periods d b deeds reported e c
+    → Agree d b → Agree e c → IsOnTime now b.accounts
+    → IsOnTime now c.accounts
+wakes_time kinds seed periods d e b c processor task now deeds reported some (inl is) lives h after time =
+    let (k, there, waits, rest) = subst (λ l. Lives kinds seed periods d b l reported e c) is lives in
+    nothing_time kinds seed periods d e b c now [] reported refl rest time
+wakes_time kinds seed periods d e b c processor task now deeds reported some (inr (more, is, wake)) lives h after time =
+    let (k, there, waits, rest) = subst (λ l. Lives kinds seed periods d b l reported e c) is lives in
+    wake_time kinds seed periods d e b c processor task now more reported some wake rest h after time
 
 -- Ends of phases
 
 -- a task that has done its action has got nothing of its next phase yet
-pub acted_got : (action : Option Action) (kinds : List TaskKind) (length now : ℕ) (c : TaskProgress) → (acted kinds action length now c).got ≡ 0
+pub acted_got : (action : Option Action) (kinds : List TaskKind) (length now : ℕ) (c : TaskProgress)
+    → (acted kinds action length now c).got ≡ 0
 acted_got None kinds length now c = refl
 acted_got (Some (Run asked)) kinds length now c = refl
 acted_got (Some (Sleep asked)) kinds length now c = refl
 acted_got (Some Wait) kinds length now c = refl
 acted_got (Some (Wake kind)) kinds length now c = refl
 
-acted_timer : (action : Option Action) (kinds : List TaskKind) (length now : ℕ) (c : TaskProgress) → now < 2 ^ 48 → (c.task_state ≡ Asleep → ⊥) → (acted kinds action length now c).task_state ≡ Asleep → now ≤ (acted kinds action length now c).timer
+acted_timer : (action : Option Action) (kinds : List TaskKind) (length now : ℕ) (c : TaskProgress)
+    → now < 2 ^ 48 → (c.task_state ≡ Asleep → ⊥) → (acted kinds action length now c).task_state ≡ Asleep
+    → now ≤ (acted kinds action length now c).timer
 acted_timer None kinds length now c early runs asleep = cc
 acted_timer (Some (Run asked)) kinds length now c early runs asleep = absurd (runs (sym (advanced_state (actions_of kinds c) c) ∙ asleep))
 acted_timer (Some (Sleep asked)) kinds length now c early runs asleep = omega arith
@@ -156,7 +216,9 @@ acted_timer (Some Wait) kinds length now c early runs asleep = cc
 acted_timer (Some (Wake kind)) kinds length now c early runs asleep = absurd (runs (sym (woken_one_state kinds kind c) ∙ asleep))
 
 -- a task that runs, and whose time is counted until now, has a phase that begins now
-given_on_time : (now processor task : ℕ) (a : Accounts) (c new : TaskProgress) (l : ProcessorState) → slice_get a.by_processor processor ≡ Some l → l.run ≡ Some task → l.since ≡ now → slice_get a.by_task task ≡ Some c → new.got ≡ 0 → (new.task_state ≡ Asleep → now ≤ new.timer) → RunsAlone a processor → IsOnTime now a
+given_on_time : (now processor task : ℕ) (a : Accounts) (c new : TaskProgress) (l : ProcessorState)
+    → slice_get a.by_processor processor ≡ Some l → l.run ≡ Some task → l.since ≡ now → slice_get a.by_task task ≡ Some c
+    → new.got ≡ 0 → (new.task_state ≡ Asleep → now ≤ new.timer) → RunsAlone a processor → IsOnTime now a
     → IsOnTime now (of_task (λ _. new) task a)
 given_on_time now processor task a c new l at runs since there got timer alone h =
     let cs = a.by_task in
@@ -165,7 +227,11 @@ given_on_time now processor task a c new l at runs since there got timer alone h
     record {
       tasks = tasks_changed now f cs task (λ x is. record { phase = omega (arith, got); timer = timer }) h.tasks;
       processors = λ q x is. elim (cases_eq q processor) [
-        | inr apart ↦ carried now cs ds x (λ other mine. changed_at-others f cs task other (λ e. apart (alone q task (run_of a processor l at ∙ runs) (run_of a q x is ∙ mine ∙ ap (λ (i : ℕ). Some i) e)))) (h.processors q x is)
+        | inr apart ↦
+            carried now cs ds x (λ other mine.
+            changed_at-others f cs task other
+            (λ e. apart (alone q task (run_of a processor l at ∙ runs) (run_of a q x is ∙ mine ∙ ap (λ (i : ℕ). Some i) e))))
+            (h.processors q x is)
         | inl same ↦
             let p : ProcessorIsOnTime now cs x = h.processors q x is in
             let its : l ≡ x = same_Some l x (sym at ∙ ap (slice_get a.by_processor) (sym same) ∙ is) in
@@ -188,33 +254,54 @@ given_on_time now processor task a c new l at runs since there got timer alone h
       ];
     }
 
-block_time : (kinds : List TaskKind) (seed : ℕ) (periods : Periods) (d e : Driver) (b c : Book) (processor now : ℕ) (deeds : List Deed) (told : Told) → 1 ≤ periods.tick → AreJust (Block processor now ∷ []) deeds → Lives kinds seed periods d b deeds told e c → RunsAlone b.accounts processor → Agree e c
-    → IsOnTime now b.accounts → IsOnTime now c.accounts
-block_time kinds seed periods d e b c processor now deeds told some (reply, more, is, none) lives alone after time =
+block_time : (kinds : List TaskKind) (seed : ℕ) (periods : Periods) (d e : Driver) (b c : Book) (processor now : ℕ)
+    (deeds : List Deed) (reported : Reported)
+    → 1 ≤ periods.tick → AreJust (Block processor now ∷ []) deeds → Lives kinds seed periods d b deeds reported e c
+    → RunsAlone b.accounts processor → Agree e c → IsOnTime now b.accounts
+    → IsOnTime now c.accounts
+block_time kinds seed periods d e b c processor now deeds reported some (reply, more, is, none) lives alone after time =
     let whole : deeds ≡ Happens (Block processor now) reply ∷ [] = is ∙ ap (λ l. Happens (Block processor now) reply ∷ l) none in
-    let (due, mid, first, rest, does, (nothing, same, kept), all) = subst (λ l. Lives kinds seed periods d b l told e c) whole lives in
+    let (due, mid, first, rest, does, (nothing, same, kept), all) = subst (λ l. Lives kinds seed periods d b l reported e c) whole lives in
     let a : Accounts = shrunk processor b.accounts in
     let its : c.accounts ≡ switched processor (runs_now reply) now periods a = ap (λ (x : Book). x.accounts) kept in
     same_accounts now (switched processor (runs_now reply) now periods a) c.accounts its
-    (switched_any periods now processor (runs_now reply) (world_of e) a some (sized_alone processor processor (λ n. n - 1) b.accounts alone) (subst (λ (x : Accounts). AgreesWith (world_of e) x) its after) (sized_on_time now processor (λ n. n - 1) b.accounts time))
+    (switched_any periods now processor (runs_now reply) (world_of e) a some
+    (sized_alone processor processor (λ n. n - 1) b.accounts alone) (subst (λ (x : Accounts). AgreesWith (world_of e) x) its after)
+    (sized_on_time now processor (λ n. n - 1) b.accounts time))
 
-follow_time : (action : Option Action) (aim : Option ℕ) (kinds : List TaskKind) (seed : ℕ) (periods : Periods) (d e : Driver) (a : Accounts) (b f : Book) (processor task length now : ℕ) (c : TaskProgress) (deeds : List Deed) (told : Told) → 1 ≤ periods.tick → Follow action aim processor now deeds
-    → b.accounts ≡ of_task (λ _. acted kinds action length now c) task a → slice_get a.by_task task ≡ Some c → AgreesWith (world_of d) a → Lives kinds seed periods d b deeds told e f → Agree e f → IsOnTime now b.accounts → IsOnTime now f.accounts
-follow_time None aim kinds seed periods d e a b f processor task length now c deeds told some follow is at h lives after time =
-    block_time kinds seed periods d e b f processor now deeds told some follow lives (subst (λ (x : Accounts). RunsAlone x processor) (sym is) (tasks_run_alone (world_of d) a processor h)) after time
-follow_time (Some (Run asked)) aim kinds seed periods d e a b f processor task length now c deeds told some follow is at h lives after time = nothing_time kinds seed periods d e b f now deeds told follow lives time
-follow_time (Some (Sleep asked)) aim kinds seed periods d e a b f processor task length now c deeds told some follow is at h lives after time =
-    block_time kinds seed periods d e b f processor now deeds told some follow lives (subst (λ (x : Accounts). RunsAlone x processor) (sym is) (tasks_run_alone (world_of d) a processor h)) after time
-follow_time (Some Wait) aim kinds seed periods d e a b f processor task length now c deeds told some follow is at h lives after time =
-    block_time kinds seed periods d e b f processor now deeds told some follow lives (subst (λ (x : Accounts). RunsAlone x processor) (sym is) (tasks_run_alone (world_of d) a processor h)) after time
-follow_time (Some (Wake kind)) None kinds seed periods d e a b f processor task length now c deeds told some follow is at h lives after time = absurd follow
-follow_time (Some (Wake kind)) (Some other) kinds seed periods d e a b f processor task length now c deeds told some follow is at h lives after time =
+follow_time : (action : Option Action) (aim : Option ℕ) (kinds : List TaskKind) (seed : ℕ) (periods : Periods) (d e : Driver)
+    (a : Accounts) (b f : Book) (processor task length now : ℕ) (c : TaskProgress) (deeds : List Deed) (reported : Reported)
+    → 1 ≤ periods.tick → Follow action aim processor now deeds
+    → b.accounts ≡ of_task (λ _. acted kinds action length now c) task a → slice_get a.by_task task ≡ Some c
+    → AgreesWith (world_of d) a → Lives kinds seed periods d b deeds reported e f → Agree e f → IsOnTime now b.accounts
+    → IsOnTime now f.accounts
+follow_time None aim kinds seed periods d e a b f processor task length now c deeds reported some follow is at
+    h lives after time =
+    block_time kinds seed periods d e b f processor now deeds reported some follow lives
+    (subst (λ (x : Accounts). RunsAlone x processor) (sym is) (tasks_run_alone (world_of d) a processor h)) after time
+follow_time (Some (Run asked)) aim kinds seed periods d e a b f processor task length now c deeds reported some follow is at
+    h lives after time = nothing_time kinds seed periods d e b f now deeds reported follow lives time
+follow_time (Some (Sleep asked)) aim kinds seed periods d e a b f processor task length now c deeds
+    reported some follow is at h lives after time =
+    block_time kinds seed periods d e b f processor now deeds reported some follow lives
+    (subst (λ (x : Accounts). RunsAlone x processor) (sym is) (tasks_run_alone (world_of d) a processor h)) after time
+follow_time (Some Wait) aim kinds seed periods d e a b f processor task length now c deeds reported some follow is at
+    h lives after time =
+    block_time kinds seed periods d e b f processor now deeds reported some follow lives
+    (subst (λ (x : Accounts). RunsAlone x processor) (sym is) (tasks_run_alone (world_of d) a processor h)) after time
+follow_time (Some (Wake kind)) None kinds seed periods d e a b f processor task length now c deeds
+    reported some follow is at h lives after time = absurd follow
+follow_time (Some (Wake kind)) (Some other) kinds seed periods d e a b f processor task length now c deeds
+    reported some follow is at h lives after time =
     let new : TaskProgress = acted kinds (Some (Wake kind)) length now c in
-    wakes_time kinds seed periods d e b f processor other now deeds told some follow lives
-    (subst (λ x. AgreesWith (world_of d) x) (sym is) (agrees_further (world_of d) a task c new at (woken_one_state kinds kind c) (woken_one_home kinds kind c) h)) after time
+    wakes_time kinds seed periods d e b f processor other now deeds reported some follow lives
+    (subst (λ x. AgreesWith (world_of d) x) (sym is)
+    (agrees_further (world_of d) a task c new at (woken_one_state kinds kind c) (woken_one_home kinds kind c) h)) after time
 
 -- a task whose phase has ended takes up what it does next
-pub taken_up_on_time : (action : Option Action) (kinds : List TaskKind) (w : World) (was : Accounts) (processor task length now : ℕ) (c : TaskProgress) → now < 2 ^ 48 → AgreesWith w was → IsDone (charged processor now was) processor task c → IsOnTime now was
+pub taken_up_on_time : (action : Option Action) (kinds : List TaskKind) (w : World) (was : Accounts)
+    (processor task length now : ℕ) (c : TaskProgress)
+    → now < 2 ^ 48 → AgreesWith w was → IsDone (charged processor now was) processor task c → IsOnTime now was
     → IsOnTime now (of_task (λ _. acted kinds action length now c) task (charged processor now was))
 taken_up_on_time action kinds w was processor task length now c early h done time =
     let a : Accounts = charged processor now was in
@@ -223,44 +310,61 @@ taken_up_on_time action kinds w was processor task length now c early h done tim
     let awake : c.task_state ≡ Asleep → ⊥ = λ asleep. sleeper_rests w a task c agrees done.there (ap can_run asleep) processor runs in
     elim (some_or_none (slice_get was.by_processor processor)) [
       | inl none ↦
-          let same : a ≡ was = ap (λ (o : Option ProcessorState). option_map_or (λ (l : ProcessorState). of_processor (λ x. record x { since = now }) processor (charged_by l now was)) o was) none in
-          absurd (none-some done.processor_state (sym none ∙ ap (λ (x : Accounts). slice_get x.by_processor processor) (sym same) ∙ done.at))
+          let same : a ≡ was =
+          ap (λ (o : Option ProcessorState).
+          option_map_or (λ (l : ProcessorState). of_processor (λ x. record x { since = now }) processor (charged_by l now was)) o was)
+          none in
+          absurd
+          (none-some done.processor_state (sym none ∙ ap (λ (x : Accounts). slice_get x.by_processor processor) (sym same) ∙ done.at))
       | inr (l, at) ↦
           let counted : IsOnTime now a = charged_on_time now processor was l at (tasks_run_alone w was processor h) time in
-          let since : done.processor_state.since ≡ now = ap (λ (x : ProcessorState). x.since) (same_Some done.processor_state (record l { since = now }) (sym done.at ∙ charged_there processor now was l at)) in
-          given_on_time now processor task a c (acted kinds action length now c) done.processor_state done.at done.runs since done.there (acted_got action kinds length now c) (acted_timer action kinds length now c early awake) (tasks_run_alone w a processor agrees) counted
+          let since : done.processor_state.since ≡ now =
+          ap (λ (x : ProcessorState). x.since)
+          (same_Some done.processor_state (record l { since = now }) (sym done.at ∙ charged_there processor now was l at)) in
+          given_on_time now processor task a c (acted kinds action length now c) done.processor_state done.at done.runs
+          since done.there (acted_got action kinds length now c) (acted_timer action kinds length now c early awake)
+          (tasks_run_alone w a processor agrees) counted
     ]
 
-end_time : (kinds : List TaskKind) (seed : ℕ) (periods : Periods) (d e : Driver) (b c : Book) (processor now : ℕ) (deeds : List Deed) (told : Told) → 1 ≤ periods.tick → now < 2 ^ 48 → Meet (due.End processor) now deeds → Lives kinds seed periods d b deeds told e c → Agree d b → Agree e c
-    → IsOnTime now b.accounts → IsOnTime now c.accounts
-end_time kinds seed periods d e b c processor now deeds told some early (task, action, aim, more, is, follow) lives h after time =
-    let (k, done, its, to, rest) = subst (λ l. Lives kinds seed periods d b l told e c) is lives in
+end_time : (kinds : List TaskKind) (seed : ℕ) (periods : Periods) (d e : Driver) (b c : Book) (processor now : ℕ)
+    (deeds : List Deed) (reported : Reported)
+    → 1 ≤ periods.tick → now < 2 ^ 48 → Meet (due.End processor) now deeds → Lives kinds seed periods d b deeds reported e c
+    → Agree d b → Agree e c → IsOnTime now b.accounts
+    → IsOnTime now c.accounts
+end_time kinds seed periods d e b c processor now deeds reported some early (task, action, aim, more, is, follow)
+    lives h after time =
+    let (k, done, its, to, rest) = subst (λ l. Lives kinds seed periods d b l reported e c) is lives in
     let a : Accounts = charged processor now b.accounts in
     let next : Option Action = next_action kinds k in
     let long : ℕ = length_taken seed task b.drawn (asked_by next) in
     let given = taken_up_on_time next kinds (world_of d) b.accounts processor task long now k early h done time in
-    follow_time next aim kinds seed periods d e a (after_act kinds seed processor task now k b) c processor task long now k more told some (subst (λ o. Follow o aim processor now more) its follow) refl done.there (agrees_charged (world_of d) b.accounts processor now h) rest after given
+    follow_time next aim kinds seed periods d e a (after_act kinds seed processor task now k b) c processor
+    task long now k more reported some (subst (λ o. Follow o aim processor now more) its follow) refl done.there
+    (agrees_charged (world_of d) b.accounts processor now h) rest after given
 
--- so nothing is past after a thing that is met
+-- nothing is past after a thing that is met
 pub meetings_are_on_time : MeetingsAreOnTime
-meetings_are_on_time kinds seed periods d e b c (due.End processor) now deeds told tick balance early meet lives h time =
-    end_time kinds seed periods d e b c processor now deeds told tick early meet lives h (meetings_agree kinds seed periods d e b c (due.End processor) now deeds told meet lives h) time
-meetings_are_on_time kinds seed periods d e b c (due.Wake task) now deeds told tick balance early meet lives h time =
-    let after : Agree e c = meetings_agree kinds seed periods d e b c (due.Wake task) now deeds told meet lives h in
+meetings_are_on_time kinds seed periods d e b c (due.End processor) now deeds reported tick balance early meet lives h time =
+    end_time kinds seed periods d e b c processor now deeds reported tick early meet lives h
+    (meetings_agree kinds seed periods d e b c (due.End processor) now deeds reported meet lives h) time
+meetings_are_on_time kinds seed periods d e b c (due.Wake task) now deeds reported tick balance early meet lives h time =
+    let after : Agree e c = meetings_agree kinds seed periods d e b c (due.Wake task) now deeds reported meet lives h in
     let (home, more, is, wake) = meet in
-    let (k, there, asleep, timer, rest) = subst (λ l. Lives kinds seed periods d b l told e c) is lives in
-    wake_time kinds seed periods d e b c home task now more told tick wake rest h after time
-meetings_are_on_time kinds seed periods d e b c (due.Tick processor) now deeds told tick balance early meet lives h time =
-    let after : Agree e c = meetings_agree kinds seed periods d e b c (due.Tick processor) now deeds told meet lives h in
+    let (k, there, asleep, timer, rest) = subst (λ l. Lives kinds seed periods d b l reported e c) is lives in
+    wake_time kinds seed periods d e b c home task now more reported tick wake rest h after time
+meetings_are_on_time kinds seed periods d e b c (due.Tick processor) now deeds reported tick balance early meet lives h time =
+    let after : Agree e c = meetings_agree kinds seed periods d e b c (due.Tick processor) now deeds reported meet lives h in
     let (more, is, just) = meet in
-    let (ticks, rest) = subst (λ l. Lives kinds seed periods d b l told e c) is lives in
+    let (ticks, rest) = subst (λ l. Lives kinds seed periods d b l reported e c) is lives in
     let f : ProcessorState → ProcessorState = λ l. record l { tick = Some (next_multiple periods.tick now) } in
-    tick_time kinds seed periods d e (after_beat periods processor now b) c processor now more told tick just rest (agrees_processor f (λ l. refl) (λ l. refl) (world_of d) b.accounts processor h) after
-    (λ busy. beaten_kept now processor periods.tick b.accounts tick (sym (read_kept f (λ (l : ProcessorState). is_some l.run) false (λ l. refl) b.accounts.by_processor processor processor) ∙ busy) time)
-meetings_are_on_time kinds seed periods d e b c (due.Pull processor) now deeds told tick balance early meet lives h time =
-    let after : Agree e c = meetings_agree kinds seed periods d e b c (due.Pull processor) now deeds told meet lives h in
+    tick_time kinds seed periods d e (after_beat periods processor now b) c processor now more reported tick just rest
+    (agrees_processor f (λ l. refl) (λ l. refl) (world_of d) b.accounts processor h) after (λ busy.
+    beaten_kept now processor periods.tick b.accounts tick
+    (sym (read_kept f (λ (l : ProcessorState). is_some l.run) false (λ l. refl) b.accounts.by_processor processor processor) ∙ busy) time)
+meetings_are_on_time kinds seed periods d e b c (due.Pull processor) now deeds reported tick balance early meet lives h time =
+    let after : Agree e c = meetings_agree kinds seed periods d e b c (due.Pull processor) now deeds reported meet lives h in
     let (source, more, is, just) = meet in
-    let (looks, from, rest) = subst (λ l. Lives kinds seed periods d b l told e c) is lives in
-    look_time source kinds seed periods d e (after_look periods processor now b) c processor now more told tick just rest
-    (agrees_processor (λ l. record l { look = Some (next_multiple periods.balance now) }) (λ l. refl) (λ l. refl) (world_of d) b.accounts processor h) after
-    (looked_kept now processor periods.balance b.accounts balance time)
+    let (looks, from, rest) = subst (λ l. Lives kinds seed periods d b l reported e c) is lives in
+    look_time source kinds seed periods d e (after_look periods processor now b) c processor now more reported tick just rest
+    (agrees_processor (λ l. record l { look = Some (next_multiple periods.balance now) }) (λ l. refl)
+    (λ l. refl) (world_of d) b.accounts processor h) after (looked_kept now processor periods.balance b.accounts balance time)

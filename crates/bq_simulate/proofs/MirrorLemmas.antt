@@ -5,7 +5,7 @@ use Rattle.std.specs.Option.{option_map_or}
 use Rattle.std.proofs.lemmas.Bool.{cases_eq, lt-leb}
 use Rattle.std.proofs.lemmas.List.{get_or-set_other, get_or-set_same, length-set}
 use Rattle.std.proofs.lemmas.Option.{slice_get-get_or}
-use Rattle.bq_bpf.specs.declared.board.Call.{Call as Asked}
+use Rattle.bq_bpf.specs.declared.board.CounterCall.{CounterCall}
 use Rattle.bq_disc.specs.Tasks.{Task, id_of}
 use Rattle.bq_disc.specs.Discipline.{Discipline}
 use Rattle.bq_disc.specs.OneProcessor.{Running, present_at, charge, decided}
@@ -33,7 +33,9 @@ use Rattle.bq_simulate.specs.Agreement.{AgreesWith, HaveProcessors, IsSettled, M
 use Rattle.bq_simulate.proofs.AccountLemmas.{Reads}
 
 -- a fact of each place of a list, after one place was written, where it may have been false
-pub at_set_else : {X : Type 0} (Q : ℕ → X → Type 0) (xs : List X) (i : ℕ) (x d : X) → i < length xs → Q i x → ((j : ℕ) → j ≢ i → Q j (get_or xs j d)) → (j : ℕ) → Q j (get_or (set xs i x) j d)
+pub at_set_else : {X : Type 0} (Q : ℕ → X → Type 0) (xs : List X) (i : ℕ) (x d : X)
+    → i < length xs → Q i x → ((j : ℕ) → j ≢ i → Q j (get_or xs j d))
+    → (j : ℕ) → Q j (get_or (set xs i x) j d)
 at_set_else Q xs i x d low here others j = elim (cases_eq j i) [
   | inl same ↦ subst (λ n. Q n (get_or (set xs i x) n d)) (sym same) (subst (Q i) (sym (get_or-set_same xs i x d low)) here)
   | inr apart ↦ subst (Q j) (sym (get_or-set_other xs i j x d apart)) (others j apart)
@@ -49,36 +51,52 @@ tally_length [] = refl
 tally_length (x ∷ xs) = omega (arith, tally_length xs)
 
 -- as many run or wait after time has passed, and it was decided who runs
-pub size_decided : (d : Discipline) (p : Running) (now : ℕ) (gives_way : Bool) → length (present_at (decided d (charge d p now) (charge d p now).current gives_way)) ≡ length (present_at p)
+pub size_decided : (d : Discipline) (p : Running) (now : ℕ) (gives_way : Bool)
+    → length (present_at (decided d (charge d p now) (charge d p now).current gives_way)) ≡ length (present_at p)
 size_decided d p now gives_way =
     let c : Running = charge d p now in
     let e : Running = decided d c c.current gives_way in
-    sym (tally_length (present_at e)) ∙ tally-decided each d c c.current gives_way refl ∙ tally-charge each d p now ∙ tally_length (present_at p)
+    sym (tally_length (present_at e)) ∙ tally-decided each d c c.current gives_way refl ∙ tally-charge each d p now
+    ∙ tally_length (present_at p)
 
 -- a processor of the accounts
-pub state_there : (w : World) (a : Accounts) (processor : ℕ) → RunsAs w a → processor < count_in w → (l : ProcessorState) × (slice_get a.by_processor processor ≡ Some l)
+pub state_there : (w : World) (a : Accounts) (processor : ℕ) → RunsAs w a → processor < count_in w
+    → (l : ProcessorState) × (slice_get a.by_processor processor ≡ Some l)
 state_there w a processor h low =
     let none : ProcessorState = record { run = None; since = 0; size = 0; tick = None; look = None } in
     (get_or a.by_processor processor none, slice_get-get_or a.by_processor processor none (omega (arith, h.many)))
 
 -- it has as many tasks as the world says
-pub size_there : (w : World) (a : Accounts) (processor : ℕ) (l : ProcessorState) → RunsAs w a → slice_get a.by_processor processor ≡ Some l → l.size ≡ size_of (processor_at w processor)
-size_there w a processor l h at = sym (ap (λ (o : Option ProcessorState). option_map_or (λ (x : ProcessorState). x.size) o 0) at) ∙ h.sizes processor
+pub size_there : (w : World) (a : Accounts) (processor : ℕ) (l : ProcessorState)
+    → RunsAs w a → slice_get a.by_processor processor ≡ Some l → l.size ≡ size_of (processor_at w processor)
+size_there w a processor l h at =
+    sym (ap (λ (o : Option ProcessorState). option_map_or (λ (x : ProcessorState). x.size) o 0) at) ∙ h.sizes processor
 
--- and runs what the world says
-pub run_there : (w : World) (a : Accounts) (processor : ℕ) (l : ProcessorState) → RunsAs w a → slice_get a.by_processor processor ≡ Some l → l.run ≡ id_of (processor_at w processor).running.current
-run_there w a processor l h at = sym (ap (λ (o : Option ProcessorState). option_map_or (λ (x : ProcessorState). x.run) o None) at) ∙ h.runs processor
+-- a processor of the accounts runs what the world says
+pub run_there : (w : World) (a : Accounts) (processor : ℕ) (l : ProcessorState)
+    → RunsAs w a → slice_get a.by_processor processor ≡ Some l
+    → l.run ≡ id_of (processor_at w processor).running.current
+run_there w a processor l h at =
+    sym (ap (λ (o : Option ProcessorState). option_map_or (λ (x : ProcessorState). x.run) o None) at) ∙ h.runs processor
 
 -- one processor is written, and the accounts say of it what it is
-pub runs_written : (w : World) (a b : Accounts) (processor : ℕ) (q : Processor) (run : Option ℕ) (size : ℕ) → RunsAs w a → processor < count_in w → Reads processor run size a b → run ≡ id_of q.running.current → size ≡ size_of q → RunsAs (with_processor w processor q) b
+pub runs_written : (w : World) (a b : Accounts) (processor : ℕ) (q : Processor) (run : Option ℕ) (size : ℕ)
+    → RunsAs w a → processor < count_in w → Reads processor run size a b → run ≡ id_of q.running.current → size ≡ size_of q
+    → RunsAs (with_processor w processor q) b
 runs_written w a b processor q run size h low reads runs sizes = record {
   many = reads.many ∙ h.many ∙ sym (length-set w.processors processor q);
-  runs = at_set_else (λ n (p : Processor). run_at b.by_processor n ≡ id_of p.running.current) w.processors processor q opening low (reads.run_here ∙ runs) (λ other apart. reads.runs other apart ∙ h.runs other);
-  sizes = at_set_else (λ n (p : Processor). size_at b.by_processor n ≡ size_of p) w.processors processor q opening low (reads.size_here ∙ sizes) (λ other apart. reads.sizes other apart ∙ h.sizes other);
+  runs =
+      at_set_else (λ n (p : Processor). run_at b.by_processor n ≡ id_of p.running.current) w.processors processor q opening
+      low (reads.run_here ∙ runs) (λ other apart. reads.runs other apart ∙ h.runs other);
+  sizes =
+      at_set_else (λ n (p : Processor). size_at b.by_processor n ≡ size_of p) w.processors processor q opening low
+      (reads.size_here ∙ sizes) (λ other apart. reads.sizes other apart ∙ h.sizes other);
 }
 
 -- tasks are in the states that they were in
-pub tasks_kept : (w : World) (a b : Accounts) → ((task : ℕ) → state_at b.by_task task ≡ state_at a.by_task task) → ((task : ℕ) → StandsAs (state_at a.by_task task) (entry w task)) → (task : ℕ) → StandsAs (state_at b.by_task task) (entry w task)
+pub tasks_kept : (w : World) (a b : Accounts) → ((task : ℕ) → state_at b.by_task task ≡ state_at a.by_task task)
+    → ((task : ℕ) → StandsAs (state_at a.by_task task) (entry w task))
+    → (task : ℕ) → StandsAs (state_at b.by_task task) (entry w task)
 tasks_kept w a b same h task = subst (λ s. StandsAs s (entry w task)) (sym (same task)) (h task)
 
 -- a hand that is empty stays so
@@ -91,7 +109,9 @@ settled_written w processor q h empty = record {
 -- homes
 
 -- a task has come further, and was last at one of the processors
-pub homes_task : (count task : ℕ) (f : TaskProgress → TaskProgress) (a : Accounts) → ((c : TaskProgress) → c.home < count → (f c).home < count) → HaveProcessors count a → HaveProcessors count (of_task f task a)
+pub homes_task : (count task : ℕ) (f : TaskProgress → TaskProgress) (a : Accounts)
+    → ((c : TaskProgress) → c.home < count → (f c).home < count) → HaveProcessors count a
+    → HaveProcessors count (of_task f task a)
 homes_task count task f a kept h k c at =
     let was = stood_before_change f a.by_task task k c at in
     elim was.2 [
@@ -99,27 +119,42 @@ homes_task count task f a kept h k c at =
       | inr is ↦ subst (λ (x : TaskProgress). x.home < count) (sym is) (kept was.0 (h k was.0 was.1))
     ]
 
-homes_charged_by : (count : ℕ) (l : ProcessorState) (now : ℕ) (a : Accounts) → HaveProcessors count a → HaveProcessors count (charged_by l now a)
+homes_charged_by : (count : ℕ) (l : ProcessorState) (now : ℕ) (a : Accounts)
+    → HaveProcessors count a → HaveProcessors count (charged_by l now a)
 homes_charged_by count l now a h =
-    elim l.run as (λ (o : Option ℕ). HaveProcessors count (charged_by (record l { run = o }) now a)) [ None ↦ h | Some task ↦ homes_task count task (run_for (now - l.since)) a (λ c low. low) h ]
+    elim l.run as (λ (o : Option ℕ). HaveProcessors count (charged_by (record l { run = o }) now a))
+    [ None ↦ h | Some task ↦ homes_task count task (run_for (now - l.since)) a (λ c low. low) h ]
 
 -- the time of a processor is counted
 pub homes_charged : (count processor now : ℕ) (a : Accounts) → HaveProcessors count a → HaveProcessors count (charged processor now a)
 homes_charged count processor now a h =
     let f : ProcessorState → ProcessorState = λ x. record x { since = now } in
-    elim (slice_get a.by_processor processor) as (λ (o : Option ProcessorState). HaveProcessors count (option_map_or (λ (l : ProcessorState). of_processor f processor (charged_by l now a)) o a)) [ None ↦ h | Some l ↦ homes_charged_by count l now a h ]
+    elim (slice_get a.by_processor processor) as (λ (o : Option ProcessorState).
+    HaveProcessors count (option_map_or (λ (l : ProcessorState). of_processor f processor (charged_by l now a)) o a))
+    [ None ↦ h | Some l ↦ homes_charged_by count l now a h ]
 
-homes_taken_over : (count processor : ℕ) (run : Option ℕ) (now : ℕ) (periods : Periods) (a : Accounts) → processor < count → HaveProcessors count a → HaveProcessors count (taken_over processor run now periods a)
+homes_taken_over : (count processor : ℕ) (run : Option ℕ) (now : ℕ) (periods : Periods) (a : Accounts)
+    → processor < count → HaveProcessors count a
+    → HaveProcessors count (taken_over processor run now periods a)
 homes_taken_over count processor None now periods a low h = h
-homes_taken_over count processor (Some task) now periods a low h = homes_task count task (moved_to processor periods.migration_cost) (of_processor (occupied periods.tick task now) processor a) (λ c was. low) h
+homes_taken_over count processor (Some task) now periods a low h =
+    homes_task count task (moved_to processor periods.migration_cost)
+    (of_processor (occupied periods.tick task now) processor a) (λ c was. low) h
 
 -- who runs there from now on is at home there
-pub homes_switched : (count processor : ℕ) (run : Option ℕ) (now : ℕ) (periods : Periods) (a : Accounts) → processor < count → HaveProcessors count a → HaveProcessors count (switched processor run now periods a)
+pub homes_switched : (count processor : ℕ) (run : Option ℕ) (now : ℕ) (periods : Periods) (a : Accounts)
+    → processor < count → HaveProcessors count a
+    → HaveProcessors count (switched processor run now periods a)
 homes_switched count processor run now periods a low h =
     let over : Accounts = taken_over processor run now periods (charged processor now a) in
-    let taken : HaveProcessors count over = homes_taken_over count processor run now periods (charged processor now a) low (homes_charged count processor now a h) in
-    elim (slice_get a.by_processor processor) as (λ (o : Option ProcessorState). HaveProcessors count (option_map_or (λ (l : ProcessorState). if is_same l.run run then a else over) o a))
-    [ None ↦ h | Some l ↦ elim (is_same l.run run) as (λ (b : Bool). HaveProcessors count (if b then a else over)) [ true ↦ h | false ↦ taken ] ]
+    let taken : HaveProcessors count over =
+    homes_taken_over count processor run now periods (charged processor now a) low (homes_charged count processor now a h) in
+    elim (slice_get a.by_processor processor) as (λ (o : Option ProcessorState).
+    HaveProcessors count (option_map_or (λ (l : ProcessorState). if is_same l.run run then a else over) o a)) [
+      | None ↦ h
+      | Some l ↦
+          elim (is_same l.run run) as (λ (b : Bool). HaveProcessors count (if b then a else over)) [ true ↦ h | false ↦ taken ]
+    ]
 
 -- Events
 
@@ -128,7 +163,10 @@ pub there : (count processor : ℕ) → processor < count → first_refusal (no_
 there count processor low = ap (λ b. cond b (Some no.NoProcessor) None) (lt-leb count processor low)
 
 -- a world that an event leaves, in another form
-pub agree_after : (s : PolicySemantics) (w form v : World) (e : Event) (calls : List Asked) (r : Reply) (b : Accounts) → IsOrderly w → WorldStep s w e calls (Ok r) v → v ≡ form → length form.lobby ≡ 1024 → IsSettled form → Mirrors form b → HaveProcessors (count_in w) b → AgreesWith v b
+pub agree_after : (s : PolicySemantics) (w form v : World) (e : Event) (calls : List CounterCall) (r : Reply) (b : Accounts)
+    → IsOrderly w → WorldStep s w e calls (Ok r) v → v ≡ form → length form.lobby ≡ 1024 → IsSettled form
+    → Mirrors form b → HaveProcessors (count_in w) b
+    → AgreesWith v b
 agree_after s w form v e calls r b h step is entries settled mirrors homes = record {
   orderly = step_keeps s w e calls (Ok r) v step h;
   entries = ap (λ (x : World). length x.lobby) is ∙ entries;

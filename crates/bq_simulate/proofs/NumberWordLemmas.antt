@@ -23,7 +23,8 @@ digits_plain (c ∷ ds) h = rw (digit_plain c h.0) (digits_plain ds h.1)
 
 digits_pass : (ds : List ℕ) → AllDigits 10 ds → list_all (λ c. ltb (digit_value c) 10) ds ≡ true
 digits_pass [] h = refl
-digits_pass (c ∷ ds) h = let first : ltb (digit_value c) 10 ≡ true = let d = h.0 in grind (arith, nat_tests) in rw first (digits_pass ds h.1)
+digits_pass (c ∷ ds) h =
+    let first : ltb (digit_value c) 10 ≡ true = let d = h.0 in grind (arith, nat_tests) in rw first (digits_pass ds h.1)
 
 -- a number of 64 bits is a plain word
 pub plain_decimal : (n : ℕ) → n < 2 ^ 64 → IsPlain (decimal n)
@@ -33,7 +34,9 @@ plain_decimal n h = let numeral = (decimal_is_IsNumeral n h).0 in record { some 
 pub short_decimal : (n : ℕ) → n < 2 ^ 64 → length (decimal n) ≤ 20
 short_decimal n h = length-decimal-le 20 n (lit< tt) (omega (arith)) h
 
-if_all : (ds : List ℕ) (n : ℕ) → 0 < length ds → list_all (λ c. ltb (digit_value c) 10) ds ≡ true → digits_value 10 ds ≡ n → n < 2 ^ 64 → number_of 10 ds ≡ Some n
+if_all : (ds : List ℕ) (n : ℕ) → 0 < length ds → list_all (λ c. ltb (digit_value c) 10) ds ≡ true
+    → digits_value 10 ds ≡ n → n < 2 ^ 64
+    → number_of 10 ds ≡ Some n
 if_all ds n some all value fits =
     let long : ltb 0 (length ds) ≡ true = grind (arith, nat_tests) in
     let small : ltb (digits_value 10 ds) (2 ^ 64) ≡ true = grind (arith, nat_tests) in
@@ -73,7 +76,7 @@ no_hex_mark (c ∷ d ∷ ds) h =
 pub mask_of-decimal : (n : ℕ) → n < 2 ^ 64 → mask_of (decimal n) ≡ Some n
 mask_of-decimal n h = rw (no_hex_mark (decimal n) (decimal_is_IsNumeral n h).0.1) (decimal_of-decimal n h)
 
--- nor with a minus
+-- digits do not begin with a minus
 no_minus : (ds : List ℕ) → AllDigits 10 ds → starts_with nat_eq ds (codes "-") ≡ false
 no_minus [] h = refl
 no_minus (c ∷ ds) h =
@@ -82,8 +85,11 @@ no_minus (c ∷ ds) h =
 
 -- a nice value is read back from its sign and digits
 pub nice_of-signed : (z : ℤ) → FitsSigned w8 z → nice_of (signed_decimal z) ≡ Some z
-nice_of-signed (pos n) h = rw (no_minus (decimal n) (decimal_is_IsNumeral n (omega arith)).0.1) (ap (option_map (λ n. pos n)) (below-Some 128 n _ (decimal_of-decimal n (omega arith)) (omega arith)))
-nice_of-signed (negsuc n) h = ap (option_map (λ n. neg_ℤ (pos n))) (below-Some 129 (suc n) _ (decimal_of-decimal (suc n) (omega arith)) (omega arith))
+nice_of-signed (pos n) h =
+    rw (no_minus (decimal n) (decimal_is_IsNumeral n (omega arith)).0.1)
+    (ap (option_map (λ n. pos n)) (below-Some 128 n _ (decimal_of-decimal n (omega arith)) (omega arith)))
+nice_of-signed (negsuc n) h =
+    ap (option_map (λ n. neg_ℤ (pos n))) (below-Some 129 (suc n) _ (decimal_of-decimal (suc n) (omega arith)) (omega arith))
 
 -- a number of eight bits, with its sign, is a plain word
 pub plain_signed : (z : ℤ) → FitsSigned w8 z → IsPlain (signed_decimal z)

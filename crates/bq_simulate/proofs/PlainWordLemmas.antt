@@ -46,7 +46,9 @@ kept_word w ws some = let e : ltb 0 (length w) ≡ true = grind (arith, nat_test
 
 -- a plain word and what follows a space after it
 words-plain : (w rest : List ℕ) → IsPlain w → words (w ++ 32 ∷ rest) ≡ w ∷ words rest
-words-plain w rest h = ap (filter (λ x. ltb 0 (length x))) (slice_split_at is_space w 32 rest (no_space w h) refl) ∙ kept_word w (words rest) h.some
+words-plain w rest h =
+    ap (filter (λ x. ltb 0 (length x))) (slice_split_at is_space w 32 rest (no_space w h) refl)
+    ∙ kept_word w (words rest) h.some
 
 -- a plain word by itself
 words-last : (w : List ℕ) → IsPlain w → words w ≡ w ∷ []
@@ -58,7 +60,8 @@ words-spaced [] h = refl
 words-spaced (w ∷ []) h = words-last w h.0
 words-spaced (w ∷ x ∷ ws) h = words-plain w (spaced_words (x ∷ ws)) h.0 ∙ ap (λ l. w ∷ l) (words-spaced (x ∷ ws) h.1)
 
-all_with_space : (p : ℕ → Bool) (w rest : List ℕ) → list_all p w ≡ true → p 32 ≡ true → list_all p rest ≡ true → list_all p (w ++ 32 ∷ rest) ≡ true
+all_with_space : (p : ℕ → Bool) (w rest : List ℕ) → list_all p w ≡ true → p 32 ≡ true → list_all p rest ≡ true
+    → list_all p (w ++ 32 ∷ rest) ≡ true
 all_with_space p w rest first space more = list_all-append p w (32 ∷ rest) ∙ rw (first, space, more) refl
 
 -- each byte of such a line may stand in it

@@ -19,26 +19,46 @@ abbrev processor_state_at : ℕ → Accounts → Option ProcessorState
 processor_state_at k a = slice_get a.by_processor k
 
 -- the time that a task has run is no processor's
-charged_by-by_processor : (processor_state : ProcessorState) (now : ℕ) (a : Accounts) → (charged_by processor_state now a).by_processor ≡ a.by_processor
-charged_by-by_processor processor_state now a = elim processor_state.run as (λ (o : Option ℕ). (charged_by (record processor_state { run = o }) now a).by_processor ≡ a.by_processor) [ None ↦ refl | Some task ↦ refl ]
+charged_by-by_processor : (processor_state : ProcessorState) (now : ℕ) (a : Accounts)
+    → (charged_by processor_state now a).by_processor ≡ a.by_processor
+charged_by-by_processor processor_state now a =
+    elim processor_state.run as (λ (o : Option ℕ). (charged_by (record processor_state { run = o }) now a).by_processor ≡ a.by_processor)
+    [ None ↦ refl | Some task ↦ refl ]
 
-charged-others : (processor now k : ℕ) (a : Accounts) → k ≢ processor → processor_state_at k (charged processor now a) ≡ processor_state_at k a
+charged-others : (processor now k : ℕ) (a : Accounts) → k ≢ processor
+    → processor_state_at k (charged processor now a) ≡ processor_state_at k a
 charged-others processor now k a h =
     let f : ProcessorState → ProcessorState = λ l. record l { since = now } in
-    elim (slice_get a.by_processor processor) as (λ (o : Option ProcessorState). processor_state_at k (option_map_or (λ (processor_state : ProcessorState). of_processor f processor (charged_by processor_state now a)) o a) ≡ processor_state_at k a)
-    [ None ↦ refl | Some processor_state ↦ changed_at-others f (charged_by processor_state now a).by_processor processor k h ∙ ap (λ (l : List ProcessorState). slice_get l k) (charged_by-by_processor processor_state now a) ]
+    elim (slice_get a.by_processor processor) as (λ (o : Option ProcessorState).
+    processor_state_at k
+    (option_map_or (λ (processor_state : ProcessorState). of_processor f processor (charged_by processor_state now a)) o a)
+    ≡ processor_state_at k a) [
+      | None ↦ refl
+      | Some processor_state ↦
+          changed_at-others f (charged_by processor_state now a).by_processor processor k h
+          ∙ ap (λ (l : List ProcessorState). slice_get l k) (charged_by-by_processor processor_state now a)
+    ]
 
-taken_over-others : (processor : ℕ) (run : Option ℕ) (now : ℕ) (periods : Periods) (k : ℕ) (a : Accounts) → k ≢ processor → processor_state_at k (taken_over processor run now periods a) ≡ processor_state_at k a
+taken_over-others : (processor : ℕ) (run : Option ℕ) (now : ℕ) (periods : Periods) (k : ℕ) (a : Accounts)
+    → k ≢ processor → processor_state_at k (taken_over processor run now periods a) ≡ processor_state_at k a
 taken_over-others processor None now periods k a h = changed_at-others (idled now) a.by_processor processor k h
 taken_over-others processor (Some task) now periods k a h = changed_at-others (occupied periods.tick task now) a.by_processor processor k h
 
--- only the processor changes at which another task runs now
-pub switched-others : (processor : ℕ) (run : Option ℕ) (now : ℕ) (periods : Periods) (k : ℕ) (a : Accounts) → k ≢ processor → processor_state_at k (switched processor run now periods a) ≡ processor_state_at k a
+-- where another task runs, only the processor changes at which it runs
+pub switched-others : (processor : ℕ) (run : Option ℕ) (now : ℕ) (periods : Periods) (k : ℕ) (a : Accounts)
+    → k ≢ processor → processor_state_at k (switched processor run now periods a) ≡ processor_state_at k a
 switched-others processor run now periods k a h =
     let over = taken_over processor run now periods (charged processor now a) in
-    let same : processor_state_at k over ≡ processor_state_at k a = taken_over-others processor run now periods k (charged processor now a) h ∙ charged-others processor now k a h in
-    elim (slice_get a.by_processor processor) as (λ (o : Option ProcessorState). processor_state_at k (option_map_or (λ (processor_state : ProcessorState). if is_same processor_state.run run then a else over) o a) ≡ processor_state_at k a)
-    [ None ↦ refl | Some processor_state ↦ elim (is_same processor_state.run run) as (λ (b : Bool). processor_state_at k (if b then a else over) ≡ processor_state_at k a) [ true ↦ refl | false ↦ same ] ]
+    let same : processor_state_at k over ≡ processor_state_at k a =
+    taken_over-others processor run now periods k (charged processor now a) h ∙ charged-others processor now k a h in
+    elim (slice_get a.by_processor processor) as (λ (o : Option ProcessorState).
+    processor_state_at k (option_map_or (λ (processor_state : ProcessorState). if is_same processor_state.run run then a else over) o a)
+    ≡ processor_state_at k a) [
+      | None ↦ refl
+      | Some processor_state ↦
+          elim (is_same processor_state.run run)
+          as (λ (b : Bool). processor_state_at k (if b then a else over) ≡ processor_state_at k a) [ true ↦ refl | false ↦ same ]
+    ]
 
 -- numbers up to the next
 pub numbers_more : (first count : ℕ) → range_with_len first (count + 1) ≡ range_with_len first count ++ (first + count) ∷ []
@@ -46,25 +66,32 @@ numbers_more first zero = let e : first ≡ first + 0 = omega arith in ap (λ n.
 numbers_more first (suc count) =
     let e : first + 1 + count ≡ first + suc count = omega arith in
     let n : suc count + 1 ≡ suc (count + 1) = omega arith in
-    ap (range_with_len first) n ∙ ap (λ l. first ∷ l) (numbers_more (first + 1) count) ∙ ap (λ k. first ∷ (range_with_len (first + 1) count ++ k ∷ [])) e
+    ap (range_with_len first) n ∙ ap (λ l. first ∷ l) (numbers_more (first + 1) count)
+    ∙ ap (λ k. first ∷ (range_with_len (first + 1) count ++ k ∷ [])) e
 
 -- after those of some processors the ticks of one more
-pub ticks_more : (end count : ℕ) (a : Accounts) → last_ticks end (all_processors (count + 1)) a ≡ last_ticks end (all_processors count) a ++ last_ticks end (count ∷ []) a
+pub ticks_more : (end count : ℕ) (a : Accounts)
+    → last_ticks end (all_processors (count + 1)) a ≡ last_ticks end (all_processors count) a ++ last_ticks end (count ∷ []) a
 ticks_more end count a =
     let e : 0 + count ≡ count = omega arith in
     let all = all_processors count in
     let tick : ℕ → Event = λ processor. Tick processor end in
     ap (λ l. last_ticks end l a) (numbers_more 0 count) ∙ ap (λ k. last_ticks end (all ++ k ∷ []) a) e
-    ∙ ap (map tick) (filter-append (is_busy a) all (count ∷ [])) ∙ map-append tick (filter (is_busy a) all) (filter (is_busy a) (count ∷ []))
+    ∙ ap (map tick) (filter-append (is_busy a) all (count ∷ []))
+    ∙ map-append tick (filter (is_busy a) all) (filter (is_busy a) (count ∷ []))
 
 -- a processor that runs what it ran ticks as it would have
-pub same_tick : (end processor : ℕ) (a b : Accounts) → slice_get b.by_processor processor ≡ slice_get a.by_processor processor → last_ticks end (processor ∷ []) b ≡ last_ticks end (processor ∷ []) a
+pub same_tick : (end processor : ℕ) (a b : Accounts) → slice_get b.by_processor processor ≡ slice_get a.by_processor processor
+    → last_ticks end (processor ∷ []) b ≡ last_ticks end (processor ∷ []) a
 same_tick end processor a b same =
     let tick : ℕ → Event = λ c. Tick c end in
-    ap (λ (o : Option ProcessorState). map tick (cond (option_map_or (λ (processor_state : ProcessorState). is_some processor_state.run) o false) (processor ∷ []) [])) same
+    ap (λ (o : Option ProcessorState).
+    map tick (cond (option_map_or (λ (processor_state : ProcessorState). is_some processor_state.run) o false) (processor ∷ []) []))
+    same
 
 -- a processor that runs something ticks at the end
-pub busy_tick : (end processor : ℕ) (a : Accounts) → is_busy a processor ≡ true → last_ticks end (processor ∷ []) a ≡ Tick processor end ∷ []
+pub busy_tick : (end processor : ℕ) (a : Accounts) → is_busy a processor ≡ true
+    → last_ticks end (processor ∷ []) a ≡ Tick processor end ∷ []
 busy_tick end processor a busy = ap (λ b. map (λ c. Tick c end) (cond b (processor ∷ []) [])) busy
 
 -- a processor that runs nothing doesn't tick at the end
@@ -72,5 +99,8 @@ pub idle_tick : (end processor : ℕ) (a : Accounts) → is_busy a processor ≡
 idle_tick end processor a idle = ap (λ b. map (λ c. Tick c end) (cond b (processor ∷ []) [])) idle
 
 -- what the processor says
-pub busy_at : (processor : ℕ) (a : Accounts) (processor_state : ProcessorState) → slice_get a.by_processor processor ≡ Some processor_state → is_busy a processor ≡ is_some processor_state.run
-busy_at processor a processor_state there = ap (λ (o : Option ProcessorState). option_map_or (λ (l : ProcessorState). is_some l.run) o false) there
+pub busy_at : (processor : ℕ) (a : Accounts) (processor_state : ProcessorState)
+    → slice_get a.by_processor processor ≡ Some processor_state
+    → is_busy a processor ≡ is_some processor_state.run
+busy_at processor a processor_state there =
+    ap (λ (o : Option ProcessorState). option_map_or (λ (l : ProcessorState). is_some l.run) o false) there

@@ -13,7 +13,7 @@ use Rattle.bq_parts.specs.declared.lobby_entry.LobbyEntry.TheVariants.{Absent}
 use Rattle.bq_parts.specs.declared.reply.Reply.{Reply}
 use Rattle.bq_parts.specs.declared.reply.Reply.TheVariants.{Drawn}
 use Rattle.bq_parts.specs.declared.refusal.Refusal.TheVariants as no
-use Rattle.bq_parts.specs.Choices.{policies as under_policies}
+use Rattle.bq_parts.specs.Choices.{by_programs}
 use Rattle.bq_parts.specs.Processors.{Processor, opening as opening_processor, size_of}
 use Rattle.bq_parts.specs.Refusals.{is_absent}
 use Rattle.bq_parts.specs.Steps.{WorldStep}
@@ -22,7 +22,7 @@ use Rattle.bq_core.proofs.OnTheWayLemmas.{same_everywhere}
 use Rattle.bq_core.proofs.OrderLemmas.{accepted, first_refusal_passed, not_refused_is_there, opening_is_orderly}
 use Rattle.bq_core.proofs.SizeLemmas.{step_count}
 use Rattle.bq_trace.specs.Machines.{discipline_of}
-use Rattle.bq_trace.specs.TraceEvents.{Told}
+use Rattle.bq_trace.specs.TraceEvents.{Reported}
 use Rattle.bq_words.specs.Sizes.{processors_in}
 use Rattle.bq_workload.specs.declared.processor_state.ProcessorState.{ProcessorState}
 use Rattle.bq_workload.specs.declared.roster.Periods.{Periods}
@@ -38,7 +38,7 @@ use Rattle.bq_simulate.specs.Actions.{start_of}
 use Rattle.bq_simulate.specs.Agreement.{AgreesWith, IsOnTime, ProcessorIsOnTime, RunsOnTime, TaskIsOnTime}
 use Rattle.bq_simulate.specs.AgreementLaws.{Agree, SimulationsAgree, with_task}
 use Rattle.bq_simulate.specs.Chronicles.{Acts, Beats, Book, Deed, Happens, Joins, Lives, Looks, Misses, Reaches, Rings, after_act, after_answer, after_beat, after_look, joined}
-use Rattle.bq_simulate.specs.Drives.{Does, Starts}
+use Rattle.bq_simulate.specs.Drives.{DrivesEvent, Starts}
 use Rattle.bq_simulate.specs.Order.{IsOpening}
 use Rattle.bq_simulate.specs.Simulations.{IsSimulation, Proceeds, opening_book, periods_of}
 use Rattle.bq_simulate.specs.Steps.{AreAdmitted, AreAllAdmitted, AreInstalled, AreJust, Opens, Step, all_processors, deeds_of}
@@ -49,97 +49,131 @@ use Rattle.bq_simulate.proofs.TakenLemmas.{draws_are_taken, install_kept}
 use Rattle.bq_simulate.proofs.TimeKeptLemmas.{carried}
 
 -- deeds that were done in two parts
-pub record Parted (kinds : List TaskKind) (seed : ℕ) (periods : Periods) (d : Driver) (b : Book) (xs ys : List Deed) (e : Driver) (c : Book) : Type 0 where
+pub record Parted (kinds : List TaskKind) (seed : ℕ) (periods : Periods) (d : Driver) (b : Book)
+    (xs ys : List Deed) (e : Driver) (c : Book) : Type 0 where
   pub mid : Driver
   pub book : Book
-  pub first : Told
-  pub more : Told
+  pub first : Reported
+  pub more : Reported
   pub one : Lives kinds seed periods d b xs first mid book
   pub two : Lives kinds seed periods mid book ys more e c
 
 -- deeds in a row are done in two parts
-pub part : (kinds : List TaskKind) (seed : ℕ) (periods : Periods) (d e : Driver) (b c : Book) (xs ys : List Deed) (told : Told) → Lives kinds seed periods d b (xs ++ ys) told e c → Parted kinds seed periods d b xs ys e c
-part kinds seed periods d e b c [] ys told h = record { mid = d; book = b; first = []; more = told; one = (refl, refl, refl); two = h }
-part kinds seed periods d e b c (Happens event reply ∷ xs) ys told (due, mid, first, rest, does, lives, whole) =
+pub part : (kinds : List TaskKind) (seed : ℕ) (periods : Periods) (d e : Driver) (b c : Book) (xs ys : List Deed)
+    (reported : Reported)
+    → Lives kinds seed periods d b (xs ++ ys) reported e c → Parted kinds seed periods d b xs ys e c
+part kinds seed periods d e b c [] ys reported h =
+    record { mid = d; book = b; first = []; more = reported; one = (refl, refl, refl); two = h }
+part kinds seed periods d e b c (Happens event reply ∷ xs) ys reported (due, mid, first, rest, does, lives, whole) =
     let s = part kinds seed periods mid e (after_answer periods event reply b) c xs ys rest lives in
-    record { mid = s.mid; book = s.book; first = first ++ s.first; more = s.more; one = (due, mid, first, s.first, does, s.one, refl); two = s.two }
-part kinds seed periods d e b c (Joins kind home ∷ xs) ys told (of, lives) =
-    let s = part kinds seed periods d e (joined kinds kind home b) c xs ys told lives in
+    record {
+      mid = s.mid;
+      book = s.book;
+      first = first ++ s.first;
+      more = s.more;
+      one = (due, mid, first, s.first, does, s.one, refl);
+      two = s.two;
+    }
+part kinds seed periods d e b c (Joins kind home ∷ xs) ys reported (of, lives) =
+    let s = part kinds seed periods d e (joined kinds kind home b) c xs ys reported lives in
     record { mid = s.mid; book = s.book; first = s.first; more = s.more; one = (of, s.one); two = s.two }
-part kinds seed periods d e b c (Acts at task now action aim ∷ xs) ys told (k, done, is, to, lives) =
-    let s = part kinds seed periods d e (after_act kinds seed at task now k b) c xs ys told lives in
+part kinds seed periods d e b c (Acts at task now action aim ∷ xs) ys reported (k, done, is, to, lives) =
+    let s = part kinds seed periods d e (after_act kinds seed at task now k b) c xs ys reported lives in
     record { mid = s.mid; book = s.book; first = s.first; more = s.more; one = (k, done, is, to, s.one); two = s.two }
-part kinds seed periods d e b c (Rings task now ∷ xs) ys told (k, there, asleep, timer, lives) =
-    let s = part kinds seed periods d e b c xs ys told lives in
+part kinds seed periods d e b c (Rings task now ∷ xs) ys reported (k, there, asleep, timer, lives) =
+    let s = part kinds seed periods d e b c xs ys reported lives in
     record { mid = s.mid; book = s.book; first = s.first; more = s.more; one = (k, there, asleep, timer, s.one); two = s.two }
-part kinds seed periods d e b c (Reaches task ∷ xs) ys told (k, there, waits, lives) =
-    let s = part kinds seed periods d e b c xs ys told lives in
+part kinds seed periods d e b c (Reaches task ∷ xs) ys reported (k, there, waits, lives) =
+    let s = part kinds seed periods d e b c xs ys reported lives in
     record { mid = s.mid; book = s.book; first = s.first; more = s.more; one = (k, there, waits, s.one); two = s.two }
-part kinds seed periods d e b c (Misses task ∷ xs) ys told (k, there, waits, lives) =
-    let s = part kinds seed periods d e b c xs ys told lives in
+part kinds seed periods d e b c (Misses task ∷ xs) ys reported (k, there, waits, lives) =
+    let s = part kinds seed periods d e b c xs ys reported lives in
     record { mid = s.mid; book = s.book; first = s.first; more = s.more; one = (k, there, waits, s.one); two = s.two }
-part kinds seed periods d e b c (Beats at now ∷ xs) ys told (ticks, lives) =
-    let s = part kinds seed periods d e (after_beat periods at now b) c xs ys told lives in
+part kinds seed periods d e b c (Beats at now ∷ xs) ys reported (ticks, lives) =
+    let s = part kinds seed periods d e (after_beat periods at now b) c xs ys reported lives in
     record { mid = s.mid; book = s.book; first = s.first; more = s.more; one = (ticks, s.one); two = s.two }
-part kinds seed periods d e b c (Looks at now source ∷ xs) ys told (looks, from, lives) =
-    let s = part kinds seed periods d e (after_look periods at now b) c xs ys told lives in
+part kinds seed periods d e b c (Looks at now source ∷ xs) ys reported (looks, from, lives) =
+    let s = part kinds seed periods d e (after_look periods at now b) c xs ys reported lives in
     record { mid = s.mid; book = s.book; first = s.first; more = s.more; one = (looks, from, s.one); two = s.two }
 
 -- what an event keeps
 abbrev pub Keeps : (Driver → Book → Type 0) → Event → Type 0
-Keeps P event = (periods : Periods) (d e : Driver) (b : Book) (reply : Reply) (told : Told) → Does d event reply told e → P d b → P e (after_answer periods event reply b)
+Keeps P event =
+    (periods : Periods) (d e : Driver) (b : Book) (reply : Reply) (reported : Reported) →
+    DrivesEvent d event reply reported e → P d b → P e (after_answer periods event reply b)
 
 -- no deed keeps all
-pub none_kept : (P : Driver → Book → Type 0) (kinds : List TaskKind) (seed : ℕ) (periods : Periods) (d e : Driver) (b c : Book) (deeds : List Deed) (told : Told) → deeds ≡ [] → Lives kinds seed periods d b deeds told e c → P d b → P e c
-none_kept P kinds seed periods d e b c deeds told none lives h =
-    let (nothing, same, kept) = subst (λ l. Lives kinds seed periods d b l told e c) none lives in
+pub none_kept : (P : Driver → Book → Type 0) (kinds : List TaskKind) (seed : ℕ) (periods : Periods) (d e : Driver)
+    (b c : Book) (deeds : List Deed) (reported : Reported)
+    → deeds ≡ [] → Lives kinds seed periods d b deeds reported e c → P d b → P e c
+none_kept P kinds seed periods d e b c deeds reported none lives h =
+    let (nothing, same, kept) = subst (λ l. Lives kinds seed periods d b l reported e c) none lives in
     subst (λ x. P e x) (sym kept) (subst (λ x. P x b) (sym same) h)
 
--- and so do events that each keep it
-pub just_kept : (P : Driver → Book → Type 0) (f : ℕ → Event) → ((n : ℕ) → Keeps P (f n)) → (kinds : List TaskKind) (seed : ℕ) (periods : Periods) (d e : Driver) (b c : Book) (numbers : List ℕ) (deeds : List Deed) (told : Told) → AreJust (map f numbers) deeds → Lives kinds seed periods d b deeds told e c → P d b → P e c
-just_kept P f keeps kinds seed periods d e b c [] deeds told none lives h = none_kept P kinds seed periods d e b c deeds told none lives h
-just_kept P f keeps kinds seed periods d e b c (n ∷ numbers) deeds told (reply, more, is, just) lives h =
-    let (due, mid, first, rest, does, later, whole) = subst (λ l. Lives kinds seed periods d b l told e c) is lives in
-    just_kept P f keeps kinds seed periods mid e (after_answer periods (f n) reply b) c numbers more rest just later (keeps n periods d mid b reply first does h)
+-- events that each keep a property keep it together
+pub just_kept : (P : Driver → Book → Type 0) (f : ℕ → Event) → ((n : ℕ) → Keeps P (f n))
+    → (kinds : List TaskKind) (seed : ℕ) (periods : Periods) (d e : Driver) (b c : Book) (numbers : List ℕ)
+    (deeds : List Deed) (reported : Reported)
+    → AreJust (map f numbers) deeds → Lives kinds seed periods d b deeds reported e c → P d b
+    → P e c
+just_kept P f keeps kinds seed periods d e b c [] deeds reported none lives h =
+    none_kept P kinds seed periods d e b c deeds reported none lives h
+just_kept P f keeps kinds seed periods d e b c (n ∷ numbers) deeds reported (reply, more, is, just) lives h =
+    let (due, mid, first, rest, does, later, whole) = subst (λ l. Lives kinds seed periods d b l reported e c) is lives in
+    just_kept P f keeps kinds seed periods mid e (after_answer periods (f n) reply b) c numbers more rest just later
+    (keeps n periods d mid b reply first does h)
 
 -- the opening is kept by a draw
 pub draw_opens : (processors tasks : ℕ) → Keeps (IsOpening processors tasks) Draw
-draw_opens processors tasks periods d e b reply told does h =
-    let step = step_of d Draw reply told e does in
+draw_opens processors tasks periods d e b reply reported does h =
+    let step = step_of d Draw reply reported e does in
     let r = discipline_of d.machine.rule in
     record {
       agree = (draws_are_taken r periods (world_of d) b.accounts h.agree).leaves does.happens.moves.step.calls reply (world_of e) step;
       on_time = h.on_time;
       read = does.rises ∙ h.read;
-      processors_there = step_count (under_policies r) (world_of d) Draw does.happens.moves.step.calls (Ok reply) (world_of e) step ∙ h.processors_there;
+      processors_there =
+          step_count (by_programs r) (world_of d) Draw does.happens.moves.step.calls (Ok reply) (world_of e) step
+          ∙ h.processors_there;
       tasks_there = h.tasks_there;
     }
 
--- and by an install
-pub install_opens : (processors tasks generation : ℕ) (policy : Accepted) (processor : ℕ) → Keeps (IsOpening processors tasks) (Install processor policy.hook generation (Some policy))
-install_opens processors tasks generation policy processor periods d e b reply told does h =
+-- the opening is kept by an install
+pub install_opens : (processors tasks generation : ℕ) (policy : Accepted) (processor : ℕ)
+    → Keeps (IsOpening processors tasks) (Install processor policy.hook generation (Some policy))
+install_opens processors tasks generation policy processor periods d e b reply reported does h =
     let event : Event = Install processor policy.hook generation (Some policy) in
     let w : World = world_of d in
-    let step = step_of d event reply told e does in
+    let step = step_of d event reply reported e does in
     let r = discipline_of d.machine.rule in
     let low = (not_refused_is_there (count_in w) processor _ (accepted w event step.0).0).0 in
     record {
-      agree = install_kept r w (world_of e) b.accounts processor generation policy.hook (Some policy) does.happens.moves.step.calls reply h.agree low step;
+      agree =
+          install_kept r w (world_of e) b.accounts processor generation policy.hook (Some policy)
+          does.happens.moves.step.calls reply h.agree low step;
       on_time = h.on_time;
       read = does.rises ∙ h.read;
-      processors_there = step_count (under_policies r) w event does.happens.moves.step.calls (Ok reply) (world_of e) step ∙ h.processors_there;
+      processors_there = step_count (by_programs r) w event does.happens.moves.step.calls (Ok reply) (world_of e) step ∙ h.processors_there;
       tasks_there = h.tasks_there;
     }
 
 -- policies are installed
-pub installed_opens : (kinds : List TaskKind) (seed : ℕ) (periods : Periods) (d e : Driver) (b c : Book) (processors tasks : ℕ) (policies : List Accepted) (deeds : List Deed) (told : Told) → AreInstalled processors policies deeds → Lives kinds seed periods d b deeds told e c
-    → IsOpening processors tasks d b → IsOpening processors tasks e c
-installed_opens kinds seed periods d e b c processors tasks [] deeds told none lives h = none_kept (IsOpening processors tasks) kinds seed periods d e b c deeds told none lives h
-installed_opens kinds seed periods d e b c processors tasks (policy ∷ policies) deeds told (some, more, whole, (generation, rest, is, just), others) lives h =
-    let s = part kinds seed periods d e b c some more told (subst (λ l. Lives kinds seed periods d b l told e c) whole lives) in
+pub installed_opens : (kinds : List TaskKind) (seed : ℕ) (periods : Periods) (d e : Driver) (b c : Book)
+    (processors tasks : ℕ) (policies : List Accepted) (deeds : List Deed) (reported : Reported)
+    → AreInstalled processors policies deeds → Lives kinds seed periods d b deeds reported e c
+    → IsOpening processors tasks d b
+    → IsOpening processors tasks e c
+installed_opens kinds seed periods d e b c processors tasks [] deeds reported none lives h =
+    none_kept (IsOpening processors tasks) kinds seed periods d e b c deeds reported none lives h
+installed_opens kinds seed periods d e b c processors tasks (policy ∷ policies) deeds reported
+    (some, more, whole, (generation, rest, is, just), others) lives h =
+    let s = part kinds seed periods d e b c some more reported (subst (λ l. Lives kinds seed periods d b l reported e c) whole lives) in
     let (due, mid, first, left, does, later, wholly) = subst (λ l. Lives kinds seed periods d b l s.first s.mid s.book) is s.one in
     let drawn = draw_opens processors tasks periods d mid b (Drawn generation) first does h in
-    let one = just_kept (IsOpening processors tasks) (λ processor. Install processor policy.hook generation (Some policy)) (install_opens processors tasks generation policy) kinds seed periods mid s.mid (after_answer periods Draw (Drawn generation) b) s.book (all_processors processors) rest left just later drawn in
+    let one =
+    just_kept (IsOpening processors tasks) (λ processor. Install processor policy.hook generation (Some policy))
+    (install_opens processors tasks generation policy) kinds seed periods mid s.mid
+    (after_answer periods Draw (Drawn generation) b) s.book (all_processors processors) rest left just later drawn in
     installed_opens kinds seed periods s.mid e s.book c processors tasks policies more s.more others s.two one
 
 -- one more task has got nothing yet
@@ -156,20 +190,31 @@ joined_on_time a c none h =
       ];
       processors = λ processor l at.
           let p : ProcessorIsOnTime 0 cs l = h.processors processor l at in
-          carried 0 cs ds l (λ task runs. let r : RunsOnTime 0 cs l task = p.runs task runs in appended_others cs c task (λ e. omega (arith, e, slice_get_within cs task r.progress r.there))) p;
+          carried 0 cs ds l (λ task runs.
+          let r : RunsOnTime 0 cs l task = p.runs task runs in
+          appended_others cs c task (λ e. omega (arith, e, slice_get_within cs task r.progress r.there))) p;
     }
 
 -- a task is admitted, and is there
-admission_opens : (kinds : List TaskKind) (seed : ℕ) (periods : Periods) (d e : Driver) (b c : Book) (processors number task home : ℕ) (kind : TaskKind) (reply : Reply) (told : Told) → IsFirstAllowed processors kind.mask home
-    → Lives kinds seed periods d b (Happens (Admit task kind.nice kind.mask kind.slice) reply ∷ Joins number home ∷ []) told e c → IsOpening processors task d b → IsOpening processors (task + 1) e c
-admission_opens kinds seed periods d e b c processors number task home kind reply told allowed (due, mid, first, rest, does, (of, (nothing, same, kept)), whole) h =
+admission_opens : (kinds : List TaskKind) (seed : ℕ) (periods : Periods) (d e : Driver) (b c : Book)
+    (processors number task home : ℕ) (kind : TaskKind) (reply : Reply) (reported : Reported)
+    → IsFirstAllowed processors kind.mask home
+    → Lives kinds seed periods d b (Happens (Admit task kind.nice kind.mask kind.slice) reply ∷ Joins number home ∷ []) reported e c
+    → IsOpening processors task d b
+    → IsOpening processors (task + 1) e c
+admission_opens kinds seed periods d e b c processors number task home kind reply reported allowed
+    (due, mid, first, rest, does, (of, (nothing, same, kept)), whole) h =
     let w : World = world_of d in
     let a : Accounts = b.accounts in
     let event : ℕ → Event = λ n. Admit n kind.nice kind.mask kind.slice in
     let r = discipline_of d.machine.rule in
     let was = step_of d (event task) reply first mid does in
-    let step = subst (λ n. WorldStep (under_policies r) w (event n) does.happens.moves.step.calls (Ok reply) (world_of mid)) (sym h.tasks_there) was in
-    let few = leb-false 1024 (length a.by_task) (first_refusal_passed (nat_le 1024 (length a.by_task)) no.NoTask _ (accepted w (event (length a.by_task)) step.0).0).0 in
+    let step =
+    subst (λ n. WorldStep (by_programs r) w (event n) does.happens.moves.step.calls (Ok reply) (world_of mid))
+    (sym h.tasks_there) was in
+    let few =
+    leb-false 1024 (length a.by_task)
+    (first_refusal_passed (nat_le 1024 (length a.by_task)) no.NoTask _ (accepted w (event (length a.by_task)) step.0).0).0 in
     let low : home < count_in w = subst (λ n. home < n) (sym h.processors_there) allowed.within in
     let new = fresh number home (start_of kinds number) in
     let after : Book = joined kinds number home (after_answer periods (event task) reply b) in
@@ -177,44 +222,63 @@ admission_opens kinds seed periods d e b c processors number task home kind repl
       agree = admit_kept r w (world_of mid) a new kind does.happens.moves.step.calls reply h.agree few refl low step;
       on_time = joined_on_time a new refl h.on_time;
       read = does.rises ∙ h.read;
-      processors_there = step_count (under_policies r) w (event (length a.by_task)) does.happens.moves.step.calls (Ok reply) (world_of mid) step ∙ h.processors_there;
+      processors_there =
+          step_count (by_programs r) w (event (length a.by_task)) does.happens.moves.step.calls (Ok reply) (world_of mid) step
+          ∙ h.processors_there;
       tasks_there = omega (arith, length-append a.by_task (new ∷ []), h.tasks_there);
     } in
     subst (λ x. IsOpening processors (task + 1) e x) (sym kept) (subst (λ x. IsOpening processors (task + 1) x after) (sym same) done)
 
 -- the tasks of a kind
-pub admitted_open : (kinds : List TaskKind) (seed : ℕ) (periods : Periods) (d e : Driver) (b c : Book) (processors number : ℕ) (kind : TaskKind) (task count : ℕ) (deeds : List Deed) (told : Told) → AreAdmitted processors number kind task count deeds → Lives kinds seed periods d b deeds told e c
-    → IsOpening processors task d b → IsOpening processors (task + count) e c
-admitted_open kinds seed periods d e b c processors number kind task zero deeds told none lives h =
+pub admitted_open : (kinds : List TaskKind) (seed : ℕ) (periods : Periods) (d e : Driver) (b c : Book) (processors number : ℕ)
+    (kind : TaskKind) (task count : ℕ) (deeds : List Deed) (reported : Reported)
+    → AreAdmitted processors number kind task count deeds → Lives kinds seed periods d b deeds reported e c
+    → IsOpening processors task d b
+    → IsOpening processors (task + count) e c
+admitted_open kinds seed periods d e b c processors number kind task zero deeds reported none lives h =
     let all : task ≡ task + 0 = omega arith in
-    subst (λ n. IsOpening processors n e c) all (none_kept (IsOpening processors task) kinds seed periods d e b c deeds told none lives h)
-admitted_open kinds seed periods d e b c processors number kind task (suc count) deeds told (some, more, whole, (reply, home, first, is), rest) lives h =
-    let s = part kinds seed periods d e b c some more told (subst (λ l. Lives kinds seed periods d b l told e c) whole lives) in
-    let one = admission_opens kinds seed periods d s.mid b s.book processors number task home kind reply s.first first (subst (λ l. Lives kinds seed periods d b l s.first s.mid s.book) is s.one) h in
+    subst (λ n. IsOpening processors n e c) all
+    (none_kept (IsOpening processors task) kinds seed periods d e b c deeds reported none lives h)
+admitted_open kinds seed periods d e b c processors number kind task (suc count) deeds reported
+    (some, more, whole, (reply, home, first, is), rest) lives h =
+    let s = part kinds seed periods d e b c some more reported (subst (λ l. Lives kinds seed periods d b l reported e c) whole lives) in
+    let one =
+    admission_opens kinds seed periods d s.mid b s.book processors number task home kind reply s.first first
+    (subst (λ l. Lives kinds seed periods d b l s.first s.mid s.book) is s.one) h in
     let all : (task + 1) + count ≡ task + suc count = omega arith in
-    subst (λ n. IsOpening processors n e c) all (admitted_open kinds seed periods s.mid e s.book c processors number kind (task + 1) count more s.more rest s.two one)
+    subst (λ n. IsOpening processors n e c) all
+    (admitted_open kinds seed periods s.mid e s.book c processors number kind (task + 1) count more s.more rest s.two one)
 
 -- all tasks
-pub all_admitted_open : (all : List TaskKind) (seed : ℕ) (periods : Periods) (d e : Driver) (b c : Book) (processors number task : ℕ) (kinds : List TaskKind) (deeds : List Deed) (told : Told) → AreAllAdmitted processors number task kinds deeds → Lives all seed periods d b deeds told e c
-    → IsOpening processors task d b → IsOpening processors (task + tasks_in kinds) e c
-all_admitted_open all seed periods d e b c processors number task [] deeds told none lives h =
+pub all_admitted_open : (all : List TaskKind) (seed : ℕ) (periods : Periods) (d e : Driver) (b c : Book)
+    (processors number task : ℕ) (kinds : List TaskKind) (deeds : List Deed) (reported : Reported)
+    → AreAllAdmitted processors number task kinds deeds → Lives all seed periods d b deeds reported e c
+    → IsOpening processors task d b
+    → IsOpening processors (task + tasks_in kinds) e c
+all_admitted_open all seed periods d e b c processors number task [] deeds reported none lives h =
     let same : task ≡ task + tasks_in [] = omega arith in
-    subst (λ n. IsOpening processors n e c) same (none_kept (IsOpening processors task) all seed periods d e b c deeds told none lives h)
-all_admitted_open all seed periods d e b c processors number task (kind ∷ kinds) deeds told (some, more, whole, are, rest) lives h =
-    let s = part all seed periods d e b c some more told (subst (λ l. Lives all seed periods d b l told e c) whole lives) in
+    subst (λ n. IsOpening processors n e c) same
+    (none_kept (IsOpening processors task) all seed periods d e b c deeds reported none lives h)
+all_admitted_open all seed periods d e b c processors number task (kind ∷ kinds) deeds reported
+    (some, more, whole, are, rest) lives h =
+    let s = part all seed periods d e b c some more reported (subst (λ l. Lives all seed periods d b l reported e c) whole lives) in
     let one = admitted_open all seed periods d s.mid b s.book processors number kind task kind.count some s.first are s.one h in
     let count : TaskKind → ℕ = λ k. k.count in
     let first : sum_by count (kind ∷ []) ≡ kind.count = omega arith in
     let both : tasks_in (kind ∷ kinds) ≡ sum_by count (kind ∷ []) + tasks_in kinds = sum_by-append count (kind ∷ []) kinds in
     let sum : (task + kind.count) + tasks_in kinds ≡ task + tasks_in (kind ∷ kinds) = omega (arith, first, both) in
-    subst (λ n. IsOpening processors n e c) sum (all_admitted_open all seed periods s.mid e s.book c processors (number + 1) (task + kind.count) kinds more s.more rest s.two one)
+    subst (λ n. IsOpening processors n e c) sum
+    (all_admitted_open all seed periods s.mid e s.book c processors (number + 1) (task + kind.count) kinds more s.more rest s.two one)
 
 -- all that is met
-met_agree : (kinds : List TaskKind) (seed : ℕ) (periods : Periods) (d e : Driver) (b c : Book) (steps : List Step) (told : Told) → Lives kinds seed periods d b (deeds_of steps) told e c → Agree d b → Agree e c
-met_agree kinds seed periods d e b c [] told lives h = none_kept Agree kinds seed periods d e b c [] told refl lives h
-met_agree kinds seed periods d e b c (step ∷ steps) told lives h =
-    let s = part kinds seed periods d e b c step.deeds (deeds_of steps) told lives in
-    met_agree kinds seed periods s.mid e s.book c steps s.more s.two (meetings_agree kinds seed periods d s.mid b s.book step.due step.at step.deeds s.first step.meet s.one h)
+met_agree : (kinds : List TaskKind) (seed : ℕ) (periods : Periods) (d e : Driver) (b c : Book) (steps : List Step)
+    (reported : Reported)
+    → Lives kinds seed periods d b (deeds_of steps) reported e c → Agree d b → Agree e c
+met_agree kinds seed periods d e b c [] reported lives h = none_kept Agree kinds seed periods d e b c [] reported refl lives h
+met_agree kinds seed periods d e b c (step ∷ steps) reported lives h =
+    let s = part kinds seed periods d e b c step.deeds (deeds_of steps) reported lives in
+    met_agree kinds seed periods s.mid e s.book c steps s.more s.two
+    (meetings_agree kinds seed periods d s.mid b s.book step.due step.at step.deeds s.first step.meet s.one h)
 
 -- The opening
 
@@ -238,7 +302,9 @@ opening_agrees n balance =
         tasks = λ k. ap is_absent (same_everywhere Absent 1024 k);
         processors = record {
           many = length-replicate n x ∙ sym (length-replicate n opening_processor);
-          runs = λ k. read_same (λ (l : ProcessorState). l.run) None x refl n k ∙ sym (ap (λ (p : Processor). id_of p.running.current) (same_everywhere opening_processor n k));
+          runs = λ k.
+              read_same (λ (l : ProcessorState). l.run) None x refl n k
+              ∙ sym (ap (λ (p : Processor). id_of p.running.current) (same_everywhere opening_processor n k));
           sizes = λ k. read_same (λ (l : ProcessorState). l.size) 0 x refl n k ∙ sym (ap size_of (same_everywhere opening_processor n k));
         };
       };
@@ -251,18 +317,25 @@ replicated zero k x y at = absurd (none-some y at)
 replicated (suc n) zero x y at = same_Some x y at
 replicated (suc n) (suc k) x y at = replicated n k x y at
 
--- and nothing of it is past
+-- nothing of the opening is past
 opening_on_time : (n balance : ℕ) → IsOnTime 0 (opening n balance)
 opening_on_time n balance =
     let x : ProcessorState = at_rest (first_look n balance) in
-    let rests : ProcessorIsOnTime 0 [] x = record { since = omega arith; looks = λ time is. omega arith; runs = λ task runs. absurd (none-some task runs); rests = λ none. refl } in
+    let rests : ProcessorIsOnTime 0 [] x = record {
+      since = omega arith;
+      looks = λ time is. omega arith;
+      runs = λ task runs. absurd (none-some task runs);
+      rests = λ none. refl;
+    } in
     record {
       tasks = λ task c at. absurd (none-some c at);
       processors = λ k l at. subst (λ (y : ProcessorState). ProcessorIsOnTime 0 [] y) (replicated n k x l at) rests;
     }
 
 -- of the opening machine nothing was done
-pub opening_opens : (w : Workload) (d : Driver) (first : Told) → Starts w.machine.rule w.machine.size first d → IsOpening (processors_in w.machine.size) 0 d (opening_book w.machine)
+pub opening_opens : (w : Workload) (d : Driver) (first : Reported)
+    → Starts w.machine.rule w.machine.size first d
+    → IsOpening (processors_in w.machine.size) 0 d (opening_book w.machine)
 opening_opens w d first starts =
     let n = processors_in w.machine.size in
     let start = opening_book w.machine in
@@ -276,47 +349,68 @@ opening_opens w d first starts =
     }
 
 -- once a simulation has opened all of its tasks are there
-pub opened_open : (policies : List Accepted) (w : Workload) (d e : Driver) (b : Book) (deeds : List Deed) (first told : Told) → Starts w.machine.rule w.machine.size first d → Opens policies (processors_in w.machine.size) w.tasks.items deeds
-    → Lives w.tasks.items w.machine.seed (periods_of w.machine) d (opening_book w.machine) deeds told e b → IsOpening (processors_in w.machine.size) (tasks_in w.tasks.items) e b
-opened_open policies w d e b deeds first told starts o lives =
+pub opened_open : (policies : List Accepted) (w : Workload) (d e : Driver) (b : Book) (deeds : List Deed)
+    (first reported : Reported)
+    → Starts w.machine.rule w.machine.size first d → Opens policies (processors_in w.machine.size) w.tasks.items deeds
+    → Lives w.tasks.items w.machine.seed (periods_of w.machine) d (opening_book w.machine) deeds reported e b
+    → IsOpening (processors_in w.machine.size) (tasks_in w.tasks.items) e b
+opened_open policies w d e b deeds first reported starts o lives =
     let kinds = w.tasks.items in
     let seed = w.machine.seed in
     let periods = periods_of w.machine in
     let n = processors_in w.machine.size in
     let start = opening_book w.machine in
     let opens : IsOpening n 0 d start = opening_opens w d first starts in
-    let t = part kinds seed periods d e start b o.installs o.admissions told (subst (λ l. Lives kinds seed periods d start l told e b) o.whole lives) in
+    let t =
+    part kinds seed periods d e start b o.installs o.admissions reported
+    (subst (λ l. Lives kinds seed periods d start l reported e b) o.whole lives) in
     let installed = installed_opens kinds seed periods d t.mid start t.book n 0 policies o.installs t.first o.installed t.one opens in
     let all : 0 + tasks_in kinds ≡ tasks_in kinds = omega arith in
-    subst (λ i. IsOpening n i e b) all (all_admitted_open kinds seed periods t.mid e t.book b n 0 0 kinds o.admissions t.more o.admitted t.two installed)
+    subst (λ i. IsOpening n i e b) all
+    (all_admitted_open kinds seed periods t.mid e t.book b n 0 0 kinds o.admissions t.more o.admitted t.two installed)
 
 -- from the opening to where nothing comes any more
-proceeds_agree : (policies : List Accepted) (w : Workload) (d e : Driver) (b : Book) (most end : ℕ) (deeds : List Deed) (first told : Told) → Starts w.machine.rule w.machine.size first d
-    → Proceeds policies (processors_in w.machine.size) w.tasks.items w.machine.seed (periods_of w.machine) most end (opening_book w.machine) deeds → Lives w.tasks.items w.machine.seed (periods_of w.machine) d (opening_book w.machine) deeds told e b → Agree e b
-proceeds_agree policies w d e b most end deeds first told starts p lives =
+proceeds_agree : (policies : List Accepted) (w : Workload) (d e : Driver) (b : Book) (most end : ℕ)
+    (deeds : List Deed) (first reported : Reported)
+    → Starts w.machine.rule w.machine.size first d
+    → Proceeds policies (processors_in w.machine.size) w.tasks.items w.machine.seed (periods_of w.machine) most end
+    (opening_book w.machine) deeds
+    → Lives w.tasks.items w.machine.seed (periods_of w.machine) d (opening_book w.machine) deeds reported e b
+    → Agree e b
+proceeds_agree policies w d e b most end deeds first reported starts p lives =
     let kinds = w.tasks.items in
     let seed = w.machine.seed in
     let periods = periods_of w.machine in
     let start = opening_book w.machine in
-    let s = part kinds seed periods d e start b p.opening p.met told (subst (λ l. Lives kinds seed periods d start l told e b) p.whole lives) in
+    let s =
+    part kinds seed periods d e start b p.opening p.met reported
+    (subst (λ l. Lives kinds seed periods d start l reported e b) p.whole lives) in
     let opened = opened_open policies w d s.mid s.book p.opening first s.first starts p.opens s.one in
     let m = p.meets in
-    met_agree kinds seed periods s.mid e s.book b m.steps s.more (subst (λ l. Lives kinds seed periods s.mid s.book l s.more e b) m.whole s.two) opened.agree
+    met_agree kinds seed periods s.mid e s.book b m.steps s.more
+    (subst (λ l. Lives kinds seed periods s.mid s.book l s.more e b) m.whole s.two) opened.agree
 
-whole_agrees : (policies : List Accepted) (w : Workload) (told : Told) (s : IsSimulation policies w told) → Agree s.closing s.book
-whole_agrees policies w told s =
+whole_agrees : (policies : List Accepted) (w : Workload) (reported : Reported) (s : IsSimulation policies w reported)
+    → Agree s.closing s.book
+whole_agrees policies w reported s =
     let kinds = w.tasks.items in
     let seed = w.machine.seed in
     let periods = periods_of w.machine in
     let start = opening_book w.machine in
     let x = s.ends in
-    let p = part kinds seed periods s.opening s.closing start s.book x.until x.last s.more (subst (λ l. Lives kinds seed periods s.opening start l s.more s.closing s.book) x.whole s.lives) in
-    let until : Agree p.mid p.book = proceeds_agree policies w s.opening p.mid p.book _ _ x.until s.first p.first s.starts x.proceeds p.one in
-    just_kept Agree (λ processor. Tick processor w.machine.duration) (λ processor q y z k reply some does agree. tick_agrees q y z k processor w.machine.duration reply some does agree) kinds seed periods p.mid s.closing p.book s.book _ x.last p.more x.ticks p.two until
+    let p =
+    part kinds seed periods s.opening s.closing start s.book x.until x.last s.more
+    (subst (λ l. Lives kinds seed periods s.opening start l s.more s.closing s.book) x.whole s.lives) in
+    let until : Agree p.mid p.book =
+    proceeds_agree policies w s.opening p.mid p.book _ _ x.until s.first p.first s.starts x.proceeds p.one in
+    just_kept Agree (λ processor. Tick processor w.machine.duration)
+    (λ processor q y z k reply some does agree. tick_agrees q y z k processor w.machine.duration reply some does agree) kinds
+    seed periods p.mid s.closing p.book s.book _ x.last p.more x.ticks p.two until
 
--- so they agree wherever a simulation has been followed to
+-- accounts and world agree wherever a simulation has been followed to
 pub simulations_agree : SimulationsAgree
 simulations_agree = record {
   whole = whole_agrees;
-  begun = λ policies w told s. proceeds_agree policies w s.opening s.closing s.book _ _ s.deeds s.first s.more s.starts s.proceeds s.lives;
+  begun = λ policies w reported s.
+      proceeds_agree policies w s.opening s.closing s.book _ _ s.deeds s.first s.more s.starts s.proceeds s.lives;
 }

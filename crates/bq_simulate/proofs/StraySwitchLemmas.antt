@@ -24,10 +24,11 @@ use Rattle.bq_simulate.proofs.TimeKeptLemmas.{charged_on_time, runner_low, taken
 -- a time between two things that has a next multiple: 64 bits count it
 pub next_counted : (between now : ℕ) → 1 ≤ between → between < 2 ^ 48 → now < 2 ^ 48 → HasNoNext between now → ⊥
 next_counted between now some short early (inl none) = omega (arith, some, none)
-next_counted between now some short early (inr late) = omega (arith, late, short, early, add-mul (now / between) 1 between, div-add-mod' now between)
+next_counted between now some short early (inr late) =
+    omega (arith, late, short, early, add-mul (now / between) 1 between, div-add-mod' now between)
 
--- a processor at which another task may begin to run at an instant: it is one of 64, what runs there runs nowhere else, nothing is past, and
--- its next tick is counted
+-- a processor at which another task may begin to run at an instant: it is one of 64, what runs there runs nowhere
+-- else, nothing is past, and its next tick is counted
 pub record CanSwitch (periods : Periods) (processor now : ℕ) (a : Accounts) : Type 0 where
   pub state : ProcessorState
   pub at : slice_get a.by_processor processor ≡ Some state
@@ -37,32 +38,51 @@ pub record CanSwitch (periods : Periods) (processor now : ℕ) (a : Accounts) : 
   pub ticks : HasNoNext periods.tick now → ⊥
 
 -- each processor is one where the accounts agree with a world of no more than 64
-pub can_switch : (periods : Periods) (w : World) (a : Accounts) (processor now : ℕ) → AgreesWith w a → IsOnTime now a → count_in w ≤ 64 → processor < count_in w → (HasNoNext periods.tick now → ⊥) → CanSwitch periods processor now a
+pub can_switch : (periods : Periods) (w : World) (a : Accounts) (processor now : ℕ)
+    → AgreesWith w a → IsOnTime now a → count_in w ≤ 64 → processor < count_in w → (HasNoNext periods.tick now → ⊥)
+    → CanSwitch periods processor now a
 can_switch periods w a processor now h time few low ticks =
     let l = state_there w a processor h.mirrors.processors low in
     record { state = l.0; at = l.1; low = omega (arith, low, few); alone = tasks_run_alone w a processor h; on_time = time; ticks = ticks }
 
 -- how many tasks a processor has makes no difference
-pub can_switch_sized : (periods : Periods) (processor now at : ℕ) (g : ℕ → ℕ) (a : Accounts) → CanSwitch periods processor now a → CanSwitch periods processor now (of_processor (λ l. record l { size = g l.size }) at a)
+pub can_switch_sized : (periods : Periods) (processor now at : ℕ) (g : ℕ → ℕ) (a : Accounts)
+    → CanSwitch periods processor now a
+    → CanSwitch periods processor now (of_processor (λ l. record l { size = g l.size }) at a)
 can_switch_sized periods processor now at g a h =
     let f : ProcessorState → ProcessorState = λ l. record l { size = g l.size } in
-    let there : (l : ProcessorState) × (slice_get (of_processor f at a).by_processor processor ≡ Some l) = elim (cases_eq processor at) [
-      | inl same ↦ (f h.state, subst (λ n. slice_get (of_processor f n a).by_processor processor ≡ Some (f h.state)) same (changed_at-here f a.by_processor processor h.state h.at))
+    let there : (l : ProcessorState) × (slice_get (of_processor f at a).by_processor processor ≡ Some l) =
+    elim (cases_eq processor at) [
+      | inl same ↦ (
+        f h.state,
+        subst (λ n. slice_get (of_processor f n a).by_processor processor ≡ Some (f h.state)) same
+            (changed_at-here f a.by_processor processor h.state h.at),
+      )
       | inr apart ↦ (h.state, changed_at-others f a.by_processor at processor apart ∙ h.at)
     ] in
-    record { state = there.0; at = there.1; low = h.low; alone = sized_alone at processor g a h.alone; on_time = sized_on_time now at g a h.on_time; ticks = h.ticks }
+    record {
+      state = there.0;
+      at = there.1;
+      low = h.low;
+      alone = sized_alone at processor g a h.alone;
+      on_time = sized_on_time now at g a h.on_time;
+      ticks = h.ticks;
+    }
 
 -- a task that runs on time is not astray
-no_stray_run : (task now : ℕ) (a : Accounts) (l : ProcessorState) → l.since ≤ now → RunsOnTime now a.by_task l task → IsStrayRun task l.since now a → ⊥
+no_stray_run : (task now : ℕ) (a : Accounts) (l : ProcessorState)
+    → l.since ≤ now → RunsOnTime now a.by_task l task → IsStrayRun task l.since now a → ⊥
 no_stray_run task now a l since r (inl before) = omega (arith, before, since)
 no_stray_run task now a l since r (inr (inl none)) = none-some r.progress (sym none ∙ r.there)
 no_stray_run task now a l since r (inr (inr over)) =
     let is : r.progress ≡ over.progress = same_Some r.progress over.progress (sym r.there ∙ over.there) in
-    let phase : over.progress.got + (now - l.since) ≤ over.progress.due = subst (λ (c : TaskProgress). c.got + (now - l.since) ≤ c.due) is r.phase in
+    let phase : over.progress.got + (now - l.since) ≤ over.progress.due =
+    subst (λ (c : TaskProgress). c.got + (now - l.since) ≤ c.due) is r.phase in
     omega (arith, over.overrun, phase)
 
--- so the time of a processor is counted
-pub no_stray_charge : (processor now : ℕ) (a : Accounts) (l : ProcessorState) → slice_get a.by_processor processor ≡ Some l → IsOnTime now a → IsStrayCharge processor now a → ⊥
+-- the time of a processor is counted
+pub no_stray_charge : (processor now : ℕ) (a : Accounts) (l : ProcessorState)
+    → slice_get a.by_processor processor ≡ Some l → IsOnTime now a → IsStrayCharge processor now a → ⊥
 no_stray_charge processor now a l at time (inl none) = none-some l (sym none ∙ at)
 no_stray_charge processor now a l at time (inr astray) =
     let p : ProcessorIsOnTime now a.by_task astray.processor_state = time.processors processor astray.processor_state astray.at in
@@ -87,40 +107,63 @@ runs_elsewhere ls processor task apart = by_test (runs_at ls processor task) ref
     by_test false runs = runs
 
 -- a task that is to run at a processor, which runs another or none, rests until then
-starter_rests : (periods : Periods) (v : World) (processor task now : ℕ) (a : Accounts) (l : ProcessorState) → slice_get a.by_processor processor ≡ Some l → is_same l.run (Some task) ≡ false → AgreesWith v (switched processor (Some task) now periods a) → Rests (charged processor now a) task
+starter_rests : (periods : Periods) (v : World) (processor task now : ℕ) (a : Accounts) (l : ProcessorState)
+    → slice_get a.by_processor processor ≡ Some l → is_same l.run (Some task) ≡ false
+    → AgreesWith v (switched processor (Some task) now periods a)
+    → Rests (charged processor now a) task
 starter_rests periods v processor task now a l at other agrees =
     let mid : Accounts = charged processor now a in
     let over : Accounts = taken_over processor (Some task) now periods mid in
     let b : Accounts = switched processor (Some task) now periods a in
-    let is : b ≡ over = ap (λ (o : Option ProcessorState). option_map_or (λ (x : ProcessorState). if is_same x.run (Some task) then a else over) o a) at ∙ ap (λ t. if t then a else over) other in
+    let is : b ≡ over =
+    ap (λ (o : Option ProcessorState). option_map_or (λ (x : ProcessorState). if is_same x.run (Some task) then a else over) o a) at
+    ∙ ap (λ t. if t then a else over) other in
     let before : Reads processor l.run l.size a mid = reads_charged processor now a l at in
     let after : Reads processor (Some task) l.size a b = reads_switched processor (Some task) now periods a l at in
-    let low : task < length mid.by_task = omega (arith, runner_low v b processor task agrees after.run_here, ap (λ (x : Accounts). length x.by_task) is, taken_over_tasks processor (Some task) now periods mid) in
+    let low : task < length mid.by_task = omega (
+      arith,
+      runner_low v b processor task agrees after.run_here,
+      ap (λ (x : Accounts). length x.by_task) is,
+      taken_over_tasks processor (Some task) now periods mid,
+    ) in
     let t = task_there mid.by_task task low in
     let home : ℕ = t.0.home in
     let nowhere : run_at mid.by_processor home ≢ Some task = λ runs. elim (cases_eq home processor) [
       | inl same ↦
           let here : l.run ≡ Some task = sym before.run_here ∙ ap (run_at mid.by_processor) (sym same) ∙ runs in
           true≢false (sym (ap (λ o. is_same o (Some task)) here ∙ eq-eqb task task refl) ∙ other)
-      | inr apart ↦ apart (tasks_run_alone v b processor agrees home task after.run_here (after.runs home apart ∙ sym (before.runs home apart) ∙ runs))
+      | inr apart ↦
+          apart
+          (tasks_run_alone v b processor agrees home task after.run_here (after.runs home apart ∙ sym (before.runs home apart) ∙ runs))
     ] in
     record { progress = t.0; there = t.1; still = runs_elsewhere mid.by_processor home task nowhere }
 
 -- a processor that is one of 64
-no_stray_processor : (periods : Periods) (processor now : ℕ) (a : Accounts) → CanSwitch periods processor now a → IsStrayProcessor processor (charged processor now a) → ⊥
-no_stray_processor periods processor now a h (inl none) = none-some (record h.state { since = now }) (sym none ∙ charged_there processor now a h.state h.at)
+no_stray_processor : (periods : Periods) (processor now : ℕ) (a : Accounts)
+    → CanSwitch periods processor now a → IsStrayProcessor processor (charged processor now a) → ⊥
+no_stray_processor periods processor now a h (inl none) =
+    none-some (record h.state { since = now }) (sym none ∙ charged_there processor now a h.state h.at)
 no_stray_processor periods processor now a h (inr high) = omega (arith, high, h.low)
 
-no_stray_takeover : (run : Option ℕ) (periods : Periods) (v : World) (processor now : ℕ) (a : Accounts) (l : ProcessorState) → slice_get a.by_processor processor ≡ Some l → is_same l.run run ≡ false → CanSwitch periods processor now a → AgreesWith v (switched processor run now periods a)
-    → IsStrayTakeover periods processor run now (charged processor now a) → ⊥
+no_stray_takeover : (run : Option ℕ) (periods : Periods) (v : World) (processor now : ℕ) (a : Accounts) (l : ProcessorState)
+    → slice_get a.by_processor processor ≡ Some l → is_same l.run run ≡ false
+    → CanSwitch periods processor now a → AgreesWith v (switched processor run now periods a)
+    → IsStrayTakeover periods processor run now (charged processor now a)
+    → ⊥
 no_stray_takeover None periods v processor now a l at other h agrees astray = no_stray_processor periods processor now a h astray
-no_stray_takeover (Some task) periods v processor now a l at other h agrees (inl moves) = moves (starter_rests periods v processor task now a l at other agrees)
-no_stray_takeover (Some task) periods v processor now a l at other h agrees (inr (inl over)) = omega (arith, over.overrun, ((charged_on_time now processor a l at h.alone h.on_time).tasks task over.progress over.there).phase)
+no_stray_takeover (Some task) periods v processor now a l at other h agrees (inl moves) =
+    moves (starter_rests periods v processor task now a l at other agrees)
+no_stray_takeover (Some task) periods v processor now a l at other h agrees (inr (inl over)) =
+    omega (arith, over.overrun, ((charged_on_time now processor a l at h.alone h.on_time).tasks task over.progress over.there).phase)
 no_stray_takeover (Some task) periods v processor now a l at other h agrees (inr (inr (inl late))) = h.ticks late
-no_stray_takeover (Some task) periods v processor now a l at other h agrees (inr (inr (inr astray))) = no_stray_processor periods processor now a h astray
+no_stray_takeover (Some task) periods v processor now a l at other h agrees (inr (inr (inr astray))) =
+    no_stray_processor periods processor now a h astray
 
--- so no switch goes astray after which the accounts agree with a world
-pub no_stray_switch : (periods : Periods) (v : World) (processor : ℕ) (run : Option ℕ) (now : ℕ) (a : Accounts) → CanSwitch periods processor now a → AgreesWith v (switched processor run now periods a) → IsStraySwitch periods processor run now a → ⊥
+-- no switch goes astray after which the accounts agree with a world
+pub no_stray_switch : (periods : Periods) (v : World) (processor : ℕ) (run : Option ℕ) (now : ℕ) (a : Accounts)
+    → CanSwitch periods processor now a → AgreesWith v (switched processor run now periods a)
+    → IsStraySwitch periods processor run now a
+    → ⊥
 no_stray_switch periods v processor run now a h agrees (inl none) = none-some h.state (sym none ∙ h.at)
 no_stray_switch periods v processor run now a h agrees (inr astray) = elim astray.astray [
   | inl charge ↦ no_stray_charge processor now a h.state h.at h.on_time charge

@@ -21,7 +21,7 @@ use Rattle.bq_simulate.specs.Chronicles.{Book, Lives, is_busy, length_taken}
 use Rattle.bq_simulate.specs.Kept.{IsKept}
 use Rattle.bq_simulate.specs.KeptLaws.{Leads}
 use Rattle.bq_simulate.specs.Order.{CanFollow, FallsAsleep, GoesWell}
-use Rattle.bq_simulate.specs.Simulations.{GoesUntold, Same, book_of, with_seed}
+use Rattle.bq_simulate.specs.Simulations.{GoesUnreported, Same, book_of, with_seed}
 use Rattle.bq_simulate.specs.Steps.{IsAct}
 use Rattle.bq_simulate.proofs.AccountLemmas.{changed_at-length}
 use Rattle.bq_simulate.proofs.DeedLemmas.{firsts-stay, streams-stay}
@@ -33,18 +33,25 @@ use Rattle.bq_simulate.proofs.TimeKeptLemmas.{charged_tasks, run_of}
 use Rattle.bq_simulate.proofs.WellStepLemmas.{well_early}
 
 -- a task whose phase has ended at a processor has taken up its next action, which lasts so long, and nothing else was done
-pub record TakesUp (kinds : List TaskKind) (now processor task : ℕ) (action : Option Action) (aim : Option ℕ) (s t : Simulation) : Type 0 where
+pub record TakesUp (kinds : List TaskKind) (now processor task : ℕ) (action : Option Action) (aim : Option ℕ)
+    (s t : Simulation) : Type 0 where
   pub progress : TaskProgress
   pub lasts : ℕ
   pub done : IsDone (charged processor now (accounts_of s.roster)) processor task progress
   pub is : action ≡ next_action kinds progress
   pub aims : aim ≡ aimed kinds progress
   pub driver : t.driver ≡ s.driver
-  pub accounts : accounts_of t.roster ≡ of_task (λ _. acted kinds action lasts now progress) task (charged processor now (accounts_of s.roster))
+  pub accounts : accounts_of t.roster
+      ≡ of_task (λ _. acted kinds action lasts now progress) task (charged processor now (accounts_of s.roster))
 
-takes_up : (kinds : List TaskKind) (now processor task : ℕ) (action : Option Action) (aim : Option ℕ) (s t : Simulation) (drawn : List ℕ) → GoesUntold kinds (IsAct processor task now action aim) s drawn t → TakesUp kinds now processor task action aim s t
+takes_up : (kinds : List TaskKind) (now processor task : ℕ) (action : Option Action) (aim : Option ℕ)
+    (s t : Simulation) (drawn : List ℕ)
+    → GoesUnreported kinds (IsAct processor task now action aim) s drawn t
+    → TakesUp kinds now processor task action aim s t
 takes_up kinds now processor task action aim s t drawn h =
-    let (c, done, is, to, (none, same, kept)) = subst (λ l. Lives kinds s.seed s.roster.periods s.driver (book_of s drawn) l [] t.driver (book_of t h.after)) h.are h.lives in
+    let (c, done, is, to, (none, same, kept)) =
+    subst (λ l. Lives kinds s.seed s.roster.periods s.driver (book_of s drawn) l [] t.driver (book_of t h.after)) h.are
+    h.lives in
     let a : Accounts = charged processor now (accounts_of s.roster) in
     let long : ℕ = length_taken s.seed task drawn (asked_by (next_action kinds c)) in
     record {
@@ -64,7 +71,9 @@ pub record StandsThen (kinds : List TaskKind) (now processor task : ℕ) (s t : 
   pub runs_then : run_at t.roster.by_processor.items processor ≡ Some task
   pub on_time : IsOnTime now (accounts_of t.roster)
 
-stands_then : (w : Workload) (now processor task : ℕ) (action : Option Action) (aim : Option ℕ) (s t : Simulation) → GoesWell w now s → TakesUp w.tasks.items now processor task action aim s t → StandsThen w.tasks.items now processor task s t
+stands_then : (w : Workload) (now processor task : ℕ) (action : Option Action) (aim : Option ℕ) (s t : Simulation)
+    → GoesWell w now s → TakesUp w.tasks.items now processor task action aim s t
+    → StandsThen w.tasks.items now processor task s t
 stands_then w now processor task action aim s t h u =
     let was : Accounts = accounts_of s.roster in
     let a : Accounts = charged processor now was in
@@ -73,19 +82,26 @@ stands_then w now processor task action aim s t h u =
       counted = agrees_charged (world_of s.driver) was processor now h.kept.agrees;
       runs = runs;
       runs_then = ap (λ (x : Accounts). run_at x.by_processor processor) u.accounts ∙ runs;
-      on_time = subst (λ (x : Accounts). IsOnTime now x) (sym u.accounts) (taken_up_on_time action w.tasks.items (world_of s.driver) was processor task u.lasts now u.progress (well_early w now s h) h.kept.agrees u.done h.kept.on_time);
+      on_time =
+          subst (λ (x : Accounts). IsOnTime now x) (sym u.accounts)
+          (taken_up_on_time action w.tasks.items (world_of s.driver) was processor task u.lasts now u.progress
+          (well_early w now s h) h.kept.agrees u.done h.kept.on_time);
     }
 
 -- where it cannot run any more it falls asleep
-falls_asleep : (w : Workload) (now processor task : ℕ) (action : Option Action) (aim : Option ℕ) (s t : Simulation) → ((length : ℕ) (c : TaskProgress) → can_run (acted w.tasks.items action length now c).task_state ≡ false)
-    → (h : GoesWell w now s) → GoesUntold w.tasks.items (IsAct processor task now action aim) s h.drawn t → FallsAsleep w now processor t
+falls_asleep : (w : Workload) (now processor task : ℕ) (action : Option Action) (aim : Option ℕ) (s t : Simulation)
+    → ((length : ℕ) (c : TaskProgress) → can_run (acted w.tasks.items action length now c).task_state ≡ false)
+    → (h : GoesWell w now s) → GoesUnreported w.tasks.items (IsAct processor task now action aim) s h.drawn t
+    → FallsAsleep w now processor t
 falls_asleep w now processor task action aim s t sleeps h g =
     let kinds : List TaskKind = w.tasks.items in
     let u = takes_up kinds now processor task action aim s t h.drawn g in
     let then = stands_then w now processor task action aim s t h u in
     let a : Accounts = charged processor now (accounts_of s.roster) in
     let c : TaskProgress = u.progress in
-    let but = agrees_but_it (world_of s.driver) a task processor c (acted kinds action u.lasts now c) u.done.there (sleeps u.lasts c) (acted_home action kinds u.lasts now c) then.runs then.counted in
+    let but =
+    agrees_but_it (world_of s.driver) a task processor c (acted kinds action u.lasts now c) u.done.there (sleeps u.lasts c)
+    (acted_home action kinds u.lasts now c) then.runs then.counted in
     record {
       sound = h.sound;
       until = h.until;
@@ -95,12 +111,16 @@ falls_asleep w now processor task action aim s t sleeps h g =
       on_time = then.on_time;
       task = task;
       runs = then.runs_then;
-      agrees = subst (λ (d : Driver). AgreesBut task (world_of d) (accounts_of t.roster)) (sym u.driver) (subst (λ (x : Accounts). AgreesBut task (world_of s.driver) x) (sym u.accounts) but);
+      agrees =
+          subst (λ (d : Driver). AgreesBut task (world_of d) (accounts_of t.roster)) (sym u.driver)
+          (subst (λ (x : Accounts). AgreesBut task (world_of s.driver) x) (sym u.accounts) but);
       agreed = g.agrees h.agreed;
     }
 
 -- where it wakes others all goes well
-wakes_well : (w : Workload) (now processor task kind : ℕ) (aim : Option ℕ) (s t : Simulation) → (h : GoesWell w now s) → GoesUntold w.tasks.items (IsAct processor task now (Some (Wake kind)) aim) s h.drawn t → GoesWell w now t
+wakes_well : (w : Workload) (now processor task kind : ℕ) (aim : Option ℕ) (s t : Simulation)
+    → (h : GoesWell w now s) → GoesUnreported w.tasks.items (IsAct processor task now (Some (Wake kind)) aim) s h.drawn t
+    → GoesWell w now t
 wakes_well w now processor task kind aim s t h g =
     let kinds : List TaskKind = w.tasks.items in
     let u = takes_up kinds now processor task (Some (Wake kind)) aim s t h.drawn g in
@@ -109,7 +129,9 @@ wakes_well w now processor task kind aim s t h g =
     let a : Accounts = charged processor now was in
     let c : TaskProgress = u.progress in
     let new : TaskProgress = acted kinds (Some (Wake kind)) u.lasts now c in
-    let further = agrees_further (world_of s.driver) a task c new u.done.there (woken_one_state kinds kind c) (woken_one_home kinds kind c) then.counted in
+    let further =
+    agrees_further (world_of s.driver) a task c new u.done.there (woken_one_state kinds kind c)
+    (woken_one_home kinds kind c) then.counted in
     let leads : Leads (with_seed w s.seed) s.driver (book_of s h.drawn) g.deeds [] t.driver (book_of t g.after) =
     subst (λ (p : Periods). Lives kinds s.seed p s.driver (book_of s h.drawn) g.deeds [] t.driver (book_of t g.after)) h.periods g.lives in
     record {
@@ -121,40 +143,62 @@ wakes_well w now processor task kind aim s t h g =
       firsts = g.firsts;
       all_firsts = omega (arith, h.all_firsts, g.begun);
       kept = record {
-        agrees = subst (λ (d : Driver). AgreesWith (world_of d) (accounts_of t.roster)) (sym u.driver) (subst (λ (x : Accounts). AgreesWith (world_of s.driver) x) (sym u.accounts) further);
+        agrees =
+            subst (λ (d : Driver). AgreesWith (world_of d) (accounts_of t.roster)) (sym u.driver)
+            (subst (λ (x : Accounts). AgreesWith (world_of s.driver) x) (sym u.accounts) further);
         on_time = then.on_time;
         read = subst (λ (d : Driver). d.now ≤ now) (sym u.driver) h.kept.read;
-        standing = standing_is_kept (with_seed w s.seed) s.driver t.driver (book_of s h.drawn) (book_of t g.after) g.deeds [] h.sound leads h.kept.standing;
-        all = ap (λ (x : Accounts). length x.by_task) u.accounts ∙ changed_at-length (λ _. new) a.by_task task ∙ charged_tasks processor now was ∙ h.kept.all;
+        standing =
+            standing_is_kept (with_seed w s.seed) s.driver t.driver (book_of s h.drawn) (book_of t g.after)
+            g.deeds [] h.sound leads h.kept.standing;
+        all =
+            ap (λ (x : Accounts). length x.by_task) u.accounts ∙ changed_at-length (λ _. new) a.by_task task
+            ∙ charged_tasks processor now was ∙ h.kept.all;
         few = subst (λ (d : Driver). count_in (world_of d) ≤ 64) (sym u.driver) h.kept.few;
       };
       agreed = g.agrees h.agreed;
     }
 
 -- it still runs there
-still_busy : (kinds : List TaskKind) (now processor task : ℕ) (action : Option Action) (aim : Option ℕ) (s t : Simulation) → TakesUp kinds now processor task action aim s t → is_busy (accounts_of t.roster) processor ≡ true
+still_busy : (kinds : List TaskKind) (now processor task : ℕ) (action : Option Action) (aim : Option ℕ) (s t : Simulation)
+    → TakesUp kinds now processor task action aim s t → is_busy (accounts_of t.roster) processor ≡ true
 still_busy kinds now processor task action aim s t u =
-    ap (λ (x : Accounts). is_busy x processor) u.accounts ∙ ap (λ (o : Option ProcessorState). option_map_or (λ (l : ProcessorState). is_some l.run) o false) u.done.at ∙ ap (λ (o : Option ℕ). is_some o) u.done.runs
+    ap (λ (x : Accounts). is_busy x processor) u.accounts
+    ∙ ap (λ (o : Option ProcessorState). option_map_or (λ (l : ProcessorState). is_some l.run) o false) u.done.at
+    ∙ ap (λ (o : Option ℕ). is_some o) u.done.runs
 
--- and there is a task to which its wake comes next
-wakes_one : (w : Workload) (now processor task kind : ℕ) (before : TaskProgress) (s t : Simulation) → GoesWell w now s → TakesUp w.tasks.items now processor task (Some (Wake kind)) (aim_of w.tasks.items before (Some (Wake kind))) s t → before.woken < count_of w.tasks.items kind
+-- a task whose action is a wake leaves one to wake next
+wakes_one : (w : Workload) (now processor task kind : ℕ) (before : TaskProgress) (s t : Simulation)
+    → GoesWell w now s → TakesUp w.tasks.items now processor task (Some (Wake kind)) (aim_of w.tasks.items before (Some (Wake kind))) s t
+    → before.woken < count_of w.tasks.items kind
 wakes_one w now processor task kind before s t h u =
     let kinds : List TaskKind = w.tasks.items in
     let c : TaskProgress = u.progress in
-    let stand : AllStand kinds (charged processor now (accounts_of s.roster)).by_task = charged_keeps (λ x. AllStand kinds x.by_task) (standing_of_places kinds) processor now (accounts_of s.roster) h.kept.standing.tasks in
-    let aims : first_of kinds kind + before.woken ≡ first_of kinds kind + c.woken = same_Some (first_of kinds kind + before.woken) (first_of kinds kind + c.woken) (u.aims ∙ ap (aim_of kinds c) (sym u.is)) in
+    let stand : AllStand kinds (charged processor now (accounts_of s.roster)).by_task =
+    charged_keeps (λ x. AllStand kinds x.by_task) (standing_of_places kinds) processor now
+    (accounts_of s.roster) h.kept.standing.tasks in
+    let aims : first_of kinds kind + before.woken ≡ first_of kinds kind + c.woken =
+    same_Some (first_of kinds kind + before.woken) (first_of kinds kind + c.woken)
+    (u.aims ∙ ap (aim_of kinds c) (sym u.is)) in
     omega (arith, aims, (stand task c u.done.there).woken kind (sym u.is))
 
--- so what it has taken up can follow
-pub can_follow : (action : Option Action) (w : Workload) (before : TaskProgress) (now processor task : ℕ) (s t : Simulation) → (h : GoesWell w now s) → GoesUntold w.tasks.items (IsAct processor task now action (aim_of w.tasks.items before action)) s h.drawn t → CanFollow w action before processor now t
+-- what a task has taken up can follow
+pub can_follow : (action : Option Action) (w : Workload) (before : TaskProgress) (now processor task : ℕ) (s t : Simulation)
+    → (h : GoesWell w now s)
+    → GoesUnreported w.tasks.items (IsAct processor task now action (aim_of w.tasks.items before action)) s h.drawn t
+    → CanFollow w action before processor now t
 can_follow None w before now processor task s t h g = falls_asleep w now processor task None None s t (λ length c. refl) h g
 can_follow (Some (Run asked)) w before now processor task s t h g = tt
-can_follow (Some (Sleep asked)) w before now processor task s t h g = falls_asleep w now processor task (Some (Sleep asked)) None s t (λ length c. refl) h g
+can_follow (Some (Sleep asked)) w before now processor task s t h g =
+    falls_asleep w now processor task (Some (Sleep asked)) None s t (λ length c. refl) h g
 can_follow (Some Wait) w before now processor task s t h g = falls_asleep w now processor task (Some Wait) None s t (λ length c. refl) h g
 can_follow (Some (Wake kind)) w before now processor task s t h g =
     let aim : Option ℕ = aim_of w.tasks.items before (Some (Wake kind)) in
-    let u = takes_up w.tasks.items now processor task (Some (Wake kind)) aim s t h.drawn g in
-    (wakes_well w now processor task kind aim s t h g, still_busy w.tasks.items now processor task (Some (Wake kind)) aim s t u, wakes_one w now processor task kind before s t h u)
+    let u = takes_up w.tasks.items now processor task (Some (Wake kind)) aim s t h.drawn g in (
+      wakes_well w now processor task kind aim s t h g,
+      still_busy w.tasks.items now processor task (Some (Wake kind)) aim s t u,
+      wakes_one w now processor task kind before s t h u,
+    )
 
 -- Where nothing is done but to count
 
@@ -169,11 +213,14 @@ well_same w now s t same h =
       streams = streams-stay s t h.drawn same.stays h.streams;
       firsts = firsts-stay kinds s t same.stays h.firsts;
       all_firsts = omega (arith, h.all_firsts, ap (λ v. length v.items) same.stays.firsts);
-      kept = subst (λ (d : Driver). IsKept kinds now d (book_of t h.drawn)) (sym same.driver) (subst (λ (a : Accounts). IsKept kinds now s.driver (record { accounts = a; drawn = h.drawn })) (sym same.accounts) h.kept);
+      kept =
+          subst (λ (d : Driver). IsKept kinds now d (book_of t h.drawn)) (sym same.driver)
+          (subst (λ (a : Accounts). IsKept kinds now s.driver (record { accounts = a; drawn = h.drawn })) (sym same.accounts) h.kept);
       agreed = same.stays.agrees h.agreed;
     }
 
-asleep_same : (w : Workload) (now processor : ℕ) (s t : Simulation) → Same s t → FallsAsleep w now processor s → FallsAsleep w now processor t
+asleep_same : (w : Workload) (now processor : ℕ) (s t : Simulation)
+    → Same s t → FallsAsleep w now processor s → FallsAsleep w now processor t
 asleep_same w now processor s t same h = record {
   sound = h.sound;
   until = h.until;
@@ -183,14 +230,18 @@ asleep_same w now processor s t same h = record {
   on_time = subst (λ (a : Accounts). IsOnTime now a) (sym same.accounts) h.on_time;
   task = h.task;
   runs = ap (λ (a : Accounts). run_at a.by_processor processor) same.accounts ∙ h.runs;
-  agrees = subst (λ (d : Driver). AgreesBut h.task (world_of d) (accounts_of t.roster)) (sym same.driver) (subst (λ (a : Accounts). AgreesBut h.task (world_of s.driver) a) (sym same.accounts) h.agrees);
+  agrees =
+      subst (λ (d : Driver). AgreesBut h.task (world_of d) (accounts_of t.roster)) (sym same.driver)
+      (subst (λ (a : Accounts). AgreesBut h.task (world_of s.driver) a) (sym same.accounts) h.agrees);
   agreed = same.stays.agrees h.agreed;
 }
 
--- the same can follow
-pub can_follow_same : (action : Option Action) (w : Workload) (c : TaskProgress) (now processor : ℕ) (s t : Simulation) → Same s t → CanFollow w action c processor now s → CanFollow w action c processor now t
+-- what can follow can follow in a simulation that has only counted
+pub can_follow_same : (action : Option Action) (w : Workload) (c : TaskProgress) (now processor : ℕ) (s t : Simulation)
+    → Same s t → CanFollow w action c processor now s → CanFollow w action c processor now t
 can_follow_same None w c now processor s t same h = asleep_same w now processor s t same h
 can_follow_same (Some (Run asked)) w c now processor s t same h = tt
 can_follow_same (Some (Sleep asked)) w c now processor s t same h = asleep_same w now processor s t same h
 can_follow_same (Some Wait) w c now processor s t same h = asleep_same w now processor s t same h
-can_follow_same (Some (Wake kind)) w c now processor s t same h = (well_same w now s t same h.0, ap (λ (a : Accounts). is_busy a processor) same.accounts ∙ h.1, h.2)
+can_follow_same (Some (Wake kind)) w c now processor s t same h =
+    (well_same w now s t same h.0, ap (λ (a : Accounts). is_busy a processor) same.accounts ∙ h.1, h.2)

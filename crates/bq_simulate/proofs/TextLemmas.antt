@@ -4,14 +4,17 @@ use Rattle.std.specs.Str.{IsUtf8, is_utf8}
 use Rattle.std.proofs.lemmas.Grind.{flat_map-append}
 use Rattle.std.proofs.lemmas.Str.{IsUtf8-from_is_utf8, is_utf8-from_IsUtf8}
 use Rattle.bq_trace.specs.Feeding.{with_feeds}
-use Rattle.bq_trace.specs.TraceEvents.{TraceEvent, Told, TakesAll, Skipped}
-use Rattle.bq_simulate.specs.Texts.{ByHook, Writes, WritesAll, image_at, traced_lines, told_lines}
+use Rattle.bq_trace.specs.TraceEvents.{TraceEvent, Reported, TakesAll, Skipped}
+use Rattle.bq_simulate.specs.Texts.{ByHook, Writes, WritesAll, image_at, traced_lines, reported_lines}
 use Rattle.bq_simulate.specs.declared.trace_writer.TraceWriter.{TraceWriter}
 
 -- a line of UTF-8 is written
-pub writes_line : (images : ByHook) (old new line : List ℕ) → IsUtf8 line → new ≡ old ++ (line ++ 10 ∷ []) → Writes images old (Skipped line) new
+pub writes_line : (images : ByHook) (old new line : List ℕ) → IsUtf8 line → new ≡ old ++ (line ++ 10 ∷ [])
+    → Writes images old (Skipped line) new
 writes_line images old new line utf8 is = record {
-  text = is ∙ ap (λ l. old ++ l) (sym (append-nil (line ++ 10 ∷ []))) ∙ ap (λ b. old ++ with_feeds (cond b (line ∷ []) [])) (sym (is_utf8-from_IsUtf8 line utf8));
+  text =
+      is ∙ ap (λ l. old ++ l) (sym (append-nil (line ++ 10 ∷ [])))
+      ∙ ap (λ b. old ++ with_feeds (cond b (line ∷ []) [])) (sym (is_utf8-from_IsUtf8 line utf8));
   fits = tt;
 }
 
@@ -22,7 +25,7 @@ no_utf8 line other = cases (is_utf8 line) refl
     cases true e = absurd (other (IsUtf8-from_is_utf8 line e))
     cases false e = refl
 
--- and no other
+-- no line is written but one of UTF-8
 pub writes_none : (images : ByHook) (old line : List ℕ) → (IsUtf8 line → ⊥) → Writes images old (Skipped line) old
 writes_none images old line other = record {
   text = sym (append-nil old) ∙ ap (λ b. old ++ with_feeds (cond b (line ∷ []) [])) (sym (no_utf8 line other));
@@ -30,10 +33,13 @@ writes_none images old line other = record {
 }
 
 -- the lines of events one after another
-pub writes_more : (images : ByHook) (old mid new : List ℕ) (n : ℕ) (x : TraceEvent) (more : Told) → Writes images old x mid → WritesAll images mid more new → WritesAll images old ((n, x) ∷ more) new
+pub writes_more : (images : ByHook) (old mid new : List ℕ) (n : ℕ) (x : TraceEvent) (more : Reported)
+    → Writes images old x mid → WritesAll images mid more new → WritesAll images old ((n, x) ∷ more) new
 writes_more images old mid new n x more h k = record {
-  text = k.text ∙ ap (λ l. l ++ with_feeds (told_lines images more)) h.text ∙ append_assoc old (with_feeds (traced_lines images x)) (with_feeds (told_lines images more))
-      ∙ ap (λ l. old ++ l) (sym (flat_map-append (λ line. line ++ 10 ∷ []) (traced_lines images x) (told_lines images more)));
+  text =
+      k.text ∙ ap (λ l. l ++ with_feeds (reported_lines images more)) h.text
+      ∙ append_assoc old (with_feeds (traced_lines images x)) (with_feeds (reported_lines images more))
+      ∙ ap (λ l. old ++ l) (sym (flat_map-append (λ line. line ++ 10 ∷ []) (traced_lines images x) (reported_lines images more)));
   fits = (h.fits, k.fits);
 }
 
@@ -42,9 +48,12 @@ abbrev pub Takes : TraceWriter → ℕ → TraceEvent → TraceWriter → Type 0
 Takes old n traced new = (new.images ≡ old.images) × Writes (image_at old.images) (string_bytes old.text) traced (string_bytes new.text)
 
 -- the text that takes events has grown by its lines, and its images are the same
-pub writes_all : (old new : TraceWriter) (told : Told) → TakesAll Takes old told new
-    → (new.images ≡ old.images) × WritesAll (image_at old.images) (string_bytes old.text) told (string_bytes new.text)
-writes_all old new [] h = (ap (λ (s : TraceWriter). s.images) h, record { text = ap (λ (s : TraceWriter). string_bytes s.text) h ∙ sym (append-nil (string_bytes old.text)); fits = tt })
+pub writes_all : (old new : TraceWriter) (reported : Reported) → TakesAll Takes old reported new
+    → (new.images ≡ old.images) × WritesAll (image_at old.images) (string_bytes old.text) reported (string_bytes new.text)
+writes_all old new [] h = (
+  ap (λ (s : TraceWriter). s.images) h,
+  record { text = ap (λ (s : TraceWriter). string_bytes s.text) h ∙ sym (append-nil (string_bytes old.text)); fits = tt },
+)
 writes_all old new ((n, x) ∷ more) h =
     let rest = writes_all h.0 new more h.2 in (
       rest.0 ∙ h.1.0,

@@ -10,7 +10,7 @@ use Rattle.bq_parts.specs.Processors.{Processor}
 use Rattle.bq_parts.specs.Refusals.{is_away}
 use Rattle.bq_parts.specs.World.{World, processor_at, entry}
 use Rattle.bq_parts.specs.declared.lobby_entry.LobbyEntry.{LobbyEntry}
-use Rattle.bq_parts.specs.declared.lobby_entry.LobbyEntry.TheVariants.{Absent, Blocked, Away}
+use Rattle.bq_parts.specs.declared.lobby_entry.LobbyEntry.TheVariants.{Absent, Sleeping, Away}
 use Rattle.bq_parts.proofs.OnceLemmas.{count_of-held_by, held_two, standing_once}
 use Rattle.bq_workload.specs.declared.progress.TaskProgress.{TaskProgress}
 use Rattle.bq_workload.specs.declared.progress.TaskState.{TaskState}
@@ -49,17 +49,21 @@ tasks_run_alone w a processor h other task here there = elim (cases_eq other pro
 -- an entry that is away is that of a task
 away_is_task : (o : Option TaskState) (s : LobbyEntry) → StandsAs o s → is_away s ≡ true → is_some o ≡ true
 away_is_task None Absent h away = cc
-away_is_task None (Blocked t) h away = cc
+away_is_task None (Sleeping t) h away = cc
 away_is_task None Away h away = cc
 away_is_task (Some x) s h away = refl
 
 -- a task that runs is one of the accounts
-pub runner_low : (w : World) (a : Accounts) (processor task : ℕ) → AgreesWith w a → run_at a.by_processor processor ≡ Some task → task < length a.by_task
+pub runner_low : (w : World) (a : Accounts) (processor task : ℕ)
+    → AgreesWith w a → run_at a.by_processor processor ≡ Some task → task < length a.by_task
 runner_low w a processor task h runs =
     let away = runs_away w processor task h.orderly (sym (h.mirrors.processors.runs processor) ∙ runs) in
     let some = away_is_task (state_at a.by_task task) (entry w task) (h.mirrors.tasks task) away in
     elim (some_or_none (slice_get a.by_task task)) [
-      | inl none ↦ absurd (let no : is_some (state_at a.by_task task) ≡ false = ap (λ (o : Option TaskProgress). is_some (option_map_or (λ (x : TaskProgress). Some x.task_state) o None)) none in cc)
+      | inl none ↦
+          absurd (let no : is_some (state_at a.by_task task) ≡ false =
+          ap (λ (o : Option TaskProgress). is_some (option_map_or (λ (x : TaskProgress). Some x.task_state) o None)) none in
+          cc)
       | inr (c, at) ↦ slice_get_within a.by_task task c at
     ]
 
@@ -74,8 +78,11 @@ multiple_later between now some = omega (arith, add-mul (now / between) 1 betwee
 -- Tasks
 
 -- one task's progress changes, and its next is on time
-pub tasks_changed : (now : ℕ) (f : TaskProgress → TaskProgress) (cs : List TaskProgress) (n : ℕ) → ((c : TaskProgress) → slice_get cs n ≡ Some c → TaskIsOnTime now (f c)) → ((k : ℕ) (c : TaskProgress) → slice_get cs k ≡ Some c → TaskIsOnTime now c)
-    → (k : ℕ) (c : TaskProgress) → slice_get (changed_at f cs n) k ≡ Some c → TaskIsOnTime now c
+pub tasks_changed : (now : ℕ) (f : TaskProgress → TaskProgress) (cs : List TaskProgress) (n : ℕ)
+    → ((c : TaskProgress) → slice_get cs n ≡ Some c → TaskIsOnTime now (f c))
+    → ((k : ℕ) (c : TaskProgress) → slice_get cs k ≡ Some c → TaskIsOnTime now c)
+    → (k : ℕ) (c : TaskProgress) → slice_get (changed_at f cs n) k ≡ Some c
+    → TaskIsOnTime now c
 tasks_changed now f cs n here h k c at = elim (cases_eq k n) [
   | inr apart ↦ h k c (sym (changed_at-others f cs n k apart) ∙ at)
   | inl same ↦
@@ -89,35 +96,51 @@ tasks_changed now f cs n here h k c at = elim (cases_eq k n) [
 -- Processors
 
 -- a processor that has not changed, and whose task has not
-pub carried : (now : ℕ) (cs ds : List TaskProgress) (l : ProcessorState) → ((task : ℕ) → l.run ≡ Some task → slice_get ds task ≡ slice_get cs task) → ProcessorIsOnTime now cs l → ProcessorIsOnTime now ds l
+pub carried : (now : ℕ) (cs ds : List TaskProgress) (l : ProcessorState)
+    → ((task : ℕ) → l.run ≡ Some task → slice_get ds task ≡ slice_get cs task) → ProcessorIsOnTime now cs l
+    → ProcessorIsOnTime now ds l
 carried now cs ds l same p = record {
   since = p.since;
   looks = p.looks;
-  runs = λ task runs. let r : RunsOnTime now cs l task = p.runs task runs in record { progress = r.progress; there = same task runs ∙ r.there; phase = r.phase; next = r.next; tick = r.tick; later = r.later };
+  runs = λ task runs.
+      let r : RunsOnTime now cs l task = p.runs task runs in
+      record { progress = r.progress; there = same task runs ∙ r.there; phase = r.phase; next = r.next; tick = r.tick; later = r.later };
   rests = p.rests;
 }
 
 -- one processor changes, and its next state is on time
-pub processors_changed : (now : ℕ) (cs ds : List TaskProgress) (ls : List ProcessorState) (f : ProcessorState → ProcessorState) (n : ℕ) → ((k task : ℕ) (l : ProcessorState) → k ≢ n → slice_get ls k ≡ Some l → l.run ≡ Some task → slice_get ds task ≡ slice_get cs task)
-    → ((l : ProcessorState) → slice_get ls n ≡ Some l → ProcessorIsOnTime now ds (f l)) → ((k : ℕ) (l : ProcessorState) → slice_get ls k ≡ Some l → ProcessorIsOnTime now cs l) → (k : ℕ) (l : ProcessorState) → slice_get (changed_at f ls n) k ≡ Some l → ProcessorIsOnTime now ds l
+pub processors_changed : (now : ℕ) (cs ds : List TaskProgress) (ls : List ProcessorState)
+    (f : ProcessorState → ProcessorState) (n : ℕ)
+    → ((k task : ℕ) (l : ProcessorState) → k ≢ n → slice_get ls k ≡ Some l → l.run ≡ Some task → slice_get ds task ≡ slice_get cs task)
+    → ((l : ProcessorState) → slice_get ls n ≡ Some l → ProcessorIsOnTime now ds (f l))
+    → ((k : ℕ) (l : ProcessorState) → slice_get ls k ≡ Some l → ProcessorIsOnTime now cs l)
+    → (k : ℕ) (l : ProcessorState) → slice_get (changed_at f ls n) k ≡ Some l
+    → ProcessorIsOnTime now ds l
 processors_changed now cs ds ls f n others here h k l at = elim (cases_eq k n) [
-  | inr apart ↦ let was : slice_get ls k ≡ Some l = sym (changed_at-others f ls n k apart) ∙ at in carried now cs ds l (λ task runs. others k task l apart was runs) (h k l was)
+  | inr apart ↦
+      let was : slice_get ls k ≡ Some l = sym (changed_at-others f ls n k apart) ∙ at in
+      carried now cs ds l (λ task runs. others k task l apart was runs) (h k l was)
   | inl same ↦
       let there : slice_get (changed_at f ls n) n ≡ Some l = ap (slice_get (changed_at f ls n)) (sym same) ∙ at in
       elim (some_or_none (slice_get ls n)) [
         | inl none ↦ let was = stood_before_change f ls n n l there in absurd (none-some was.0 (sym none ∙ was.1))
-        | inr (x, is) ↦ subst (λ (y : ProcessorState). ProcessorIsOnTime now ds y) (same_Some (f x) l (sym (changed_at-here f ls n x is) ∙ there)) (here x is)
+        | inr (x, is) ↦
+            subst (λ (y : ProcessorState). ProcessorIsOnTime now ds y)
+            (same_Some (f x) l (sym (changed_at-here f ls n x is) ∙ there)) (here x is)
       ]
 ]
 
 -- what runs at a processor
-pub run_of : (a : Accounts) (processor : ℕ) (l : ProcessorState) → slice_get a.by_processor processor ≡ Some l → run_at a.by_processor processor ≡ l.run
+pub run_of : (a : Accounts) (processor : ℕ) (l : ProcessorState)
+    → slice_get a.by_processor processor ≡ Some l → run_at a.by_processor processor ≡ l.run
 run_of a processor l at = ap (λ (o : Option ProcessorState). option_map_or (λ (x : ProcessorState). x.run) o None) at
 
 -- The time of a processor is counted
 
 -- it is counted until now, and nothing is past
-pub charged_on_time : (now processor : ℕ) (a : Accounts) (l : ProcessorState) → slice_get a.by_processor processor ≡ Some l → RunsAlone a processor → IsOnTime now a → IsOnTime now (charged processor now a)
+pub charged_on_time : (now processor : ℕ) (a : Accounts) (l : ProcessorState)
+    → slice_get a.by_processor processor ≡ Some l → RunsAlone a processor → IsOnTime now a
+    → IsOnTime now (charged processor now a)
 charged_on_time now processor a l at alone h =
     let ls = a.by_processor in
     let cs = a.by_task in
@@ -126,43 +149,55 @@ charged_on_time now processor a l at alone h =
     let whole : IsOnTime now (both (counted l now cs) (changed_at (since_now now) ls processor)) = elim (some_or_none l.run) [
       | inl none ↦
           let same : counted l now cs ≡ cs = ap (λ (o : Option ℕ). option_map_or (λ task. changed_at (run_for ran) cs task) o cs) none in
-          subst (λ (ds : List TaskProgress). IsOnTime now (both ds (changed_at (since_now now) ls processor))) (sym same) (record {
+          subst (λ (ds : List TaskProgress). IsOnTime now (both ds (changed_at (since_now now) ls processor))) (sym same)
+          (record {
             tasks = h.tasks;
-            processors = processors_changed now cs cs ls (since_now now) processor (λ k task x apart there runs. refl)
-                (λ x there. let is : l ≡ x = same_Some l x (sym at ∙ there) in subst (λ (y : ProcessorState). ProcessorIsOnTime now cs (since_now now y)) is (record {
+            processors =
+                processors_changed now cs cs ls (since_now now) processor (λ k task x apart there runs. refl)
+                (λ x there.
+                let is : l ≡ x = same_Some l x (sym at ∙ there) in
+                subst (λ (y : ProcessorState). ProcessorIsOnTime now cs (since_now now y)) is (record {
                   since = omega arith;
                   looks = p.looks;
                   runs = λ task runs. absurd (none-some task (sym none ∙ runs));
                   rests = p.rests;
-                }))
-                h.processors;
+                })) h.processors;
           })
       | inr (task, runs) ↦
-          let same : counted l now cs ≡ changed_at (run_for ran) cs task = ap (λ (o : Option ℕ). option_map_or (λ k. changed_at (run_for ran) cs k) o cs) runs in
+          let same : counted l now cs ≡ changed_at (run_for ran) cs task =
+          ap (λ (o : Option ℕ). option_map_or (λ k. changed_at (run_for ran) cs k) o cs) runs in
           let r : RunsOnTime now cs l task = p.runs task runs in
           let c : TaskProgress = r.progress in
           let ds : List TaskProgress = changed_at (run_for ran) cs task in
           let new : slice_get ds task ≡ Some (run_for ran c) = changed_at-here (run_for ran) cs task c r.there in
-          subst (λ (es : List TaskProgress). IsOnTime now (both es (changed_at (since_now now) ls processor))) (sym same) (record {
-            tasks = tasks_changed now (run_for ran) cs task
-                (λ k is. subst (λ (y : TaskProgress). TaskIsOnTime now (run_for ran y)) (same_Some c k (sym r.there ∙ is)) (record { phase = r.phase; timer = (h.tasks task c r.there).timer }))
-                h.tasks;
-            processors = processors_changed now cs ds ls (since_now now) processor
-                (λ k other x apart there mine. changed_at-others (run_for ran) cs task other (λ e. apart (alone k task (run_of a processor l at ∙ runs) (run_of a k x there ∙ mine ∙ ap (λ (i : ℕ). Some i) e))))
-                (λ x there. let is : l ≡ x = same_Some l x (sym at ∙ there) in subst (λ (y : ProcessorState). ProcessorIsOnTime now ds (since_now now y)) is (record {
+          subst (λ (es : List TaskProgress). IsOnTime now (both es (changed_at (since_now now) ls processor))) (sym same)
+          (record {
+            tasks =
+                tasks_changed now (run_for ran) cs task
+                (λ k is.
+                subst (λ (y : TaskProgress). TaskIsOnTime now (run_for ran y)) (same_Some c k (sym r.there ∙ is))
+                (record { phase = r.phase; timer = (h.tasks task c r.there).timer })) h.tasks;
+            processors =
+                processors_changed now cs ds ls (since_now now) processor
+                (λ k other x apart there mine.
+                changed_at-others (run_for ran) cs task other
+                (λ e. apart (alone k task (run_of a processor l at ∙ runs) (run_of a k x there ∙ mine ∙ ap (λ (i : ℕ). Some i) e))))
+                (λ x there.
+                let is : l ≡ x = same_Some l x (sym at ∙ there) in
+                subst (λ (y : ProcessorState). ProcessorIsOnTime now ds (since_now now y)) is (record {
                   since = omega arith;
                   looks = p.looks;
-                  runs = λ other mine. subst (λ (i : ℕ). RunsOnTime now ds (since_now now l) i) (same_Some task other (sym runs ∙ mine)) (record {
-                    progress = run_for ran c;
-                    there = new;
-                    phase = omega (arith, r.phase);
-                    next = r.next;
-                    tick = r.tick;
-                    later = r.later;
-                  });
+                  runs = λ other mine.
+                      subst (λ (i : ℕ). RunsOnTime now ds (since_now now l) i) (same_Some task other (sym runs ∙ mine)) (record {
+                        progress = run_for ran c;
+                        there = new;
+                        phase = omega (arith, r.phase);
+                        next = r.next;
+                        tick = r.tick;
+                        later = r.later;
+                      });
                   rests = p.rests;
-                }))
-                h.processors;
+                })) h.processors;
           })
     ] in
     subst (λ (x : Accounts). IsOnTime now x) (sym (charged-is processor now l a at)) whole
@@ -174,15 +209,24 @@ idle_look now time None h = cc
 idle_look now time (Some x) h = let same : now ≡ time = cc in omega (arith, same)
 
 moved_phase : (processor cost : ℕ) (c : TaskProgress) → c.got ≤ c.due → (moved_to processor cost c).got ≤ (moved_to processor cost c).due
-moved_phase processor cost c h = elim (migrates_to processor c && nat_le c.got c.due) as (λ b. c.got ≤ (if b then lengthened cost c.due else c.due)) [ true ↦ omega arith | false ↦ h ]
+moved_phase processor cost c h =
+    elim (migrates_to processor c && nat_le c.got c.due)
+    as (λ b. c.got ≤ (if b then lengthened cost c.due else c.due)) [ true ↦ omega arith | false ↦ h ]
 
-next_tick_later : (periods : Periods) (now : ℕ) (cs : List TaskProgress) (l : ProcessorState) → 1 ≤ periods.tick → ProcessorIsOnTime now cs l → now ≤ unwrap_or l.tick (next_multiple periods.tick now)
+next_tick_later : (periods : Periods) (now : ℕ) (cs : List TaskProgress) (l : ProcessorState)
+    → 1 ≤ periods.tick → ProcessorIsOnTime now cs l → now ≤ unwrap_or l.tick (next_multiple periods.tick now)
 next_tick_later periods now cs l some p = elim (some_or_none l.run) [
-  | inl none ↦ subst (λ (o : Option ℕ). now ≤ unwrap_or o (next_multiple periods.tick now)) (sym (p.rests none)) (multiple_later periods.tick now some)
-  | inr (task, runs) ↦ let r : RunsOnTime now cs l task = p.runs task runs in subst (λ (o : Option ℕ). now ≤ unwrap_or o (next_multiple periods.tick now)) (sym r.tick) r.later
+  | inl none ↦
+      subst (λ (o : Option ℕ). now ≤ unwrap_or o (next_multiple periods.tick now)) (sym (p.rests none))
+      (multiple_later periods.tick now some)
+  | inr (task, runs) ↦
+      let r : RunsOnTime now cs l task = p.runs task runs in
+      subst (λ (o : Option ℕ). now ≤ unwrap_or o (next_multiple periods.tick now)) (sym r.tick) r.later
 ]
 
-taken_over_on_time : (periods : Periods) (now processor : ℕ) (run : Option ℕ) (a : Accounts) → 1 ≤ periods.tick → ((task : ℕ) → run ≡ Some task → task < length a.by_task) → ((task k : ℕ) → run ≡ Some task → k ≢ processor → run_at a.by_processor k ≢ Some task) → IsOnTime now a
+taken_over_on_time : (periods : Periods) (now processor : ℕ) (run : Option ℕ) (a : Accounts)
+    → 1 ≤ periods.tick → ((task : ℕ) → run ≡ Some task → task < length a.by_task)
+    → ((task k : ℕ) → run ≡ Some task → k ≢ processor → run_at a.by_processor k ≢ Some task) → IsOnTime now a
     → IsOnTime now (taken_over processor run now periods a)
 taken_over_on_time periods now processor None a some low apart h = record {
   tasks = h.tasks;
@@ -201,38 +245,55 @@ taken_over_on_time periods now processor (Some task) a some low apart h =
     let ds = changed_at f cs task in
     let t = task_there cs task (low task refl) in
     record {
-      tasks = tasks_changed now f cs task (λ c at. record { phase = moved_phase processor periods.migration_cost c (h.tasks task c at).phase; timer = (h.tasks task c at).timer }) h.tasks;
-      processors = processors_changed now cs ds a.by_processor (occupied periods.tick task now) processor
-          (λ k other x away there runs. changed_at-others f cs task other (λ e. apart task k refl away (run_of a k x there ∙ runs ∙ ap (λ (i : ℕ). Some i) e)))
-          (λ l there. let p : ProcessorIsOnTime now cs l = h.processors processor l there in record {
+      tasks =
+          tasks_changed now f cs task (λ c at.
+          record { phase = moved_phase processor periods.migration_cost c (h.tasks task c at).phase; timer = (h.tasks task c at).timer })
+          h.tasks;
+      processors =
+          processors_changed now cs ds a.by_processor (occupied periods.tick task now) processor
+          (λ k other x away there runs.
+          changed_at-others f cs task other (λ e. apart task k refl away (run_of a k x there ∙ runs ∙ ap (λ (i : ℕ). Some i) e)))
+          (λ l there.
+          let p : ProcessorIsOnTime now cs l = h.processors processor l there in
+          record {
             since = omega arith;
             looks = p.looks;
-            runs = λ other mine. subst (λ (i : ℕ). RunsOnTime now ds (occupied periods.tick task now l) i) (same_Some task other mine) (record {
-              progress = f t.0;
-              there = changed_at-here f cs task t.0 t.1;
-              phase = omega (arith, moved_phase processor periods.migration_cost t.0 (h.tasks task t.0 t.1).phase);
-              next = unwrap_or l.tick (next_multiple periods.tick now);
-              tick = refl;
-              later = next_tick_later periods now cs l some p;
-            });
+            runs = λ other mine.
+                subst (λ (i : ℕ). RunsOnTime now ds (occupied periods.tick task now l) i) (same_Some task other mine) (record {
+                  progress = f t.0;
+                  there = changed_at-here f cs task t.0 t.1;
+                  phase = omega (arith, moved_phase processor periods.migration_cost t.0 (h.tasks task t.0 t.1).phase);
+                  next = unwrap_or l.tick (next_multiple periods.tick now);
+                  tick = refl;
+                  later = next_tick_later periods now cs l some p;
+                });
             rests = λ none. absurd (none-some task (sym none));
-          })
-          h.processors;
+          }) h.processors;
     }
 
 -- where the time of a processor is counted there are as many tasks
 pub charged_tasks : (processor now : ℕ) (a : Accounts) → length (charged processor now a).by_task ≡ length a.by_task
 charged_tasks processor now a =
-    let by : (l : ProcessorState) → length (charged_by l now a).by_task ≡ length a.by_task = λ l. elim l.run as (λ (o : Option ℕ). length (charged_by (record l { run = o }) now a).by_task ≡ length a.by_task) [ None ↦ refl | Some task ↦ changed_at-length (run_for (now - l.since)) a.by_task task ] in
-    elim (slice_get a.by_processor processor) as (λ (o : Option ProcessorState). length (option_map_or (λ (l : ProcessorState). of_processor (λ x. record x { since = now }) processor (charged_by l now a)) o a).by_task ≡ length a.by_task) [ None ↦ refl | Some l ↦ by l ]
+    let by : (l : ProcessorState) → length (charged_by l now a).by_task ≡ length a.by_task = λ l.
+    elim l.run as (λ (o : Option ℕ). length (charged_by (record l { run = o }) now a).by_task ≡ length a.by_task)
+    [ None ↦ refl | Some task ↦ changed_at-length (run_for (now - l.since)) a.by_task task ] in
+    elim (slice_get a.by_processor processor) as (λ (o : Option ProcessorState).
+    length
+    (option_map_or (λ (l : ProcessorState). of_processor (λ x. record x { since = now }) processor (charged_by l now a)) o a).by_task
+    ≡ length a.by_task) [ None ↦ refl | Some l ↦ by l ]
 
--- and where another task runs
-pub taken_over_tasks : (processor : ℕ) (run : Option ℕ) (now : ℕ) (periods : Periods) (a : Accounts) → length (taken_over processor run now periods a).by_task ≡ length a.by_task
+-- where another task runs there are as many tasks
+pub taken_over_tasks : (processor : ℕ) (run : Option ℕ) (now : ℕ) (periods : Periods) (a : Accounts)
+    → length (taken_over processor run now periods a).by_task ≡ length a.by_task
 taken_over_tasks processor None now periods a = refl
 taken_over_tasks processor (Some task) now periods a = changed_at-length (moved_to processor periods.migration_cost) a.by_task task
 
-switched_by_test : (b : Bool) (periods : Periods) (now processor : ℕ) (run : Option ℕ) (v : World) (a : Accounts) (l : ProcessorState) → 1 ≤ periods.tick → slice_get a.by_processor processor ≡ Some l → RunsAlone a processor
-    → (let over = taken_over processor run now periods (charged processor now a) in AgreesWith v (if b then a else over) → Reads processor run l.size a (if b then a else over) → IsOnTime now a → IsOnTime now (if b then a else over))
+switched_by_test : (b : Bool) (periods : Periods) (now processor : ℕ) (run : Option ℕ) (v : World) (a : Accounts)
+    (l : ProcessorState)
+    → 1 ≤ periods.tick → slice_get a.by_processor processor ≡ Some l → RunsAlone a processor
+    → (let over = taken_over processor run now periods (charged processor now a) in
+    AgreesWith v (if b then a else over) → Reads processor run l.size a (if b then a else over) →
+    IsOnTime now a → IsOnTime now (if b then a else over))
 switched_by_test true periods now processor run v a l some at alone agrees reads h = h
 switched_by_test false periods now processor run v a l some at alone agrees reads h =
     let mid : Accounts = charged processor now a in
@@ -241,41 +302,64 @@ switched_by_test false periods now processor run v a l some at alone agrees read
     let whole : AgreesWith v over = agrees in
     let is : Reads processor run l.size a over = reads in
     taken_over_on_time periods now processor run mid some
-    (λ task runs. omega (arith, runner_low v over processor task whole (is.run_here ∙ runs), taken_over_tasks processor run now periods mid))
-    (λ task k runs away there. away (tasks_run_alone v over processor whole k task (is.run_here ∙ runs) (is.runs k away ∙ sym (counted_reads.runs k away) ∙ there)))
+    (λ task runs.
+    omega (arith, runner_low v over processor task whole (is.run_here ∙ runs), taken_over_tasks processor run now periods mid))
+    (λ task k runs away there.
+    away (tasks_run_alone v over processor whole k task (is.run_here ∙ runs) (is.runs k away ∙ sym (counted_reads.runs k away) ∙ there)))
     (charged_on_time now processor a l at alone h)
 
--- another task runs, as an answer says
-pub switched_kept : (periods : Periods) (now processor : ℕ) (run : Option ℕ) (v : World) (a : Accounts) (l : ProcessorState) → 1 ≤ periods.tick → slice_get a.by_processor processor ≡ Some l → RunsAlone a processor → AgreesWith v (switched processor run now periods a) → IsOnTime now a
+-- time is kept where another task runs, as an answer says
+pub switched_kept : (periods : Periods) (now processor : ℕ) (run : Option ℕ) (v : World) (a : Accounts) (l : ProcessorState)
+    → 1 ≤ periods.tick → slice_get a.by_processor processor ≡ Some l → RunsAlone a processor
+    → AgreesWith v (switched processor run now periods a) → IsOnTime now a
     → IsOnTime now (switched processor run now periods a)
 switched_kept periods now processor run v a l some at alone agrees h =
     let over : Accounts = taken_over processor run now periods (charged processor now a) in
     let form : Accounts = if is_same l.run run then a else over in
-    let is : switched processor run now periods a ≡ form = ap (λ (o : Option ProcessorState). option_map_or (λ (x : ProcessorState). if is_same x.run run then a else over) o a) at in
-    subst (λ (x : Accounts). IsOnTime now x) (sym is) (switched_by_test (is_same l.run run) periods now processor run v a l some at alone (subst (λ (x : Accounts). AgreesWith v x) is agrees) (subst (λ (x : Accounts). Reads processor run l.size a x) is (reads_switched processor run now periods a l at)) h)
+    let is : switched processor run now periods a ≡ form =
+    ap (λ (o : Option ProcessorState). option_map_or (λ (x : ProcessorState). if is_same x.run run then a else over) o a)
+    at in
+    subst (λ (x : Accounts). IsOnTime now x) (sym is)
+    (switched_by_test (is_same l.run run) periods now processor run v a l some at alone
+    (subst (λ (x : Accounts). AgreesWith v x) is agrees)
+    (subst (λ (x : Accounts). Reads processor run l.size a x) is (reads_switched processor run now periods a l at)) h)
 
 -- a processor that runs something
-busy_runs : (a : Accounts) (processor : ℕ) (l : ProcessorState) → slice_get a.by_processor processor ≡ Some l → is_busy a processor ≡ true → is_some l.run ≡ true
-busy_runs a processor l at busy = sym (ap (λ (o : Option ProcessorState). option_map_or (λ (x : ProcessorState). is_some x.run) o false) at) ∙ busy
+busy_runs : (a : Accounts) (processor : ℕ) (l : ProcessorState)
+    → slice_get a.by_processor processor ≡ Some l → is_busy a processor ≡ true → is_some l.run ≡ true
+busy_runs a processor l at busy =
+    sym (ap (λ (o : Option ProcessorState). option_map_or (λ (x : ProcessorState). is_some x.run) o false) at) ∙ busy
 
 some_not_none : (o : Option ℕ) → is_some o ≡ true → o ≡ None → ⊥
 some_not_none None h none = cc
 some_not_none (Some x) h none = cc
 
 -- a clock beats
-pub beaten_kept : (now processor tick : ℕ) (a : Accounts) → 1 ≤ tick → is_busy a processor ≡ true → IsOnTime now a → IsOnTime now (beaten processor now tick a)
+pub beaten_kept : (now processor tick : ℕ) (a : Accounts) → 1 ≤ tick → is_busy a processor ≡ true → IsOnTime now a
+    → IsOnTime now (beaten processor now tick a)
 beaten_kept now processor tick a some busy h =
     let f : ProcessorState → ProcessorState = λ l. record l { tick = Some (next_multiple tick now) } in
     record {
       tasks = h.tasks;
-      processors = processors_changed now a.by_task a.by_task a.by_processor f processor (λ k task x apart there runs. refl)
-          (λ l there. let p : ProcessorIsOnTime now a.by_task l = h.processors processor l there in record {
+      processors =
+          processors_changed now a.by_task a.by_task a.by_processor f processor (λ k task x apart there runs. refl)
+          (λ l there.
+          let p : ProcessorIsOnTime now a.by_task l = h.processors processor l there in
+          record {
             since = p.since;
             looks = p.looks;
-            runs = λ task runs. let r : RunsOnTime now a.by_task l task = p.runs task runs in record { progress = r.progress; there = r.there; phase = r.phase; next = next_multiple tick now; tick = refl; later = multiple_later tick now some };
+            runs = λ task runs.
+                let r : RunsOnTime now a.by_task l task = p.runs task runs in
+                record {
+                  progress = r.progress;
+                  there = r.there;
+                  phase = r.phase;
+                  next = next_multiple tick now;
+                  tick = refl;
+                  later = multiple_later tick now some;
+                };
             rests = λ none. absurd (some_not_none l.run (busy_runs a processor l there busy) none);
-          })
-          h.processors;
+          }) h.processors;
     }
 
 -- a processor looks for a task
@@ -284,16 +368,20 @@ looked_kept now processor balance a some h =
     let f : ProcessorState → ProcessorState = λ l. record l { look = Some (next_multiple balance now) } in
     record {
       tasks = h.tasks;
-      processors = processors_changed now a.by_task a.by_task a.by_processor f processor (λ k task x apart there runs. refl)
-          (λ l there. let p : ProcessorIsOnTime now a.by_task l = h.processors processor l there in record {
+      processors =
+          processors_changed now a.by_task a.by_task a.by_processor f processor (λ k task x apart there runs. refl)
+          (λ l there.
+          let p : ProcessorIsOnTime now a.by_task l = h.processors processor l there in
+          record {
             since = p.since;
             looks = λ time is. subst (λ n. now ≤ n) (same_Some (next_multiple balance now) time is) (multiple_later balance now some);
-            runs = λ task runs. let r : RunsOnTime now a.by_task l task = p.runs task runs in record { progress = r.progress; there = r.there; phase = r.phase; next = r.next; tick = r.tick; later = r.later };
+            runs = λ task runs.
+                let r : RunsOnTime now a.by_task l task = p.runs task runs in
+                record { progress = r.progress; there = r.there; phase = r.phase; next = r.next; tick = r.tick; later = r.later };
             rests = p.rests;
-          })
-          h.processors;
+          }) h.processors;
     }
 
--- so nothing is past after what is done at an instant
+-- nothing is past after what is done at an instant
 pub stays_on_time : StaysOnTime
 stays_on_time = record { switched_on_time = switched_kept; beaten_on_time = beaten_kept; looked_on_time = looked_kept }

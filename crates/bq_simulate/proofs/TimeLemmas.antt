@@ -18,29 +18,33 @@ use Rattle.bq_simulate.specs.Agreement.{IsOnTime, ProcessorIsOnTime, RunsOnTime}
 use Rattle.bq_simulate.specs.AgreementLaws.{NothingIsMissed}
 
 -- what comes until the end comes when it is to, and no later than the end
-until_by_test : (b : Bool) (end x time : ℕ) → (nat_le x end && nat_lt x (2 ^ 48)) ≡ b → cond b (Some x) None ≡ Some time → (x ≡ time) × (time ≤ end)
+until_by_test : (b : Bool) (end x time : ℕ) → (nat_le x end && nat_lt x (2 ^ 48)) ≡ b → cond b (Some x) None ≡ Some time
+    → (x ≡ time) × (time ≤ end)
 until_by_test true end x time test h =
     let same : x ≡ time = cc in
     (same, subst (λ n. n ≤ end) same (leb-true x end (and_parts (nat_le x end) (nat_lt x (2 ^ 48)) test).0))
 until_by_test false end x time test h = cc
 
--- so it says when it comes
+-- what comes until the end comes when it says, and no later than the end
 pub until_is : (end x time : ℕ) → until end x ≡ Some time → (x ≡ time) × (time ≤ end)
 until_is end x time h = until_by_test (nat_le x end && nat_lt x (2 ^ 48)) end x time refl h
 
--- and what is to come until the end comes
+-- what is to come no later than the end comes
 until_some : (end x : ℕ) → x ≤ end → x < 2 ^ 48 → until end x ≡ Some x
-until_some end x low early = ap (λ b. cond b (Some x) None) (and_from (nat_le x end) (nat_lt x (2 ^ 48)) (le-leb x end low) (lt-ltb x (2 ^ 48) early))
+until_some end x low early =
+    ap (λ b. cond b (Some x) None) (and_from (nat_le x end) (nat_lt x (2 ^ 48)) (le-leb x end low) (lt-ltb x (2 ^ 48) early))
 
 -- what comes next is no later than another thing that is to come
-next_first : (end time x : ℕ) (a : Accounts) (due other : Due) → IsNext end a due time → time ≤ end → end < 2 ^ 48 → comes_at end a other ≡ until end x → time ≤ x
+next_first : (end time x : ℕ) (a : Accounts) (due other : Due)
+    → IsNext end a due time → time ≤ end → end < 2 ^ 48 → comes_at end a other ≡ until end x → time ≤ x
 next_first end time x a due other next low early is = elim (cases_lt x time) [
   | inl before ↦ absurd (next.first other x (is ∙ until_some end x (omega arith) (omega arith)) (inl before))
   | inr later ↦ later
 ]
 
 -- when a timer rings
-pub ring-of : (end task : ℕ) (a : Accounts) (c : TaskProgress) → slice_get a.by_task task ≡ Some c → comes_at end a (Wake task) ≡ rings_at end c.task_state c.timer
+pub ring-of : (end task : ℕ) (a : Accounts) (c : TaskProgress)
+    → slice_get a.by_task task ≡ Some c → comes_at end a (Wake task) ≡ rings_at end c.task_state c.timer
 ring-of end task a c at = ap (λ (o : Option TaskProgress). option_and_then (λ (x : TaskProgress). rings_at end x.task_state x.timer) o) at
 
 ring-asleep : (end timer : ℕ) (s : TaskState) → s ≡ Asleep → rings_at end s timer ≡ until end timer
@@ -58,24 +62,36 @@ pub record Comes (now time end : ℕ) : Type 0 where
   pub later : now ≤ time
   pub until : time ≤ end
 
-end_comes : (end now time processor : ℕ) (a : Accounts) → end < 2 ^ 48 → IsOnTime now a → comes_at end a (End processor) ≡ Some time → Comes now time end
+end_comes : (end now time processor : ℕ) (a : Accounts) → end < 2 ^ 48 → IsOnTime now a
+    → comes_at end a (End processor) ≡ Some time
+    → Comes now time end
 end_comes end now time processor a early h comes = elim (some_or_none (slice_get a.by_processor processor)) [
   | inl none ↦ absurd (none-some time (sym (ap (λ (o : Option ProcessorState). option_and_then (ends_at end a.by_task) o) none) ∙ comes))
   | inr (l, at) ↦
       let p : ProcessorIsOnTime now a.by_task l = h.processors processor l at in
-      let ends : ends_at end a.by_task l ≡ Some time = sym (ap (λ (o : Option ProcessorState). option_and_then (ends_at end a.by_task) o) at) ∙ comes in
+      let ends : ends_at end a.by_task l ≡ Some time =
+      sym (ap (λ (o : Option ProcessorState). option_and_then (ends_at end a.by_task) o) at) ∙ comes in
       elim (some_or_none l.run) [
-        | inl none ↦ absurd (none-some time (sym (ap (λ (o : Option ℕ). option_and_then (λ task. option_and_then (λ (c : TaskProgress). until end (end_of l.since c)) (slice_get a.by_task task)) o) none) ∙ ends))
+        | inl none ↦
+            absurd (none-some time (sym (ap
+            (λ (o : Option ℕ).
+            option_and_then (λ task. option_and_then (λ (c : TaskProgress). until end (end_of l.since c)) (slice_get a.by_task task)) o)
+            none)
+            ∙ ends))
         | inr (task, runs) ↦
             let r : RunsOnTime now a.by_task l task = p.runs task runs in
-            let u = until_is end (end_of l.since r.progress) time (sym (end-of end processor task a l r.progress at runs r.there) ∙ comes) in
+            let u =
+            until_is end (end_of l.since r.progress) time
+            (sym (end-of end processor task a l r.progress at runs r.there) ∙ comes) in
             record { later = omega (arith, u.0, u.1, r.phase, p.since, early); until = u.1 }
       ]
 ]
 
 wake_comes : (end now time task : ℕ) (a : Accounts) → IsOnTime now a → comes_at end a (Wake task) ≡ Some time → Comes now time end
 wake_comes end now time task a h comes = elim (some_or_none (slice_get a.by_task task)) [
-  | inl none ↦ absurd (none-some time (sym (ap (λ (o : Option TaskProgress). option_and_then (λ (x : TaskProgress). rings_at end x.task_state x.timer) o) none) ∙ comes))
+  | inl none ↦
+      absurd (none-some time
+      (sym (ap (λ (o : Option TaskProgress). option_and_then (λ (x : TaskProgress). rings_at end x.task_state x.timer) o) none) ∙ comes))
   | inr (c, at) ↦
       let u = rings_asleep end c.timer time c.task_state (sym (ring-of end task a c at) ∙ comes) in
       record { later = subst (λ n. now ≤ n) u.1 ((h.tasks task c at).timer u.0); until = u.2 }
@@ -111,14 +127,17 @@ look_comes end now time processor a h comes = elim (some_or_none (slice_get a.by
 ]
 
 -- nothing comes that is past
-comes_later : (end now time : ℕ) (a : Accounts) (due : Due) → end < 2 ^ 48 → IsOnTime now a → comes_at end a due ≡ Some time → Comes now time end
+comes_later : (end now time : ℕ) (a : Accounts) (due : Due) → end < 2 ^ 48 → IsOnTime now a → comes_at end a due ≡ Some time
+    → Comes now time end
 comes_later end now time a (End processor) early h comes = end_comes end now time processor a early h comes
 comes_later end now time a (Wake task) early h comes = wake_comes end now time task a h comes
 comes_later end now time a (Tick processor) early h comes = tick_comes end now time processor a h comes
 comes_later end now time a (Pull processor) early h comes = look_comes end now time processor a h comes
 
 -- what is on time at an instant is so at a later one, before which nothing comes
-on_time_later : (end now time : ℕ) (a : Accounts) → now ≤ time → ((other : Due) (x : ℕ) → comes_at end a other ≡ until end x → time ≤ x) → IsOnTime now a → IsOnTime time a
+on_time_later : (end now time : ℕ) (a : Accounts) → now ≤ time
+    → ((other : Due) (x : ℕ) → comes_at end a other ≡ until end x → time ≤ x) → IsOnTime now a
+    → IsOnTime time a
 on_time_later end now time a later first h =
     record {
       tasks = λ task k at. record {
@@ -129,27 +148,34 @@ on_time_later end now time a later first h =
           let p : ProcessorIsOnTime now a.by_task l = h.processors processor l at in
           record {
             since = omega (arith, p.since, later);
-            looks = λ x is. first (Pull processor) x (look-of end processor a l at ∙ ap (λ (o : Option ℕ). option_and_then (until end) o) is);
+            looks =
+                λ x is.
+                first (Pull processor) x (look-of end processor a l at ∙ ap (λ (o : Option ℕ). option_and_then (until end) o) is);
             runs = λ task runs.
                 let r : RunsOnTime now a.by_task l task = p.runs task runs in
-                let ends : time ≤ end_of l.since r.progress = first (End processor) (end_of l.since r.progress) (end-of end processor task a l r.progress at runs r.there) in
+                let ends : time ≤ end_of l.since r.progress =
+                first (End processor) (end_of l.since r.progress)
+                (end-of end processor task a l r.progress at runs r.there) in
                 record {
                   progress = r.progress;
                   there = r.there;
                   phase = omega (arith, ends, r.phase, p.since, later);
                   next = r.next;
                   tick = r.tick;
-                  later = first (Tick processor) r.next (tick-of end processor a l at ∙ ap (λ (o : Option ℕ). option_and_then (until end) o) r.tick);
+                  later =
+                      first (Tick processor) r.next
+                      (tick-of end processor a l at ∙ ap (λ (o : Option ℕ). option_and_then (until end) o) r.tick);
                 };
             rests = p.rests;
           };
     }
 
--- so nothing is missed
+-- nothing is missed
 pub nothing_is_missed : NothingIsMissed
 nothing_is_missed end now time a due early h next =
     let c : Comes now time end = comes_later end now time a due early h next.comes in
-    let first : (other : Due) (x : ℕ) → comes_at end a other ≡ until end x → time ≤ x = λ other x is. next_first end time x a due other next c.until early is in
+    let first : (other : Due) (x : ℕ) → comes_at end a other ≡ until end x → time ≤ x =
+    λ other x is. next_first end time x a due other next c.until early is in
     (c.later, c.until, on_time_later end now time a c.later first h)
 
 -- what does not come until the end comes no earlier than the end
@@ -159,6 +185,7 @@ not_until end x early none = elim (cases_lt x end) [
   | inr later ↦ later
 ]
 
--- nor is anything past at the end where nothing comes any more
+-- nothing is past at the end where nothing comes any more
 pub on_time_to_end : (end now : ℕ) (a : Accounts) → end < 2 ^ 48 → now ≤ end → NothingComes end a → IsOnTime now a → IsOnTime end a
-on_time_to_end end now a early later none h = on_time_later end now end a later (λ other x is. not_until end x early (sym is ∙ none other)) h
+on_time_to_end end now a early later none h =
+    on_time_later end now end a later (λ other x is. not_until end x early (sym is ∙ none other)) h

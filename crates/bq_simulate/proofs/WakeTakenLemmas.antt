@@ -5,7 +5,7 @@ use Rattle.std.specs.Option.{option_map_or}
 use Rattle.std.proofs.lemmas.Bool.{cases_lt, lt-leb, true≢false}
 use Rattle.std.proofs.lemmas.List.{get_or-set_other, get_or-set_same, get_or_past, length-set}
 use Rattle.std.proofs.lemmas.Option.{same_Some}
-use Rattle.bq_bpf.specs.declared.board.Call.{Call as Asked}
+use Rattle.bq_bpf.specs.declared.board.CounterCall.{CounterCall}
 use Rattle.bq_disc.specs.Tasks.{Task, id_of}
 use Rattle.bq_disc.specs.Discipline.{Discipline}
 use Rattle.bq_disc.specs.OneProcessor.{Running, enter_all, present_at}
@@ -19,7 +19,7 @@ use Rattle.bq_parts.specs.declared.lobby_entry.LobbyEntry.TheVariants.{Absent, A
 use Rattle.bq_parts.specs.declared.reply.Reply.{Reply}
 use Rattle.bq_parts.specs.Processors.{Processor, opening, size_of}
 use Rattle.bq_parts.specs.World.{World, processor_at, inbox, entry, count_in, with_inbox, with_lobby, with_processor}
-use Rattle.bq_parts.specs.Choices.{Decision, decided_by, place_bytes, policies}
+use Rattle.bq_parts.specs.Choices.{SettledChoice, decided_by, place_bytes, by_programs}
 use Rattle.bq_parts.specs.Refusals.{either, is_absent}
 use Rattle.bq_parts.specs.Shares.{after_time}
 use Rattle.bq_parts.specs.StandsOnce.{IsOrderly}
@@ -68,13 +68,21 @@ pub record IsPlacedAt (to : ℕ) (w : World) (a : Accounts) : Type 0 where
 
 -- a task that is not absent has an entry
 pub present_there : (w : World) (task : ℕ) → is_absent (entry w task) ≡ false → task < length w.lobby
-present_there w task h = elim (cases_lt task (length w.lobby)) [ inl l ↦ l | inr g ↦ absurd (true≢false (sym (ap is_absent (get_or_past w.lobby task Absent g)) ∙ h)) ]
+present_there w task h = elim (cases_lt task (length w.lobby))
+    [ inl l ↦ l | inr g ↦ absurd (true≢false (sym (ap is_absent (get_or_past w.lobby task Absent g)) ∙ h)) ]
 
 -- a task that sleeps is in the lobby
-pub sleeper_stands : (w : World) (a : Accounts) (task : ℕ) (c : TaskProgress) → AgreesWith w a → slice_get a.by_task task ≡ Some c → StandsAs (Some c.task_state) (entry w task)
-sleeper_stands w a task c h at = subst (λ o. StandsAs o (entry w task)) (ap (λ (o : Option TaskProgress). option_map_or (λ (x : TaskProgress). Some x.task_state) o None) at) (h.mirrors.tasks task)
+pub sleeper_stands : (w : World) (a : Accounts) (task : ℕ) (c : TaskProgress)
+    → AgreesWith w a → slice_get a.by_task task ≡ Some c → StandsAs (Some c.task_state) (entry w task)
+sleeper_stands w a task c h at =
+    subst (λ o. StandsAs o (entry w task))
+    (ap (λ (o : Option TaskProgress). option_map_or (λ (x : TaskProgress). Some x.task_state) o None) at)
+    (h.mirrors.tasks task)
 
-begin_kept : (d : Discipline) (w v : World) (a : Accounts) (from task : ℕ) (c : TaskProgress) (calls : List Asked) (r : Reply) → AgreesWith w a → from < count_in w → slice_get a.by_task task ≡ Some c → task < length w.lobby → WorldStep (policies d) w (BeginWake from task) calls (Ok r) v
+begin_kept : (d : Discipline) (w v : World) (a : Accounts) (from task : ℕ) (c : TaskProgress)
+    (calls : List CounterCall) (r : Reply)
+    → AgreesWith w a → from < count_in w → slice_get a.by_task task ≡ Some c → task < length w.lobby
+    → WorldStep (by_programs d) w (BeginWake from task) calls (Ok r) v
     → IsBegun from v (of_task woken task a)
 begin_kept d w v a from task c calls r h low at small step =
     let k = step.1 in
@@ -85,26 +93,39 @@ begin_kept d w v a from task c calls r h low at small step =
     let l = state_there w a from m low in
     let form : World = with_lobby (with_processor w from q) (slice_set w.lobby task Away) in
     let is : v ≡ form = k.4 ∙ ap (with_lobby (with_processor w from q)) x.away in
-    let runs_as = runs_written w a a from q l.0.run l.0.size m low (reads_same from a l.0 l.1) (run_there w a from l.0 m l.1 ∙ sym (ap (λ (y : Processor). id_of y.running.current) x.in_hand)) (size_there w a from l.0 m l.1 ∙ sym (ap size_of x.in_hand)) in
+    let runs_as =
+    runs_written w a a from q l.0.run l.0.size m low (reads_same from a l.0 l.1)
+    (run_there w a from l.0 m l.1 ∙ sym (ap (λ (y : Processor). id_of y.running.current) x.in_hand))
+    (size_there w a from l.0 m l.1 ∙ sym (ap size_of x.in_hand)) in
     let mirrors : Mirrors form b = record {
-      tasks = at_set_else (λ n (s : LobbyEntry). StandsAs (state_at b.by_task n) s) w.lobby task Away Absent small (subst (λ o. StandsAs o Away) (sym (state_woken task a c at)) (refl, refl)) (λ other apart. subst (λ o. StandsAs o (entry w other)) (sym (state_others woken task other a apart)) (h.mirrors.tasks other));
+      tasks =
+          at_set_else (λ n (s : LobbyEntry). StandsAs (state_at b.by_task n) s) w.lobby task Away Absent small
+          (subst (λ o. StandsAs o Away) (sym (state_woken task a c at)) (refl, refl))
+          (λ other apart. subst (λ o. StandsAs o (entry w other)) (sym (state_others woken task other a apart)) (h.mirrors.tasks other));
       processors = record { many = runs_as.many; runs = runs_as.runs; sizes = runs_as.sizes };
     } in
-    let count : count_in v ≡ count_in w = step_count (policies d) w (BeginWake from task) calls (Ok r) v step in
+    let count : count_in v ≡ count_in w = step_count (by_programs d) w (BeginWake from task) calls (Ok r) v step in
     let carried : Carried = record { task = x.task; loads = _ } in
     record {
-      orderly = step_keeps (policies d) w (BeginWake from task) calls (Ok r) v step h.orderly;
+      orderly = step_keeps (by_programs d) w (BeginWake from task) calls (Ok r) v step h.orderly;
       entries = ap (λ (y : World). length y.lobby) is ∙ length-set w.lobby task Away ∙ h.entries;
       low = subst (λ n. from < n) (sym count) low;
       carried = carried;
-      holds = ap (λ (y : World). (processor_at y from).hand) is ∙ ap (λ (p : Processor). p.hand) (get_or-set_same w.processors from q opening low) ∙ ap (λ (p : Processor). p.hand) x.in_hand;
-      hands = λ other apart. ap (λ (y : World). (processor_at y other).hand) is ∙ ap (λ (p : Processor). p.hand) (get_or-set_other w.processors from other q opening apart) ∙ h.settled.hands other;
+      holds =
+          ap (λ (y : World). (processor_at y from).hand) is
+          ∙ ap (λ (p : Processor). p.hand) (get_or-set_same w.processors from q opening low)
+          ∙ ap (λ (p : Processor). p.hand) x.in_hand;
+      hands = λ other apart.
+          ap (λ (y : World). (processor_at y other).hand) is
+          ∙ ap (λ (p : Processor). p.hand) (get_or-set_other w.processors from other q opening apart) ∙ h.settled.hands other;
       inboxes = λ processor. ap (λ (y : World). inbox y processor) is ∙ h.settled.inboxes processor;
       mirrors = subst (λ y. Mirrors y b) (sym is) mirrors;
       homes = subst (λ n. HaveProcessors n b) (sym count) (homes_task (count_in w) task woken a (λ y was. was) h.homes);
     }
 
-end_kept : (d : Discipline) (w v : World) (a : Accounts) (from to now : ℕ) (calls : List Asked) (r : Reply) → IsBegun from w a → placed_at r ≡ Some to → WorldStep (policies d) w (EndWake from now) calls (Ok r) v → IsPlacedAt to v a
+end_kept : (d : Discipline) (w v : World) (a : Accounts) (from to now : ℕ) (calls : List CounterCall) (r : Reply)
+    → IsBegun from w a → placed_at r ≡ Some to → WorldStep (by_programs d) w (EndWake from now) calls (Ok r) v
+    → IsPlacedAt to v a
 end_kept d w v a from to now calls r h at step =
     let k = step.1 in
     let y = k.0 in
@@ -114,43 +135,62 @@ end_kept d w v a from to now calls r h at step =
     let m = h.mirrors.processors in
     let l = state_there w a from m h.low in
     let carried : Carried = x.carried in
-    let settled : Decision = x.settled in
+    let settled : SettledChoice = x.settled in
     let own : ℕ = unwrap_or (own_place (count_in w) carried.loads carried.task) 0 in
-    let goes = settled_permitted (policies d) (place_bytes (record { task = carried.task; waking = from; processors = count_in w; own = own; loads = carried.loads })) p.hooks.place p.running.last from (may_place (count_in w) carried.task) own settled
-    (own_place_permitted (count_in w) carried.loads carried.task (h.orderly.places.in_hand from carried x.in_hand)) x.settles in
+    let goes =
+    settled_permitted (by_programs d)
+    (place_bytes (record { task = carried.task; waking = from; processors = count_in w; own = own; loads = carried.loads }))
+    p.hooks.place p.running.last from (may_place (count_in w) carried.task) own settled
+    (own_place_permitted (count_in w) carried.loads carried.task (h.orderly.places.in_hand from carried x.in_hand))
+    x.settles in
     let there : y.to ≡ to = same_Some y.to to (sym (ap placed_at k.3) ∙ at) in
-    let fits : to < count_in w = (may_place_fits (count_in w) carried.task to (subst (λ n. may_place (count_in w) carried.task n ≡ true) (sym x.to ∙ there) goes)).0 in
+    let fits : to < count_in w =
+    (may_place_fits (count_in w) carried.task to
+    (subst (λ n. may_place (count_in w) carried.task n ≡ true) (sym x.to ∙ there) goes)).0 in
     let form : World = with_inbox (with_processor w from q) to (y.task ∷ []) in
-    let is : v ≡ form = k.4 ∙ ap (λ n. with_inbox (with_processor w from q) n (inbox w n ++ y.task ∷ [])) there ∙ ap (λ tasks. with_inbox (with_processor w from q) to (tasks ++ y.task ∷ [])) (h.inboxes to) in
-    let size : size_of q ≡ size_of (processor_at w from) = ap size_of x.here ∙ sym (tally_length (present_at p.running)) ∙ tally-charge each d (processor_at w from).running now ∙ tally_length (present_at (processor_at w from).running) in
-    let runs_as = runs_written w a a from q l.0.run l.0.size m h.low (reads_same from a l.0 l.1) (run_there w a from l.0 m l.1 ∙ sym (current_id d (processor_at w from).running now) ∙ sym (ap (λ (z : Processor). id_of z.running.current) x.here)) (size_there w a from l.0 m l.1 ∙ sym size) in
-    let mirrors : Mirrors form a = record { tasks = h.mirrors.tasks; processors = record { many = runs_as.many; runs = runs_as.runs; sizes = runs_as.sizes } } in
-    let count : count_in v ≡ count_in w = step_count (policies d) w (EndWake from now) calls (Ok r) v step in
-    let hands : (processor : ℕ) → (processor_at form processor).hand ≡ None = at_set_else (λ n (z : Processor). z.hand ≡ None) w.processors from q opening h.low (ap (λ (z : Processor). z.hand) x.here) h.hands in
-    let even : to < length w.inboxes = omega (arith, fits, h.orderly.even) in
+    let is : v ≡ form =
+    k.4 ∙ ap (λ n. with_inbox (with_processor w from q) n (inbox w n ++ y.task ∷ [])) there
+    ∙ ap (λ tasks. with_inbox (with_processor w from q) to (tasks ++ y.task ∷ [])) (h.inboxes to) in
+    let size : size_of q ≡ size_of (processor_at w from) =
+    ap size_of x.here ∙ sym (tally_length (present_at p.running)) ∙ tally-charge each d (processor_at w from).running now
+    ∙ tally_length (present_at (processor_at w from).running) in
+    let runs_as =
+    runs_written w a a from q l.0.run l.0.size m h.low (reads_same from a l.0 l.1)
+    (run_there w a from l.0 m l.1 ∙ sym (current_id d (processor_at w from).running now)
+    ∙ sym (ap (λ (z : Processor). id_of z.running.current) x.here)) (size_there w a from l.0 m l.1 ∙ sym size) in
+    let mirrors : Mirrors form a =
+    record { tasks = h.mirrors.tasks; processors = record { many = runs_as.many; runs = runs_as.runs; sizes = runs_as.sizes } } in
+    let count : count_in v ≡ count_in w = step_count (by_programs d) w (EndWake from now) calls (Ok r) v step in
+    let hands : (processor : ℕ) → (processor_at form processor).hand ≡ None =
+    at_set_else (λ n (z : Processor). z.hand ≡ None) w.processors from q opening h.low
+    (ap (λ (z : Processor). z.hand) x.here) h.hands in
+    let even : to < length w.inboxes = omega (arith, fits, h.orderly.an_inbox_each) in
     record {
-      orderly = step_keeps (policies d) w (EndWake from now) calls (Ok r) v step h.orderly;
+      orderly = step_keeps (by_programs d) w (EndWake from now) calls (Ok r) v step h.orderly;
       entries = ap (λ (z : World). length z.lobby) is ∙ h.entries;
       low = subst (λ n. to < n) (sym count) fits;
       hands = λ processor. ap (λ (z : World). (processor_at z processor).hand) is ∙ hands processor;
       task = y.task;
       comes = ap (λ (z : World). inbox z to) is ∙ get_or-set_same w.inboxes to (y.task ∷ []) [] even;
-      inboxes = λ other apart. ap (λ (z : World). inbox z other) is ∙ get_or-set_other w.inboxes to other (y.task ∷ []) [] apart ∙ h.inboxes other;
+      inboxes = λ other apart.
+          ap (λ (z : World). inbox z other) is ∙ get_or-set_other w.inboxes to other (y.task ∷ []) [] apart ∙ h.inboxes other;
       mirrors = subst (λ z. Mirrors z a) (sym is) mirrors;
       homes = subst (λ n. HaveProcessors n a) (sym count) h.homes;
     }
 
-drain_kept : (d : Discipline) (periods : Periods) (w v : World) (a : Accounts) (to now : ℕ) (calls : List Asked) (r : Reply) → IsPlacedAt to w a → WorldStep (policies d) w (Drain to now) calls (Ok r) v
+drain_kept : (d : Discipline) (periods : Periods) (w v : World) (a : Accounts) (to now : ℕ)
+    (calls : List CounterCall) (r : Reply)
+    → IsPlacedAt to w a → WorldStep (by_programs d) w (Drain to now) calls (Ok r) v
     → (count_entered r ≡ 1) × AgreesWith v (entered_by to (count_entered r) (runs_now r) now periods a)
 drain_kept d periods w v a to now calls r h step =
     let k = step.1 in
     let q : Processor = k.0 in
-    let settled : Decision = k.1.0 in
+    let settled : SettledChoice = k.1.0 in
     let p : Processor = processor_at w to in
     let tasks : List Task = inbox w to in
     let c : Processor = after_time d now p in
     let entered : Running = enter_all d c.running tasks in
-    let is : q ≡ decided_by (policies d) (record c { running = entered }) settled = k.1.1.1 in
+    let is : q ≡ decided_by (by_programs d) (record c { running = entered }) settled = k.1.1.1 in
     let m = h.mirrors.processors in
     let l = state_there w a to m h.low in
     let run : Option ℕ = runs_now r in
@@ -158,44 +198,75 @@ drain_kept d periods w v a to now calls r h step =
     let more : ProcessorState = record l.0 { size = l.0.size + count_entered r } in
     let mid : Accounts = grown to (count_entered r) a in
     let b : Accounts = entered_by to (count_entered r) run now periods a in
-    let at : slice_get mid.by_processor to ≡ Some more = changed_at-here (λ (y : ProcessorState). record y { size = y.size + count_entered r }) a.by_processor to l.0 l.1 in
-    let reads : Reads to run more.size a b = reads_join to more.size more.size l.0.run run a mid b (reads_grown to (count_entered r) a l.0 l.1) (reads_switched to run now periods mid more at) in
-    let size : more.size ≡ size_of q = omega (arith, size_there w a to l.0 m l.1, counted, ap size_of is, ap (λ (y : Processor). tally each (present_at y.running)) is, tally_length (present_at q.running), tally-decided each d entered entered.current (settled.choice == 1) refl, tally-enter_all each d c.running tasks, tally-charge each d p.running now, tally_length (present_at p.running), tally_length tasks) in
+    let at : slice_get mid.by_processor to ≡ Some more =
+    changed_at-here (λ (y : ProcessorState). record y { size = y.size + count_entered r }) a.by_processor to l.0 l.1 in
+    let reads : Reads to run more.size a b =
+    reads_join to more.size more.size l.0.run run a mid b (reads_grown to (count_entered r) a l.0 l.1)
+    (reads_switched to run now periods mid more at) in
+    let size : more.size ≡ size_of q = omega (
+      arith,
+      size_there w a to l.0 m l.1,
+      counted,
+      ap size_of is,
+      ap (λ (y : Processor). tally each (present_at y.running)) is,
+      tally_length (present_at q.running),
+      tally-decided each d entered entered.current (settled.choice == 1) refl,
+      tally-enter_all each d c.running tasks,
+      tally-charge each d p.running now,
+      tally_length (present_at p.running),
+      tally_length tasks,
+    ) in
     let form : World = with_inbox (with_processor w to q) to [] in
-    let low' : to < length w.inboxes = omega (arith, h.low, h.orderly.even) in
+    let low' : to < length w.inboxes = omega (arith, h.low, h.orderly.an_inbox_each) in
     let runs_as = runs_written w a b to q run more.size m h.low reads (ap runs_now k.1.3) size in (
       counted ∙ ap length h.comes,
-      agree_after (policies d) w form v (Drain to now) calls r b h.orderly step k.2 h.entries
+      agree_after (by_programs d) w form v (Drain to now) calls r b h.orderly step k.2 h.entries
           (record {
-            hands = at_set (λ n (z : Processor). z.hand ≡ None) w.processors to q opening (ap (λ (z : Processor). z.hand) is ∙ h.hands to) h.hands;
+            hands =
+                at_set (λ n (z : Processor). z.hand ≡ None) w.processors to q opening
+                (ap (λ (z : Processor). z.hand) is ∙ h.hands to) h.hands;
             inboxes = at_set_else (λ n (ts : List Task). ts ≡ []) w.inboxes to [] [] low' refl h.inboxes;
-          })
-          (record { tasks = tasks_kept w a b reads.states h.mirrors.tasks; processors = record { many = runs_as.many; runs = runs_as.runs; sizes = runs_as.sizes } })
-          (homes_switched (count_in w) to run now periods mid h.low h.homes),
+          }) (record {
+            tasks = tasks_kept w a b reads.states h.mirrors.tasks;
+            processors = record { many = runs_as.many; runs = runs_as.runs; sizes = runs_as.sizes };
+          }) (homes_switched (count_in w) to run now periods mid h.low h.homes),
     )
 
 -- a hand that holds a task is not empty
 not_empty : (o : Option Carried) (c : Carried) → o ≡ Some c → is_none o ≡ false
 not_empty o c h = ap is_none h
 
-taken_in : (d : Discipline) (periods : Periods) (w : World) (a : Accounts) (to now : ℕ) → IsPlacedAt to w a → IsTaken d w (Drain to now) (λ drained v. (count_entered drained ≡ 1) × AgreesWith v (entered_by to (count_entered drained) (runs_now drained) now periods a))
+taken_in : (d : Discipline) (periods : Periods) (w : World) (a : Accounts) (to now : ℕ)
+    → IsPlacedAt to w a
+    → IsTaken d w (Drain to now)
+    (λ drained v. (count_entered drained ≡ 1) × AgreesWith v (entered_by to (count_entered drained) (runs_now drained) now periods a))
 taken_in d periods w a to now h = record {
   taken = ap (λ o. either o None) (there (count_in w) to h.low);
   leaves = λ calls r v step. drain_kept d periods w v a to now calls r h step;
 }
 
-ended : (d : Discipline) (periods : Periods) (w : World) (a : Accounts) (from now : ℕ) → IsBegun from w a → IsTaken d w (EndWake from now) (IsTakenIn d periods a now)
+ended : (d : Discipline) (periods : Periods) (w : World) (a : Accounts) (from now : ℕ)
+    → IsBegun from w a → IsTaken d w (EndWake from now) (IsTakenIn d periods a now)
 ended d periods w a from now h = record {
   taken = rw (lt-leb (count_in w) from h.low, not_empty (processor_at w from).hand h.carried h.holds) refl;
   leaves = λ calls r v step to at. taken_in d periods v a to now (end_kept d w v a from to now calls r h at step);
 }
 
--- so a wake is taken
+-- a wake is taken
 pub wakes_are_taken : WakesAreTaken
 wakes_are_taken d periods w a from task now c h low at sleeps =
     let stands = sleeper_stands w a task c h at in
     let small : task < length w.lobby = present_there w task stands.0 in
     record {
-      taken = rw (lt-leb (count_in w) from low, lt-leb 1024 task (omega (arith, small, h.entries)), stands.0, stands.1, sleeps, h.settled.hands from) refl;
-      leaves = λ calls r v step. ended d periods v (of_task woken task a) from now (begin_kept d w v a from task c calls r h low at small step);
+      taken =
+          rw (
+            lt-leb (count_in w) from low,
+            lt-leb 1024 task (omega (arith, small, h.entries)),
+            stands.0,
+            stands.1,
+            sleeps,
+            h.settled.hands from,
+          ) refl;
+      leaves = λ calls r v step.
+          ended d periods v (of_task woken task a) from now (begin_kept d w v a from task c calls r h low at small step);
     }

@@ -5,10 +5,10 @@ use Rattle.std.specs.Result.{IsErrAnd}
 use Rattle.std.proofs.lemmas.Result.{err_from_is_err_and}
 use Rattle.bq_core.proofs.SizeLemmas.{step_count}
 use Rattle.bq_parts.specs.declared.event.Event.{Event}
-use Rattle.bq_parts.specs.Choices.{policies as under_policies}
+use Rattle.bq_parts.specs.Choices.{by_programs}
 use Rattle.bq_parts.specs.World.{count_in}
 use Rattle.bq_trace.specs.Machines.{discipline_of}
-use Rattle.bq_trace.specs.TraceEvents.{TraceEvent, Told}
+use Rattle.bq_trace.specs.TraceEvents.{TraceEvent, Reported}
 use Rattle.bq_workload.specs.declared.due.Due.{Due}
 use Rattle.bq_workload.specs.declared.roster.Periods.{Periods}
 use Rattle.bq_workload.specs.declared.workload.TaskKind.{TaskKind}
@@ -32,35 +32,63 @@ use Rattle.bq_simulate.proofs.KeptLemmas.{all_is_kept}
 use Rattle.bq_simulate.proofs.MeetAgreeLemmas.{step_of, world_of}
 
 -- events keep the number of processors
-drives_count : (d e : Driver) (events : List Event) (told : Told) → Drives d events told e → count_in (world_of e) ≡ count_in (world_of d)
-drives_count d e [] told h = ap (λ (x : Driver). count_in (world_of x)) h.1
-drives_count d e (event ∷ events) told (reply, mid, first, more, does, rest, whole) =
+drives_count : (d e : Driver) (events : List Event) (reported : Reported)
+    → Drives d events reported e → count_in (world_of e) ≡ count_in (world_of d)
+drives_count d e [] reported h = ap (λ (x : Driver). count_in (world_of x)) h.1
+drives_count d e (event ∷ events) reported (reply, mid, first, more, does, rest, whole) =
     let r = discipline_of d.machine.rule in
-    drives_count mid e events more rest ∙ step_count (under_policies r) (world_of d) event does.happens.moves.step.calls (Ok reply) (world_of mid) (step_of d event reply first mid does)
+    drives_count mid e events more rest
+    ∙ step_count (by_programs r) (world_of d) event does.happens.moves.step.calls (Ok reply)
+    (world_of mid) (step_of d event reply first mid does)
 
--- and so do deeds
-pub processors_kept : (kinds : List TaskKind) (seed : ℕ) (periods : Periods) (d e : Driver) (b c : Book) (deeds : List Deed) (told : Told) → Lives kinds seed periods d b deeds told e c → count_in (world_of e) ≡ count_in (world_of d)
-processors_kept kinds seed periods d e b c deeds told lives = drives_count d e (events_of deeds) told (drives-of-lives kinds seed periods d e b c deeds told lives)
+-- deeds keep the number of processors
+pub processors_kept : (kinds : List TaskKind) (seed : ℕ) (periods : Periods) (d e : Driver) (b c : Book)
+    (deeds : List Deed) (reported : Reported)
+    → Lives kinds seed periods d b deeds reported e c → count_in (world_of e) ≡ count_in (world_of d)
+processors_kept kinds seed periods d e b c deeds reported lives =
+    drives_count d e (events_of deeds) reported (drives-of-lives kinds seed periods d e b c deeds reported lives)
 
 -- what comes next comes until the end, and nothing is past then
-pub comes-well : (w : Workload) (last now : ℕ) (due : Due) (s : Simulation) → GoesWell w last s → IsNext s.roster.periods.end (accounts_of s.roster) due now → (last ≤ now) × (now ≤ w.machine.duration) × GoesWell w now s
+pub comes-well : (w : Workload) (last now : ℕ) (due : Due) (s : Simulation)
+    → GoesWell w last s → IsNext s.roster.periods.end (accounts_of s.roster) due now
+    → (last ≤ now) × (now ≤ w.machine.duration) × GoesWell w now s
 comes-well w last now due s h next =
     let is = subst (λ (p : Periods). IsNext p.end (accounts_of s.roster) due now) h.periods next in
-    let c = all_is_kept.comes w s.driver (book_of s h.drawn) due last now h.sound h.kept is in
-    (c.0, c.1, record { sound = h.sound; until = c.1; periods = h.periods; drawn = h.drawn; streams = h.streams; firsts = h.firsts; all_firsts = h.all_firsts; kept = c.2; agreed = h.agreed })
+    let c = all_is_kept.comes w s.driver (book_of s h.drawn) due last now h.sound h.kept is in (
+      c.0,
+      c.1,
+      record {
+        sound = h.sound;
+        until = c.1;
+        periods = h.periods;
+        drawn = h.drawn;
+        streams = h.streams;
+        firsts = h.firsts;
+        all_firsts = h.all_firsts;
+        kept = c.2;
+        agreed = h.agreed;
+      },
+    )
 
 -- deeds that keep all
 abbrev pub KeepAll : Workload → ℕ → ℕ → (List Deed → Type 0) → Type 0
-KeepAll w seed now Are = (d e : Driver) (b c : Book) (deeds : List Deed) (told : Told) → Are deeds → Leads (with_seed w seed) d b deeds told e c → IsKept w.tasks.items now d b → IsKept w.tasks.items now e c
+KeepAll w seed now Are =
+    (d e : Driver) (b c : Book) (deeds : List Deed) (reported : Reported) → Are deeds →
+    Leads (with_seed w seed) d b deeds reported e c → IsKept w.tasks.items now d b → IsKept w.tasks.items now e c
 
 -- by those it goes on well
-pub goes-well : {S : Type 0} (takes : S → ℕ → TraceEvent → S → Type 0) (Are : List Deed → Type 0) (x y : S) (w : Workload) (now : ℕ) (s t : Simulation) → KeepAll w s.seed now Are → Lived takes w.tasks.items Are x s y t → GoesWell w now s → GoesWell w now t
+pub goes-well : {S : Type 0} (takes : S → ℕ → TraceEvent → S → Type 0) (Are : List Deed → Type 0) (x y : S)
+    (w : Workload) (now : ℕ) (s t : Simulation)
+    → KeepAll w s.seed now Are → Lived takes w.tasks.items Are x s y t → GoesWell w now s → GoesWell w now t
 goes-well takes Are x y w now s t keep lived h =
     let g = lived h.drawn h.streams h.firsts in
-    let leads = subst (λ (p : Periods). Lives w.tasks.items s.seed p s.driver (book_of s h.drawn) g.deeds g.tells.told t.driver (book_of t g.after)) h.periods g.tells.holds in
+    let leads =
+    subst
+    (λ (p : Periods). Lives w.tasks.items s.seed p s.driver (book_of s h.drawn) g.deeds g.reports.reported t.driver (book_of t g.after))
+    h.periods g.reports.holds in
     let was = book_of s h.drawn in
     let is = book_of t g.after in
-    let kept = keep s.driver t.driver was is g.deeds g.tells.told g.are leads h.kept in
+    let kept = keep s.driver t.driver was is g.deeds g.reports.reported g.are leads h.kept in
     record {
       sound = h.sound;
       until = h.until;
@@ -73,10 +101,14 @@ goes-well takes Are x y w now s t keep lived h =
       agreed = g.agrees h.agreed;
     }
 
--- so it does by what is done when something comes due
-pub met-well : {S : Type 0} (takes : S → ℕ → TraceEvent → S → Type 0) (x y : S) (w : Workload) (due : Due) (now : ℕ) (s t : Simulation) → Lived takes w.tasks.items (Meet due now) x s y t → GoesWell w now s → GoesWell w now t
+-- a simulation goes on well by what is done when something comes due
+pub met-well : {S : Type 0} (takes : S → ℕ → TraceEvent → S → Type 0) (x y : S) (w : Workload)
+    (due : Due) (now : ℕ) (s t : Simulation)
+    → Lived takes w.tasks.items (Meet due now) x s y t → GoesWell w now s → GoesWell w now t
 met-well takes x y w due now s t lived h =
-    goes-well takes (Meet due now) x y w now s t (λ d e b c deeds told meet leads kept. all_is_kept.met (with_seed w s.seed) d e b c due now deeds told h.sound h.until meet leads kept) lived h
+    goes-well takes (Meet due now) x y w now s t
+    (λ d e b c deeds reported meet leads kept.
+    all_is_kept.met (with_seed w s.seed) d e b c due now deeds reported h.sound h.until meet leads kept) lived h
 
 -- what holds of an error that is handed on
 pub err-by : {T E : Type 0} {Q P : E → Type 0} (r : Result T E) → IsErrAnd r Q → ((e : E) → Q e → P e) → IfErr r P

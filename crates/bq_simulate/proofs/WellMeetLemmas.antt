@@ -22,8 +22,11 @@ use Rattle.bq_simulate.proofs.TimeKeptLemmas.{beaten_kept, looked_kept}
 use Rattle.bq_simulate.proofs.WellStepLemmas.{well_looks, well_there, well_ticks}
 
 -- a simulation of which only a processor's times change goes well as before, where nothing is past
-well_timed : (f : ProcessorState → ProcessorState) → ((l : ProcessorState) → (f l).run ≡ l.run) → ((l : ProcessorState) → (f l).size ≡ l.size) → (w : Workload) (now : ℕ) (s : Simulation) (r : Roster) (processor : ℕ) → GoesWell w now s → r.periods ≡ s.roster.periods
-    → accounts_of r ≡ of_processor f processor (accounts_of s.roster) → StaysAgreed s.roster r → IsOnTime now (of_processor f processor (accounts_of s.roster)) → GoesWell w now (record s { roster = r })
+well_timed : (f : ProcessorState → ProcessorState) → ((l : ProcessorState) → (f l).run ≡ l.run)
+    → ((l : ProcessorState) → (f l).size ≡ l.size) → (w : Workload) (now : ℕ) (s : Simulation) (r : Roster) (processor : ℕ)
+    → GoesWell w now s → r.periods ≡ s.roster.periods → accounts_of r ≡ of_processor f processor (accounts_of s.roster)
+    → StaysAgreed s.roster r → IsOnTime now (of_processor f processor (accounts_of s.roster))
+    → GoesWell w now (record s { roster = r })
 well_timed f run size w now s r processor h periods is agrees time =
     let b : Accounts = of_processor f processor (accounts_of s.roster) in
     let k = h.kept in
@@ -48,13 +51,17 @@ well_timed f run size w now s r processor h periods is agrees time =
     }
 
 -- a processor of the accounts is one of 64
-low_there : (w : Workload) (now : ℕ) (s : Simulation) (processor : ℕ) (l : ProcessorState) → GoesWell w now s → slice_get s.roster.by_processor.items processor ≡ Some l → processor < 64
-low_there w now s processor l h at = omega (arith, well_there w now s processor h (slice_get_within s.roster.by_processor.items processor l at), h.kept.few)
+low_there : (w : Workload) (now : ℕ) (s : Simulation) (processor : ℕ) (l : ProcessorState)
+    → GoesWell w now s → slice_get s.roster.by_processor.items processor ≡ Some l → processor < 64
+low_there w now s processor l h at =
+    omega (arith, well_there w now s processor h (slice_get_within s.roster.by_processor.items processor l at), h.kept.few)
 
 -- Ticks
 
 -- a processor that ticks now runs something
-pub ticks_busy : (w : Workload) (now : ℕ) (s : Simulation) (processor : ℕ) → GoesWell w now s → TicksAt (accounts_of s.roster) processor now → is_busy (accounts_of s.roster) processor ≡ true
+pub ticks_busy : (w : Workload) (now : ℕ) (s : Simulation) (processor : ℕ)
+    → GoesWell w now s → TicksAt (accounts_of s.roster) processor now
+    → is_busy (accounts_of s.roster) processor ≡ true
 ticks_busy w now s processor h ticks =
     let l : ProcessorState = ticks.processor_state in
     let p : ProcessorIsOnTime now s.roster.by_task.items l = h.kept.on_time.processors processor l ticks.at in
@@ -64,39 +71,60 @@ ticks_busy w now s processor h ticks =
     ]
 
 -- its clock beats
-pub beats : (w : Workload) (now : ℕ) (s : Simulation) (processor : ℕ) → GoesWell w now s → TicksAt (accounts_of s.roster) processor now → IsStrayBeat processor now s.roster.periods.tick (accounts_of s.roster) → ⊥
+pub beats : (w : Workload) (now : ℕ) (s : Simulation) (processor : ℕ)
+    → GoesWell w now s → TicksAt (accounts_of s.roster) processor now
+    → IsStrayBeat processor now s.roster.periods.tick (accounts_of s.roster)
+    → ⊥
 beats w now s processor h ticks (inl never) = never ticks
 beats w now s processor h ticks (inr (inl high)) = omega (arith, high, low_there w now s processor ticks.processor_state h ticks.at)
 beats w now s processor h ticks (inr (inr late)) = well_ticks w now s h late
 
--- and after that it goes well
-pub well_beaten : (w : Workload) (now : ℕ) (s : Simulation) (r : Roster) (processor : ℕ) → GoesWell w now s → TicksAt (accounts_of s.roster) processor now → r.periods ≡ s.roster.periods → accounts_of r ≡ beaten processor now s.roster.periods.tick (accounts_of s.roster) → StaysAgreed s.roster r
+-- after a clock has beaten the simulation goes well
+pub well_beaten : (w : Workload) (now : ℕ) (s : Simulation) (r : Roster) (processor : ℕ)
+    → GoesWell w now s → TicksAt (accounts_of s.roster) processor now → r.periods ≡ s.roster.periods
+    → accounts_of r ≡ beaten processor now s.roster.periods.tick (accounts_of s.roster) → StaysAgreed s.roster r
     → GoesWell w now (record s { roster = r })
 well_beaten w now s r processor h ticks periods is agrees =
     let tick : ℕ = s.roster.periods.tick in
     let some : 1 ≤ tick = omega (arith, ap (λ p. p.tick) h.periods, (sound_times w h.sound).tick) in
-    well_timed (λ l. record l { tick = Some (next_multiple tick now) }) (λ l. refl) (λ l. refl) w now s r processor h periods is agrees (beaten_kept now processor tick (accounts_of s.roster) some (ticks_busy w now s processor h ticks) h.kept.on_time)
+    well_timed (λ l. record l { tick = Some (next_multiple tick now) })
+    (λ l. refl) (λ l. refl) w now s r processor h periods is agrees
+    (beaten_kept now processor tick (accounts_of s.roster) some (ticks_busy w now s processor h ticks) h.kept.on_time)
 
 -- what runs there ran before
-pub beaten_runs : (w : Workload) (now : ℕ) (s : Simulation) (r : Roster) (processor : ℕ) → GoesWell w now s → TicksAt (accounts_of s.roster) processor now → accounts_of r ≡ beaten processor now s.roster.periods.tick (accounts_of s.roster)
+pub beaten_runs : (w : Workload) (now : ℕ) (s : Simulation) (r : Roster) (processor : ℕ)
+    → GoesWell w now s → TicksAt (accounts_of s.roster) processor now
+    → accounts_of r ≡ beaten processor now s.roster.periods.tick (accounts_of s.roster)
     → (l : ProcessorState) × (slice_get r.by_processor.items processor ≡ Some l) × (l.run ≢ None)
 beaten_runs w now s r processor h ticks is =
     let f : ProcessorState → ProcessorState = λ l. record l { tick = Some (next_multiple s.roster.periods.tick now) } in
     let l : ProcessorState = ticks.processor_state in
-    let p : ProcessorIsOnTime now s.roster.by_task.items l = h.kept.on_time.processors processor l ticks.at in
-    (f l, ap (λ (a : Accounts). slice_get a.by_processor processor) is ∙ changed_at-here f s.roster.by_processor.items processor l ticks.at, λ none. none-some now (sym (p.rests none) ∙ ticks.tick))
+    let p : ProcessorIsOnTime now s.roster.by_task.items l = h.kept.on_time.processors processor l ticks.at in (
+      f l,
+      ap (λ (a : Accounts). slice_get a.by_processor processor) is
+          ∙ changed_at-here f s.roster.by_processor.items processor l ticks.at,
+      λ none. none-some now (sym (p.rests none) ∙ ticks.tick),
+    )
 
 -- Looks
 
 -- a processor that is to look does so
-pub looks : (w : Workload) (now : ℕ) (s : Simulation) (processor : ℕ) → GoesWell w now s → LooksAt (accounts_of s.roster) processor now → IsStrayLook processor now s.roster.periods.balance (accounts_of s.roster) → ⊥
+pub looks : (w : Workload) (now : ℕ) (s : Simulation) (processor : ℕ)
+    → GoesWell w now s → LooksAt (accounts_of s.roster) processor now
+    → IsStrayLook processor now s.roster.periods.balance (accounts_of s.roster)
+    → ⊥
 looks w now s processor h looks_then (inl never) = never looks_then
-looks w now s processor h looks_then (inr (inl high)) = omega (arith, high, low_there w now s processor looks_then.processor_state h looks_then.at)
+looks w now s processor h looks_then (inr (inl high)) =
+    omega (arith, high, low_there w now s processor looks_then.processor_state h looks_then.at)
 looks w now s processor h looks_then (inr (inr late)) = well_looks w now s h late
 
--- and after that it goes well
-pub well_looked : (w : Workload) (now : ℕ) (s : Simulation) (r : Roster) (processor : ℕ) → GoesWell w now s → r.periods ≡ s.roster.periods → accounts_of r ≡ looked processor now s.roster.periods.balance (accounts_of s.roster) → StaysAgreed s.roster r → GoesWell w now (record s { roster = r })
+-- after a processor has looked the simulation goes well
+pub well_looked : (w : Workload) (now : ℕ) (s : Simulation) (r : Roster) (processor : ℕ)
+    → GoesWell w now s → r.periods ≡ s.roster.periods
+    → accounts_of r ≡ looked processor now s.roster.periods.balance (accounts_of s.roster) → StaysAgreed s.roster r
+    → GoesWell w now (record s { roster = r })
 well_looked w now s r processor h periods is agrees =
     let balance : ℕ = s.roster.periods.balance in
     let some : 1 ≤ balance = omega (arith, ap (λ p. p.balance) h.periods, (sound_times w h.sound).balance) in
-    well_timed (λ l. record l { look = Some (next_multiple balance now) }) (λ l. refl) (λ l. refl) w now s r processor h periods is agrees (looked_kept now processor balance (accounts_of s.roster) some h.kept.on_time)
+    well_timed (λ l. record l { look = Some (next_multiple balance now) }) (λ l. refl) (λ l. refl) w now s r processor h
+    periods is agrees (looked_kept now processor balance (accounts_of s.roster) some h.kept.on_time)

@@ -3,7 +3,7 @@ use Rattle.std.proofs.Common.{◌≡◌, ◌≤◌, ◌+◌, ◌-◌, ◌*◌, �
 use Rattle.std.specs.Prelude.{is_some, min, slice_get}
 use Rattle.bq_workload.specs.declared.workload.TaskKind.{TaskKind}
 use Rattle.bq_workload.specs.declared.workload.Workload.{Workload}
-use Rattle.bq_trace.specs.TraceEvents.{TraceEvent, Gets, Told}
+use Rattle.bq_trace.specs.TraceEvents.{TraceEvent, Gets, Reported}
 use Rattle.bq_trace.proofs.TakingLemmas.{TakesAll-append}
 use Rattle.bq_verify.specs.Accepted.{Accepted}
 use Rattle.bq_words.specs.Sizes.{processors_in}
@@ -15,20 +15,27 @@ use Rattle.bq_simulate.specs.declared.simulation.Simulation.{Simulation}
 use Rattle.bq_workload.specs.Bounds.{most_steps, steps_at_once}
 use Rattle.bq_simulate.specs.Chronicles.{Book, Deed, Lives, after_deeds}
 use Rattle.bq_workload.specs.Next.{IsAgreed, NothingComes}
-use Rattle.bq_simulate.specs.Simulations.{Begins, Goes, HasFirsts, IsFollowed, IsSimulation, IsTooLong, Lived, LivedFrom, Proceeds, ProceedsBy, ProceedsIn, ProceedsOut, Runs, RunsOut, RunsToEndOrEnough, book_of, opening_book, periods_of}
+use Rattle.bq_simulate.specs.Simulations.{Begins, GoesByDeeds, HasFirsts, IsFollowed, IsSimulation, IsTooLong, Lived, LivedFrom, Proceeds, ProceedsBy, ProceedsIn, ProceedsOut, Runs, RunsOut, RunsToEndOrEnough, book_of, opening_book, periods_of}
 use Rattle.bq_simulate.specs.Steps.{AreAllAdmitted, AreAllMet, AreInstalled, AreMet, Opens}
-use Rattle.bq_simulate.proofs.DeedLemmas.{Goes-join, Goes-weaker, Lives-append, drives-of-lives}
+use Rattle.bq_simulate.proofs.DeedLemmas.{GoesByDeeds-join, GoesByDeeds-weaker, Lives-append, drives-of-lives}
 use Rattle.bq_simulate.proofs.OrderLemmas.{book-after}
 use Rattle.bq_simulate.proofs.StepLemmas.{AreAllMet-within, AreMet-within}
 
 -- what is installed, and then what is admitted
-pub Opens-join : (policies : List Accepted) (processors : ℕ) (kinds : List TaskKind) (xs ys : List Deed) → AreInstalled processors policies xs → AreAllAdmitted processors 0 0 kinds ys → Opens policies processors kinds (xs ++ ys)
-Opens-join policies processors kinds xs ys installed admitted = record { installs = xs; admissions = ys; whole = refl; installed = installed; admitted = admitted }
+pub Opens-join : (policies : List Accepted) (processors : ℕ) (kinds : List TaskKind) (xs ys : List Deed)
+    → AreInstalled processors policies xs → AreAllAdmitted processors 0 0 kinds ys
+    → Opens policies processors kinds (xs ++ ys)
+Opens-join policies processors kinds xs ys installed admitted =
+    record { installs = xs; admissions = ys; whole = refl; installed = installed; admitted = admitted }
 
 -- what opens it, and then some of which something holds by what is kept
-opened-join : {S : Type 0} (takes : S → ℕ → TraceEvent → S → Type 0) (policies : List Accepted) (processors : ℕ) (kinds : List TaskKind) (Met Are : ℕ → Periods → Book → List Deed → Type 0)
-    → ((seed : ℕ) (periods : Periods) (b : Book) (xs ys : List Deed) → Opens policies processors kinds xs → Met seed periods (after_deeds kinds seed periods b xs) ys → Are seed periods b (xs ++ ys))
-    → (x y z : S) (s t u : Simulation) → Lived takes kinds (Opens policies processors kinds) x s y t → LivedFrom takes kinds (Met t.seed t.roster.periods) y t z u → LivedFrom takes kinds (Are s.seed s.roster.periods) x s z u
+opened-join : {S : Type 0} (takes : S → ℕ → TraceEvent → S → Type 0) (policies : List Accepted) (processors : ℕ)
+    (kinds : List TaskKind) (Met Are : ℕ → Periods → Book → List Deed → Type 0)
+    → ((seed : ℕ) (periods : Periods) (b : Book) (xs ys : List Deed) → Opens policies processors kinds xs →
+    Met seed periods (after_deeds kinds seed periods b xs) ys → Are seed periods b (xs ++ ys))
+    → (x y z : S) (s t u : Simulation) → Lived takes kinds (Opens policies processors kinds) x s y t
+    → LivedFrom takes kinds (Met t.seed t.roster.periods) y t z u
+    → LivedFrom takes kinds (Are s.seed s.roster.periods) x s z u
 opened-join takes policies processors kinds Met Are whole x y z s t u opened met drawn had firsts agreed =
     let one = opened drawn had firsts in
     let two = met one.after one.streams one.firsts (one.agrees agreed) in
@@ -38,37 +45,56 @@ opened-join takes policies processors kinds Met Are whole x y z s t u opened met
     let Q : Periods → Type 0 = λ p. Met s.seed p (book_of t one.after) two.deeds in
     let R : Book → Type 0 = λ b. Met s.seed s.roster.periods b two.deeds in
     let meets = subst R (book-after takes kinds opens x y s t drawn one) (subst Q one.periods (subst P one.seed two.are)) in
-    Goes-join takes kinds opens (Met t.seed t.roster.periods (book_of t one.after)) (Are s.seed s.roster.periods start) x y z s t u drawn one two (whole s.seed s.roster.periods start one.deeds two.deeds one.are meets)
+    GoesByDeeds-join takes kinds opens (Met t.seed t.roster.periods (book_of t one.after)) (Are s.seed s.roster.periods start)
+    x y z s t u drawn one two (whole s.seed s.roster.periods start one.deeds two.deeds one.are meets)
 
 -- what opens it, and then what comes due
-pub Proceeds-join : {S : Type 0} (takes : S → ℕ → TraceEvent → S → Type 0) (policies : List Accepted) (processors : ℕ) (kinds : List TaskKind) (most end : ℕ) (x y z : S) (s t u : Simulation)
-    → Lived takes kinds (Opens policies processors kinds) x s y t → LivedFrom takes kinds (AreMet kinds t.seed t.roster.periods most end) y t z u → LivedFrom takes kinds (Proceeds policies processors kinds s.seed s.roster.periods most end) x s z u
-Proceeds-join takes policies processors kinds most end = opened-join takes policies processors kinds (λ n p. AreMet kinds n p most end) (λ n p. Proceeds policies processors kinds n p most end)
+pub Proceeds-join : {S : Type 0} (takes : S → ℕ → TraceEvent → S → Type 0) (policies : List Accepted) (processors : ℕ)
+    (kinds : List TaskKind) (most end : ℕ) (x y z : S) (s t u : Simulation)
+    → Lived takes kinds (Opens policies processors kinds) x s y t
+    → LivedFrom takes kinds (AreMet kinds t.seed t.roster.periods most end) y t z u
+    → LivedFrom takes kinds (Proceeds policies processors kinds s.seed s.roster.periods most end) x s z u
+Proceeds-join takes policies processors kinds most end =
+    opened-join takes policies processors kinds (λ n p. AreMet kinds n p most end) (λ n p. Proceeds policies processors kinds n p most end)
     (λ n p b xs ys opens meets. record { opening = xs; met = ys; whole = refl; opens = opens; meets = meets })
 
 -- just that many come due
-pub ProceedsBy-join : {S : Type 0} (takes : S → ℕ → TraceEvent → S → Type 0) (policies : List Accepted) (processors : ℕ) (kinds : List TaskKind) (count end : ℕ) (x y z : S) (s t u : Simulation)
-    → Lived takes kinds (Opens policies processors kinds) x s y t → LivedFrom takes kinds (AreAllMet kinds t.seed t.roster.periods count end) y t z u → LivedFrom takes kinds (ProceedsBy policies processors kinds s.seed s.roster.periods count end) x s z u
-ProceedsBy-join takes policies processors kinds count end = opened-join takes policies processors kinds (λ n p. AreAllMet kinds n p count end) (λ n p. ProceedsBy policies processors kinds n p count end)
+pub ProceedsBy-join : {S : Type 0} (takes : S → ℕ → TraceEvent → S → Type 0) (policies : List Accepted) (processors : ℕ)
+    (kinds : List TaskKind) (count end : ℕ) (x y z : S) (s t u : Simulation)
+    → Lived takes kinds (Opens policies processors kinds) x s y t
+    → LivedFrom takes kinds (AreAllMet kinds t.seed t.roster.periods count end) y t z u
+    → LivedFrom takes kinds (ProceedsBy policies processors kinds s.seed s.roster.periods count end) x s z u
+ProceedsBy-join takes policies processors kinds count end =
+    opened-join takes policies processors kinds (λ n p. AreAllMet kinds n p count end)
+    (λ n p. ProceedsBy policies processors kinds n p count end)
     (λ n p b xs ys opens meets. (record { opening = xs; met = ys; whole = refl; opens = opens; meets = meets.0 }, meets.1))
 
 -- what comes due by an earlier instant comes due by a later, and fewer things are at most as many
-pub LivedFrom-within : {S : Type 0} (takes : S → ℕ → TraceEvent → S → Type 0) (kinds : List TaskKind) (seed : ℕ) (periods : Periods) (count most last end : ℕ) (x y : S) (s t : Simulation)
-    → count ≤ most → last ≤ end → LivedFrom takes kinds (AreAllMet kinds seed periods count last) x s y t → LivedFrom takes kinds (AreMet kinds seed periods most end) x s y t
+pub LivedFrom-within : {S : Type 0} (takes : S → ℕ → TraceEvent → S → Type 0) (kinds : List TaskKind) (seed : ℕ)
+    (periods : Periods) (count most last end : ℕ) (x y : S) (s t : Simulation)
+    → count ≤ most → last ≤ end → LivedFrom takes kinds (AreAllMet kinds seed periods count last) x s y t
+    → LivedFrom takes kinds (AreMet kinds seed periods most end) x s y t
 LivedFrom-within takes kinds seed periods count most last end x y s t few low lived = λ drawn had firsts agreed.
-    Goes-weaker takes kinds (AreAllMet kinds seed periods count last (book_of s drawn)) (AreMet kinds seed periods most end (book_of s drawn))
-    (λ xs met. AreMet-within kinds seed periods count most last end (book_of s drawn) xs few low met.0) _ _ _ drawn _ (lived drawn had firsts agreed)
+    GoesByDeeds-weaker takes kinds (AreAllMet kinds seed periods count last (book_of s drawn))
+    (AreMet kinds seed periods most end (book_of s drawn))
+    (λ xs met. AreMet-within kinds seed periods count most last end (book_of s drawn) xs few low met.0) _ _ _ drawn _
+    (lived drawn had firsts agreed)
 
--- just as many come due by a later instant
-pub LivedFrom-all : {S : Type 0} (takes : S → ℕ → TraceEvent → S → Type 0) (kinds : List TaskKind) (seed : ℕ) (periods : Periods) (count most last end : ℕ) (x y : S) (s t : Simulation)
-    → count ≡ most → last ≤ end → LivedFrom takes kinds (AreAllMet kinds seed periods count last) x s y t → LivedFrom takes kinds (AreAllMet kinds seed periods most end) x s y t
+-- exactly as many things come due by a later instant
+pub LivedFrom-all : {S : Type 0} (takes : S → ℕ → TraceEvent → S → Type 0) (kinds : List TaskKind) (seed : ℕ)
+    (periods : Periods) (count most last end : ℕ) (x y : S) (s t : Simulation)
+    → count ≡ most → last ≤ end → LivedFrom takes kinds (AreAllMet kinds seed periods count last) x s y t
+    → LivedFrom takes kinds (AreAllMet kinds seed periods most end) x s y t
 LivedFrom-all takes kinds seed periods count most last end x y s t same low lived = λ drawn had firsts agreed.
-    Goes-weaker takes kinds (AreAllMet kinds seed periods count last (book_of s drawn)) (AreAllMet kinds seed periods most end (book_of s drawn))
-    (λ xs met. AreAllMet-within kinds seed periods count most last end (book_of s drawn) xs same low met) _ _ _ drawn _ (lived drawn had firsts agreed)
+    GoesByDeeds-weaker takes kinds (AreAllMet kinds seed periods count last (book_of s drawn))
+    (AreAllMet kinds seed periods most end (book_of s drawn))
+    (λ xs met. AreAllMet-within kinds seed periods count most last end (book_of s drawn) xs same low met) _ _ _ drawn _
+    (lived drawn had firsts agreed)
 
 -- where none is kept, each is that of its kind
 pub firsts-none : (kinds : List TaskKind) (s : Simulation) → s.firsts.items ≡ [] → HasFirsts kinds s
-firsts-none kinds s none number first there = absurd (true≢false (sym (ap is_some (sym (ap (λ (l : List ℕ). slice_get l number) none) ∙ there))))
+firsts-none kinds s none number first there =
+    absurd (true≢false (sym (ap is_some (sym (ap (λ (l : List ℕ). slice_get l number) none) ∙ there))))
 
 -- a simulation by whose machine nothing was done yet
 pub record IsNew (w : Workload) (d : Driver) (s : Simulation) : Type 0 where
@@ -85,21 +111,28 @@ abbrev By : Type 1
 By = ℕ → Periods → Book → List Deed → Type 0
 
 -- it goes on by some deeds
-record Begun {S : Type 0} (takes : S → ℕ → TraceEvent → S → Type 0) (Are : By) (w : Workload) (d : Driver) (b : S) (s : Simulation) (c : S) (t : Simulation) : Type 0 where
-  goes : Goes takes w.tasks.items (Are s.seed s.roster.periods (book_of s [])) b s [] c t
+record Begun {S : Type 0} (takes : S → ℕ → TraceEvent → S → Type 0) (Are : By) (w : Workload) (d : Driver) (b : S)
+    (s : Simulation) (c : S) (t : Simulation) : Type 0 where
+  goes : GoesByDeeds takes w.tasks.items (Are s.seed s.roster.periods (book_of s [])) b s [] c t
   are : Are w.machine.seed (periods_of w.machine) (opening_book w.machine) goes.deeds
-  lives : Lives w.tasks.items w.machine.seed (periods_of w.machine) d (opening_book w.machine) goes.deeds goes.tells.told t.driver (book_of t goes.after)
+  lives : Lives w.tasks.items w.machine.seed (periods_of w.machine) d (opening_book w.machine) goes.deeds
+      goes.reports.reported t.driver (book_of t goes.after)
 
-begun : {S : Type 0} (takes : S → ℕ → TraceEvent → S → Type 0) (b c : S) (Are : By) (w : Workload) (d : Driver) (s t : Simulation) → IsNew w d s → LivedFrom takes w.tasks.items (Are s.seed s.roster.periods) b s c t → Begun takes Are w d b s c t
+begun : {S : Type 0} (takes : S → ℕ → TraceEvent → S → Type 0) (b c : S) (Are : By) (w : Workload)
+    (d : Driver) (s t : Simulation)
+    → IsNew w d s → LivedFrom takes w.tasks.items (Are s.seed s.roster.periods) b s c t
+    → Begun takes Are w d b s c t
 begun takes b c Are w d s t new lived =
     let kinds = w.tasks.items in
     let machine = w.machine in
     let met = lived [] new.streams (firsts-none kinds s new.firsts) new.agreed in
     let stood = book_of t met.after in
-    let T : ℕ → Type 0 = λ x. Lives kinds x s.roster.periods s.driver (book_of s []) met.deeds met.tells.told t.driver stood in
-    let P : Driver → Type 0 = λ x. Lives kinds machine.seed (periods_of machine) x (opening_book machine) met.deeds met.tells.told t.driver stood in
-    let Q : Book → Type 0 = λ x. Lives kinds machine.seed (periods_of machine) s.driver x met.deeds met.tells.told t.driver stood in
-    let R : Periods → Type 0 = λ x. Lives kinds machine.seed x s.driver (book_of s []) met.deeds met.tells.told t.driver stood in
+    let T : ℕ → Type 0 = λ x. Lives kinds x s.roster.periods s.driver (book_of s []) met.deeds met.reports.reported t.driver stood in
+    let P : Driver → Type 0 =
+    λ x.
+    Lives kinds machine.seed (periods_of machine) x (opening_book machine) met.deeds met.reports.reported t.driver stood in
+    let Q : Book → Type 0 = λ x. Lives kinds machine.seed (periods_of machine) s.driver x met.deeds met.reports.reported t.driver stood in
+    let R : Periods → Type 0 = λ x. Lives kinds machine.seed x s.driver (book_of s []) met.deeds met.reports.reported t.driver stood in
     let opens : book_of s [] ≡ opening_book machine = ap (λ (x : Accounts). record { accounts = x; drawn = [] }) new.accounts in
     let K : ℕ → Type 0 = λ x. Are x s.roster.periods (book_of s []) met.deeds in
     let L : Periods → Type 0 = λ x. Are machine.seed x (book_of s []) met.deeds in
@@ -107,21 +140,27 @@ begun takes b c Are w d s t new lived =
     record {
       goes = met;
       are = subst M opens (subst L new.periods (subst K new.seed met.are));
-      lives = subst P new.driver (subst Q opens (subst R new.periods (subst T new.seed met.tells.holds)));
+      lives = subst P new.driver (subst Q opens (subst R new.periods (subst T new.seed met.reports.holds)));
     }
 
 -- what is reported of the opening machine, and then of the deeds by which it goes on
-told-begun : {S : Type 0} (takes : S → ℕ → TraceEvent → S → Type 0) (a b c : S) (Are : By) (w : Workload) (d : Driver) (s t : Simulation) (Holds : Told → Type 0)
-    → (first : Gets takes a b (λ told. Starts w.machine.rule w.machine.size told d)) → (begun : Begun takes Are w d b s c t) → Holds (first.told ++ begun.goes.tells.told) → Gets takes a c Holds
-told-begun takes a b c Are w d s t Holds first begun holds = record {
-  told = first.told ++ begun.goes.tells.told;
-  taken = TakesAll-append takes a b c first.told begun.goes.tells.told first.taken begun.goes.tells.taken;
+reported-begun : {S : Type 0} (takes : S → ℕ → TraceEvent → S → Type 0) (a b c : S) (Are : By) (w : Workload) (d : Driver)
+    (s t : Simulation) (Holds : Reported → Type 0)
+    → (first : Gets takes a b (λ reported. Starts w.machine.rule w.machine.size reported d))
+    → (begun : Begun takes Are w d b s c t) → Holds (first.reported ++ begun.goes.reports.reported)
+    → Gets takes a c Holds
+reported-begun takes a b c Are w d s t Holds first begun holds = record {
+  reported = first.reported ++ begun.goes.reports.reported;
+  taken = TakesAll-append takes a b c first.reported begun.goes.reports.reported first.taken begun.goes.reports.taken;
   holds = holds;
 }
 
 -- how it begins, by the deeds that open it and some that come due
-abbrev beginning : {S : Type 0} (takes : S → ℕ → TraceEvent → S → Type 0) (a b c : S) (Are : By) (policies : List Accepted) (w : Workload) (d : Driver) (s t : Simulation)
-    → (first : Gets takes a b (λ told. Starts w.machine.rule w.machine.size told d)) → (begun : Begun takes Are w d b s c t) → ProceedsIn policies w w.machine.seed (periods_of w.machine) (opening_book w.machine) begun.goes.deeds → Begins policies w (first.told ++ begun.goes.tells.told)
+abbrev beginning : {S : Type 0} (takes : S → ℕ → TraceEvent → S → Type 0) (a b c : S) (Are : By) (policies : List Accepted)
+    (w : Workload) (d : Driver) (s t : Simulation)
+    → (first : Gets takes a b (λ reported. Starts w.machine.rule w.machine.size reported d)) → (begun : Begun takes Are w d b s c t)
+    → ProceedsIn policies w w.machine.seed (periods_of w.machine) (opening_book w.machine) begun.goes.deeds
+    → Begins policies w (first.reported ++ begun.goes.reports.reported)
 beginning takes a b c Are policies w d s t first begun proceeds =
     let kinds = w.tasks.items in
     let machine = w.machine in
@@ -131,35 +170,48 @@ beginning takes a b c Are policies w d s t first begun proceeds =
       closing = t.driver;
       deeds = met.deeds;
       book = book_of t met.after;
-      first = first.told;
-      more = met.tells.told;
+      first = first.reported;
+      more = met.reports.reported;
       starts = first.holds;
-      drives = drives-of-lives kinds machine.seed (periods_of machine) d t.driver (opening_book machine) (book_of t met.after) met.deeds met.tells.told begun.lives;
+      drives =
+          drives-of-lives kinds machine.seed (periods_of machine) d t.driver (opening_book machine) (book_of t met.after)
+          met.deeds met.reports.reported begun.lives;
       lives = begun.lives;
       whole = refl;
       proceeds = proceeds;
     }
 
 -- some of what comes due is met
-begins-of : {S : Type 0} (takes : S → ℕ → TraceEvent → S → Type 0) (a b c : S) (policies : List Accepted) (w : Workload) (d : Driver) (s t : Simulation)
-    → Gets takes a b (λ told. Starts w.machine.rule w.machine.size told d) → Begun takes (ProceedsIn policies w) w d b s c t → Gets takes a c (Begins policies w)
-begins-of takes a b c policies w d s t first begun = told-begun takes a b c (ProceedsIn policies w) w d s t (Begins policies w) first begun (beginning takes a b c (ProceedsIn policies w) policies w d s t first begun begun.are)
+begins-of : {S : Type 0} (takes : S → ℕ → TraceEvent → S → Type 0) (a b c : S) (policies : List Accepted)
+    (w : Workload) (d : Driver) (s t : Simulation)
+    → Gets takes a b (λ reported. Starts w.machine.rule w.machine.size reported d)
+    → Begun takes (ProceedsIn policies w) w d b s c t
+    → Gets takes a c (Begins policies w)
+begins-of takes a b c policies w d s t first begun =
+    reported-begun takes a b c (ProceedsIn policies w) w d s t (Begins policies w) first begun
+    (beginning takes a b c (ProceedsIn policies w) policies w d s t first begun begun.are)
 
 all-of-64-bits : (duration at_once : ℕ) → 2 ^ 64 ≤ (duration + 1) * at_once → min ((duration + 1) * at_once) (2 ^ 64 - 1) ≡ 2 ^ 64 - 1
 all-of-64-bits duration at_once large = omega (arith, large)
 
--- just as many things come due as 64 bits count, where they do not count the bound
-pub too-long-of : {S : Type 0} (takes : S → ℕ → TraceEvent → S → Type 0) (a b c : S) (policies : List Accepted) (w : Workload) (d : Driver) (s t : Simulation)
-    → Gets takes a b (λ told. Starts w.machine.rule w.machine.size told d) → IsNew w d s → 2 ^ 64 ≤ (w.machine.duration + 1) * steps_at_once w → RunsOut takes policies w b s c t → Gets takes a c (IsTooLong policies w)
+-- where 64 bits do not count the bound, exactly as many things come due as 64 bits count
+pub too-long-of : {S : Type 0} (takes : S → ℕ → TraceEvent → S → Type 0) (a b c : S) (policies : List Accepted)
+    (w : Workload) (d : Driver) (s t : Simulation)
+    → Gets takes a b (λ reported. Starts w.machine.rule w.machine.size reported d) → IsNew w d s
+    → 2 ^ 64 ≤ (w.machine.duration + 1) * steps_at_once w → RunsOut takes policies w b s c t
+    → Gets takes a c (IsTooLong policies w)
 too-long-of takes a b c policies w d s t first new large runs =
     let begun = begun takes b c (ProceedsOut policies w) w d s t new runs in
     let many = begun.are.1 ∙ all-of-64-bits w.machine.duration (steps_at_once w) large in
-    told-begun takes a b c (ProceedsOut policies w) w d s t (IsTooLong policies w) first begun (record { begins = beginning takes a b c (ProceedsOut policies w) policies w d s t first begun begun.are.0; many = many })
+    reported-begun takes a b c (ProceedsOut policies w) w d s t (IsTooLong policies w) first begun
+    (record { begins = beginning takes a b c (ProceedsOut policies w) policies w d s t first begun begun.are.0; many = many })
 
 -- what is reported of the opening machine, and then of all deeds to the end
-simulation-of : {S : Type 0} (takes : S → ℕ → TraceEvent → S → Type 0) (a b c : S) (policies : List Accepted) (w : Workload) (d : Driver) (s t : Simulation)
-    → Gets takes a b (λ told. Starts w.machine.rule w.machine.size told d) → IsNew w d s
-    → Runs takes policies w.tasks.items (most_steps w) w.machine.duration (processors_in w.machine.size) b s c t → Gets takes a c (IsSimulation policies w)
+simulation-of : {S : Type 0} (takes : S → ℕ → TraceEvent → S → Type 0) (a b c : S) (policies : List Accepted)
+    (w : Workload) (d : Driver) (s t : Simulation)
+    → Gets takes a b (λ reported. Starts w.machine.rule w.machine.size reported d) → IsNew w d s
+    → Runs takes policies w.tasks.items (most_steps w) w.machine.duration (processors_in w.machine.size) b s c t
+    → Gets takes a c (IsSimulation policies w)
 simulation-of takes a b c policies w d s t first new runs =
     let kinds = w.tasks.items in
     let machine = w.machine in
@@ -168,25 +220,37 @@ simulation-of takes a b c policies w d s t first new runs =
     let met = begun.goes in
     let ticks = runs.ticks met.after met.streams met.firsts in
     let stood = book_of ended met.after in
-    let U : ℕ → Type 0 = λ x. Lives kinds x ended.roster.periods ended.driver stood ticks.deeds ticks.tells.told t.driver (book_of t ticks.after) in
-    let V : Periods → Type 0 = λ x. Lives kinds machine.seed x ended.driver stood ticks.deeds ticks.tells.told t.driver (book_of t ticks.after) in
-    let none = subst (λ (p : Periods). NothingComes p.end (accounts_of ended.roster)) (met.periods ∙ new.periods) (runs.none (met.agrees new.agreed)) in
-    let last = subst V (met.periods ∙ new.periods) (subst U (met.seed ∙ new.seed) ticks.tells.holds) in
+    let U : ℕ → Type 0 =
+    λ x.
+    Lives kinds x ended.roster.periods ended.driver stood ticks.deeds ticks.reports.reported t.driver
+    (book_of t ticks.after) in
+    let V : Periods → Type 0 =
+    λ x. Lives kinds machine.seed x ended.driver stood ticks.deeds ticks.reports.reported t.driver (book_of t ticks.after) in
+    let none =
+    subst (λ (p : Periods). NothingComes p.end (accounts_of ended.roster)) (met.periods ∙ new.periods)
+    (runs.none (met.agrees new.agreed)) in
+    let last = subst V (met.periods ∙ new.periods) (subst U (met.seed ∙ new.seed) ticks.reports.holds) in
     let deeds = met.deeds ++ ticks.deeds in
-    let told = met.tells.told ++ ticks.tells.told in
-    let lives = Lives-append kinds machine.seed (periods_of machine) d ended.driver t.driver (opening_book machine) stood (book_of t ticks.after) met.deeds ticks.deeds met.tells.told ticks.tells.told begun.lives last in
+    let reported = met.reports.reported ++ ticks.reports.reported in
+    let lives =
+    Lives-append kinds machine.seed (periods_of machine) d ended.driver t.driver (opening_book machine) stood
+    (book_of t ticks.after) met.deeds ticks.deeds met.reports.reported ticks.reports.reported begun.lives last in
     record {
-      told = first.told ++ told;
-      taken = TakesAll-append takes a b c first.told told first.taken (TakesAll-append takes b runs.sink c met.tells.told ticks.tells.told met.tells.taken ticks.tells.taken);
+      reported = first.reported ++ reported;
+      taken =
+          TakesAll-append takes a b c first.reported reported first.taken
+          (TakesAll-append takes b runs.sink c met.reports.reported ticks.reports.reported met.reports.taken ticks.reports.taken);
       holds = record {
         opening = d;
         closing = t.driver;
         deeds = deeds;
         book = book_of t ticks.after;
-        first = first.told;
-        more = told;
+        first = first.reported;
+        more = reported;
         starts = first.holds;
-        drives = drives-of-lives kinds machine.seed (periods_of machine) d t.driver (opening_book machine) (book_of t ticks.after) deeds told lives;
+        drives =
+            drives-of-lives kinds machine.seed (periods_of machine) d t.driver (opening_book machine)
+            (book_of t ticks.after) deeds reported lives;
         lives = lives;
         whole = refl;
         ends = record {
@@ -194,7 +258,7 @@ simulation-of takes a b c policies w d s t first new runs =
           last = ticks.deeds;
           whole = refl;
           proceeds = begun.are;
-          told = met.tells.told;
+          reported = met.reports.reported;
           driver = ended.driver;
           book = stood;
           lives = begun.lives;
@@ -205,21 +269,29 @@ simulation-of takes a b c policies w d s t first new runs =
       };
     }
 
--- the same, where the sink may have enough before
-pub followed-of : {S : Type 0} (takes : S → ℕ → TraceEvent → S → Type 0) (sated : S → Bool) (a b c : S) (policies : List Accepted) (w : Workload) (d : Driver) (s t : Simulation)
-    → Gets takes a b (λ told. Starts w.machine.rule w.machine.size told d) → IsNew w d s
-    → RunsToEndOrEnough takes sated policies w b s c t → Gets takes a c (IsFollowed (sated c) policies w)
+-- what is reported of the opening machine, and then of all deeds, where the sink may have enough before the end
+pub followed-of : {S : Type 0} (takes : S → ℕ → TraceEvent → S → Type 0) (sated : S → Bool) (a b c : S)
+    (policies : List Accepted) (w : Workload) (d : Driver) (s t : Simulation)
+    → Gets takes a b (λ reported. Starts w.machine.rule w.machine.size reported d) → IsNew w d s
+    → RunsToEndOrEnough takes sated policies w b s c t
+    → Gets takes a c (IsFollowed (sated c) policies w)
 followed-of takes sated a b c policies w d s t first new runs =
     elim runs [
-      | inl whole ↦ let g = simulation-of takes a b c policies w d s t first new whole in record { told = g.told; taken = g.taken; holds = inl g.holds }
-      | inr part ↦ let g = begins-of takes a b c policies w d s t first (begun takes b c (ProceedsIn policies w) w d s t new part.1) in record { told = g.told; taken = g.taken; holds = inr (part.0, g.holds) }
+      | inl whole ↦
+          let g = simulation-of takes a b c policies w d s t first new whole in
+          record { reported = g.reported; taken = g.taken; holds = inl g.holds }
+      | inr part ↦
+          let g = begins-of takes a b c policies w d s t first (begun takes b c (ProceedsIn policies w) w d s t new part.1) in
+          record { reported = g.reported; taken = g.taken; holds = inr (part.0, g.holds) }
     ]
 
 -- a sink that has not enough got all of it
-pub followed_whole : {S : Type 0} (takes : S → ℕ → TraceEvent → S → Type 0) (a c : S) (enough : Bool) (policies : List Accepted) (w : Workload)
-    → enough ≡ false → Gets takes a c (IsFollowed enough policies w) → Gets takes a c (IsSimulation policies w)
+pub followed_whole : {S : Type 0} (takes : S → ℕ → TraceEvent → S → Type 0) (a c : S) (enough : Bool)
+    (policies : List Accepted) (w : Workload)
+    → enough ≡ false → Gets takes a c (IsFollowed enough policies w)
+    → Gets takes a c (IsSimulation policies w)
 followed_whole takes a c enough policies w wants g = record {
-  told = g.told;
+  reported = g.reported;
   taken = g.taken;
   holds = elim g.holds [
     | inl whole ↦ whole

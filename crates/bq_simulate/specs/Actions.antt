@@ -16,10 +16,11 @@ use Rattle.bq_workload.specs.TaskProgress.{advanced, begun}
 use Rattle.bq_workload.specs.Kinds.{count_of}
 use Rattle.bq_simulate.specs.declared.acting.Doing.{Doing}
 
--- the action at which a task of this kind stands; none where it has done all as often as it is to
+-- the action that a task does next; none if it has done all of them as often as it is to
 abbrev pub action_at : TaskKind → TaskProgress → Option Action
 action_at kind c = if is_same kind.loops (Some c.loops) then None else slice_get kind.actions.items c.action
 
+-- the action that a task does next, by the kinds of all tasks
 abbrev pub next_action : List TaskKind → TaskProgress → Option Action
 next_action kinds c = option_and_then (λ kind. action_at kind c) (slice_get kinds c.kind)
 
@@ -45,23 +46,24 @@ next_length asked g = length_drawn asked (first_word g) (second_word g)
 abbrev pub length_of : ℕ → ℕ → ℕ → Length → ℕ
 length_of seed task others asked = next_length asked (after_draws others (stream_of_task seed task))
 
--- it has done its action
+-- a task has done its action, and comes to the next
 abbrev pub advanced_in : List TaskKind → TaskProgress → TaskProgress
 advanced_in kinds c = advanced (actions_of kinds c) c
 
--- its wake has come to one more of the tasks of a kind; after the last it goes on
+-- one more task of the kind has been woken; after the last one the waker goes on to its next action
 abbrev pub woken_one_in : List TaskKind → ℕ → TaskProgress → TaskProgress
 woken_one_in kinds kind c = if nat_lt (c.woken + 1) (count_of kinds kind) then record c { woken = c.woken + 1 } else advanced_in kinds c
 
--- it has no phase, and sleeps
+-- a task has no phase, and sleeps
 abbrev pub resting : TaskState → TaskProgress → TaskProgress
 resting task_state c = record (begun 0 c) { task_state = task_state }
 
--- it sleeps until its timer wakes it, which comes so much later, as far as 64 bits count
+-- a task sleeps until its timer wakes it after this length, as far as 64 bits count
 abbrev pub asleep_for : ℕ → ℕ → TaskProgress → TaskProgress
 asleep_for length now c = record (resting Asleep c) { timer = min (now + length) 18446744073709551615 }
 
--- at an instant it does this action, which takes that length where it takes one; then it has a phase only where it runs
+-- a task takes up the action at an instant; `length` is how long it lasts, if it is a run or a sleep. Only a task that runs has
+-- a phase afterwards
 abbrev pub acted : List TaskKind → Option Action → ℕ → ℕ → TaskProgress → TaskProgress
 acted kinds None length now c = resting Over c
 acted kinds (Some (Run asked)) length now c = begun length (advanced_in kinds c)
@@ -69,15 +71,16 @@ acted kinds (Some (Sleep asked)) length now c = asleep_for length now (advanced_
 acted kinds (Some Wait) length now c = resting Waiting (advanced_in kinds c)
 acted kinds (Some (Wake kind)) length now c = begun 0 (woken_one_in kinds kind c)
 
--- the tasks before those of a kind
+-- how many tasks have kinds before this one
 abbrev pub first_of : List TaskKind → ℕ → ℕ
 first_of kinds number = sum_by (λ (kind : TaskKind). kind.count) (take number kinds)
 
--- the task to which a wake comes next, where the action is one: the first of its kind, and then one after another
+-- the task to which a wake comes next, if the action is a wake: the first of its kind, and then one after another
 abbrev pub aim_of : List TaskKind → TaskProgress → Option Action → Option ℕ
 aim_of kinds c (Some (Wake kind)) = Some (first_of kinds kind + c.woken)
 aim_of kinds c action = None
 
+-- the task to which the wake of a task comes next, if its next action is a wake
 abbrev pub aimed : List TaskKind → TaskProgress → Option ℕ
 aimed kinds c = aim_of kinds c (next_action kinds c)
 
@@ -85,7 +88,7 @@ aimed kinds c = aim_of kinds c (next_action kinds c)
 abbrev pub aim_in : List TaskKind → Doing → Option ℕ
 aim_in kinds doing = aim_of kinds doing.before doing.action
 
--- the kind of a task, by their numbers: its tasks follow those of the kinds before it
+-- a task is of the kind with this number: its tasks follow the tasks of the kinds before it
 pub record IsOfKind (kinds : List TaskKind) (task number : ℕ) : Type 0 where
   pub kind : TaskKind
   pub there : slice_get kinds number ≡ Some kind

@@ -1,4 +1,4 @@
--- How the accounts of a simulation agree with its machine's world and with its clock. As long as they do the world refuses no event
+-- The accounts of a simulation agree with its machine's world and with its clock. As long as they do, the world refuses no event
 -- that the loop gives it, no reading falls, and nothing that comes due is missed.
 use Rattle.std.specs.Prelude.{◌≡◌, ◌≢◌, ℕ, ◌+◌, ◌-◌, ◌<◌, ◌≤◌, ◌^◌, Bool, true, false, List, [], Option, Some, None, length, slice_get}
 use Rattle.std.specs.Option.{option_map_or}
@@ -8,7 +8,7 @@ use Rattle.bq_parts.specs.declared.lobby_entry.LobbyEntry.{LobbyEntry}
 use Rattle.bq_parts.specs.declared.event.Event.{Event}
 use Rattle.bq_parts.specs.declared.event.Event.TheVariants.{Admit, Retire, Draw, Install, BeginWake, EndWake, Drain, Tick, Block, Pull}
 use Rattle.bq_parts.specs.declared.reply.Reply.{Reply}
-use Rattle.bq_parts.specs.declared.reply.Reply.TheVariants.{Admitted, Retired, Drawn, Installed, Begun, Placed, Drained, Ticked, Blocked as Gone, Pulled}
+use Rattle.bq_parts.specs.declared.reply.Reply.TheVariants.{Admitted, Retired, Drawn, Installed, Begun, Placed, Drained, Ticked, Blocked, Pulled}
 use Rattle.bq_parts.specs.Processors.{size_of}
 use Rattle.bq_parts.specs.Refusals.{is_absent, is_away}
 use Rattle.bq_parts.specs.StandsOnce.{IsOrderly}
@@ -35,21 +35,21 @@ can_run Waiting = false
 can_run Runnable = true
 can_run Over = false
 
--- the lobby's entry of a task in a state: absent before it begins, away while it can run, and else the task itself
+-- the lobby's entry of a task in a state: absent before the task begins, away while the task can run, and otherwise the task itself
 abbrev pub StandsAs : Option TaskState → LobbyEntry → Type 0
 StandsAs None s = is_absent s ≡ true
 StandsAs (Some task_state) s = (is_absent s ≡ false) × (is_away s ≡ can_run task_state)
 
--- of its processors a world has what the accounts say
+-- a world has at its processors what the accounts say
 pub record RunsAs (w : World) (a : Accounts) : Type 0 where
   -- there are as many
   pub many : length a.by_processor ≡ count_in w
-  -- at each the same task runs, or none
+  -- at each processor both have the same task running, or none
   pub runs : (processor : ℕ) → run_at a.by_processor processor ≡ id_of (processor_at w processor).running.current
-  -- and at each as many run or wait in the queue
+  -- at each processor both count as many tasks that run or wait in the queue
   pub sizes : (processor : ℕ) → size_at a.by_processor processor ≡ size_of (processor_at w processor)
 
--- The accounts mirror a world: each task stands as its state says, and each processor runs what its state says.
+-- The accounts mirror a world: the lobby's entry of each task fits its state, and each processor runs what the accounts say.
 pub record Mirrors (w : World) (a : Accounts) : Type 0 where
   pub tasks : (task : ℕ) → StandsAs (state_at a.by_task task) (entry w task)
   pub processors : RunsAs w a
@@ -86,7 +86,7 @@ pub record AgreesBut (task : ℕ) (w : World) (a : Accounts) : Type 0 where
   pub mirrors : MirrorsBut task w a
   pub homes : HaveProcessors (count_in w) a
 
--- at an instant a task has got no more than its phase takes, and its timer is not past where it sleeps by one
+-- at an instant a task has got no more than its phase takes, and if it sleeps until its timer wakes it, the timer is not past
 pub record TaskIsOnTime (now : ℕ) (c : TaskProgress) : Type 0 where
   pub phase : c.got ≤ c.due
   pub timer : c.task_state ≡ Asleep → now ≤ c.timer
@@ -100,14 +100,14 @@ pub record RunsOnTime (now : ℕ) (by_task : List TaskProgress) (l : ProcessorSt
   pub tick : l.tick ≡ Some next
   pub later : now ≤ next
 
--- the time of a processor is counted until now at the latest, its next look is not past, and it ticks just where something runs
+-- the time of a processor is counted until now at the latest, its next look is not past, and it ticks exactly when something runs
 pub record ProcessorIsOnTime (now : ℕ) (by_task : List TaskProgress) (l : ProcessorState) : Type 0 where
   pub since : l.since ≤ now
   pub looks : (time : ℕ) → l.look ≡ Some time → now ≤ time
   pub runs : (task : ℕ) → l.run ≡ Some task → RunsOnTime now by_task l task
   pub rests : l.run ≡ None → l.tick ≡ None
 
--- Of the accounts at an instant nothing is past: no timer, no end of a phase, no tick and no look.
+-- At this instant nothing in the accounts is past: no timer, no end of a phase, no tick and no look.
 pub record IsOnTime (now : ℕ) (a : Accounts) : Type 0 where
   pub tasks : (task : ℕ) (c : TaskProgress) → slice_get a.by_task task ≡ Some c → TaskIsOnTime now c
   pub processors : (processor : ℕ) (l : ProcessorState) → slice_get a.by_processor processor ≡ Some l → ProcessorIsOnTime now a.by_task l
@@ -127,6 +127,6 @@ IsAnswerTo (BeginWake c task) (Begun id loads) = Unit {0}
 IsAnswerTo (EndWake c now) (Placed task to by steps) = Unit {0}
 IsAnswerTo (Drain c now) (Drained count run by steps) = Unit {0}
 IsAnswerTo (Tick c now) (Ticked run by steps) = Unit {0}
-IsAnswerTo (Block c now) (Gone task run) = Unit {0}
+IsAnswerTo (Block c now) (Blocked task run) = Unit {0}
 IsAnswerTo (Pull c from now) (Pulled task run by steps) = Unit {0}
 IsAnswerTo event reply = ⊥

@@ -1,12 +1,12 @@
--- The laws of agreement: a world takes each event that the loop gives it, if the accounts agree with it, and what its answer leaves of
--- the accounts agrees with the world that it leaves.
+-- The laws of agreement. If the accounts agree with a world, it takes each event that the loop gives it; and the accounts after
+-- the answer agree with the world after the event.
 use Rattle.std.specs.Prelude.{◌≡◌, ◌≢◌, ℕ, ◌<◌, ◌≤◌, ◌^◌, true, false, List, [], ◌∷◌, ◌++◌, Option, None, Some, Ok, length, slice_get}
 use Rattle.bq_disc.specs.Discipline.{Discipline}
-use Rattle.bq_bpf.specs.declared.board.Call.{Call as Asked}
+use Rattle.bq_bpf.specs.declared.board.CounterCall.{CounterCall}
 use Rattle.bq_parts.specs.declared.event.Event.{Event}
 use Rattle.bq_parts.specs.declared.event.Event.TheVariants.{Admit, BeginWake, Block, Drain, Draw, EndWake, Install, Pull, Tick}
 use Rattle.bq_parts.specs.declared.reply.Reply.{Reply}
-use Rattle.bq_parts.specs.Choices.{policies}
+use Rattle.bq_parts.specs.Choices.{by_programs}
 use Rattle.bq_parts.specs.Refusals.{refusal}
 use Rattle.bq_parts.specs.Steps.{WorldStep}
 use Rattle.bq_parts.specs.World.{World, count_in, processor_at}
@@ -22,7 +22,7 @@ use Rattle.bq_workload.specs.Next.{IsNext}
 use Rattle.bq_workload.specs.TaskProgress.{fresh}
 use Rattle.bq_verify.specs.Accepted.{Accepted}
 use Rattle.bq_simulate.specs.Agreement.{AgreesBut, AgreesWith, IsAnswerTo, IsOnTime, IsReadable, can_run, run_at}
-use Rattle.bq_trace.specs.TraceEvents.{Told}
+use Rattle.bq_trace.specs.TraceEvents.{Reported}
 use Rattle.bq_simulate.specs.declared.drive_fault.DriveFault.{DriveFault}
 use Rattle.bq_simulate.specs.declared.drive_fault.DriveFault.TheVariants.{OutOfMemory}
 use Rattle.bq_simulate.specs.declared.driver.Driver.{Driver}
@@ -31,42 +31,42 @@ use Rattle.bq_simulate.specs.Drives.{IsDriveFault, IsWakeFault, Places, count_en
 use Rattle.bq_simulate.specs.Simulations.{Begins, IsSimulation}
 use Rattle.bq_simulate.specs.Steps.{IsAdmissible, Meet}
 
--- an event is not refused, and however it is done this holds of its answer and of the world that it leaves
+-- an event is not refused; and in each way to do it, its answer and the world that it leaves have this property
 pub record IsTaken (d : Discipline) (w : World) (event : Event) (Leaves : Reply → World → Type 0) : Type 0 where
   pub taken : refusal w event ≡ None
-  pub leaves : (calls : List Asked) (r : Reply) (v : World) → WorldStep (policies d) w event calls (Ok r) v → Leaves r v
+  pub leaves : (calls : List CounterCall) (r : Reply) (v : World) → WorldStep (by_programs d) w event calls (Ok r) v → Leaves r v
 
 -- what its answer leaves of some accounts agrees with the world that it leaves
-abbrev pub IsKept : Discipline → Periods → World → Accounts → Event → Type 0
-IsKept d periods w a event = IsTaken d w event (λ r v. AgreesWith v (after_event periods event r a))
+abbrev pub EventKeepsAgreement : Discipline → Periods → World → Accounts → Event → Type 0
+EventKeepsAgreement d periods w a event = IsTaken d w event (λ r v. AgreesWith v (after_event periods event r a))
 
 -- A tick of any processor is taken.
 abbrev pub TicksAreTaken : Type 0
 TicksAreTaken =
-    (d : Discipline) (periods : Periods) (w : World) (a : Accounts) (processor now : ℕ) → AgreesWith w a → processor < count_in w → IsKept d periods w a (Tick processor now)
+    (d : Discipline) (periods : Periods) (w : World) (a : Accounts) (processor now : ℕ) → AgreesWith w a → processor < count_in w → EventKeepsAgreement d periods w a (Tick processor now)
 
 -- A block is taken of the task that runs at a processor, once its state says that it sleeps.
 abbrev pub BlocksAreTaken : Type 0
 BlocksAreTaken =
     (d : Discipline) (periods : Periods) (w : World) (a : Accounts) (processor task now : ℕ) → AgreesBut task w a → processor < count_in w →
-    run_at a.by_processor processor ≡ Some task → IsKept d periods w a (Block processor now)
+    run_at a.by_processor processor ≡ Some task → EventKeepsAgreement d periods w a (Block processor now)
 
 -- A pull of one processor from another is taken.
 abbrev pub PullsAreTaken : Type 0
 PullsAreTaken =
     (d : Discipline) (periods : Periods) (w : World) (a : Accounts) (processor from now : ℕ) → AgreesWith w a → processor < count_in w → from < count_in w → processor ≢ from →
-    IsKept d periods w a (Pull processor from now)
+    EventKeepsAgreement d periods w a (Pull processor from now)
 
 -- A number is drawn.
 abbrev pub DrawsAreTaken : Type 0
-DrawsAreTaken = (d : Discipline) (periods : Periods) (w : World) (a : Accounts) → AgreesWith w a → IsKept d periods w a Draw
+DrawsAreTaken = (d : Discipline) (periods : Periods) (w : World) (a : Accounts) → AgreesWith w a → EventKeepsAgreement d periods w a Draw
 
--- A policy is installed at its hook, as a generation that was drawn, and is newer than the one that stands there.
+-- A policy is installed at its hook, with a generation that was drawn and is newer than the one at the hook.
 abbrev pub InstallsAreTaken : Type 0
 InstallsAreTaken =
     (d : Discipline) (periods : Periods) (w : World) (a : Accounts) (processor generation : ℕ) (policy : Accepted) → AgreesWith w a → processor < count_in w →
     (at_hook policy.hook (processor_at w processor).hooks).generation < generation → generation ≤ w.drawn →
-    IsKept d periods w a (Install processor policy.hook generation (Some policy))
+    EventKeepsAgreement d periods w a (Install processor policy.hook generation (Some policy))
 
 -- one task more
 abbrev pub with_task : TaskProgress → Accounts → Accounts
@@ -78,7 +78,7 @@ AdmissionsAreTaken =
     (d : Discipline) (w : World) (a : Accounts) (number home : ℕ) (kind : TaskKind) → AgreesWith w a → IsAdmissible (count_in w) (length a.by_task) home kind →
     IsTaken d w (Admit (length a.by_task) kind.nice kind.mask kind.slice) (λ r v. AgreesWith v (with_task (fresh number home kind.start) a))
 
--- the processor on which a task was placed takes in just that
+-- the processor on which a task was placed takes in exactly that task
 abbrev pub IsTakenIn : Discipline → Periods → Accounts → ℕ → Reply → World → Type 0
 IsTakenIn d periods a now placed w =
     (to : ℕ) → placed_at placed ≡ Some to → IsTaken d w (Drain to now) (λ drained v. (count_entered drained ≡ 1) × AgreesWith v (after_event periods (Drain to now) drained a))
@@ -94,23 +94,23 @@ WakesAreTaken =
 abbrev pub Agree : Driver → Book → Type 0
 Agree d b = AgreesWith d.machine.world b.accounts
 
--- They agree after each thing that is met, if they did before.
+-- The accounts agree after each thing that is met, if they agreed before.
 abbrev pub MeetingsAgree : Type 0
 MeetingsAgree =
-    (kinds : List TaskKind) (seed : ℕ) (periods : Periods) (d e : Driver) (b c : Book) (due : Due) (now : ℕ) (deeds : List Deed) (told : Told) →
-    Meet due now deeds → Lives kinds seed periods d b deeds told e c → Agree d b → Agree e c
+    (kinds : List TaskKind) (seed : ℕ) (periods : Periods) (d e : Driver) (b c : Book) (due : Due) (now : ℕ) (deeds : List Deed) (reported : Reported) →
+    Meet due now deeds → Lives kinds seed periods d b deeds reported e c → Agree d b → Agree e c
 
--- So they agree at the end of each simulation, and wherever one has been followed to.
+-- So the accounts agree at the end of each simulation, and wherever one has been followed to.
 pub record SimulationsAgree : Type 0 where
-  pub whole : (policies : List Accepted) (w : Workload) (told : Told) (s : IsSimulation policies w told) → Agree s.closing s.book
-  pub begun : (policies : List Accepted) (w : Workload) (told : Told) (s : Begins policies w told) → Agree s.closing s.book
+  pub whole : (policies : List Accepted) (w : Workload) (reported : Reported) (s : IsSimulation policies w reported) → Agree s.closing s.book
+  pub begun : (policies : List Accepted) (w : Workload) (reported : Reported) (s : Begins policies w reported) → Agree s.closing s.book
 
--- An event whose reading can be given, and which is not refused, fails only if memory is wanted.
+-- An event whose reading can be given, and which is not refused, fails only if memory runs out.
 abbrev pub OnlyMemoryIsWanted : Type 0
 OnlyMemoryIsWanted =
     (d : Driver) (event : Event) (why : DriveFault) → IsReadable d.now (reading_of event) → refusal d.machine.world event ≡ None → IsDriveFault d event why → why ≡ OutOfMemory
 
--- an event of a driver fails only if memory is wanted
+-- an event of a driver fails only if memory runs out
 abbrev pub FailsForMemory : Driver → Event → Type 0
 FailsForMemory d event = (why : DriveFault) → IsDriveFault d event why → why ≡ OutOfMemory
 
@@ -119,7 +119,7 @@ pub record IsReady (d : Driver) (a : Accounts) (now : ℕ) : Type 0 where
   pub agrees : AgreesWith d.machine.world a
   pub reading : IsReadable d.now (Some now)
 
--- So each call of the loop fails only if memory is wanted, where the accounts agree with the world and the instant can be read.
+-- So a call of the loop fails only if memory runs out, provided that the accounts agree with the world and the instant can be read.
 pub record CallsFailForMemory : Type 0 where
   pub draws : (d : Driver) → FailsForMemory d Draw
   pub installs : (d : Driver) (a : Accounts) (processor generation : ℕ) (policy : Accepted) → AgreesWith d.machine.world a → processor < count_in d.machine.world →
@@ -134,13 +134,13 @@ pub record CallsFailForMemory : Type 0 where
       FailsForMemory d (Pull processor from now)
   pub wakes : (d : Driver) (a : Accounts) (from task now : ℕ) (c : TaskProgress) (why : DriveFault) → IsReady d a now →
       from < count_in d.machine.world → slice_get a.by_task task ≡ Some c → can_run c.task_state ≡ false → IsWakeFault d from task now why → why ≡ OutOfMemory
-  -- where a wake has placed its task it can be taken in
-  pub drains : (d e : Driver) (a : Accounts) (from task to now : ℕ) (c : TaskProgress) (told : Told) → IsReady d a now →
-      from < count_in d.machine.world → slice_get a.by_task task ≡ Some c → can_run c.task_state ≡ false → Places d from task now to told e → FailsForMemory e (Drain to now)
+  -- once a wake has placed its task, the task can be taken in
+  pub drains : (d e : Driver) (a : Accounts) (from task to now : ℕ) (c : TaskProgress) (reported : Reported) → IsReady d a now →
+      from < count_in d.machine.world → slice_get a.by_task task ≡ Some c → can_run c.task_state ≡ false → Places d from task now to reported e → FailsForMemory e (Drain to now)
 
 -- Each answer is of its event's kind.
 abbrev pub AnswersFit : Type 0
-AnswersFit = (d : Discipline) (w v : World) (event : Event) (calls : List Asked) (r : Reply) → WorldStep (policies d) w event calls (Ok r) v → IsAnswerTo event r
+AnswersFit = (d : Discipline) (w v : World) (event : Event) (calls : List CounterCall) (r : Reply) → WorldStep (by_programs d) w event calls (Ok r) v → IsAnswerTo event r
 
 -- What comes next is not past, and nothing is past then.
 abbrev pub NothingIsMissed : Type 0
@@ -158,13 +158,13 @@ pub record StaysOnTime : Type 0 where
   pub beaten_on_time : (now processor tick : ℕ) (a : Accounts) → 1 ≤ tick → is_busy a processor ≡ true → IsOnTime now a → IsOnTime now (beaten processor now tick a)
   pub looked_on_time : (now processor balance : ℕ) (a : Accounts) → 1 ≤ balance → IsOnTime now a → IsOnTime now (looked processor now balance a)
 
--- Where accounts agree with a world, a task runs at one processor only.
+-- If accounts agree with a world, each task runs at one processor only.
 abbrev pub TasksRunAlone : Type 0
 TasksRunAlone = (w : World) (a : Accounts) (processor : ℕ) → AgreesWith w a → RunsAlone a processor
 
 -- Nothing is past after a thing that is met, if nothing was before, and world and accounts agreed.
 abbrev pub MeetingsAreOnTime : Type 0
 MeetingsAreOnTime =
-    (kinds : List TaskKind) (seed : ℕ) (periods : Periods) (d e : Driver) (b c : Book) (due : Due) (now : ℕ) (deeds : List Deed) (told : Told) →
+    (kinds : List TaskKind) (seed : ℕ) (periods : Periods) (d e : Driver) (b c : Book) (due : Due) (now : ℕ) (deeds : List Deed) (reported : Reported) →
     1 ≤ periods.tick → 1 ≤ periods.balance → now < 2 ^ 48 → Meet due now deeds →
-    Lives kinds seed periods d b deeds told e c → Agree d b → IsOnTime now b.accounts → IsOnTime now c.accounts
+    Lives kinds seed periods d b deeds reported e c → Agree d b → IsOnTime now b.accounts → IsOnTime now c.accounts

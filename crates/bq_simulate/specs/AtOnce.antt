@@ -1,5 +1,5 @@
--- How many things may still come at one instant, by the accounts. Each that comes then takes one of these at least, and at no instant there
--- are as many as are counted for it.
+-- A measure by which the loop ends: a bound on how many things can still come due at the present instant, by the accounts. Each
+-- thing that is done lowers it by at least one, and it is always below `steps_at_once`.
 use Rattle.std.specs.Prelude.{ℕ, suc, ◌+◌, ◌-◌, ◌*◌, ◌==◌, Bool, if◌then◌else◌, nat_le, List, [], ◌∷◌, ◌++◌, Some, drop, slice_get, sum_by}
 use Rattle.std.specs.Option.{option_map_or}
 use Rattle.bq_workload.specs.declared.action.Action.{Action}
@@ -12,8 +12,8 @@ use Rattle.bq_workload.specs.declared.workload.TaskKind.{TaskKind}
 use Rattle.bq_workload.specs.Accounts.{Accounts, is_same}
 use Rattle.bq_workload.specs.Kinds.{count_of}
 
--- how many steps some actions take until and with the first that takes time; a wake takes one for each task that it still comes to, and the
--- first has come to some
+-- how many steps a list of actions takes up to its first run or sleep, and with that one. A wake takes a step for each task
+-- that it wakes; of the first wake `woken` steps are done
 abbrev pub steps_until : List TaskKind → ℕ → List Action → ℕ
 steps_until kinds woken [] = 0
 steps_until kinds woken (Run asked ∷ actions) = 1
@@ -25,39 +25,44 @@ steps_until kinds woken (Wake kind ∷ actions) = (count_of kinds kind - woken) 
 abbrev pub actions_in : List TaskKind → ℕ → List Action
 actions_in kinds number = option_map_or (λ (kind : TaskKind). kind.actions.items) (slice_get kinds number) []
 
--- a task does its actions from where it stands on, and then all over again
+-- the rest of a task's actions in this round, and then all of them again
 abbrev pub actions_ahead : List TaskKind → TaskProgress → List Action
 actions_ahead kinds c = drop c.action (actions_in kinds c.kind) ++ actions_in kinds c.kind
 
+-- how many steps a task takes before its next action that takes time
 abbrev pub steps_ahead : List TaskKind → TaskProgress → ℕ
 steps_ahead kinds c = steps_until kinds c.woken (actions_ahead kinds c)
 
--- for how long a task has run at a processor that is not counted yet, and at all of them
+-- for how long a task has run at a processor since its time was counted last
 abbrev pub uncounted_at : ℕ → ℕ → ProcessorState → ℕ
 uncounted_at now task l = if is_same l.run (Some task) then now - l.since else 0
 
+-- for how long a task has run at all processors since its time was counted last
 abbrev pub uncounted : ℕ → List ProcessorState → ℕ → ℕ
 uncounted now by_processor task = sum_by (uncounted_at now task) by_processor
 
--- of a task in a state: whether its timer rings just now, whether nothing is left of its phase, and how many steps it takes before one that
--- takes time. Each may leave a processor idle, which looks for a task then, and so may the timer.
+-- the most steps of a task at this instant, by its state, whether its timer rings now, whether nothing is left of its phase, and
+-- how many steps it takes before one that takes time. Each step may leave a processor idle, which then looks for a task; so may
+-- the timer.
 abbrev pub left_in : TaskState → Bool → Bool → ℕ → ℕ
 left_in Asleep rings done steps = if rings then 2 + steps * 2 else 0
 left_in Waiting rings done steps = steps * 2
 left_in Runnable rings done steps = if done then steps * 2 else 0
 left_in Over rings done steps = 0
 
+-- the most steps that a task takes at this instant
 abbrev pub left_of_task : List TaskKind → ℕ → List ProcessorState → ℕ → TaskProgress → ℕ
 left_of_task kinds now by_processor task c = left_in c.task_state (c.timer == now) (nat_le c.due (c.got + uncounted now by_processor task)) (steps_ahead kinds c)
 
--- of a processor: a tick, after which it may look for a task; or a look
+-- the most steps of a processor at this instant: a tick, after which it may look for a task; or a look
 abbrev pub left_of_processor : ℕ → ProcessorState → ℕ
 left_of_processor now l = if is_same l.tick (Some now) then 2 else if is_same l.look (Some now) then 1 else 0
 
--- of all tasks, each by its number
+-- a sum over all tasks, each with its number
 abbrev pub in_all : (ℕ → TaskProgress → ℕ) → List TaskProgress → ℕ
 in_all f [] = 0
 in_all f (c ∷ more) = f 0 c + in_all (λ task. f (suc task)) more
 
+-- the most steps that all tasks and processors take at this instant
 abbrev pub left_at : List TaskKind → ℕ → Accounts → ℕ
 left_at kinds now a = in_all (left_of_task kinds now a.by_processor) a.by_task + sum_by (left_of_processor now) a.by_processor

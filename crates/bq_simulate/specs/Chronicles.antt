@@ -7,9 +7,9 @@ use Rattle.bq_workload.specs.declared.workload.TaskKind.{TaskKind}
 use Rattle.bq_parts.specs.declared.event.Event.{Event}
 use Rattle.bq_parts.specs.declared.event.Event.TheVariants.{BeginWake, Drain, Tick, Block, Pull}
 use Rattle.bq_parts.specs.declared.reply.Reply.{Reply}
-use Rattle.bq_trace.specs.TraceEvents.{Told}
+use Rattle.bq_trace.specs.TraceEvents.{Reported}
 use Rattle.bq_simulate.specs.declared.driver.Driver.{Driver}
-use Rattle.bq_simulate.specs.Drives.{Does, count_entered, runs_now, task_pulled}
+use Rattle.bq_simulate.specs.Drives.{DrivesEvent, count_entered, runs_now, task_pulled}
 use Rattle.bq_workload.specs.declared.progress.TaskProgress.{TaskProgress}
 use Rattle.bq_workload.specs.declared.progress.TaskState.{TaskState}
 use Rattle.bq_workload.specs.declared.progress.TaskState.TheVariants.{Asleep, Waiting}
@@ -26,8 +26,8 @@ pub data Deed : Type 0 where
   Happens : Event → Reply → Deed
   -- one more task is there, of this kind, whose first wake comes from this processor
   Joins : ℕ → ℕ → Deed
-  -- at an instant the phase of the task that runs at a processor ends, and it does this action, with none it has done all; where that
-  -- is a wake, it comes to this task
+  -- at an instant the phase of the task that runs at a processor ends, and the task does this action; with none it has done all
+  -- of them. If the action is a wake, it comes to this task
   Acts : ℕ → ℕ → ℕ → Option Action → Option ℕ → Deed
   -- the timer of a task rings at an instant
   Rings : ℕ → ℕ → Deed
@@ -44,19 +44,19 @@ pub data Deed : Type 0 where
 abbrev pub is_busy : Accounts → ℕ → Bool
 is_busy a processor = option_map_or (λ (processor_state : ProcessorState). is_some processor_state.run) (slice_get a.by_processor processor) false
 
--- a timer wakes a task from the processor that it ran on last; who waits is woken from a processor at which a task runs, which wakes it
+-- a timer wakes a task from the processor that it ran on last; a task that waits is woken from a processor at which some task runs
 abbrev pub IsFrom : Accounts → TaskState → ℕ → ℕ → Type 0
 IsFrom a Asleep home from = from ≡ home
 IsFrom a Waiting home from = is_busy a from ≡ true
 IsFrom a task_state home from = ⊥
 
--- a task that may be woken from a processor: it has a task's progress, and where it stands lets it be woken from there
+-- a task may be woken from this processor: it exists, and its state allows the wake
 pub record IsWoken (a : Accounts) (from task : ℕ) : Type 0 where
   pub progress : TaskProgress
   pub there : slice_get a.by_task task ≡ Some progress
   pub place : IsFrom a progress.task_state progress.home from
 
--- each task that is woken sleeps, and is woken from the right processor; a tick comes only where something runs
+-- a task that is woken sleeps, and is woken from the right processor; a tick comes only if something runs
 abbrev pub IsDue : Event → Accounts → Type 0
 IsDue (BeginWake from task) a = IsWoken a from task
 IsDue (Tick c now) a = is_busy a c ≡ true
@@ -71,7 +71,7 @@ pub record Book : Type 0 where
 abbrev pub pulled : ℕ → ℕ → Option ℕ → Accounts → Accounts
 pulled from to task a = option_map_or (λ _. passed from to a) task a
 
--- where the answer says that another runs now, what ran before has its time; who is woken has no phase yet
+-- the accounts after an answer: if another task runs now, the time of the one before is counted; a woken task has no phase yet
 abbrev pub after_event : Periods → Event → Reply → Accounts → Accounts
 after_event periods (BeginWake c task) reply a = of_task woken task a
 after_event periods (Drain c now) reply a = entered_by c (count_entered reply) (runs_now reply) now periods a
@@ -80,10 +80,11 @@ after_event periods (Block c now) reply a = left_by c (runs_now reply) now perio
 after_event periods (Pull c from now) reply a = switched c (runs_now reply) now periods (pulled from c (task_pulled reply) a)
 after_event periods event reply a = a
 
+-- what is kept after an answer: only its accounts change
 abbrev pub after_answer : Periods → Event → Reply → Book → Book
 after_answer periods event reply b = record b { accounts = after_event periods event reply b.accounts }
 
--- a task that has done nothing, whose timer is that of its kind, and whose stream has given nothing
+-- a task is added that has done nothing; its timer is that of its kind, and its stream has given nothing
 abbrev pub joined : List TaskKind → ℕ → ℕ → Book → Book
 joined kinds kind home b = record { accounts = record b.accounts { by_task = b.accounts.by_task ++ fresh kind home (start_of kinds kind) ∷ [] }; drawn = b.drawn ++ 0 ∷ [] }
 
@@ -96,7 +97,7 @@ abbrev pub length_taken : ℕ → ℕ → List ℕ → Option Length → ℕ
 length_taken seed task drawn None = 0
 length_taken seed task drawn (Some asked) = length_of seed task (draws_of drawn task) asked
 
--- and one length more is given
+-- if a length is asked for, the task's stream has given one more
 abbrev pub drawn_with : ℕ → List ℕ → Option Length → List ℕ
 drawn_with task drawn None = drawn
 drawn_with task drawn (Some asked) = changed_at suc drawn task
@@ -108,11 +109,11 @@ after_act kinds seed processor task now c b = record {
   drawn = drawn_with task b.drawn (asked_by (next_action kinds c));
 }
 
--- its clock beats
+-- the clock of a processor beats
 abbrev pub after_beat : Periods → ℕ → ℕ → Book → Book
 after_beat periods processor now b = record b { accounts = beaten processor now periods.tick b.accounts }
 
--- it looks for a task to pull
+-- a processor looks for a task to pull
 abbrev pub after_look : Periods → ℕ → ℕ → Book → Book
 after_look periods processor now b = record b { accounts = looked processor now periods.balance b.accounts }
 
@@ -128,35 +129,36 @@ after_deed kinds seed periods (Misses task) b = b
 after_deed kinds seed periods (Beats processor now) b = after_beat periods processor now b
 after_deed kinds seed periods (Looks processor now source) b = after_look periods processor now b
 
--- and after some deeds, one after another
+-- what is kept after some deeds, one after another
 abbrev pub after_deeds : List TaskKind → ℕ → Periods → Book → List Deed → Book
 after_deeds kinds seed periods b [] = b
 after_deeds kinds seed periods b (deed ∷ deeds) = after_deeds kinds seed periods (after_deed kinds seed periods deed b) deeds
 
--- deeds one after another: what the sink gets of them, and what becomes of the machine and of what is kept, where tasks do what
--- their kinds say, lengths are drawn from this seed, and times between ticks and between looks, and what a change of processor costs,
--- are of this periods. A wake comes to the tasks of its kind one after another, by number. The timer that rings is of a task that is asleep
--- until just then; a clock beats, and a processor looks, exactly when it is to, and it finds the processor with the most tasks.
-abbrev pub Lives : List TaskKind → ℕ → Periods → Driver → Book → List Deed → Told → Driver → Book → Type 0
-Lives kinds seed periods d b [] told e f = (told ≡ []) × (e ≡ d) × (f ≡ b)
-Lives kinds seed periods d b (Happens event reply ∷ deeds) told e f =
-    IsDue event b.accounts × (mid : Driver) × (first : Told) × (more : Told)
-    × Does d event reply first mid × Lives kinds seed periods mid (after_answer periods event reply b) deeds more e f × (told ≡ first ++ more)
-Lives kinds seed periods d b (Joins kind home ∷ deeds) told e f =
-    IsOfKind kinds (length b.accounts.by_task) kind × Lives kinds seed periods d (joined kinds kind home b) deeds told e f
-Lives kinds seed periods d b (Acts processor task now action aim ∷ deeds) told e f =
+-- Deeds one after another: what the sink gets of them, and what becomes of the machine and of what is kept. Tasks do what their
+-- kinds say. Lengths are drawn from this seed. The periods give the times between ticks and between looks, and what a change of
+-- processor costs. A wake comes to the tasks of its kind one after another, by number. A timer that rings is of a task that is
+-- asleep until exactly then. A clock beats and a processor looks exactly when it is to, and the look finds the processor with
+-- the most tasks.
+abbrev pub Lives : List TaskKind → ℕ → Periods → Driver → Book → List Deed → Reported → Driver → Book → Type 0
+Lives kinds seed periods d b [] reported e f = (reported ≡ []) × (e ≡ d) × (f ≡ b)
+Lives kinds seed periods d b (Happens event reply ∷ deeds) reported e f =
+    IsDue event b.accounts × (mid : Driver) × (first : Reported) × (more : Reported)
+    × DrivesEvent d event reply first mid × Lives kinds seed periods mid (after_answer periods event reply b) deeds more e f × (reported ≡ first ++ more)
+Lives kinds seed periods d b (Joins kind home ∷ deeds) reported e f =
+    IsOfKind kinds (length b.accounts.by_task) kind × Lives kinds seed periods d (joined kinds kind home b) deeds reported e f
+Lives kinds seed periods d b (Acts processor task now action aim ∷ deeds) reported e f =
     (c : TaskProgress) × IsDone (charged processor now b.accounts) processor task c × (action ≡ next_action kinds c) × (aim ≡ aimed kinds c)
-    × Lives kinds seed periods d (after_act kinds seed processor task now c b) deeds told e f
-Lives kinds seed periods d b (Rings task now ∷ deeds) told e f =
-    (c : TaskProgress) × (slice_get b.accounts.by_task task ≡ Some c) × (c.task_state ≡ Asleep) × (c.timer ≡ now) × Lives kinds seed periods d b deeds told e f
-Lives kinds seed periods d b (Reaches task ∷ deeds) told e f =
-    (c : TaskProgress) × (slice_get b.accounts.by_task task ≡ Some c) × (c.task_state ≡ Waiting) × Lives kinds seed periods d b deeds told e f
-Lives kinds seed periods d b (Misses task ∷ deeds) told e f =
-    (c : TaskProgress) × (slice_get b.accounts.by_task task ≡ Some c) × (c.task_state ≢ Waiting) × Lives kinds seed periods d b deeds told e f
-Lives kinds seed periods d b (Beats processor now ∷ deeds) told e f =
-    TicksAt b.accounts processor now × Lives kinds seed periods d (after_beat periods processor now b) deeds told e f
-Lives kinds seed periods d b (Looks processor now source ∷ deeds) told e f =
-    LooksAt b.accounts processor now × IsSource b.accounts.by_processor processor source × Lives kinds seed periods d (after_look periods processor now b) deeds told e f
+    × Lives kinds seed periods d (after_act kinds seed processor task now c b) deeds reported e f
+Lives kinds seed periods d b (Rings task now ∷ deeds) reported e f =
+    (c : TaskProgress) × (slice_get b.accounts.by_task task ≡ Some c) × (c.task_state ≡ Asleep) × (c.timer ≡ now) × Lives kinds seed periods d b deeds reported e f
+Lives kinds seed periods d b (Reaches task ∷ deeds) reported e f =
+    (c : TaskProgress) × (slice_get b.accounts.by_task task ≡ Some c) × (c.task_state ≡ Waiting) × Lives kinds seed periods d b deeds reported e f
+Lives kinds seed periods d b (Misses task ∷ deeds) reported e f =
+    (c : TaskProgress) × (slice_get b.accounts.by_task task ≡ Some c) × (c.task_state ≢ Waiting) × Lives kinds seed periods d b deeds reported e f
+Lives kinds seed periods d b (Beats processor now ∷ deeds) reported e f =
+    TicksAt b.accounts processor now × Lives kinds seed periods d (after_beat periods processor now b) deeds reported e f
+Lives kinds seed periods d b (Looks processor now source ∷ deeds) reported e f =
+    LooksAt b.accounts processor now × IsSource b.accounts.by_processor processor source × Lives kinds seed periods d (after_look periods processor now b) deeds reported e f
 
 -- the events among them
 abbrev pub events_of : List Deed → List Event

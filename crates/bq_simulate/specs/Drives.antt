@@ -8,8 +8,8 @@ use Rattle.bq_words.specs.declared.rule.Rule.{Rule}
 use Rattle.bq_words.specs.declared.processor_count.ProcessorCount.{ProcessorCount}
 use Rattle.bq_streams.specs.Counts.{one_more}
 use Rattle.bq_trace.specs.Machines.{opening_machine}
-use Rattle.bq_trace.specs.TraceEvents.{TraceEvent, Told, Opened, Gets}
-use Rattle.bq_trace.specs.Telling.{Happens}
+use Rattle.bq_trace.specs.TraceEvents.{TraceEvent, Reported, Opened, Gets}
+use Rattle.bq_trace.specs.Reporting.{Happens}
 use Rattle.bq_parts.specs.Refusals.{refusal}
 use Rattle.bq_simulate.specs.declared.drive_fault.DriveFault.{DriveFault}
 use Rattle.bq_simulate.specs.declared.drive_fault.DriveFault.TheVariants.{Answer, OutOfMemory, Reading, Refused}
@@ -35,19 +35,19 @@ Falls last None = ⊥
 Falls last (Some now) = (now < last) ⊎ (2 ^ 48 ≤ now)
 
 -- a machine to which nothing has happened: the first line of a trace
-pub record Starts (rule : Rule) (size : ProcessorCount) (told : Told) (d : Driver) : Type 0 where
+pub record Starts (rule : Rule) (size : ProcessorCount) (reported : Reported) (d : Driver) : Type 0 where
   pub machine : d.machine ≡ opening_machine rule size
   pub line : d.line ≡ 1
   pub now : d.now ≡ 0
-  pub tells : told ≡ (1, Opened rule size) ∷ []
+  pub reports : reported ≡ (1, Opened rule size) ∷ []
 
 -- the event of the next line is done, and is not refused
-pub record Does (d : Driver) (event : Event) (reply : Reply) (told : Told) (e : Driver) : Type 0 where
+pub record DrivesEvent (d : Driver) (event : Event) (reply : Reply) (reported : Reported) (e : Driver) : Type 0 where
   pub line : e.line ≡ one_more d.line
   pub rises : Rises d.now (reading_of event) e.now
-  pub happens : Happens d.machine e.line event (Ok reply) told e.machine
+  pub happens : Happens d.machine e.line event (Ok reply) reported e.machine
 
--- why an event is not done: its reading falls, the machine refuses it for the first reason that there is, or memory is wanted;
+-- why an event is not done: its reading falls, the machine refuses it for the first reason that there is, or memory runs out;
 -- never for the kind of its answer
 abbrev pub IsDriveFault : Driver → Event → DriveFault → Type 0
 IsDriveFault d event Reading = Falls d.now (reading_of event)
@@ -59,7 +59,7 @@ IsDriveFault d event Answer = ⊥
 abbrev pub IsWakeFault : Driver → ℕ → ℕ → ℕ → DriveFault → Type 0
 IsWakeFault d from task now why =
     IsDriveFault d (BeginWake from task) why
-    ⊎ ((begun : Reply) × (told : Told) × (mid : Driver) × Does d (BeginWake from task) begun told mid × IsDriveFault mid (EndWake from now) why)
+    ⊎ ((begun : Reply) × (reported : Reported) × (mid : Driver) × DrivesEvent d (BeginWake from task) begun reported mid × IsDriveFault mid (EndWake from now) why)
 
 -- a reading that falls leaves the machine as it was, and the sink gets nothing
 abbrev pub IsUntouched : {S : Type 0} → DriveFault → Driver → Driver → S → S → Type 0
@@ -72,9 +72,9 @@ Takes S = S → ℕ → TraceEvent → S → Type 0
 
 -- a sink gets what comes of it
 abbrev pub Did : {S : Type 0} → Takes S → S → Driver → Event → Reply → S → Driver → Type 0
-Did takes old d event reply new e = Gets takes old new (λ told. Does d event reply told e)
+Did takes old d event reply new e = Gets takes old new (λ reported. DrivesEvent d event reply reported e)
 
--- who runs at the event's processor now, as an answer says
+-- the task that runs at the event's processor now, as an answer says
 abbrev pub runs_now : Reply → Option ℕ
 runs_now (Drained count run by steps) = run
 runs_now (Ticked run by steps) = run
@@ -82,17 +82,17 @@ runs_now (Blocked task run) = run
 runs_now (Pulled task run by steps) = run
 runs_now reply = None
 
--- how many tasks entered its queue
+-- the number of tasks that entered the queue, as an answer to a drain says
 abbrev pub count_entered : Reply → ℕ
 count_entered (Drained count run by steps) = count
 count_entered reply = 0
 
--- the task that it took from another
+-- the task that was taken from another processor, as an answer to a pull says
 abbrev pub task_pulled : Reply → Option ℕ
 task_pulled (Pulled task run by steps) = task
 task_pulled reply = None
 
--- the processor on which it placed a task
+-- the processor on which a task was placed, as an answer to a wake says
 abbrev pub placed_at : Reply → Option ℕ
 placed_at (Placed task to by steps) = Some to
 placed_at reply = None
@@ -108,27 +108,27 @@ TookFrom takes old d processor from now task run new e =
     (reply : Reply) × (runs_now reply ≡ run) × (task_pulled reply ≡ task) × Did takes old d (Pull processor from now) reply new e
 
 -- a wake from a processor begins and ends there, and its answer says that the task was placed on this one
-pub record Places (d : Driver) (from task now to : ℕ) (told : Told) (e : Driver) : Type 0 where
+pub record Places (d : Driver) (from task now to : ℕ) (reported : Reported) (e : Driver) : Type 0 where
   pub begun : Reply
   pub placed : Reply
   pub mid : Driver
-  pub first : Told
-  pub more : Told
-  pub begins : Does d (BeginWake from task) begun first mid
-  pub ends : Does mid (EndWake from now) placed more e
+  pub first : Reported
+  pub more : Reported
+  pub begins : DrivesEvent d (BeginWake from task) begun first mid
+  pub ends : DrivesEvent mid (EndWake from now) placed more e
   pub place : placed_at placed ≡ Some to
-  pub whole : told ≡ first ++ more
+  pub whole : reported ≡ first ++ more
 
 -- some events are done one after another, and none is refused
-abbrev pub Drives : Driver → List Event → Told → Driver → Type 0
-Drives d [] told e = (told ≡ []) × (e ≡ d)
-Drives d (event ∷ events) told e =
-    (reply : Reply) × (mid : Driver) × (first : Told) × (more : Told)
-    × Does d event reply first mid × Drives mid events more e × (told ≡ first ++ more)
+abbrev pub Drives : Driver → List Event → Reported → Driver → Type 0
+Drives d [] reported e = (reported ≡ []) × (e ≡ d)
+Drives d (event ∷ events) reported e =
+    (reply : Reply) × (mid : Driver) × (first : Reported) × (more : Reported)
+    × DrivesEvent d event reply first mid × Drives mid events more e × (reported ≡ first ++ more)
 
 -- a sink gets what comes of them
 abbrev pub Drove : {S : Type 0} → Takes S → S → Driver → List Event → S → Driver → Type 0
-Drove takes old d events new e = Gets takes old new (λ told. Drives d events told e)
+Drove takes old d events new e = Gets takes old new (λ reported. Drives d events reported e)
 
 -- a sink gets what comes of some events
 abbrev pub Went : {S : Type 0} → Takes S → S → Driver → S → Driver → Type 0

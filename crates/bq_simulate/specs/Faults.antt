@@ -6,11 +6,11 @@ use Rattle.bq_workload.specs.declared.workload.Workload.{Workload}
 use Rattle.bq_simulate.specs.declared.fault.SimulateFault.{SimulateFault}
 use Rattle.bq_simulate.specs.declared.fault.SimulateFault.TheVariants as fault
 
--- the flaw for which a workload is refused; none where it was followed
-abbrev pub flaw_told : SimulateFault → Option Unsound
-flaw_told (fault.Unsound flaw) = Some flaw
-flaw_told why = None
+-- the flaw for which a workload is refused; none for any other fault
+abbrev pub reported_flaw : SimulateFault → Option Unsound
+reported_flaw (fault.Unsound flaw) = Some flaw
+reported_flaw why = None
 
 -- no other flaw is reported than the first of the workload; a fault may tell none
-abbrev pub TellsNoOther : Workload → SimulateFault → Type 0
-TellsNoOther w why = IfSome (flaw_told why) (λ flaw. first_flaw w ≡ Some flaw)
+abbrev pub ReportsNoOther : Workload → SimulateFault → Type 0
+ReportsNoOther w why = IfSome (reported_flaw why) (λ flaw. first_flaw w ≡ Some flaw)

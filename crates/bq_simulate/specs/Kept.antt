@@ -14,7 +14,7 @@ use Rattle.bq_simulate.specs.Actions.{IsOfKind, actions_of, next_action}
 use Rattle.bq_simulate.specs.Agreement.{AgreesWith, IsOnTime}
 use Rattle.bq_simulate.specs.Chronicles.{Book}
 
--- a task stands at one of the actions of its kind; where it wakes others next, its wake has come to fewer than there are
+-- a task is at one of the actions of its kind; if it wakes others next, its wake has come to fewer than there are
 pub record StandsAtAction (kinds : List TaskKind) (task : ℕ) (c : TaskProgress) : Type 0 where
   pub of_kind : IsOfKind kinds task c.kind
   pub action : c.action < actions_of kinds c
@@ -25,8 +25,8 @@ pub record StandAtActions (kinds : List TaskKind) (b : Book) : Type 0 where
   pub tasks : (task : ℕ) (c : TaskProgress) → slice_get b.accounts.by_task task ≡ Some c → StandsAtAction kinds task c
   pub streams : length b.drawn ≡ length b.accounts.by_task
 
--- All that is kept at an instant, once all tasks of these kinds are there: the accounts agree with the machine's world, nothing of them
--- is past, no clock was given a later reading, each task stands at an action, and there are 64 processors at most.
+-- All that is kept at an instant, once all tasks of these kinds have been admitted: the accounts agree with the machine's world,
+-- nothing in them is past, no clock was given a later reading, each task is at an action, and there are 64 processors at most.
 pub record IsKept (kinds : List TaskKind) (now : ℕ) (d : Driver) (b : Book) : Type 0 where
   pub agrees : AgreesWith d.machine.world b.accounts
   pub on_time : IsOnTime now b.accounts
@@ -35,15 +35,15 @@ pub record IsKept (kinds : List TaskKind) (now : ℕ) (d : Driver) (b : Book) : 
   pub all : length b.accounts.by_task ≡ tasks_in kinds
   pub few : count_in d.machine.world ≤ PROCESSORS
 
--- of each kind the first task is kept
+-- the first task of each kind is known
 abbrev pub HasAllFirsts : List TaskKind → Simulation → Type 0
 HasAllFirsts kinds s = length kinds ≤ length s.firsts.items
 
--- each generation that stands at a hook was drawn
+-- each generation at a hook was drawn
 abbrev pub WereDrawn : World → Type 0
 WereDrawn w = (processor : ℕ) (hook : Hook) → (at_hook hook (processor_at w processor).hooks).generation ≤ w.drawn
 
--- a generation was drawn, and is newer than each that stands at a hook of the processors from this one on
+-- a generation was drawn, and is newer than each one at a hook of the processors from this one on
 pub record IsNewerFrom (processor generation : ℕ) (w : World) : Type 0 where
   pub drawn : generation ≤ w.drawn
   pub newer : (other : ℕ) (hook : Hook) → processor ≤ other → (at_hook hook (processor_at w other).hooks).generation < generation

@@ -11,7 +11,7 @@ use Rattle.bq_lines.specs.Kept.{IsOneLine}
 use Rattle.bq_lines.specs.Lines.{reading_of}
 use Rattle.bq_lines.specs.declared.command.Command.{Command}
 use Rattle.bq_lines.specs.declared.command.Command.TheVariants.{Does, Load, Machine}
-use Rattle.bq_lines.specs.declared.command.LineReading.TheVariants.{Says}
+use Rattle.bq_lines.specs.declared.command.LineReading.TheVariants.{Asks}
 use Rattle.bq_simulate.specs.Spelling.{HasFittingNumbers, asking_line, machine_line}
 
 -- some bytes, and no more than a line has room for
@@ -20,11 +20,12 @@ pub record IsImageOfLine (bytes : List ℕ) : Type 0 where
   pub some : 0 < length bytes
   pub room : length bytes ≤ 65472
 
+-- an image that a line can have, or none
 abbrev pub CanStandInLine : Option (List ℕ) → Type 0
 CanStandInLine None = Unit {0}
 CanStandInLine (Some bytes) = IsImageOfLine bytes
 
--- an install asks to load the image that it brings, and without one takes away what stands there
+-- an install with an image asks to load it; an install without one takes away the policy at the hook
 abbrev pub installing : Option (List ℕ) → ℕ → Hook → ℕ → Command
 installing None c hook generation = Does (Install c hook generation None)
 installing (Some bytes) c hook generation = Load c hook generation (encode_lower bytes)
@@ -34,19 +35,19 @@ abbrev pub asked : Option (List ℕ) → Event → Command
 asked image (Install c hook generation policy) = installing image c hook generation
 asked image event = Does event
 
--- The line of an event says just that.
+-- The line of an event is read as exactly that event.
 abbrev pub EventsAreRead : Type 0
-EventsAreRead = (image : Option (List ℕ)) (event : Event) → CanStandInLine image → HasFittingNumbers event → reading_of (asking_line image event) ≡ Says (asked image event)
+EventsAreRead = (image : Option (List ℕ)) (event : Event) → CanStandInLine image → HasFittingNumbers event → reading_of (asking_line image event) ≡ Asks (asked image event)
 
 -- The line of a machine says that machine.
 abbrev pub MachinesAreRead : Type 0
-MachinesAreRead = (rule : Rule) (size : ProcessorCount) → reading_of (machine_line rule size) ≡ Says (Machine rule size)
+MachinesAreRead = (rule : Rule) (size : ProcessorCount) → reading_of (machine_line rule size) ≡ Asks (Machine rule size)
 
 -- The hex of an image spells its bytes.
 abbrev pub ImagesAreRead : Type 0
 ImagesAreRead = (bytes : List ℕ) → IsBytes bytes → decode_of (encode_lower bytes) ≡ Ok bytes
 
--- a text is one line, of which nothing is taken away where a line feed ends it
+-- a text is one line, from which nothing is taken away if a line feed ends it
 pub record IsWholeLine (line : List ℕ) : Type 0 where
   pub one : IsOneLine line
   pub same : strip_carriage_return line ≡ line

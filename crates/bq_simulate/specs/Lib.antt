@@ -12,5 +12,5 @@ pub mod KeptLaws
 pub mod Laws
 pub mod Order
 pub mod Spelling
-pub mod Retelling
+pub mod Replays
 pub mod Texts

@@ -1,4 +1,4 @@
--- A simulation that goes well: what its calls stand on, so that they fail only for want of memory.
+-- A simulation that goes well: the conditions under which its calls fail only if memory runs out.
 use Rattle.std.specs.Prelude.{◌≡◌, ◌≢◌, ◌⊎◌, ◌<◌, ◌≤◌, ◌+◌, ◌*◌, ◌^◌, ℕ, true, List, Option, None, Some, length, slice_get}
 use Rattle.bq_disc.specs.declared.limits.TheConstants.{PROCESSORS}
 use Rattle.bq_parts.specs.World.{World, count_in}
@@ -25,8 +25,8 @@ use Rattle.bq_simulate.specs.Chronicles.{Book, is_busy, pulled}
 use Rattle.bq_simulate.specs.Kept.{HasAllFirsts, IsKept, IsNewerFrom, StandAtActions, WereDrawn}
 use Rattle.bq_simulate.specs.Simulations.{HasDrawn, HasFirsts, book_of, periods_of}
 
--- The simulation of a workload that can be followed has come to an instant until its end, and all is kept: by its machine, its accounts,
--- its event queue, the streams of its tasks and the first task of each kind.
+-- The simulation of a workload without flaws has come to an instant until its end, and all is kept: by its machine, its
+-- accounts, its event queue, the streams of its tasks and the first task of each kind.
 pub record GoesWell (w : Workload) (now : ℕ) (s : Simulation) : Type 0 where
   pub sound : first_flaw w ≡ None
   pub until : now ≤ w.machine.duration
@@ -38,7 +38,7 @@ pub record GoesWell (w : Workload) (now : ℕ) (s : Simulation) : Type 0 where
   pub kept : IsKept w.tasks.items now s.driver (book_of s drawn)
   pub agreed : IsAgreed s.roster
 
--- it has come to some instant so
+-- the simulation goes well at some instant
 pub record HasGoneWell (w : Workload) (s : Simulation) : Type 0 where
   pub now : ℕ
   pub well : GoesWell w now s
@@ -47,8 +47,8 @@ pub record HasGoneWell (w : Workload) (s : Simulation) : Type 0 where
 abbrev pub HasProcessors : Workload → Simulation → Type 0
 HasProcessors w s = length s.roster.by_processor.items ≡ processors_in w.machine.size
 
--- The task that runs at a processor goes to sleep just now: its accounts say so already, and the machine's world not yet. All else is as
--- in a simulation that goes well.
+-- The task that runs at a processor goes to sleep now: its accounts say so already, and the machine's world not yet. All else is
+-- as in a simulation that goes well.
 pub record FallsAsleep (w : Workload) (now processor : ℕ) (s : Simulation) : Type 0 where
   pub sound : first_flaw w ≡ None
   pub until : now ≤ w.machine.duration
@@ -61,8 +61,8 @@ pub record FallsAsleep (w : Workload) (now processor : ℕ) (s : Simulation) : T
   pub agrees : AgreesBut task s.driver.machine.world (accounts_of s.roster)
   pub agreed : IsAgreed s.roster
 
--- What a task has taken up can follow: where it wakes others all goes well, it runs, and there is one to which its wake comes next; where
--- it sleeps, waits or is over it falls asleep.
+-- What must hold for the event that an action calls for. For a wake: the simulation is in a good state, the waker runs, and a
+-- task is left that it has not woken. For a sleep, a wait or the end: the task is falling asleep. For a run: nothing.
 abbrev pub CanFollow : Workload → Option Action → TaskProgress → ℕ → ℕ → Simulation → Type 0
 CanFollow w (Some (Run asked)) c processor now s = Unit {0}
 CanFollow w (Some (Wake kind)) c processor now s = GoesWell w now s × (is_busy (accounts_of s.roster) processor ≡ true) × (c.woken < count_of w.tasks.items kind)
@@ -81,8 +81,8 @@ abbrev pub IsStrayPull : Periods → ℕ → ℕ → Option ℕ → Option ℕ �
 IsStrayPull periods processor from task run now a =
     ((task ≢ None) × IsStrayPass from processor a) ⊎ IsStraySwitch periods processor run now (pulled from processor task a)
 
--- A simulation that opens, at instant 0, with this many processors and so many tasks so far: the accounts agree with the machine's world,
--- and nothing of them is past.
+-- A simulation that opens, at instant 0, with this many processors and this many tasks until now: the accounts agree with the
+-- machine's world, and nothing in them is past.
 pub record IsOpening (processors tasks : ℕ) (d : Driver) (b : Book) : Type 0 where
   pub agree : AgreesWith d.machine.world b.accounts
   pub on_time : IsOnTime 0 b.accounts
@@ -90,7 +90,7 @@ pub record IsOpening (processors tasks : ℕ) (d : Driver) (b : Book) : Type 0 w
   pub processors_there : count_in d.machine.world ≡ processors
   pub tasks_there : length b.accounts.by_task ≡ tasks
 
--- The simulation of a workload that can be followed opens, with so many tasks so far, each of which is counted.
+-- The simulation of a workload without flaws opens, with this many tasks until now, each of which is counted.
 pub record OpensWell (w : Workload) (tasks : ℕ) (s : Simulation) : Type 0 where
   pub sound : first_flaw w ≡ None
   pub periods : s.roster.periods ≡ periods_of w.machine
@@ -102,16 +102,16 @@ pub record OpensWell (w : Workload) (tasks : ℕ) (s : Simulation) : Type 0 wher
   pub counted : s.counts.tasks ≡ tasks
   pub agreed : IsAgreed s.roster
 
--- all tasks of the kinds before this one are there so far
+-- all tasks of the kinds before this one are there
 abbrev pub OpensBefore : Workload → ℕ → Simulation → Type 0
 OpensBefore w number s = OpensWell w (first_of w.tasks.items number) s
 
--- so many generations were drawn, and each that stands at a hook is one of them
+-- this many generations were drawn, and each one at a hook is one of them
 pub record HasGenerations (count : ℕ) (w : World) : Type 0 where
   pub many : w.drawn ≡ count
   pub were : WereDrawn w
 
--- in its machine so many generations were drawn, and this one is newer than each that stands at a hook
+-- in its machine this many generations were drawn, and this one is newer than each one at a hook
 abbrev pub HasNewer : ℕ → ℕ → Simulation → Type 0
 HasNewer count generation s = HasGenerations count s.driver.machine.world × IsNewerFrom 0 generation s.driver.machine.world
 
@@ -125,17 +125,18 @@ pub record StartsWell (w : Workload) (s : Simulation) : Type 0 where
 abbrev pub WantsMemory : SimulateFault → Type 0
 WantsMemory why = why ≡ OutOfMemory
 
--- or that 2 ^ 64 - 1 things came due, where 64 bits do not count the bound of its steps
+-- 2 ^ 64 - 1 things came due, and 64 bits do not count the bound of its steps
 abbrev pub IsEndless : Workload → SimulateFault → Type 0
 IsEndless w why = (why ≡ Endless) × (2 ^ 64 ≤ (w.machine.duration + 1) * steps_at_once w)
 
+-- memory ran out, or the most things came due and 64 bits do not count the bound of its steps
 abbrev pub EndsEarly : Workload → SimulateFault → Type 0
 EndsEarly w why = (why ≡ OutOfMemory) ⊎ IsEndless w why
 
--- a fault says that there is no end only where this holds
+-- this holds if the fault is that there is no end
 abbrev pub IfEndless : Type 0 → SimulateFault → Type 0
 IfEndless Holds why = why ≡ Endless → Holds
 
--- or that the sink has enough
+-- memory ran out, or the sink has enough, or the most things came due and 64 bits do not count the bound of its steps
 abbrev pub IsCutOff : Workload → SimulateFault → Type 0
 IsCutOff w why = (why ≡ OutOfMemory) ⊎ ((why ≡ Enough) ⊎ IsEndless w why)

@@ -9,7 +9,7 @@ use Rattle.bq_workload.specs.declared.workload.Workload.{Workload}
 use Rattle.bq_workload.specs.Streams.{stream_of_task, after_draw, after_draws}
 pub use Rattle.bq_verify.specs.Accepted.{Accepted}
 use Rattle.bq_words.specs.Sizes.{processors_in}
-use Rattle.bq_trace.specs.TraceEvents.{Told, Gets}
+use Rattle.bq_trace.specs.TraceEvents.{Reported, Gets}
 use Rattle.bq_simulate.specs.declared.driver.Driver.{Driver}
 use Rattle.bq_simulate.specs.Drives.{Starts, Drives, Takes}
 use Rattle.bq_workload.specs.Accounts.{accounts_of, is_over, opening}
@@ -32,8 +32,8 @@ opening_book machine = record { accounts = opening (processors_in machine.size) 
 abbrev pub periods_of : Setup → Periods
 periods_of machine = record { end = machine.duration; tick = machine.tick; balance = machine.balance; migration_cost = machine.migration_cost }
 
--- first these policies are installed and all tasks admitted; then this many things at most come due until the end, each the next by the
--- accounts, and are met
+-- an opening, in which these policies are installed and all tasks admitted; then at most `most` things come due until the end.
+-- Each is the first by the accounts, and calls for its own deeds
 pub record Proceeds (policies : List Accepted) (processors : ℕ) (kinds : List TaskKind) (seed : ℕ) (periods : Periods) (most end : ℕ) (b : Book) (deeds : List Deed) : Type 0 where
   pub opening : List Deed
   pub met : List Deed
@@ -41,7 +41,7 @@ pub record Proceeds (policies : List Accepted) (processors : ℕ) (kinds : List 
   pub opens : Opens policies processors kinds opening
   pub meets : AreMet kinds seed periods most end (after_deeds kinds seed periods b opening) met
 
--- just this many come due so
+-- a simulation proceeds, and exactly this many things come due
 abbrev pub ProceedsBy : List Accepted → ℕ → List TaskKind → ℕ → Periods → ℕ → ℕ → Book → List Deed → Type 0
 ProceedsBy policies processors kinds seed periods count end b deeds =
     (proceeds : Proceeds policies processors kinds seed periods count end b deeds) × (length proceeds.meets.steps ≡ count)
@@ -50,7 +50,7 @@ ProceedsBy policies processors kinds seed periods count end b deeds =
 abbrev pub ProceedsIn : List Accepted → Workload → ℕ → Periods → Book → List Deed → Type 0
 ProceedsIn policies w seed periods = Proceeds policies (processors_in w.machine.size) w.tasks.items seed periods (most_steps w) w.machine.duration
 
--- just as many as it counts
+-- a simulation proceeds until as many things came due as it counts at most
 abbrev pub ProceedsOut : List Accepted → Workload → ℕ → Periods → Book → List Deed → Type 0
 ProceedsOut policies w seed periods = ProceedsBy policies (processors_in w.machine.size) w.tasks.items seed periods (most_steps w) w.machine.duration
 
@@ -61,62 +61,63 @@ pub record Ends (policies : List Accepted) (w : Workload) (d : Driver) (deeds : 
   pub last : List Deed
   pub whole : deeds ≡ until ++ last
   pub proceeds : ProceedsIn policies w w.machine.seed (periods_of w.machine) (opening_book w.machine) until
-  pub told : Told
+  pub reported : Reported
   pub driver : Driver
   pub book : Book
-  pub lives : Lives w.tasks.items w.machine.seed (periods_of w.machine) d (opening_book w.machine) until told driver book
+  pub lives : Lives w.tasks.items w.machine.seed (periods_of w.machine) d (opening_book w.machine) until reported driver book
   pub none : NothingComes w.machine.duration book.accounts
   pub over : is_over w.machine.duration book.accounts ≡ true
   pub ticks : AreJust (last_ticks w.machine.duration (all_processors (processors_in w.machine.size)) book.accounts) last
 
--- It makes the machine that the workload asks for, with these policies at all processors, and then some events are done one after
--- another, of which none is refused, with readings that never fall: so it is the trace of those events, with their answers. Who has run
--- and how long is what the answers say. Each task goes through the actions of its kind in their order, and over again; it goes on only
--- when it has got just the length of its run phase, and the costs of its changes of processor; its timer wakes it exactly when its sleep has
--- lasted its length, and first at the start of its kind; and each length is the next of its task. A processor that runs something ticks just at
--- multiples of the time between two ticks; where there are others each looks for a task just at multiples of the time between two looks,
--- and when it falls idle, and pulls one from the processor with the most tasks.
--- All is done when something comes due, except for what opens it and for the ticks at its end; and what is met is, by the accounts just
--- before, the first that comes: by time, at one instant by kind, and of one kind by number. Then no timer, no end of a phase, no tick
--- and no look is left that comes until the end.
-pub record IsSimulation (policies : List Accepted) (w : Workload) (told : Told) : Type 0 where
+-- It makes the machine that the workload asks for, with these policies at all processors. Then events are done one after
+-- another; none is refused, and readings never fall. So it is the trace of those events, with their answers, and the answers say
+-- which task has run and how long. Each task does the actions of its kind in their order, over and over. It goes on only when it
+-- has got exactly the length of its run phase and the costs of its changes of processor. Its timer wakes it exactly when its
+-- sleep has lasted its length, and first at the start of its kind. Each length is the next of its task. A processor that runs
+-- something ticks exactly at multiples of the time between two ticks. If there are other processors, each looks for a task at
+-- multiples of the time between two looks and when it falls idle, and pulls one from the processor with the most tasks. All is
+-- done when something comes due, except for what opens the simulation and the ticks at its end. What is met is, by the accounts
+-- before it, the first that comes: by time, at one instant by kind, and of one kind by number. When it ends, no timer, no end of
+-- a phase, no tick and no look is left that comes until the end.
+pub record IsSimulation (policies : List Accepted) (w : Workload) (reported : Reported) : Type 0 where
   pub opening : Driver
   pub closing : Driver
   pub deeds : List Deed
   pub book : Book
-  pub first : Told
-  pub more : Told
+  pub first : Reported
+  pub more : Reported
   pub starts : Starts w.machine.rule w.machine.size first opening
   pub drives : Drives opening (events_of deeds) more closing
   pub lives : Lives w.tasks.items w.machine.seed (periods_of w.machine) opening (opening_book w.machine) deeds more closing book
-  pub whole : told ≡ first ++ more
+  pub whole : reported ≡ first ++ more
   pub ends : Ends policies w opening deeds
 
--- How a simulation begins: its machine is made, all that opens it is done, and then some of what comes due, as in one that goes to its end.
-pub record Begins (policies : List Accepted) (w : Workload) (told : Told) : Type 0 where
+-- The beginning of a simulation: its machine is made, all that opens it is done, and then some of what comes due, as in a
+-- simulation that goes to its end.
+pub record Begins (policies : List Accepted) (w : Workload) (reported : Reported) : Type 0 where
   pub opening : Driver
   pub closing : Driver
   pub deeds : List Deed
   pub book : Book
-  pub first : Told
-  pub more : Told
+  pub first : Reported
+  pub more : Reported
   pub starts : Starts w.machine.rule w.machine.size first opening
   pub drives : Drives opening (events_of deeds) more closing
   pub lives : Lives w.tasks.items w.machine.seed (periods_of w.machine) opening (opening_book w.machine) deeds more closing book
-  pub whole : told ≡ first ++ more
+  pub whole : reported ≡ first ++ more
   pub proceeds : ProceedsIn policies w w.machine.seed (periods_of w.machine) (opening_book w.machine) deeds
 
 -- A simulation that is too long: it begins, and then 2 ^ 64 - 1 things come due, one after another, as many as 64 bits count.
-pub record IsTooLong (policies : List Accepted) (w : Workload) (told : Told) : Type 0 where
-  pub begins : Begins policies w told
+pub record IsTooLong (policies : List Accepted) (w : Workload) (reported : Reported) : Type 0 where
+  pub begins : Begins policies w reported
   pub many : length begins.proceeds.meets.steps ≡ 2 ^ 64 - 1
 
--- all of a simulation; where there is enough of it, its beginning may do
-abbrev pub IsFollowed : Bool → List Accepted → Workload → Told → Type 0
-IsFollowed enough policies w told = IsSimulation policies w told ⊎ ((enough ≡ true) × Begins policies w told)
+-- a whole simulation; or, if the sink has enough, the beginning of one
+abbrev pub IsFollowed : Bool → List Accepted → Workload → Reported → Type 0
+IsFollowed enough policies w reported = IsSimulation policies w reported ⊎ ((enough ≡ true) × Begins policies w reported)
 
 -- a sink has enough, and got events of which this holds
-abbrev pub HasEnough : {S : Type 0} → Takes S → (S → Bool) → (Told → Type 0) → S → S → Type 0
+abbrev pub HasEnough : {S : Type 0} → Takes S → (S → Bool) → (Reported → Type 0) → S → S → Type 0
 HasEnough takes sated Holds old new = (sated new ≡ true) × Gets takes old new Holds
 
 -- the streams of the tasks from this number on, each after this many draws
@@ -124,10 +125,11 @@ abbrev pub streams_after : ℕ → ℕ → List ℕ → List Lcg
 streams_after seed task [] = []
 streams_after seed task (draws ∷ more) = after_draws draws (stream_of_task seed task) ∷ streams_after seed (task + 1) more
 
+-- the streams of the tasks have given as many lengths as these numbers say
 abbrev pub HasDrawn : Simulation → List ℕ → Type 0
 HasDrawn s drawn = s.streams.items ≡ streams_after s.seed 0 drawn
 
--- each first task of a kind that is kept is that of the kind
+-- each first task that is kept is the first of its kind
 abbrev pub HasFirsts : List TaskKind → Simulation → Type 0
 HasFirsts kinds s = (number first : ℕ) → slice_get s.firsts.items number ≡ Some first → first ≡ first_of kinds number
 
@@ -135,11 +137,12 @@ HasFirsts kinds s = (number first : ℕ) → slice_get s.firsts.items number ≡
 abbrev pub BeginsMore : Simulation → Simulation → Type 0
 BeginsMore s t = length s.firsts.items ≤ length t.firsts.items
 
+-- what is kept by a simulation, and how many lengths its streams have given
 abbrev pub book_of : Simulation → List ℕ → Book
 book_of s drawn = record { accounts = accounts_of s.roster; drawn = drawn }
 
 -- a simulation, whose streams have given this many lengths, goes on by some deeds of which this holds, and which are reported to a sink
-pub record Goes {S : Type 0} (takes : Takes S) (kinds : List TaskKind) (Are : List Deed → Type 0)
+pub record GoesByDeeds {S : Type 0} (takes : Takes S) (kinds : List TaskKind) (Are : List Deed → Type 0)
     (old : S) (s : Simulation) (drawn : List ℕ) (new : S) (t : Simulation) : Type 0 where
   pub deeds : List Deed
   pub after : List ℕ
@@ -149,22 +152,23 @@ pub record Goes {S : Type 0} (takes : Takes S) (kinds : List TaskKind) (Are : Li
   pub firsts : HasFirsts kinds t
   pub begun : BeginsMore s t
   pub agrees : StaysAgreed s.roster t.roster
-  pub tells : Gets takes old new (λ told. Lives kinds s.seed s.roster.periods s.driver (book_of s drawn) deeds told t.driver (book_of t after))
+  pub reports : Gets takes old new (λ reported. Lives kinds s.seed s.roster.periods s.driver (book_of s drawn) deeds reported t.driver (book_of t after))
   pub are : Are deeds
 
+-- from a state whose streams and firsts are right, the simulation goes on by deeds of this sort, and reports them to the sink
 abbrev pub Lived : {S : Type 0} → Takes S → List TaskKind → (List Deed → Type 0) → S → Simulation → S → Simulation → Type 0
-Lived takes kinds Are old s new t = (drawn : List ℕ) → HasDrawn s drawn → HasFirsts kinds s → Goes takes kinds Are old s drawn new t
+Lived takes kinds Are old s new t = (drawn : List ℕ) → HasDrawn s drawn → HasFirsts kinds s → GoesByDeeds takes kinds Are old s drawn new t
 
--- from accounts with which its event queue agrees it goes on by deeds of which this holds, by what was kept
+-- if its event queue agrees with its accounts, the simulation goes on by deeds of this sort, by what was kept
 abbrev pub LivedFrom : {S : Type 0} → Takes S → List TaskKind → (Book → List Deed → Type 0) → S → Simulation → S → Simulation → Type 0
-LivedFrom takes kinds Are old s new t = (drawn : List ℕ) → HasDrawn s drawn → HasFirsts kinds s → IsAgreed s.roster → Goes takes kinds (Are (book_of s drawn)) old s drawn new t
+LivedFrom takes kinds Are old s new t = (drawn : List ℕ) → HasDrawn s drawn → HasFirsts kinds s → IsAgreed s.roster → GoesByDeeds takes kinds (Are (book_of s drawn)) old s drawn new t
 
--- only events: what tasks do has no part in it
+-- it goes on by deeds of this sort, whatever the kinds of its tasks: what tasks do has no part in it
 abbrev pub Befell : {S : Type 0} → Takes S → (List Deed → Type 0) → S → Simulation → S → Simulation → Type 0
 Befell takes Are old s new t = (kinds : List TaskKind) → Lived takes kinds Are old s new t
 
 -- it goes on by deeds of which nothing is reported
-pub record GoesUntold (kinds : List TaskKind) (Are : List Deed → Type 0) (s : Simulation) (drawn : List ℕ) (t : Simulation) : Type 0 where
+pub record GoesUnreported (kinds : List TaskKind) (Are : List Deed → Type 0) (s : Simulation) (drawn : List ℕ) (t : Simulation) : Type 0 where
   pub deeds : List Deed
   pub after : List ℕ
   pub periods : t.roster.periods ≡ s.roster.periods
@@ -176,8 +180,9 @@ pub record GoesUntold (kinds : List TaskKind) (Are : List Deed → Type 0) (s : 
   pub lives : Lives kinds s.seed s.roster.periods s.driver (book_of s drawn) deeds [] t.driver (book_of t after)
   pub are : Are deeds
 
+-- from a state whose streams and firsts are right, the simulation goes on by deeds of this sort, and reports nothing
 abbrev pub Silent : List TaskKind → (List Deed → Type 0) → Simulation → Simulation → Type 0
-Silent kinds Are s t = (drawn : List ℕ) → HasDrawn s drawn → HasFirsts kinds s → GoesUntold kinds Are s drawn t
+Silent kinds Are s t = (drawn : List ℕ) → HasDrawn s drawn → HasFirsts kinds s → GoesUnreported kinds Are s drawn t
 
 -- one more task is there, with this home, of a kind that starts then: if it is the next of its kind, and each task has a stream
 abbrev pub JoinsNext : ℕ → ℕ → ℕ → Simulation → Simulation → Type 0
@@ -205,17 +210,17 @@ RunsToEndOrEnough takes sated policies w old s new t =
     Runs takes policies w.tasks.items (most_steps w) w.machine.duration (processors_in w.machine.size) old s new t
     ⊎ ((sated new ≡ true) × HasProceeded takes policies w old s new t)
 
--- it goes on until just as many things have come due as are counted for all instants until its end, as far as 64 bits count
+-- it goes on until as many things have come due as its bound for all instants until its end, as far as 64 bits count
 abbrev pub RunsOut : {S : Type 0} → Takes S → List Accepted → Workload → S → Simulation → S → Simulation → Type 0
 RunsOut takes policies w old s new t = LivedFrom takes w.tasks.items (ProceedsOut policies w s.seed s.roster.periods) old s new t
 
--- it goes on by what comes due until its end, this many things at most
-abbrev pub GoesOn : {S : Type 0} → Takes S → Workload → ℕ → S → Simulation → S → Simulation → Type 0
-GoesOn takes w most old s new t = LivedFrom takes w.tasks.items (AreMet w.tasks.items s.seed s.roster.periods most w.machine.duration) old s new t
+-- it goes on by what comes due until its end; at most this many things come due
+abbrev pub RunsToEnd : {S : Type 0} → Takes S → Workload → ℕ → S → Simulation → S → Simulation → Type 0
+RunsToEnd takes w most old s new t = LivedFrom takes w.tasks.items (AreMet w.tasks.items s.seed s.roster.periods most w.machine.duration) old s new t
 
--- it goes on until just this many have come due
-abbrev pub GoesOut : {S : Type 0} → Takes S → Workload → ℕ → S → Simulation → S → Simulation → Type 0
-GoesOut takes w count old s new t = LivedFrom takes w.tasks.items (AreAllMet w.tasks.items s.seed s.roster.periods count w.machine.duration) old s new t
+-- it goes on until exactly this many things have come due
+abbrev pub RunsToLimit : {S : Type 0} → Takes S → Workload → ℕ → S → Simulation → S → Simulation → Type 0
+RunsToLimit takes w count old s new t = LivedFrom takes w.tasks.items (AreAllMet w.tasks.items s.seed s.roster.periods count w.machine.duration) old s new t
 
 -- what stays beside the machine and the accounts, and that the event queue agrees with them
 pub record Stays (s t : Simulation) : Type 0 where
@@ -242,7 +247,7 @@ pub record Draws (task : ℕ) (asked : Length) (s : Simulation) (length : ℕ) (
   pub seed : t.seed ≡ s.seed
   pub firsts : t.firsts ≡ s.firsts
 
--- where a length is asked for
+-- the next length is drawn if a length is asked for; otherwise the length is 0 and nothing changes
 abbrev pub DrawsFor : ℕ → Option Length → Simulation → ℕ → Simulation → Type 0
 DrawsFor task None s length t = (length ≡ 0) × (t ≡ s)
 DrawsFor task (Some asked) s length t = Draws task asked s length t

@@ -27,6 +27,7 @@ abbrev pub AreJust : List Event → List Deed → Type 0
 AreJust [] deeds = deeds ≡ []
 AreJust (event ∷ events) deeds = (reply : Reply) × (more : List Deed) × (deeds ≡ Happens event reply ∷ more) × AreJust events more
 
+-- the numbers of this many processors
 abbrev pub all_processors : ℕ → List ℕ
 all_processors count = range_with_len 0 count
 
@@ -49,7 +50,7 @@ AreInstalled processors (policy ∷ policies) deeds =
 abbrev pub IsJoin : ℕ → ℕ → List Deed → Type 0
 IsJoin number home deeds = deeds ≡ Joins number home ∷ []
 
--- where there are so many processors a task of this kind may be admitted as this one, and has this home
+-- with this many processors a task of this kind may be admitted with this number, and has this home
 pub record IsAdmissible (processors task home : ℕ) (kind : TaskKind) : Type 0 where
   pub few : task < TASKS
   pub numbers : has_numbers kind ≡ true
@@ -87,7 +88,7 @@ pub record Opens (policies : List Accepted) (processors : ℕ) (kinds : List Tas
 abbrev pub AreAdmissions : Workload → List Deed → Type 0
 AreAdmissions w = AreAllAdmitted (processors_in w.machine.size) 0 0 w.tasks.items
 
--- the tasks of its kind of this number are admitted, after those of the kinds before
+-- all tasks of the kind with this number are admitted, after the tasks of the kinds before
 abbrev pub AreKindAdmissions : Workload → ℕ → TaskKind → List Deed → Type 0
 AreKindAdmissions w number kind = AreAdmitted (processors_in w.machine.size) number kind (first_of w.tasks.items number) kind.count
 
@@ -97,12 +98,12 @@ AreWake from task now deeds =
     (begun : Reply) × (placed : Reply) × (drained : Reply) × (to : ℕ) × (placed_at placed ≡ Some to)
     × (deeds ≡ Happens (BeginWake from task) begun ∷ Happens (EndWake from now) placed ∷ Happens (Drain to now) drained ∷ [])
 
--- the task that runs at a processor wakes this one from there, if it waits, and else misses it
+-- the task that runs at a processor wakes this one from there if this one waits, and misses it otherwise
 abbrev pub Wakes : ℕ → ℕ → ℕ → List Deed → Type 0
 Wakes task processor now deeds = (deeds ≡ Misses task ∷ []) ⊎ ((more : List Deed) × (deeds ≡ Reaches task ∷ more) × AreWake processor task now more)
 
--- what follows an action at once: a task that runs on does nothing, one that wakes others wakes the one that it aims at or misses it, and
--- any other blocks
+-- what follows an action at once: a task that runs on does nothing; one that wakes others wakes the one that it aims at, or
+-- misses it; any other blocks
 abbrev pub Follow : Option Action → Option ℕ → ℕ → ℕ → List Deed → Type 0
 Follow (Some (Run asked)) aim processor now deeds = deeds ≡ []
 Follow (Some (Wake kind)) (Some task) processor now deeds = Wakes task processor now deeds
@@ -134,6 +135,7 @@ pub record Step : Type 0 where
   pub deeds : List Deed
   pub meet : Meet due at deeds
 
+-- the deeds of some steps, one after another
 abbrev pub deeds_of : List Step → List Deed
 deeds_of steps = flat_map (λ (step : Step). step.deeds) steps
 
@@ -142,13 +144,13 @@ abbrev pub Rise : ℕ → List Step → ℕ → Type 0
 Rise first [] last = first ≤ last
 Rise first (step ∷ steps) last = (first ≤ step.at) × Rise step.at steps last
 
--- each of these is the next by the accounts just before: of all that comes until the end it comes first, by its time, at one instant
+-- each step is the next by the accounts before it: of all that comes until the end it is the first, by its time, at one instant
 -- by its kind, and of one kind by its number
 abbrev pub AreInOrder : List TaskKind → ℕ → Periods → Book → List Step → Type 0
 AreInOrder kinds seed periods b [] = Unit {0}
 AreInOrder kinds seed periods b (step ∷ steps) = IsNext periods.end b.accounts step.due step.at × AreInOrder kinds seed periods (after_deeds kinds seed periods b step.deeds) steps
 
--- from what is kept this many things at most come due until an instant, one after another in their order, and each is met
+-- starting from what is kept, at most this many things come due until an instant, one after another in their order
 pub record AreMet (kinds : List TaskKind) (seed : ℕ) (periods : Periods) (most last : ℕ) (b : Book) (deeds : List Deed) : Type 0 where
   pub steps : List Step
   pub whole : deeds ≡ deeds_of steps
@@ -156,7 +158,7 @@ pub record AreMet (kinds : List TaskKind) (seed : ℕ) (periods : Periods) (most
   pub few : length steps ≤ most
   pub order : AreInOrder kinds seed periods b steps
 
--- just this many come due so
+-- exactly this many come due, and each is met
 abbrev pub AreAllMet : List TaskKind → ℕ → Periods → ℕ → ℕ → Book → List Deed → Type 0
 AreAllMet kinds seed periods count last b deeds = (met : AreMet kinds seed periods count last b deeds) × (length met.steps ≡ count)
 

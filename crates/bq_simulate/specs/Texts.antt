@@ -7,7 +7,7 @@ use Rattle.bq_parts.specs.declared.event.Event.{Event}
 use Rattle.bq_parts.specs.declared.event.Event.TheVariants.{Install}
 use Rattle.bq_simulate.specs.Spelling.{HasFittingNumbers, asking_line, machine_line}
 use Rattle.bq_trace.specs.Feeding.{with_feeds}
-use Rattle.bq_trace.specs.TraceEvents.{TraceEvent, Told, Opened, Skipped, Comes}
+use Rattle.bq_trace.specs.TraceEvents.{TraceEvent, Reported, Opened, Skipped, Comes}
 use Rattle.bq_hooks.specs.declared.hook.Hook.{Hook}
 use Rattle.bq_hooks.specs.declared.hook.Hook.TheVariants as hooks
 use Rattle.bq_simulate.specs.declared.images.Images.{Images}
@@ -16,9 +16,11 @@ use Rattle.bq_simulate.specs.declared.images.Images.{Images}
 abbrev pub ByHook : Type 0
 ByHook = Hook → Option (List ℕ)
 
+-- the bytes of an image, if there is one
 abbrev pub bytes_of : Option (Bor (List ℕ)) → Option (List ℕ)
 bytes_of image = option_map (λ b. b.now) image
 
+-- the bytes of the image at a hook, if there is one
 abbrev pub image_at : Images → ByHook
 image_at images hooks.Place = bytes_of images.place
 image_at images hooks.Preempt = bytes_of images.preempt
@@ -37,16 +39,17 @@ traced_lines images (Comes event m) = asking_line (brought images event) event �
 traced_lines images traced = []
 
 -- the lines that all of it writes
-abbrev pub told_lines : ByHook → Told → List (List ℕ)
-told_lines images [] = []
-told_lines images ((n, x) ∷ more) = traced_lines images x ++ told_lines images more
+abbrev pub reported_lines : ByHook → Reported → List (List ℕ)
+reported_lines images [] = []
+reported_lines images ((n, x) ∷ more) = traced_lines images x ++ reported_lines images more
 
 -- an event that comes has numbers of their types
 abbrev pub IsFitting : TraceEvent → Type 0
 IsFitting (Comes event m) = HasFittingNumbers event
 IsFitting traced = Unit {0}
 
-abbrev pub AreFitting : Told → Type 0
+-- the numbers of each event, and of its answer, fit their lines
+abbrev pub AreFitting : Reported → Type 0
 AreFitting [] = Unit {0}
 AreFitting ((n, x) ∷ more) = IsFitting x × AreFitting more
 
@@ -55,7 +58,7 @@ pub record Writes (images : ByHook) (old : List ℕ) (traced : TraceEvent) (new 
   pub text : new ≡ old ++ with_feeds (traced_lines images traced)
   pub fits : IsFitting traced
 
--- It has grown by the lines of all of it.
-pub record WritesAll (images : ByHook) (old : List ℕ) (told : Told) (new : List ℕ) : Type 0 where
-  pub text : new ≡ old ++ with_feeds (told_lines images told)
-  pub fits : AreFitting told
+-- The text has grown by the lines of all that was reported.
+pub record WritesAll (images : ByHook) (old : List ℕ) (reported : Reported) (new : List ℕ) : Type 0 where
+  pub text : new ≡ old ++ with_feeds (reported_lines images reported)
+  pub fits : AreFitting reported

@@ -28,11 +28,11 @@ struct Doing {
     task: u16,
     /// How far it had come.
     before: TaskProgress,
-    /// Nothing where it has done all as often as it is to.
+    /// None if it has done all its actions as often as it is to.
     action: Option<Action>,
 }
 
-/// What a task does next; nothing where it has done all as often as it is to.
+/// Answers what a task does next; none if it has done all its actions as often as it is to.
 fn next_of(workload: &Workload, progress: &TaskProgress) -> Result<Option<Action>, BrokenInvariant>
     ensures action { IfOk result (λ action. action ≡ next_action workload.now.tasks.items progress.now) }
     ensures stray { IfErr result (λ _. actions_of workload.now.tasks.items progress.now ≤ progress.now.action) }
@@ -43,7 +43,7 @@ fn next_of(workload: &Workload, progress: &TaskProgress) -> Result<Option<Action
     }
 }
 
-/// What a task of a kind does next; nothing where it has done all as often as it is to.
+/// Answers what a task of a kind does next; none if it has done all its actions as often as it is to.
 fn action_at(kind: &TaskKind, progress: &TaskProgress) -> Result<Option<Action>, BrokenInvariant>
     ensures action { IfOk result (λ action. action ≡ action_at kind.now progress.now) }
     ensures stray { IfErr result (λ _. length kind.now.actions.items ≤ progress.now.action) }
@@ -68,7 +68,7 @@ fn asked_by(action: Option<Action>) -> Option<Length>
     }
 }
 
-/// How far a task has come once it has done an action.
+/// Answers how far a task has come once it has done an action.
 fn advanced(workload: &Workload, progress: TaskProgress) -> Result<TaskProgress, BrokenInvariant>
     ensures next { IfOk result (λ next. next ≡ advanced_in workload.now.tasks.items progress) }
     ensures missing { IfErr result (λ _. slice_get workload.now.tasks.items progress.kind ≡ None) }
@@ -79,7 +79,7 @@ fn advanced(workload: &Workload, progress: TaskProgress) -> Result<TaskProgress,
     Ok(progress)
 }
 
-/// How many tasks a kind has.
+/// Answers how many tasks a kind has.
 fn count_of(workload: &Workload, kind: usize) -> Result<u16, BrokenInvariant>
     ensures count { IfOk result (λ count. count ≡ count_of workload.now.tasks.items kind) }
     ensures missing { IfErr result (λ _. slice_get workload.now.tasks.items kind ≡ None) }
@@ -88,7 +88,7 @@ fn count_of(workload: &Workload, kind: usize) -> Result<u16, BrokenInvariant>
     Ok(kind.count)
 }
 
-/// How far a task has come once its wake has come to one more of the tasks of a kind.
+/// Answers how far a task has come once its wake has come to one more of the tasks of a kind.
 fn woken_one(
     workload: &Workload,
     progress: TaskProgress,
@@ -132,7 +132,8 @@ fn asleep_for(progress: TaskProgress, length: u64, now: u64) -> TaskProgress
     progress
 }
 
-/// How far a task has come with its next action, which takes that length where it takes one. Only where it runs it has a phase.
+/// The task's progress after it takes up `action`, which lasts `length` if it is a run or a sleep. Only a task that runs has a
+/// phase.
 fn acted(
     workload: &Workload,
     progress: TaskProgress,
@@ -170,8 +171,8 @@ impl Simulation {
         self.follow(alloc, processor, &doing, now, sink)
     }
 
-    /// The run phase of the task that runs at a processor has ended, with just what it takes, and its next action is taken up:
-    /// where it takes a length, that is the next of the task.
+    /// The run phase of the task that runs at a processor has ended, with exactly what it takes. The task takes up its next
+    /// action; if that takes a length, it is the next of the task.
     fn take_action(
         &mut self,
         workload: &Workload,
@@ -193,7 +194,7 @@ impl Simulation {
         })
     }
 
-    /// The next length of a task, where one is asked for.
+    /// Answers the next length of a task, if one is asked for.
     fn length_for(&mut self, task: u16, asked: Option<Length>) -> Result<u64, BrokenInvariant>
         ensures drawn { IfOk result (λ length. DrawsFor task asked self.old length self.new) }
         ensures stray { IfErr result (λ _. (length : Length) × (asked ≡ Some length) × ((is_length length ≡ false) ⊎ (slice_get self.old.streams.items task ≡ None))) }
@@ -204,7 +205,7 @@ impl Simulation {
         }
     }
 
-    /// Counts a run phase that has ended; a task that has just been woken, or has woken others, had none.
+    /// Counts a run phase that has ended. A task that was only now woken, or has woken others, had none.
     fn count_phase(&mut self, before: &TaskProgress)
         ensures { Same self.old self.new }
     {
@@ -251,8 +252,8 @@ impl Simulation {
         Ok(())
     }
 
-    /// The wake of the task that runs at a processor has come to this many tasks of a kind: the next is woken from there, if it
-    /// waits.
+    /// The task that runs at a processor wakes the tasks of a kind one by one, and `woken` of them are done. Wakes the next one
+    /// from this processor, if that task waits.
     fn wake_next<S: Sink>(
         &mut self,
         alloc: Global,

@@ -47,12 +47,12 @@ pub fn simulations_agree()
     ensures { SimulationsAgree }
 {}
 
-/// An event that can be read, and is taken, fails only if memory is wanted.
+/// An event that can be read, and is taken, fails only if memory runs out.
 pub fn only_memory_is_wanted()
     ensures { OnlyMemoryIsWanted }
 {}
 
-/// A call of a simulation fails only if memory is wanted, while world and accounts agree and its instant can be read.
+/// A call of a simulation fails only if memory runs out, while world and accounts agree and its instant can be read.
 pub fn calls_fail_for_memory()
     ensures { CallsFailForMemory }
 {}

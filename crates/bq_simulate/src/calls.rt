@@ -21,7 +21,7 @@ pub struct Moved {
     pub run: Option<u16>,
 }
 
-/// How many tasks entered a queue, and the task that runs there now.
+/// The number of tasks that entered a queue, and the task that runs there now.
 #[derive(Clone, Copy)]
 pub struct Entered {
     pub count: u32,
@@ -63,7 +63,7 @@ impl Driver {
         now: u64,
         sink: &mut S,
     ) -> Result<u8, DriveFault>
-        ensures does { IfOk result (λ to. Gets S.takes sink.old sink.new (λ told. Places self.old processor task now to told self.new)) }
+        ensures does { IfOk result (λ to. Gets S.takes sink.old sink.new (λ reported. Places self.old processor task now to reported self.new)) }
         ensures fault { IfErr result (λ fault. IsWakeFault self.old processor task now fault) }
     {
         match self.perform(alloc, Event::BeginWake { processor, task }, sink)? {
@@ -174,7 +174,7 @@ impl Driver {
         }
     }
 
-    /// A policy stands at a hook of a processor from now on.
+    /// Installs a policy at a hook of a processor.
     pub fn install<S: Sink>(
         &mut self,
         alloc: Global,

@@ -6,8 +6,7 @@ use bq_parts::Refusal;
 use std::alloc::AllocError;
 use thiserror::Error;
 
-/// Why a drive ends before its time. What the sink got by then is to be the beginning of a trace; that is only
-/// tested.
+/// Why the driver stopped. No contract says what the sink has got by then; tests check that it is the beginning of a trace.
 #[derive(Debug, Drop, Error)]
 pub enum DriveFault {
     /// Memory ran out.

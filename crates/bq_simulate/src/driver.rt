@@ -1,6 +1,6 @@
 //! A machine, and how far it was driven.
 ghost use Rattle.std.specs.Prelude.{◌≡◌, IfErr, IfOk, OnErr, OnOk};
-ghost use Rattle.bq_simulate.specs.Drives.{reading_of, Falls, IsDriveFault, IsUntouched, Rises, Does, Starts};
+ghost use Rattle.bq_simulate.specs.Drives.{reading_of, Falls, IsDriveFault, IsUntouched, Rises, DrivesEvent, Starts};
 ghost use Rattle.bq_simulate.specs.declared.drive_fault.DriveFault.TheVariants.{OutOfMemory, Reading};
 ghost use Rattle.bq_trace.specs.TraceEvents.{Gets};
 
@@ -28,7 +28,7 @@ impl Driver {
         size: ProcessorCount,
         sink: &mut S,
     ) -> Result<Driver, DriveFault>
-        ensures starts { IfOk result (λ driver. Gets S.takes sink.old sink.new (λ told. Starts rule size told driver)) }
+        ensures starts { IfOk result (λ driver. Gets S.takes sink.old sink.new (λ reported. Starts rule size reported driver)) }
         ensures fault { IfErr result (λ fault. fault ≡ OutOfMemory) }
     {
         let machine = AnyCore::new(alloc, rule, size)?;
@@ -40,29 +40,29 @@ impl Driver {
         })
     }
 
-    /// Does the event that the next line stands for, and tells of it. Where there is a fault the machine may have moved, unless the
-    /// fault is its reading's.
+    /// Does the event of the next line, and reports it. After `Reading` the machine and the sink are as before; after another
+    /// fault nothing is said of them.
     pub fn perform<S: Sink>(
         &mut self,
         alloc: Global,
         event: Event,
         sink: &mut S,
     ) -> Result<Reply, DriveFault>
-        ensures does { IfOk result (λ reply. Gets S.takes sink.old sink.new (λ told. Does self.old event reply told self.new)) }
+        ensures does { IfOk result (λ reply. Gets S.takes sink.old sink.new (λ reported. DrivesEvent self.old event reply reported self.new)) }
         ensures fault { IfErr result (λ fault. IsDriveFault self.old event fault) }
         ensures untouched { IfErr result (λ fault. IsUntouched fault self.old self.new sink.old sink.new) }
     {
         self.read(reading_of(&event))?;
         self.line = self.line.saturating_add(1);
-        let told = bare(&event);
+        let reported = bare(&event);
         let coming = TraceEvent::Comes {
-            event: &told,
+            event: &reported,
             machine: &self.machine,
         };
         sink.take(self.line, &coming)?;
         let answer = self.machine.step(alloc, event);
         let answered = TraceEvent::Answered {
-            event: &told,
+            event: &reported,
             answer: &answer,
             machine: &self.machine,
         };

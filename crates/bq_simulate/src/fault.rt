@@ -1,7 +1,7 @@
 //! Why a simulation does not come to its end.
 ghost use Rattle.std.specs.Prelude.{◌≡◌, ◌≢◌, None};
 ghost use Rattle.bq_workload.specs.declared.workload.Workload.{Workload};
-ghost use Rattle.bq_simulate.specs.Faults.{flaw_told};
+ghost use Rattle.bq_simulate.specs.Faults.{reported_flaw};
 ghost use Rattle.bq_simulate.specs.Order.{EndsEarly, IsCutOff};
 ghost use Rattle.bq_simulate.specs.declared.drive_fault.DriveFault.TheVariants as drive;
 ghost use Rattle.bq_simulate.specs.declared.fault.SimulateFault.TheVariants.{BrokenInvariant, Endless, Enough, OutOfMemory};
@@ -11,9 +11,9 @@ use bq_workload::{BrokenInvariant, Unsound};
 use std::alloc::AllocError;
 use thiserror::Error;
 
-/// Why a simulation does not come to its end. What the sink got by then is to be the beginning of a trace; that is only
-/// tested, but for `Enough` and `Endless`. It is proved that no simulation ends by `Drive` or `BrokenInvariant`, and none by `Endless`
-/// whose bound of steps 64 bits count.
+/// Why a simulation does not come to its end. What the sink got by then is the beginning of a trace; this is proved for `Enough`
+/// and `Endless`, and only tested for the other faults. It is proved that no simulation ends by `Drive` or `BrokenInvariant`,
+/// and that none ends by `Endless` if 64 bits count the bound of its steps.
 #[derive(Debug, Drop, Error)]
 pub enum SimulateFault {
     /// Memory ran out.
@@ -28,9 +28,9 @@ pub enum SimulateFault {
     /// The loop lost count of its tasks. That would be a fault of this program.
     #[error("internal fault: the loop lost count of its tasks")]
     BrokenInvariant,
-    /// 2^64 - 1 things came due, and 64 bits do not count the bound of the workload's steps. Else that would be a fault of this
-    /// program.
-    #[error("internal fault: the loop does not end")]
+    /// 2^64 - 1 things came due: as many steps as 64 bits count. It is proved that this happens only if 64 bits do not count the bound
+    /// of the workload's steps.
+    #[error("the simulation had not ended after 2^64 - 1 steps, and 64 bits count no more")]
     Endless,
     /// The sink has enough of it.
     #[error("more came than is wanted")]
@@ -38,10 +38,10 @@ pub enum SimulateFault {
 }
 
 impl SimulateFault {
-    /// The fault as one that came of the loop, once the workload was found sound, while the sink had not enough: any other would be
-    /// a fault of this program. That memory ran out stays so, and so does that there was no end.
+    /// The fault as one of the loop, in which the workload is known to be sound and the sink has not enough: `Unsound` and `Enough`
+    /// cannot come from there, so they become `BrokenInvariant`. All others stay.
     pub(crate) fn of_loop(self) -> SimulateFault
-        ensures sound { flaw_told result ≡ None }
+        ensures sound { reported_flaw result ≡ None }
         ensures other { result ≢ Enough }
         ensures early { (w : Workload) → EndsEarly w self → IsCutOff w result }
         ensures endless { result ≡ Endless → self ≡ Endless }

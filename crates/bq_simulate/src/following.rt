@@ -6,9 +6,9 @@ ghost use Rattle.bq_workload.specs.Kinds.{tasks_in};
 ghost use Rattle.bq_workload.specs.Next.{IsAgreed, NothingComes};
 ghost use Rattle.bq_workload.specs.Soundness.{first_flaw};
 ghost use Rattle.bq_workload.specs.declared.workload.Workload.{Workload};
-ghost use Rattle.bq_simulate.specs.Faults.{flaw_told};
+ghost use Rattle.bq_simulate.specs.Faults.{reported_flaw};
 ghost use Rattle.bq_simulate.specs.Order.{EndsEarly, GoesWell, HasGoneWell, HasProcessors, IfEndless, IsCutOff, StartsWell, WantsMemory};
-ghost use Rattle.bq_simulate.specs.Simulations.{Befell, GoesOn, GoesOut, HasEnough, HasProceeded, IsFollowed, IsSimulation, IsTooLong, RunsOut, RunsToEndOrEnough, opening_book, periods_of, with_seed};
+ghost use Rattle.bq_simulate.specs.Simulations.{Befell, RunsToEnd, RunsToLimit, HasEnough, HasProceeded, IsFollowed, IsSimulation, IsTooLong, RunsOut, RunsToEndOrEnough, opening_book, periods_of, with_seed};
 ghost use Rattle.bq_simulate.specs.Steps.{AreJust, KeepsOthers, all_processors, last_ticks};
 ghost use Rattle.bq_simulate.specs.declared.fault.SimulateFault.TheVariants as why;
 ghost use Rattle.bq_trace.specs.TraceEvents.{Gets};
@@ -23,29 +23,29 @@ use bq_trace::Sink;
 use bq_workload::{Periods, Roster, Setup, Workload, most_steps, soundness};
 use std::alloc::Global;
 
-/// Follows a workload to its end, with these policies at all processors, and tells a sink of its events: line 1 of their
-/// trace makes the machine, and each event is a line. Answers what was counted besides. Each sleep lasts exactly its length. Each tick
-/// and each look for a task to pull comes exactly when it is to. What comes first is done next. No timer, no end of a phase, no tick
-/// and no look that comes until the end is left out. If the sink has enough before the end, that is the fault: it got all that came
-/// until then.
+/// Follows a workload to its end, with these policies at all processors, and reports its events to a sink: line 1 of their trace
+/// makes the machine, and each event is a line. Answers the counts of tasks, run phases and missed wakes. Each sleep lasts
+/// exactly its length. Each tick and each look for a task to pull comes exactly when it is to. What comes first is done next.
+/// When it ends, no timer, no end of a phase, no tick and no look is left that comes until the end. If the sink has enough
+/// before the end, that is the fault, and the sink got all that came until then.
 ///
-/// A workload with a flaw is refused for the first of its flaws, as `Unsound`, and nothing is reported. One without is followed to
-/// its end, unless memory runs out, the sink has enough, or 2^64 - 1 things came due; that last comes only where 64 bits do not
-/// count the bound of its steps, and the sink got the beginning until then. What is reported before memory runs out
-/// is to be the beginning of a trace, which is only tested.
+/// A workload with a flaw is refused for the first of its flaws, as `Unsound`, and nothing is reported. One without a flaw is
+/// followed to its end, unless memory runs out, the sink has enough, or 2^64 - 1 things came due. The last comes only if 64 bits
+/// do not count the bound of its steps, and the sink got the beginning until then. Tests check, and no contract says, that what
+/// is reported before memory runs out is the beginning of a trace.
 pub fn simulate<S: Sink + Enough>(
     alloc: Global,
     workload: &Workload,
     policies: &[Policy],
     sink: &mut S,
 ) -> Result<Counts, SimulateFault>
-    ensures told { OnOk result (Gets S.takes sink.old sink.new (IsSimulation policies.now workload.now)) }
+    ensures reported { OnOk result (Gets S.takes sink.old sink.new (IsSimulation policies.now workload.now)) }
     ensures wants { OnOk result (S.sated sink.new ≡ false) }
     ensures enough { IfErr result (λ fault. fault ≡ why.Enough → HasEnough S.takes S.sated (IsFollowed true policies.now workload.now) sink.old sink.new) }
     ensures tasks { IfOk result (λ counts. counts.tasks ≡ tasks_in workload.now.tasks.items) }
     ensures sound { IfOk result (λ _. first_flaw workload.now ≡ None) }
-    ensures flaw { IfErr result (λ fault. flaw_told fault ≡ first_flaw workload.now) }
-    ensures untold { first_flaw workload.now ≢ None → sink.new ≡ sink.old }
+    ensures flaw { IfErr result (λ fault. reported_flaw fault ≡ first_flaw workload.now) }
+    ensures unreported { first_flaw workload.now ≢ None → sink.new ≡ sink.old }
     ensures ends { first_flaw workload.now ≡ None → IfErr result (IsCutOff workload.now) }
     ensures endless { IfErr result (IfEndless (Gets S.takes sink.old sink.new (IsTooLong policies.now workload.now))) }
 {
@@ -60,13 +60,13 @@ pub fn simulate_seed<S: Sink + Enough>(
     policies: &[Policy],
     sink: &mut S,
 ) -> Result<Counts, SimulateFault>
-    ensures told { OnOk result (Gets S.takes sink.old sink.new (IsSimulation policies.now (with_seed workload.now seed))) }
+    ensures reported { OnOk result (Gets S.takes sink.old sink.new (IsSimulation policies.now (with_seed workload.now seed))) }
     ensures wants { OnOk result (S.sated sink.new ≡ false) }
     ensures enough { IfErr result (λ fault. fault ≡ why.Enough → HasEnough S.takes S.sated (IsFollowed true policies.now (with_seed workload.now seed)) sink.old sink.new) }
     ensures tasks { IfOk result (λ counts. counts.tasks ≡ tasks_in workload.now.tasks.items) }
     ensures sound { IfOk result (λ _. first_flaw workload.now ≡ None) }
-    ensures flaw { IfErr result (λ fault. flaw_told fault ≡ first_flaw workload.now) }
-    ensures untold { first_flaw workload.now ≢ None → sink.new ≡ sink.old }
+    ensures flaw { IfErr result (λ fault. reported_flaw fault ≡ first_flaw workload.now) }
+    ensures unreported { first_flaw workload.now ≢ None → sink.new ≡ sink.old }
     ensures ends { first_flaw workload.now ≡ None → IfErr result (IsCutOff workload.now) }
     ensures endless { IfErr result (IfEndless (Gets S.takes sink.old sink.new (IsTooLong policies.now (with_seed workload.now seed)))) }
 {
@@ -89,7 +89,7 @@ fn follow<S: Sink + Enough>(
     policies: &[Policy],
     sink: &mut S,
 ) -> Result<Counts, SimulateFault>
-    ensures told { OnOk result (Gets S.takes sink.old sink.new (IsFollowed (S.sated sink.new) policies.now (with_seed workload.now seed))) }
+    ensures reported { OnOk result (Gets S.takes sink.old sink.new (IsFollowed (S.sated sink.new) policies.now (with_seed workload.now seed))) }
     ensures tasks { IfOk result (λ counts. counts.tasks ≡ tasks_in workload.now.tasks.items) }
     ensures ends { first_flaw workload.now ≡ None → IfErr result (EndsEarly workload.now) }
     ensures endless { first_flaw workload.now ≡ None → IfErr result (IfEndless (Gets S.takes sink.old sink.new (IsTooLong policies.now (with_seed workload.now seed)))) }
@@ -192,7 +192,7 @@ impl Simulation {
         Ok(tasks)
     }
 
-    /// What was counted so far, with this number of tasks.
+    /// Answers what was counted until now, with this number of tasks.
     fn counted(&self, tasks: u16) -> Counts
         ensures { result.tasks ≡ tasks }
     {
@@ -212,10 +212,10 @@ impl Simulation {
         sink: &mut S,
     ) -> Result<(), SimulateFault>
         ensures none { OnOk result (S.sated sink.new ≡ false → IsAgreed self.new.roster → NothingComes self.new.roster.periods.end (accounts_of self.new.roster)) }
-        ensures lived { OnOk result (GoesOn S.takes workload.now most sink.old self.old sink.new self.new) }
+        ensures lived { OnOk result (RunsToEnd S.takes workload.now most sink.old self.old sink.new self.new) }
         ensures well { OnOk result (GoesWell workload.now 0 self.old → HasGoneWell workload.now self.new) }
         ensures ends { GoesWell workload.now 0 self.old → HasProcessors workload.now self.old → most ≡ most_steps workload.now → IfErr result (EndsEarly workload.now) }
-        ensures endless { GoesWell workload.now 0 self.old → IfErr result (IfEndless (GoesOut S.takes workload.now most sink.old self.old sink.new self.new)) }
+        ensures endless { GoesWell workload.now 0 self.old → IfErr result (IfEndless (RunsToLimit S.takes workload.now most sink.old self.old sink.new self.new)) }
     {
         let end = workload.machine.duration;
         let mut last: u64 = 0;

@@ -1,4 +1,4 @@
-//! The images of the policies that stand at the hooks of all processors.
+//! The images of the policies that are installed at the hooks of all processors.
 ghost use Rattle.std.specs.Prelude.{◌≡◌, ℕ, List};
 ghost use Rattle.std.specs.Borrow.{Bor};
 ghost use Rattle.std.specs.Option.{option_map};

@@ -1,7 +1,7 @@
 //! Laws of what is kept of a simulation between two things that come due.
 ghost use Rattle.bq_simulate.specs.KeptLaws.{AllIsKept, BeginningsAreKept, FewComeAtOnce, FewComeUntilTheEnd, GenerationsAreNewer, StandingIsKept};
 
-/// Each task stands at an action of its kind whatever is done, if each did before.
+/// Whatever is done, each task is at an action of its kind, if each was before.
 pub fn standing_is_kept()
     ensures { StandingIsKept }
 {}
@@ -16,7 +16,7 @@ pub fn beginnings_are_kept()
     ensures { BeginningsAreKept }
 {}
 
-/// A generation that is drawn is newer than those that stand at hooks.
+/// A generation that is drawn is newer than the generations at all hooks.
 pub fn generations_are_newer()
     ensures { GenerationsAreNewer }
 {}

@@ -88,7 +88,7 @@ impl Simulation {
         Ok(())
     }
 
-    /// The tasks of a kind are admitted, after those of the kinds before it.
+    /// Admits the tasks of a kind, after the tasks of the kinds before it.
     fn admit_kind<S: Sink>(
         &mut self,
         alloc: Global,
@@ -137,7 +137,7 @@ impl Simulation {
         }
     }
 
-    /// How many tasks there are, each with a stream of its own.
+    /// Answers how many tasks there are, each with a stream of its own.
     pub(crate) fn tasks(&self) -> Result<u16, SimulateFault>
         ensures tasks { IfOk result (λ tasks. tasks ≡ length self.now.streams.items) }
         ensures stray { IfErr result (λ _. self.now.counts.tasks ≢ length self.now.streams.items) }
@@ -149,7 +149,7 @@ impl Simulation {
         Ok(tasks)
     }
 
-    /// Counts a task, which is the last so far.
+    /// Counts a task, which is the last until now.
     fn count_task(&mut self, task: u16)
         ensures same { Same self.old self.new }
         ensures by_task { self.new.roster.by_task ≡ self.old.roster.by_task }
@@ -158,8 +158,8 @@ impl Simulation {
         self.counts.tasks = task.saturating_add(1);
     }
 
-    /// One more task of a kind, with a stream of its own; its first wake is at the start of its kind, from this processor, and
-    /// its timer is put down.
+    /// Adds one more task of a kind, with a stream of its own. Its first wake is at the start of its kind, from this processor,
+    /// and its timer is planned.
     fn join(&mut self, task: u16, kind: usize, home: u8, start: u64) -> Result<(), SimulateFault>
         ensures silent { OnOk result (JoinsNext kind home start self.old self.new) }
         ensures number { OnOk result (task ≡ length self.old.streams.items) }

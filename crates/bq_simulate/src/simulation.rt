@@ -53,7 +53,7 @@ impl Simulation {
         }
     }
 
-    /// A task's timer rings just now, and wakes it from the processor that it left last.
+    /// A task's timer rings now, and wakes it from the processor that it left last.
     fn wake_by_timer<S: Sink>(
         &mut self,
         alloc: Global,
@@ -74,7 +74,7 @@ impl Simulation {
         }
     }
 
-    /// A task is woken from a processor: it is placed, and the processor on which it was placed takes it in at once.
+    /// Wakes a task from a processor: the task is placed, and the processor on which it was placed takes it in at once.
     pub(crate) fn wake<S: Sink>(
         &mut self,
         alloc: Global,
@@ -95,7 +95,7 @@ impl Simulation {
         Ok(())
     }
 
-    /// The clock of a processor that runs something beats just now, and it ticks.
+    /// The clock of a processor that runs something beats now, and the processor ticks.
     fn tick_on_time<S: Sink>(
         &mut self,
         alloc: Global,
@@ -132,7 +132,7 @@ impl Simulation {
         Ok(())
     }
 
-    /// A processor looks just now for a task in the queue of the one that has the most, if another has.
+    /// A processor looks now for a task in the queue of the processor that has the most, if that is another.
     fn pull<S: Sink>(
         &mut self,
         alloc: Global,

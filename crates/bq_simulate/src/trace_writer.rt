@@ -11,7 +11,7 @@ use bq_trace::{Sink, TraceEvent};
 use std::alloc::{AllocError, Global};
 use std::fmt::Write;
 
-/// The text of a trace that asks for what was reported so far. Installs are written with their images.
+/// The text of a trace that asks for what was reported until now. Installs are written with their images.
 #[derive(Drop)]
 pub struct TraceWriter<'a> {
     alloc: Global,

@@ -8,4 +8,4 @@ pub mod StackLemmas
 pub mod CopyLemmas
 pub mod RelationLemmas
 pub mod PartLemmas
-pub mod ToldLemmas
+pub mod LearntLemmas

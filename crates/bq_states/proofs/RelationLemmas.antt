@@ -47,14 +47,18 @@ relation_decides : (a b : Relation) → Decides (same_relation.eq-value.it a b) 
 relation_decides (Sum n) (Sum m) = Decides-like (n == m) (λ (p : n ≡ m). ap Sum p) (λ e. cc) (Decides-eqb n m)
 relation_decides (Sum n) (Compared v d h) = ((λ e. absurd (cc)), (λ e. absurd (cc)))
 relation_decides (Compared w c g) (Sum m) = ((λ e. absurd (cc)), (λ e. absurd (cc)))
-relation_decides (Compared w c g) (Compared v d h) = Decides-like (sameb width.the_type w v && (sameb condition.the_type c d && beq g h))
-    (λ (p : (w ≡ v) × ((c ≡ d) × (g ≡ h))). λ i. Compared (p.0 i) (p.1.0 i) (p.1.1 i))
-    (λ e. ((cc), ((cc), (cc))))
-    (Decides-and (sameb width.the_type w v) (sameb condition.the_type c d && beq g h) (width_decides w v) (Decides-and (sameb condition.the_type c d) (beq g h) (condition_decides c d) (booleans_Decides g h)))
+relation_decides (Compared w c g) (Compared v d h) =
+    Decides-like (sameb width.the_type w v && (sameb condition.the_type c d && beq g h))
+    (λ (p : (w ≡ v) × ((c ≡ d) × (g ≡ h))). λ i. Compared (p.0 i) (p.1.0 i) (p.1.1 i)) (λ e. ((cc), ((cc), (cc))))
+    (Decides-and (sameb width.the_type w v) (sameb condition.the_type c d && beq g h) (width_decides w v)
+    (Decides-and (sameb condition.the_type c d) (beq g h) (condition_decides c d) (booleans_Decides g h)))
 
 related_same : (a b : Related) → same_related.eq-value.it a b ≡ true → a ≡ b
 related_same a b e =
-    let all = (Decides-and (a.left == b.left) ((a.right == b.right) && same_relation.eq-value.it a.relation b.relation) (Decides-eqb a.left b.left) (Decides-and (a.right == b.right) (same_relation.eq-value.it a.relation b.relation) (Decides-eqb a.right b.right) (relation_decides a.relation b.relation))).0 e in
+    let all =
+    (Decides-and (a.left == b.left) ((a.right == b.right) && same_relation.eq-value.it a.relation b.relation)
+    (Decides-eqb a.left b.left) (Decides-and (a.right == b.right) (same_relation.eq-value.it a.relation b.relation)
+    (Decides-eqb a.right b.right) (relation_decides a.relation b.relation))).0 e in
     λ i. record { left = all.0 i; right = all.1.0 i; relation = all.1.1 i }
 
 -- relations that `==` says are one are one

@@ -9,7 +9,8 @@ use Rattle.bq_states.specs.declared.abstract_state.AbstractValue.{AbstractValue}
 use Rattle.bq_states.specs.AbstractStates.{Describes, IsBase}
 
 -- a number is itself in the range
-pub number_within : (shapes : List MapShape) (k : AbstractValue) (word : ℕ) → k.kind ≡ Number → Describes shapes k word → Within k.offset word
+pub number_within : (shapes : List MapShape) (k : AbstractValue) (word : ℕ)
+    → k.kind ≡ Number → Describes shapes k word → Within k.offset word
 number_within shapes k word e d =
     let zero_base : d.base ≡ 0 = rw e at d.is_base in
     let fits = k.offset.fits in
@@ -17,23 +18,31 @@ number_within shapes k word e d =
     rw same d.within
 
 -- a number of a range is a word that is known as a number of that range
-pub describes_number : (shapes : List MapShape) (r : Range) (word : ℕ) → Within r word → Describes shapes (record { kind = Number; offset = r }) word
+pub describes_number : (shapes : List MapShape) (r : Range) (word : ℕ)
+    → Within r word → Describes shapes (record { kind = Number; offset = r }) word
 describes_number shapes r word w =
     let fits = r.fits in
     record { base = 0; offset = word; is_base = refl; within = w; word_is = omega (arith, w) }
 
 -- a number that is within what is known of it
-pub describes_as_number : (shapes : List MapShape) (k : AbstractValue) (word : ℕ) → k.kind ≡ Number → Within k.offset word → Describes shapes k word
+pub describes_as_number : (shapes : List MapShape) (k : AbstractValue) (word : ℕ)
+    → k.kind ≡ Number → Within k.offset word → Describes shapes k word
 describes_as_number shapes k word e w =
     let fits = k.offset.fits in
     record { base = 0; offset = word; is_base = rw e refl; within = w; word_is = omega (arith, w) }
 
 -- a word that is known is known of a kind that counts from no less, in a wider range
-pub describes_more : (shapes : List MapShape) (kind : ValueKind) (k : AbstractValue) (r : Range) (word : ℕ) → ((base : ℕ) → IsBase shapes k.kind base → IsBase shapes kind base) → ((x : ℕ) → Within k.offset x → Within r x) → Describes shapes k word → Describes shapes (record { kind = kind; offset = r }) word
-describes_more shapes kind k r word bases more d = record { base = d.base; offset = d.offset; is_base = bases d.base d.is_base; within = more d.offset d.within; word_is = d.word_is }
+pub describes_more : (shapes : List MapShape) (kind : ValueKind) (k : AbstractValue) (r : Range) (word : ℕ)
+    → ((base : ℕ) → IsBase shapes k.kind base → IsBase shapes kind base) → ((x : ℕ) → Within k.offset x → Within r x)
+    → Describes shapes k word
+    → Describes shapes (record { kind = kind; offset = r }) word
+describes_more shapes kind k r word bases more d =
+    record { base = d.base; offset = d.offset; is_base = bases d.base d.is_base; within = more d.offset d.within; word_is = d.word_is }
 
 -- a word that is known to be in a range is known to be in a wider one
-pub describes_wider : (shapes : List MapShape) (kind : ValueKind) (k : AbstractValue) (r : Range) (word : ℕ) → k.kind ≡ kind → ((x : ℕ) → Within k.offset x → Within r x) → Describes shapes k word → Describes shapes (record { kind = kind; offset = r }) word
+pub describes_wider : (shapes : List MapShape) (kind : ValueKind) (k : AbstractValue) (r : Range) (word : ℕ)
+    → k.kind ≡ kind → ((x : ℕ) → Within k.offset x → Within r x) → Describes shapes k word
+    → Describes shapes (record { kind = kind; offset = r }) word
 describes_wider shapes kind k r word e = describes_more shapes kind k r word (λ base is. rw e at is)
 
 -- a word that is described has at most 64 bits

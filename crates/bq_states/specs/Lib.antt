@@ -3,4 +3,4 @@ pub mod Copies
 pub mod Parts
 pub mod AbstractStates
 pub mod Certainty
-pub mod Told
+pub mod Learnt

@@ -1,50 +1,53 @@
-//! Places that are known to hold one word: registers, and from 11 on slots of eight bytes of the stack.
+//! Places that are known to hold the same word: the registers, and after them the slots of eight bytes of the stack.
 
 ghost use Rattle.std.specs.Prelude.{◌≡◌, ◌≢◌, ◌+◌, ◌<◌, ◌≤◌, ℕ, length, slice_index};
 ghost use Rattle.bq_bpf.specs.Memory.{State, stack_size};
-ghost use Rattle.bq_states.specs.Copies.{AreCopies, HasWord, HoldsClass, KeepsClasses, PartsFirst, PartsSlots};
+ghost use Rattle.bq_states.specs.Copies.{AreCopies, HasWord, HoldsClass, KeepsClasses, ForgetsFirstClasses, ForgetsSlotClasses};
 
+use crate::abstract_state::PLACES;
 use crate::relations::{Related, unrelate};
+use bq_insn::REGISTERS;
 
-/// Registers 0 to 5 are written.
-pub fn part_first(classes: &mut [u8])
-    requires { length classes.old ≡ 75 }
-    ensures { PartsFirst classes.old classes.new }
+/// Registers 0 to 5 are written: they lose their classes.
+pub fn forget_first_classes(classes: &mut [u8])
+    requires { length classes.old ≡ PLACES }
+    ensures { ForgetsFirstClasses classes.old classes.new }
 {
     for register in 0..6 {
         classes[register] = 0;
     }
 }
 
-/// These bytes of the stack are written.
-pub fn part_slots(classes: &mut [u8], from: usize, to: usize)
-    requires room { length classes.old ≡ 75 }
+/// These bytes of the stack are written: slots that have one of them lose their classes.
+pub fn forget_slot_classes(classes: &mut [u8], from: usize, to: usize)
+    requires room { length classes.old ≡ PLACES }
     requires order { from ≤ to }
     requires inside { to ≤ stack_size }
-    ensures { PartsSlots classes.old classes.new from to }
+    ensures { ForgetsSlotClasses classes.old classes.new from to }
 {
     for slot in from / 8..(to + 7) / 8 {
-        classes[11 + slot] = 0;
+        classes[REGISTERS + slot] = 0;
     }
 }
 
-/// The place holds what another one holds.
+/// Place `to` holds the word of place `from` from now on.
 pub fn link(classes: &mut [u8], related: &mut [Option<Related>], to: usize, from: usize)
     requires to { to < length classes.old }
-    requires from { from < 75 }
-    requires room { length classes.old ≡ 75 }
+    requires from { from < PLACES }
+    requires room { length classes.old ≡ PLACES }
     ensures { (s : State) (n : ℕ) → AreCopies classes.old related.old s → HasWord s from n → ((m : ℕ) → HasWord s from m → HasWord s to m) → AreCopies classes.new related.new s }
 {
     let class = class_of(classes, related, from, 0);
     classes[to] = class;
 }
 
-/// The class of a place; if it had none, it gets its own, which is another one than `beside`.
+/// The class of a place. A place without a class gets one of its own, and never `beside`: the caller still needs the word of
+/// that class. With `beside` 0 no class is spared.
 pub fn class_of(classes: &mut [u8], related: &mut [Option<Related>], place: usize, beside: u8) -> u8
-    requires place { place < 75 }
-    requires room { length classes.old ≡ 75 }
+    requires place { place < PLACES }
+    requires room { length classes.old ≡ PLACES }
     ensures some { result ≢ 0 }
-    ensures long { length classes.new ≡ 75 }
+    ensures long { length classes.new ≡ PLACES }
     ensures room { length related.new ≡ length related.old }
     ensures word { (s : State) (n : ℕ) (was : AreCopies classes.old related.old s) → HasWord s place n → (is : HoldsClass classes.new related.new s place result) × (is.0.0 beside ≡ was.0 beside) }
 {
@@ -59,17 +62,21 @@ pub fn class_of(classes: &mut [u8], related: &mut [Option<Related>], place: usiz
     own
 }
 
-/// A class for a place, another one than `beside`.
+/// A class for a place; it is never `beside`.
 fn own_class(place: usize, beside: u8) -> u8
-    requires { place < 75 }
+    requires { place < PLACES }
     ensures some { result ≢ 0 }
     ensures other { result ≢ beside }
 {
     let own = place as u8 + 1;
-    if own == beside { own + 75 } else { own }
+    if own == beside {
+        own + PLACES as u8
+    } else {
+        own
+    }
 }
 
-/// No place is of that class.
+/// Takes the class from all places that have it.
 fn retire(classes: &mut [u8], class: u8)
     ensures keeps { KeepsClasses classes.old classes.new }
     ensures gone { class ≢ 0 → (p : ℕ) → slice_index classes.new p ≢ class }
@@ -81,7 +88,7 @@ fn retire(classes: &mut [u8], class: u8)
     }
 }
 
-/// What both say.
+/// Keeps the classes that both lists give to the same place.
 pub fn keep_same(into: &mut [u8], other: &[u8])
     requires { length into.old ≡ length other.now }
     ensures left { KeepsClasses into.old into.new }
@@ -92,7 +99,7 @@ pub fn keep_same(into: &mut [u8], other: &[u8])
     }
 }
 
-/// The class that both are, if they are of one.
+/// The class, if both are the same; else 0, which is no class.
 #[inline(always)]
 fn same(a: u8, b: u8) -> u8
     ensures left { result ≢ 0 → result ≡ a }

@@ -2,7 +2,7 @@
 
 ghost use Rattle.std.specs.Prelude.{◌≡◌, ◌≢◌, ℕ, true, IsTrue, None, Some, length, slice_index_or, false};
 ghost use Rattle.bq_bpf.specs.Memory.{Setting, State};
-ghost use Rattle.bq_states.specs.Certainty.{Fact, Has, Certainty, Stands};
+ghost use Rattle.bq_states.specs.Certainty.{Fact, Has, Certainty, CertaintyHolds};
 ghost use Rattle.bq_states.specs.AbstractStates.{Allows, AreAlike, Contains, IsBase};
 
 use crate::abstract_state::{AbstractState, AbstractValue, ValueKind};
@@ -12,7 +12,8 @@ use crate::places::shape_of;
 use crate::relations::keep_related;
 use bq_bpf::MapShape;
 
-/// What both say, in a program of maps of these shapes.
+/// The join: a value that describes each word which `a` or `b` describes, in a program with maps of these shapes; `None` if
+/// nothing is known.
 pub fn join(
     shapes: &[MapShape],
     a: Option<AbstractValue>,
@@ -20,7 +21,7 @@ pub fn join(
 ) -> Option<AbstractValue>
     ensures left { Allows shapes.now a result }
     ensures right { Allows shapes.now b result }
-    ensures stands { (s : Certainty) → Stands s a → Stands s b → Stands s result }
+    ensures stands { (s : Certainty) → CertaintyHolds s a → CertaintyHolds s b → CertaintyHolds s result }
 {
     let (Some(a), Some(b)) = (a, b) else {
         return None;
@@ -34,7 +35,8 @@ pub fn join(
     })
 }
 
-/// Whether both count from the same of two maps of one shape.
+/// Whether two kinds that differ only in their maps are alike: both are entries, both are untested answers, or both are
+/// references, of maps with one shape.
 fn is_alike(shapes: &[MapShape], a: ValueKind, b: ValueKind) -> bool
     ensures left { IsTrue result → (base : ℕ) → IsBase shapes.now b base → IsBase shapes.now a base }
 {
@@ -48,7 +50,7 @@ fn is_alike(shapes: &[MapShape], a: ValueKind, b: ValueKind) -> bool
     }
 }
 
-/// Whether two maps have one shape.
+/// Whether two maps have the same shape.
 fn are_alike(shapes: &[MapShape], map: u8, other: u8) -> bool
     ensures { IsTrue result → AreAlike shapes.now map other }
 {
@@ -58,19 +60,20 @@ fn are_alike(shapes: &[MapShape], map: u8, other: u8) -> bool
     is_same(&one, &other)
 }
 
-/// Whether both are one shape.
+/// Whether both shapes are the same.
 fn is_same(one: &MapShape, other: &MapShape) -> bool
     ensures { IsTrue result → one.now ≡ other.now }
 {
     one == other
 }
 
-/// Two of these are an untested answer: an entry, an untested answer of a look-up in a map of the same shape, and 0, the answer where nothing is found.
+/// Joins two values of different kinds into an untested answer of a look-up. Each of the two may be an entry, an
+/// untested answer in a map of the same shape, or 0, which is the answer if nothing is found.
 fn join_answers(shapes: &[MapShape], a: AbstractValue, b: AbstractValue) -> Option<AbstractValue>
     requires { a.kind ≢ b.kind }
     ensures left { Allows shapes.now (Some a) result }
     ensures right { Allows shapes.now (Some b) result }
-    ensures stands { (s : Certainty) → Stands s (Some a) → Stands s (Some b) → Stands s result }
+    ensures stands { (s : Certainty) → CertaintyHolds s (Some a) → CertaintyHolds s (Some b) → CertaintyHolds s result }
 {
     let map = match (a.kind, b.kind) {
         (ValueKind::Entry(map), ValueKind::EntryOrNull(other))
@@ -89,6 +92,7 @@ fn join_answers(shapes: &[MapShape], a: AbstractValue, b: AbstractValue) -> Opti
     })
 }
 
+/// Joins each value with the one at the same place of the other list.
 fn join_all(
     shapes: &[MapShape],
     into: &mut [Option<AbstractValue>],
@@ -97,13 +101,14 @@ fn join_all(
     requires { length into.old ≡ length other.now }
     ensures left { (k : ℕ) → Allows shapes.now (slice_index_or into.old k None) (slice_index_or into.new k None) }
     ensures right { (k : ℕ) → Allows shapes.now (slice_index_or other.now k None) (slice_index_or into.new k None) }
-    ensures stands { (s : Certainty) (k : ℕ) → Stands s (slice_index_or into.old k None) → Stands s (slice_index_or other.now k None) → Stands s (slice_index_or into.new k None) }
+    ensures stands { (s : Certainty) (k : ℕ) → CertaintyHolds s (slice_index_or into.old k None) → CertaintyHolds s (slice_index_or other.now k None) → CertaintyHolds s (slice_index_or into.new k None) }
 {
     for i in 0..into.len() {
         into[i] = join(shapes, into[i], other[i]);
     }
 }
 
+/// Keeps what is true in both lists.
 fn keep_common(into: &mut [bool], other: &[bool])
     requires { length into.old ≡ length other.now }
     ensures left { (k : ℕ) → slice_index_or into.new k false ≡ true → slice_index_or into.old k false ≡ true }
@@ -115,7 +120,7 @@ fn keep_common(into: &mut [bool], other: &[bool])
     }
 }
 
-/// The join of the two: the abstract state is right wherever it was, and wherever the other is.
+/// Joins an abstract state with another. The result describes every machine state that one of both described.
 pub fn join_states(shapes: &[MapShape], into: &mut AbstractState, other: &AbstractState)
     ensures left { (f : Setting) (s : State) → f.shapes ≡ shapes.now → Contains f into.old s → Contains f into.new s }
     ensures right { (f : Setting) (s : State) → f.shapes ≡ shapes.now → Contains f other.now s → Contains f into.new s }

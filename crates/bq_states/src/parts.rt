@@ -12,7 +12,7 @@ use bq_bpf::addresses::STACK_SIZE;
 use bq_insn::Size;
 use bq_ranges::Range;
 
-/// A number of the range was stored there: its low bytes are known.
+/// Records a store: a number in `word` was written from byte `first` on, cut to `size` bytes.
 fn keep_part(parts: &mut [Option<StackPart>], first: u16, size: Size, word: Range)
     requires { length parts.old ≡ 4 }
     ensures { (stack : ℕ → Option ℕ) (v : ℕ) → Within word v → HasLowBytes stack first size v → HaveParts stack parts.old → HaveParts stack parts.new }
@@ -21,7 +21,7 @@ fn keep_part(parts: &mut [Option<StackPart>], first: u16, size: Size, word: Rang
     parts[place_of(first)] = Some(StackPart { first, size, range });
 }
 
-/// A number of the range was stored at an offset of the range: its low bytes are known if it is one place.
+/// Records a store of a number in `word` at an offset in `at`, if `at` is a single offset.
 pub fn store_part(parts: &mut [Option<StackPart>], at: Range, size: Size, word: Range)
     requires room { length parts.old ≡ 4 }
     requires small { at.hi < 2 ^ 16 }
@@ -32,7 +32,7 @@ pub fn store_part(parts: &mut [Option<StackPart>], at: Range, size: Size, word: 
     }
 }
 
-/// The numbers that a read of this many bytes at an offset of the range gives.
+/// A range that has the numbers which a read of this size gives at an offset of the range.
 pub fn numbers_at(parts: &[Option<StackPart>], at: Range, size: Size) -> Range
     requires { length parts.now ≡ 4 }
     ensures { ReadsWithin parts.now at (byte_count size) result }
@@ -50,7 +50,7 @@ pub fn numbers_at(parts: &[Option<StackPart>], at: Range, size: Size) -> Range
     part.range
 }
 
-/// Parts of which a byte is among these are forgotten.
+/// Forgets the parts that have one of these bytes.
 pub fn forget_parts(parts: &mut [Option<StackPart>], from: usize, to: usize)
     ensures { (j : ℕ) → Outlives from to (slice_index_or parts.old j None) (slice_index_or parts.new j None) }
 {
@@ -59,7 +59,7 @@ pub fn forget_parts(parts: &mut [Option<StackPart>], from: usize, to: usize)
     }
 }
 
-/// The part, if none of these bytes is one of its own.
+/// The part, if it has none of these bytes.
 fn apart(part: Option<StackPart>, from: usize, to: usize) -> Option<StackPart>
     ensures { Outlives from to part result }
 {
@@ -73,7 +73,7 @@ fn apart(part: Option<StackPart>, from: usize, to: usize) -> Option<StackPart>
     Some(part)
 }
 
-/// Each part as both ways know it.
+/// Joins each part with the other one at the same place.
 pub fn join_parts(into: &mut [Option<StackPart>], other: &[Option<StackPart>])
     requires { length into.old ≡ length other.now }
     ensures left { (k : ℕ) → AllowsPart (slice_index_or into.old k None) (slice_index_or into.new k None) }
@@ -84,7 +84,7 @@ pub fn join_parts(into: &mut [Option<StackPart>], other: &[Option<StackPart>])
     }
 }
 
-/// What both say of the same bytes.
+/// The join of two parts: its range covers both ranges. `None` if they are of different bytes.
 fn join_part(a: Option<StackPart>, b: Option<StackPart>) -> Option<StackPart>
     ensures left { AllowsPart a result }
     ensures right { AllowsPart b result }
@@ -102,14 +102,14 @@ fn join_part(a: Option<StackPart>, b: Option<StackPart>) -> Option<StackPart>
     })
 }
 
-/// Where a part is kept.
+/// The place in the list at which a part is kept.
 fn place_of(first: u16) -> usize
     ensures { result < 4 }
 {
     usize::from(first / 4 % 4)
 }
 
-/// The low bytes of words of the range.
+/// A range that has the numbers which the low bytes of words of the range spell.
 fn low_of(size: Size, word: Range) -> Range
     ensures { (v : ℕ) → Within word v → Within result (number_of (low_bytes size v)) }
 {
@@ -117,7 +117,7 @@ fn low_of(size: Size, word: Range) -> Range
     if word.hi <= all.hi { word } else { all }
 }
 
-/// The numbers of this many bytes.
+/// The range of all numbers of this size.
 pub fn numbers(size: Size) -> Range
     ensures all { (x : ℕ) → x < 256 ^ byte_count size → Within result x }
     ensures below { result.hi < 256 ^ byte_count size }

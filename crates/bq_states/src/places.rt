@@ -3,7 +3,7 @@
 ghost use Rattle.std.specs.Prelude.{Some, ◌↔◌, ◌≡◌, ◌+◌, ◌^◌, ◌<◌, ◌≤◌, ℕ, IsTrue, length, IfSome, false, true, slice_get, slice_index_or, None};
 ghost use Rattle.bq_insn.specs.Slots.{byte_count};
 ghost use Rattle.bq_ranges.specs.Within.{Within};
-ghost use Rattle.bq_states.specs.Certainty.{Pointer, StandsAt};
+ghost use Rattle.bq_states.specs.Certainty.{Pointer, CertaintyHoldsAt};
 ghost use Rattle.bq_states.specs.AbstractStates.{bound_of, AreSet, Bounds, FindsBytes};
 ghost use Rattle.bq_states.specs.declared.abstract_state.ValueKind.TheVariants.{Stack};
 
@@ -14,7 +14,7 @@ use bq_bpf::addresses::STACK_SIZE;
 use bq_insn::Size;
 use bq_ranges::Range;
 
-/// How many bytes there are where a pointer of the kind points to, if it may be followed.
+/// Answers how many bytes the region has into which a pointer of this kind points; `None` if it may not be followed.
 pub fn bound(kind: ValueKind, shapes: &[MapShape], context: usize) -> Option<usize>
     ensures bounds { IfSome result (Bounds shapes.now context kind) }
     ensures is { result ≡ bound_of shapes.now context kind }
@@ -33,7 +33,7 @@ pub fn bound(kind: ValueKind, shapes: &[MapShape], context: usize) -> Option<usi
     }
 }
 
-/// The shape of a map, if there is one of that number.
+/// The shape of the map with this number; `None` if there is no such map.
 pub fn shape_of(shapes: &[MapShape], map: u8) -> Option<MapShape>
     ensures { result ≡ slice_get shapes.now map }
 {
@@ -57,7 +57,7 @@ pub fn stays(at: Range, size: Size, bound: usize) -> bool
     at.hi <= (bound - count) as u64
 }
 
-/// Whether the bytes of an access at each offset of the range are set, where they are on the stack.
+/// Whether an access at each offset of the range may read its bytes: on the stack all of them must be set.
 pub fn is_readable(state: &AbstractState, kind: ValueKind, at: Range, size: Size) -> bool
     ensures stack { IsTrue result → kind ≡ Stack → (o i : ℕ) → Within at o → i < byte_count size → slice_index_or state.now.set (o + i) false ≡ true }
     ensures found { (kind ≡ Stack → at.hi + byte_count size ≤ STACK_SIZE) → (kind ≡ Stack → AreSet state.now.set at.lo (at.hi + byte_count size)) → IsTrue result }
@@ -96,7 +96,7 @@ fn all_set(set: &[bool], from: usize, to: usize) -> bool
     true
 }
 
-/// Whether a register points to this many bytes that may be read.
+/// Whether a register points to `size.bytes()` bytes that may be read.
 pub fn reads(
     state: &AbstractState,
     shapes: &[MapShape],
@@ -106,7 +106,7 @@ pub fn reads(
 ) -> bool
     requires { context < 2 ^ 16 }
     ensures finds { IsTrue result → FindsBytes shapes.now context state.now register (byte_count size) }
-    ensures accepts { (at : ℕ) → StandsAt (Pointer Stack at) state.now register → at + byte_count size ≤ STACK_SIZE → AreSet state.now.set at (at + byte_count size) → IsTrue result }
+    ensures accepts { (at : ℕ) → CertaintyHoldsAt (Pointer Stack at) state.now register → at + byte_count size ≤ STACK_SIZE → AreSet state.now.set at (at + byte_count size) → IsTrue result }
 {
     let Some(base) = known(state, register) else {
         return false;
@@ -123,7 +123,7 @@ pub fn reads(
     is_readable(state, base.kind, base.offset, size)
 }
 
-/// Whether a register points to this many bytes that may be read.
+/// Whether a register points to `count` bytes that may be read. `count` is at most 256.
 pub fn reads_value(
     state: &AbstractState,
     shapes: &[MapShape],
@@ -134,7 +134,7 @@ pub fn reads_value(
     requires context { context < 2 ^ 16 }
     requires count { count ≤ 256 }
     ensures finds { IsTrue result → FindsBytes shapes.now context state.now register count }
-    ensures accepts { (at : ℕ) → StandsAt (Pointer Stack at) state.now register → at + count ≤ STACK_SIZE → AreSet state.now.set at (at + count) → IsTrue result }
+    ensures accepts { (at : ℕ) → CertaintyHoldsAt (Pointer Stack at) state.now register → at + count ≤ STACK_SIZE → AreSet state.now.set at (at + count) → IsTrue result }
 {
     let Some(base) = known(state, register) else {
         return false;

@@ -2,17 +2,17 @@
 
 ghost use Rattle.std.specs.Prelude.{◌≡◌, ◌<◌, ℕ, ℤ, None, IfSome, length, slice_index_or};
 ghost use Rattle.bq_bpf.specs.Meaning.{word_of};
-ghost use Rattle.bq_states.specs.Certainty.{IsScalarOperand, IsWord, Scalar, Stands};
+ghost use Rattle.bq_states.specs.Certainty.{IsScalarOperand, IsWord, Scalar, CertaintyHolds};
 ghost use Rattle.bq_states.specs.AbstractStates.{Clears, Finds, knowing};
 
 use crate::abstract_state::{AbstractState, AbstractValue, ValueKind};
-use bq_insn::Source;
+use bq_insn::{REGISTERS, Source};
 use bq_ranges::Range;
 
 /// What is known of an operand, if it is set.
 pub fn operand(state: &AbstractState, src: Source) -> Option<AbstractValue>
     ensures finds { IfSome result (Finds state.now src) }
-    ensures scalar { IsScalarOperand state.now src → Stands Scalar result }
+    ensures scalar { IsScalarOperand state.now src → CertaintyHolds Scalar result }
     ensures immediate { (i : ℤ) → src ≡ Source.Imm i → IsWord (word_of i) result }
     ensures register { (r : ℕ) → src ≡ Source.Reg r → result ≡ slice_index_or state.now.registers r None }
 {
@@ -32,7 +32,7 @@ pub fn operand(state: &AbstractState, src: Source) -> Option<AbstractValue>
 pub fn known(state: &AbstractState, register: u8) -> Option<AbstractValue>
     ensures { result ≡ slice_index_or state.now.registers register None }
 {
-    if register < 11 {
+    if register < REGISTERS as u8 {
         state.registers[usize::from(register)]
     } else {
         None
@@ -40,18 +40,18 @@ pub fn known(state: &AbstractState, register: u8) -> Option<AbstractValue>
 }
 
 /// Writes what is known of a register.
-pub fn learn(state: &mut AbstractState, register: u8, word: AbstractValue)
-    requires { register < 11 }
+pub fn set_register(state: &mut AbstractState, register: u8, word: AbstractValue)
+    requires { register < REGISTERS }
     ensures is { state.new ≡ knowing state.old register word }
-    ensures long { length state.old.registers ≡ 11 }
+    ensures long { length state.old.registers ≡ REGISTERS }
 {
     state.registers[usize::from(register)] = Some(word);
     state.classes[usize::from(register)] = 0;
 }
 
-/// Registers 1 to 5 are forgotten, as after a call.
+/// Forgets registers 1 to 5, as after a call.
 pub fn clear(registers: &mut [Option<AbstractValue>])
-    requires { length registers.old ≡ 11 }
+    requires { length registers.old ≡ REGISTERS }
     ensures { Clears registers.old registers.new }
 {
     for register in 1..6 {

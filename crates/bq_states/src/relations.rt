@@ -11,9 +11,9 @@ use bq_ranges::{Range, arithmetic};
 /// How one word is related to another.
 #[derive(Clone, Copy, PartialEq, Eq)]
 pub enum Relation {
-    /// It is that much more, modulo 2 to the 64.
+    /// The first word is the second one plus this number, modulo 2^64.
     Sum(u64),
-    /// Their comparison comes out so.
+    /// The comparison of the first word with the second comes out as `goes` says.
     Compared {
         width: Width,
         cond: Condition,
@@ -21,7 +21,7 @@ pub enum Relation {
     },
 }
 
-/// Two classes of places, whose words are so related.
+/// Two classes of places, and the relation between their words.
 #[derive(Clone, Copy, PartialEq, Eq)]
 pub struct Related {
     pub left: u8,
@@ -29,11 +29,11 @@ pub struct Related {
     pub relation: Relation,
 }
 
-/// How many relations are known at most.
+/// The greatest number of relations that are known at once.
 pub const RELATIONS: usize = 8;
 
 impl Relation {
-    /// The left word, of a range before, if the right one is of such a range; `None` if there are no such two words.
+    /// A range for the left word, if both words are in these ranges; `None` only if there are no such two words.
     pub fn left(self, left: Range, right: Range) -> Option<Range>
         ensures { (a b : ℕ) → Relates self a b → Within left a → Within right b → NarrowsTo result a }
     {
@@ -43,7 +43,7 @@ impl Relation {
         }
     }
 
-    /// The right word, of a range before, if the left one is of such a range.
+    /// A range for the right word, if both words are in these ranges.
     pub fn right(self, left: Range, right: Range) -> Range
         ensures { (a b : ℕ) → Relates self a b → Within left a → Within right b → Within result b }
     {
@@ -56,7 +56,7 @@ impl Relation {
     }
 }
 
-/// One more relation is known; an older one may be forgotten for it.
+/// Learns one more relation. An older relation may be forgotten for it.
 pub fn relate(related: &mut [Option<Related>], more: Related)
     requires { length related.old ≡ RELATIONS }
     ensures { (word : ℕ → ℕ) → AreRelated word related.old → IsRelatedBy word (Some more) → AreRelated word related.new }
@@ -64,7 +64,7 @@ pub fn relate(related: &mut [Option<Related>], more: Related)
     related[usize::from(more.left) % RELATIONS] = Some(more);
 }
 
-/// Relations of that class are forgotten.
+/// Forgets the relations of this class.
 pub fn unrelate(related: &mut [Option<Related>], class: u8)
     ensures { (word other : ℕ → ℕ) → ((k : ℕ) → k ≢ class → other k ≡ word k) → AreRelated word related.old → AreRelated other related.new }
 {
@@ -73,7 +73,7 @@ pub fn unrelate(related: &mut [Option<Related>], class: u8)
     }
 }
 
-/// The relation, if it is not of that class.
+/// The relation, if it is not of this class.
 fn without(related: Option<Related>, class: u8) -> Option<Related>
     ensures { (word other : ℕ → ℕ) → ((k : ℕ) → k ≢ class → other k ≡ word k) → IsRelatedBy word related → IsRelatedBy other result }
 {
@@ -86,7 +86,7 @@ fn without(related: Option<Related>, class: u8) -> Option<Related>
     Some(known)
 }
 
-/// The relations that both know.
+/// Keeps the relations that both lists have at the same place.
 pub fn keep_related(into: &mut [Option<Related>], other: &[Option<Related>])
     requires { length into.old ≡ length other.now }
     ensures left { (word : ℕ → ℕ) → AreRelated word into.old → AreRelated word into.new }
@@ -97,7 +97,7 @@ pub fn keep_related(into: &mut [Option<Related>], other: &[Option<Related>])
     }
 }
 
-/// The relation, if both are that one.
+/// The relation, if both are the same.
 fn same(a: Option<Related>, b: Option<Related>) -> Option<Related>
     ensures left { (word : ℕ → ℕ) → IsRelatedBy word a → IsRelatedBy word result }
     ensures right { (word : ℕ → ℕ) → IsRelatedBy word b → IsRelatedBy word result }

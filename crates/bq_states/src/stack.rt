@@ -1,4 +1,4 @@
-//! Bytes of the stack that are written: which are set then, and what is forgotten.
+//! Writes to the stack: which bytes are set after them, and what is forgotten.
 
 ghost use Rattle.std.specs.Prelude.{◌≡◌, ◌+◌, ◌*◌, ◌<◌, ◌≤◌, ℕ, true, false, None, Some, length, slice_index_or};
 ghost use Rattle.bq_insn.specs.Slots.{byte_count};
@@ -6,16 +6,17 @@ ghost use Rattle.bq_bpf.specs.Memory.{stack_size};
 ghost use Rattle.bq_states.specs.Certainty.{IsStoredAt};
 ghost use Rattle.bq_states.specs.AbstractStates.{AreSet, Forgets, Marks, Overwrites, keeping};
 
-use crate::abstract_state::{AbstractState, AbstractValue};
-use crate::copies::part_slots;
+use crate::abstract_state::{AbstractState, AbstractValue, STACK_SLOTS};
+use crate::copies::forget_slot_classes;
 use crate::parts::forget_parts;
 use bq_insn::Size;
 use bq_ranges::Range;
 
-/// Bytes are written somewhere in the range: what was kept there is forgotten, and they are set if it is one place.
+/// Writes bytes at an unknown offset of the range. What was kept where they may lie is forgotten. If there is only one
+/// offset, the bytes are set.
 pub fn overwrite(state: &mut AbstractState, at: Range, size: Size)
     requires { at.hi + byte_count size ≤ stack_size }
-    ensures long { length state.new.kept ≡ 64 }
+    ensures long { length state.new.kept ≡ STACK_SLOTS }
     ensures stored { at.lo ≡ at.hi → IsStoredAt state.old state.new at.lo (at.hi + byte_count size) }
     ensures contains { Overwrites state.old state.new at (byte_count size) }
 {
@@ -23,22 +24,22 @@ pub fn overwrite(state: &mut AbstractState, at: Range, size: Size)
     let to = at.hi as usize + size.bytes();
     forget(&mut state.kept, from, to);
     forget_parts(&mut state.parts, from, to);
-    part_slots(&mut state.classes, from, to);
+    forget_slot_classes(&mut state.classes, from, to);
     if !at.is_single() {
         return;
     }
     mark(&mut state.set, from, to);
 }
 
-/// A word is kept in a slot of eight bytes.
+/// Keeps what is known of the word in a slot of eight bytes.
 pub fn keep(state: &mut AbstractState, slot: usize, word: AbstractValue)
-    requires { slot < 64 }
+    requires { slot < STACK_SLOTS }
     ensures { state.new ≡ keeping state.old slot word }
 {
     state.kept[slot] = Some(word);
 }
 
-/// These bytes are set.
+/// Marks these bytes as set.
 fn mark(set: &mut [bool], from: usize, to: usize)
     requires { to ≤ length set.old }
     ensures only { Marks set.old set.new from to }
@@ -50,9 +51,9 @@ fn mark(set: &mut [bool], from: usize, to: usize)
     }
 }
 
-/// Words that were kept where these bytes lie are forgotten.
+/// Forgets the words in slots that have one of these bytes.
 fn forget(kept: &mut [Option<AbstractValue>], from: usize, to: usize)
-    requires { length kept.old ≤ 64 }
+    requires { length kept.old ≤ STACK_SLOTS }
     ensures { Forgets kept.old kept.new from to }
 {
     for j in 0..kept.len() {

@@ -9,9 +9,12 @@ pub Leaves-none : (a : Option (List ℕ)) (text : List ℕ) → Leaves a a text 
 Leaves-none a text = record { done = []; whole = refl; added = Appends-nil a }
 
 -- what is written of the rest leaves this many bytes less of the text
-pub Leaves-more : (a b c : Option (List ℕ)) (text rest new : List ℕ) (n : ℕ) → Leaves a b text rest → Appends b c (take n rest) → new ≡ drop n rest → Leaves a c text new
+pub Leaves-more : (a b c : Option (List ℕ)) (text rest new : List ℕ) (n : ℕ)
+    → Leaves a b text rest → Appends b c (take n rest) → new ≡ drop n rest → Leaves a c text new
 Leaves-more a b c text rest new n h more is = record {
   done = h.done ++ take n rest;
-  whole = h.whole ∙ ap (λ l. h.done ++ l) (sym (take-append-drop n rest) ∙ ap (λ l. take n rest ++ l) (sym is)) ∙ sym (append_assoc h.done (take n rest) new);
+  whole =
+      h.whole ∙ ap (λ l. h.done ++ l) (sym (take-append-drop n rest) ∙ ap (λ l. take n rest ++ l) (sym is))
+      ∙ sym (append_assoc h.done (take n rest) new);
   added = Appends-trans a b c h.done (take n rest) h.added more;
 }

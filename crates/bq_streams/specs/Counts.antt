@@ -6,22 +6,22 @@ use Rattle.bq_streams.specs.declared.counted.Counted.{Counted}
 abbrev pub inner_of : {T : Type 0} → Counted T → T
 inner_of c = c.inner
 
--- how often it was called
+-- how often the reader or the writer was called
 abbrev pub calls_of : {T : Type 0} → Counted T → ℕ
 calls_of c = c.calls
 
--- how often it failed
+-- how often a call failed
 abbrev pub failures_of : {T : Type 0} → Counted T → ℕ
 failures_of c = c.failures
 
--- a count after one more: the greatest stays
+-- a count after one more call: the greatest value stays
 abbrev pub one_more : ℕ → ℕ
 one_more n = min (n + 1) (2 ^ 64 - 1)
 
--- the count went up, or it is the greatest and cannot show it
+-- the count went up, or it is at its greatest value and cannot show it
 abbrev pub HasRisen : ℕ → ℕ → Type 0
 HasRisen old new = (old < new) ⊎ (new ≡ 2 ^ 64 - 1)
 
--- the count went up by this many, or to the greatest
+-- the count went up by at least this many, or to its greatest value
 abbrev pub HasCounted : ℕ → ℕ → ℕ → Type 0
 HasCounted n old new = min (old + n) (2 ^ 64 - 1) ≤ new

@@ -2,7 +2,7 @@
 use Rattle.std.specs.Prelude.{◌≡◌, ℕ, List, ◌++◌, Option}
 use Rattle.std.specs.Io.KnownBytes.{Appends}
 
--- a writer that held old holds new: a beginning of text was added, and rest is what of text was not
+-- a writer that held old holds new: a beginning of text was added, and rest is the part of text that was not
 pub record Leaves (old new : Option (List ℕ)) (text rest : List ℕ) : Type 0 where
   pub done : List ℕ
   pub whole : text ≡ done ++ rest

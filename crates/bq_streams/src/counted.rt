@@ -7,7 +7,7 @@ ghost use Rattle.bq_streams.specs.Writing.{AppendsPart};
 use crate::fault::StreamFault;
 use std::io::{Read, Write};
 
-/// A reader or a writer, with how often it was called and how often it failed. Each count stops at its greatest value.
+/// A reader or a writer, with how often it was called and how often a call failed. Each count stops at its greatest value.
 #[derive(Drop)]
 pub struct Counted<T> {
     inner: T,
@@ -16,7 +16,7 @@ pub struct Counted<T> {
 }
 
 impl<T> Counted<T> {
-    /// Counts the calls of a reader or a writer, of which there was none yet.
+    /// Counts the calls of a reader or a writer. Both counts begin at 0.
     pub fn new(inner: T) -> Counted<T>
         ensures wraps { inner_of result ≡ inner }
         ensures calls { calls_of result ≡ 0 }
@@ -29,7 +29,7 @@ impl<T> Counted<T> {
         }
     }
 
-    /// How often it was called.
+    /// How often the reader or the writer was called.
     pub fn calls(&self) -> u64
         ensures { result ≡ calls_of self.now }
     {
@@ -70,7 +70,7 @@ impl<R: Read> Counted<R> {
 }
 
 impl<W: Write> Counted<W> {
-    /// One write of a piece that is not empty, of which some is taken. A write that takes nothing is a failure.
+    /// One write of a piece that is not empty. The writer takes at least one byte of it. A write that takes nothing is a failure.
     pub fn write_some(&mut self, piece: &[u8]) -> Result<usize, StreamFault>
         requires { 0 < length piece.now }
         ensures taken { IfOk result (λ n. (0 < n) × (n ≤ length piece.now)
@@ -90,7 +90,7 @@ impl<W: Write> Counted<W> {
         }
     }
 
-    /// Writes the whole text, or a beginning of it where a write fails.
+    /// Writes the whole text. If a write fails, only a beginning of the text has been written.
     pub fn write_text(&mut self, text: &[u8]) -> Result<(), StreamFault>
         ensures whole { OnOk result (Appends (W.contents (inner_of self.old)) (W.contents (inner_of self.new)) text.now) }
         ensures kept { OnOk result (failures_of self.new ≡ failures_of self.old) }

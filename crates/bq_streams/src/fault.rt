@@ -1,11 +1,11 @@
-//! Why what reads and writes ends early.
+//! Why reading or writing ended early.
 ghost use Rattle.std.specs.Prelude.{◌≡◌};
 
 use std::alloc::AllocError;
 use std::error::Error;
 use std::fmt;
 
-/// Why what reads or writes ended before its input did. The first three are answered only for their causes, as specs/Faults says.
+/// Why reading or writing ended before the input did. The first three are answered only for their causes, as specs/Faults says.
 #[derive(Clone, Copy, Debug, PartialEq, Eq)]
 pub enum StreamFault {
     /// The reader failed.

@@ -1,4 +1,4 @@
-//! Readers and writers that keep why they failed.
+//! Readers and writers that keep the error of their last failure.
 ghost use Rattle.std.specs.Prelude.{◌≡◌, None, Some, IfErr, OnOk};
 ghost use Rattle.std.specs.Io.KnownBytes.{Keeps, ReadConsumes, WriteAppends};
 ghost use Rattle.std.specs.Io.{ReadsAtMost, WritesAtMost};
@@ -21,7 +21,7 @@ pub struct Kept<T> {
 }
 
 impl<T> Kept<T> {
-    /// Keeps the failures of a reader or a writer, of which there was none yet.
+    /// Keeps the failures of a reader or a writer. At first there are no failures.
     pub fn new(inner: T) -> Kept<T>
         ensures inner { inner_of result ≡ inner }
         ensures failure { failure_of result ≡ None }

@@ -1,7 +1,7 @@
 //! Streams: readers and writers that count their calls and failures, or keep why they failed, and inputs that are read whole.
 //!
-//! A read or a write fails here with a [`StreamFault`], by contract only for its cause: a fault of the reader only if its
-//! failures rose, one of the writer only if the writer's did.
+//! A read or a write fails here with a [`StreamFault`], and by contract only for its cause: `Read` only if the reader's
+//! failures rose, `Write` only if the writer's did.
 #![tactic(auto)]
 
 mod counted;

@@ -1,4 +1,4 @@
-//! The whole of an input that is read before it is answered.
+//! Inputs that are read whole before they are answered.
 ghost use Rattle.std.specs.Prelude.{◌≡◌, IfOk, IfErr, OnOk, OnErr};
 ghost use Rattle.bq_streams.specs.Counts.{inner_of, calls_of, failures_of};
 ghost use Rattle.bq_streams.specs.Faults.{IsReadFault};
@@ -9,13 +9,13 @@ use crate::fault::StreamFault;
 use std::alloc::Global;
 use std::io::Read;
 
-/// The most that one read takes.
+/// The most bytes that one read takes.
 pub const PIECE: usize = 4096;
 
 /// The most reads of one input.
 pub const READS: u64 = 1 << 32;
 
-/// Reads to the end of the input. Its errors are a failed read, an input that does not end, and lack of memory.
+/// Reads to the end of the input. Its errors are a failed read, an input that does not end after [`READS`] reads, and lack of memory.
 pub fn read_whole<R: Read>(alloc: Global, input: &mut Counted<R>) -> Result<Vec<u8>, StreamFault>
     ensures all { IfOk result (λ whole. GivesAll (R.remaining (inner_of input.old)) (R.remaining (inner_of input.new)) whole.items) }
     ensures kept { OnOk result (failures_of input.new ≡ failures_of input.old) }

@@ -9,21 +9,28 @@ unfolding called_below
 called_none named name = refl
 
 -- a task that has the name stands behind those before it
-pub called_on : (named : NamedTasks) (name old new : List ℕ) (task : ℕ) → is_named name (name_of named task) ≡ true → old ≡ called_below named name task → new ≡ old ++ task ∷ []
+pub called_on : (named : NamedTasks) (name old new : List ℕ) (task : ℕ)
+    → is_named name (name_of named task) ≡ true → old ≡ called_below named name task → new ≡ old ++ task ∷ []
     → new ≡ called_below named name (task + 1)
 unfolding called_below
 called_on named name old new task has so_far e =
-    e ∙ ap (λ (l : List ℕ). l ++ task ∷ []) so_far ∙ ap (λ (b : Bool). called_below named name task ++ cond b (task ∷ []) []) (sym has) ∙ ap (λ (n : ℕ). called_below named name n) (sym (add-one task))
+    e ∙ ap (λ (l : List ℕ). l ++ task ∷ []) so_far
+    ∙ ap (λ (b : Bool). called_below named name task ++ cond b (task ∷ []) []) (sym has)
+    ∙ ap (λ (n : ℕ). called_below named name n) (sym (add-one task))
 
--- and another does not
-pub called_off : (named : NamedTasks) (name old : List ℕ) (task : ℕ) → is_named name (name_of named task) ≡ false → old ≡ called_below named name task
+-- a task that does not have the name adds nothing to those before it
+pub called_off : (named : NamedTasks) (name old : List ℕ) (task : ℕ)
+    → is_named name (name_of named task) ≡ false → old ≡ called_below named name task
     → old ≡ called_below named name (task + 1)
 unfolding called_below
 called_off named name old task lacks so_far =
-    so_far ∙ sym (append-nil (called_below named name task)) ∙ ap (λ (b : Bool). called_below named name task ++ cond b (task ∷ []) []) (sym lacks) ∙ ap (λ (n : ℕ). called_below named name n) (sym (add-one task))
+    so_far ∙ sym (append-nil (called_below named name task))
+    ∙ ap (λ (b : Bool). called_below named name task ++ cond b (task ∷ []) []) (sym lacks)
+    ∙ ap (λ (n : ℕ). called_below named name n) (sym (add-one task))
 
 -- the tasks of some names, and the number that no task has
-pub tasks_for_some : (named : NamedTasks) (names : List (String Global)) (before now new : List ℕ) → length names ≢ 0 → now ≡ before ++ all_called named names → new ≡ now ++ 65535 ∷ []
+pub tasks_for_some : (named : NamedTasks) (names : List (String Global)) (before now new : List ℕ)
+    → length names ≢ 0 → now ≡ before ++ all_called named names → new ≡ now ++ 65535 ∷ []
     → new ≡ before ++ tasks_for named names
 tasks_for_some named [] before now new some so_far e = absurd (some refl)
 tasks_for_some named (name ∷ names) before now new some so_far e =

@@ -10,9 +10,11 @@ unfolding waiting_notes
 waiting_notes-none s old = sym (append-nil old)
 
 -- a task's note stands behind those before it
-pub waiting_notes-more : (s : Figures) (old now next : List ℕ) (task : ℕ) → now ≡ old ++ waiting_notes s task → next ≡ now ++ waiting_note task (undrained s task)
+pub waiting_notes-more : (s : Figures) (old now next : List ℕ) (task : ℕ)
+    → now ≡ old ++ waiting_notes s task → next ≡ now ++ waiting_note task (undrained s task)
     → next ≡ old ++ waiting_notes s (task + 1)
 unfolding waiting_notes
 waiting_notes-more s old now next task h k =
-    k ∙ ap (λ l. l ++ waiting_note task (undrained s task)) h ∙ append_assoc old (waiting_notes s task) (waiting_note task (undrained s task))
+    k ∙ ap (λ l. l ++ waiting_note task (undrained s task)) h
+    ∙ append_assoc old (waiting_notes s task) (waiting_note task (undrained s task))
     ∙ ap (λ n. old ++ waiting_notes s n) (sym (add-one task))

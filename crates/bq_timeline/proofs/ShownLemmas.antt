@@ -6,7 +6,8 @@ use Rattle.bq_timeline.specs.declared.settings.Settings.{Settings}
 use Rattle.bq_timeline.specs.declared.shown.Shown.{Shown}
 
 -- a form that begins is still the one that is asked for
-pub stays_asked : (s : Settings) (named : NamedTasks) (old new : Shown) → IsAskedFor s named old → StaysShown old new → IsAskedFor s named new
+pub stays_asked : (s : Settings) (named : NamedTasks) (old new : Shown)
+    → IsAskedFor s named old → StaysShown old new → IsAskedFor s named new
 stays_asked s named old new asked stays = (
   asked.0,
   asked.1,

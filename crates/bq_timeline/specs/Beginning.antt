@@ -1,4 +1,4 @@
--- The form begins once the comments above have named the tasks.
+-- The form begins once the comments at the top of the trace have named the tasks.
 use Rattle.std.specs.Prelude.{◌≡◌, ◌++◌, Option, Some, None, string_bytes}
 use Rattle.bq_schedule.specs.Figures.{Figures}
 use Rattle.bq_words.specs.declared.rule.Rule.{Rule}
@@ -9,35 +9,35 @@ use Rattle.bq_timeline.specs.declared.screen.Screen.{Screen}
 use Rattle.bq_timeline.specs.declared.settings.Settings.{Settings}
 use Rattle.bq_timeline.specs.declared.viewer.Viewer.{Viewer}
 
--- The form that the settings ask for is shown, where tasks have the names that have come, and the names that no task has are noted.
+-- The form that the settings ask for is shown, with the tasks that have the asked names so far. The names that no task has are noted.
 pub record BeginsForm (s : Settings) (old new : Screen) : Type 0 where
   pub shown : ShowsAsked s old.names new.shown
   pub tasks : new.tasks.items ≡ s.window.tasks.items ++ tasks_for old.names s.names.items
   pub processors : new.processors ≡ old.processors
   pub notes : string_bytes new.notes ≡ string_bytes old.notes ++ uncalled_notes old.names s.names.items
 
--- Nothing begins.
+-- The form does not begin, and nothing changes.
 pub record Stays (old new : Screen) : Type 0 where
   pub shown : new.shown ≡ old.shown
   pub tasks : new.tasks ≡ old.tasks
   pub processors : new.processors ≡ old.processors
   pub notes : new.notes ≡ old.notes
 
--- It begins where there is a machine and it has not begun, that is where something is still asked for.
+-- The form begins if there is a machine and the form has not begun: then its settings are still there.
 abbrev pub BeginsBy : Option Rule → Option Settings → Screen → Screen → Type 0
 BeginsBy (Some rule) (Some s) old new = BeginsForm s old new
 BeginsBy rule asked old new = Stays old new
 
+-- The form begins if it can, and otherwise nothing changes.
 abbrev pub Begins : Screen → Screen → Type 0
 Begins old new = BeginsBy old.rule old.asked old new
 
--- It begins, as `Begins` says, if there is a schedule, which begins with the machine; else all stays.
+-- The form begins as `Begins` says if there is a schedule, which comes with the machine. Otherwise nothing changes.
 abbrev pub BeginsWith : Option Figures → Screen → Screen → Type 0
 BeginsWith None old new = Stays old new
 BeginsWith (Some s) old new = Begins old new
 
--- The trace is over: the form begins, if it has not, and the notes on what is named and not there and the last notes stand behind those
--- that were there then.
+-- The trace is over. The form begins, if it has not. Then come the notes on what is named but does not exist, and the last notes.
 pub record Ends (old new : Viewer) : Type 0 where
   pub begun : Screen
   pub begins : BeginsWith old.schedule old.screen begun

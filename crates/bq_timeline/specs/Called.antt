@@ -1,4 +1,4 @@
--- The tasks that are asked for by their names.
+-- The tasks that are asked for by name.
 use Rattle.std.specs.Prelude.{ℕ, zero, suc, ◌^◌, ◌-◌, nat_le, nat_lt, ◌&&◌, ◌||◌, Bool, false, List, [], ◌∷◌, ◌++◌, length, map, take, Option, Some, None, String, if◌then◌else◌, codes, string_bytes}
 use Rattle.std.specs.Global.{Global}
 use Rattle.std.specs.List.{flat_map}
@@ -7,7 +7,7 @@ use Rattle.std.proofs.Math.Utf8.{encodes}
 use Rattle.bq_disc.specs.declared.limits.TheConstants.{TASKS}
 use Rattle.bq_report.specs.Names.{NamedTasks, name_of}
 
--- it is the name, if there is one
+-- there is another name, and it equals this one
 abbrev pub is_named : List ℕ → Option (List ℕ) → Bool
 is_named name None = false
 is_named name (Some other) = bytes_eq other name
@@ -17,7 +17,7 @@ unfoldable pub called_below : NamedTasks → List ℕ → ℕ → List ℕ
 called_below named name zero = []
 called_below named name (suc task) = called_below named name task ++ (if is_named name (name_of named task) then task ∷ [] else [])
 
--- the tasks that have the name, of the 1,024 that there can be
+-- the tasks that have the name, among the 1,024 that there can be
 abbrev pub tasks_called : NamedTasks → List ℕ → List ℕ
 tasks_called named name = called_below named name TASKS
 
@@ -25,13 +25,13 @@ tasks_called named name = called_below named name TASKS
 abbrev pub all_called : NamedTasks → List (String Global) → List ℕ
 all_called named names = flat_map (λ name. tasks_called named (string_bytes name)) names
 
--- What names add to the tasks that are shown: those that have them, and a number that no task has. Without it no task at all would be
--- left of names that no task has, and that stands for every task.
+-- What names add to the tasks that are shown: the tasks that have them, and a number that no task has. Without that number, names that no
+-- task has would leave an empty list, which means every task
 abbrev pub tasks_for : NamedTasks → List (String Global) → List ℕ
 tasks_for named [] = []
 tasks_for named names = all_called named names ++ (2 ^ 16 - 1) ∷ []
 
--- a character as a message shows it: a control character stands as `?`
+-- a character as a message shows it: `?` for a control character
 abbrev pub shown_letter : ℕ → ℕ
 shown_letter letter = if nat_lt letter 32 || (nat_le 127 letter && nat_lt letter 160) then 63 else letter
 
@@ -39,7 +39,7 @@ shown_letter letter = if nat_lt letter 32 || (nat_le 127 letter && nat_lt letter
 abbrev pub quoted : List ℕ → List ℕ
 quoted name = encodes (map shown_letter (take 40 (chars name)))
 
--- that no task is called so
+-- the note that no task has this name
 abbrev pub lacking_note : List ℕ → List ℕ
 lacking_note name = codes "--tasks: no task is called " ++ (quoted name ++ codes "\n")
 

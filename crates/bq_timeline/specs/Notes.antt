@@ -1,45 +1,49 @@
 -- What goes to standard error once a trace is over.
-use Rattle.std.specs.Prelude.{ℕ, zero, suc, ◌==◌, ◌%◌, ◌^◌, nat_lt, ◌&&◌, not, Bool, List, [], ◌++◌, length, Option, Some, None, if◌then◌else◌, codes}
+use Rattle.std.specs.Prelude.{ℕ, zero, suc, ◌==◌, ◌%◌, ◌-◌, ◌^◌, nat_lt, ◌&&◌, not, Bool, List, [], ◌++◌, length, Option, Some, None, if◌then◌else◌, codes}
 use Rattle.std.specs.Fmt.{decimal}
 use Rattle.std.specs.List.{list_any}
 use Rattle.bq_disc.specs.declared.limits.TheConstants.{PROCESSORS, TASKS}
 use Rattle.bq_schedule.specs.Figures.{Figures, task_of}
 use Rattle.bq_schedule.specs.Runnable.{undrained}
 
--- the note on a task that was placed on a processor which was never drained after, if it was
+-- the note on a task that was placed on a processor that was never drained after, if there is such a processor
 abbrev pub waiting_note : ℕ → Option ℕ → List ℕ
 waiting_note task None = []
 waiting_note task (Some processor) =
     codes "task " ++ (decimal task ++ (codes " was placed on processor " ++ (decimal processor ++ codes ", which was never drained after\n")))
 
--- such notes on the tasks below a number, in order
+-- the notes on tasks below a number whose processor was never drained after, in order
 unfoldable pub waiting_notes : Figures → ℕ → List ℕ
 waiting_notes s zero = []
 waiting_notes s (suc task) = waiting_notes s task ++ waiting_note task (undrained s task)
 
--- tasks are named, and none of them was admitted
-abbrev pub lacks_tasks : Figures → List ℕ → Bool
-lacks_tasks s tasks = nat_lt 0 (length tasks) && not (list_any (λ id. (task_of s id).is_admitted) tasks)
+-- a number that a task is asked for by; 2^16 - 1 stands for names, each of which has a note of its own if no task has it
+abbrev pub is_number : ℕ → Bool
+is_number id = nat_lt id (2 ^ 16 - 1)
 
--- none of the processors that are named by bits is one of this many
+-- tasks are asked for by number, but none of those that are asked for was admitted
+abbrev pub lacks_tasks : Figures → List ℕ → Bool
+lacks_tasks s tasks = list_any is_number tasks && not (list_any (λ id. (task_of s id).is_admitted) tasks)
+
+-- none of the processors that the bits name is one of this many
 abbrev pub lacks_processors : ℕ → ℕ → Bool
 lacks_processors count processors = nat_lt count PROCESSORS && (processors % 2 ^ count == 0)
 
--- the note on tasks that are named, where the trace has none of them
+-- the note on tasks that are asked for by number, if there is none of them
 abbrev pub tasks_note : Figures → List ℕ → List ℕ
-tasks_note s tasks = if lacks_tasks s tasks then codes "--tasks: the trace has none of these tasks\n" else []
+tasks_note s tasks = if lacks_tasks s tasks then codes "--tasks: there is no task with such a number\n" else []
 
--- the note on processors that are named, where the machine has none of them
+-- the note on the named processors, if the machine has none of them
 abbrev pub processors_note : ℕ → ℕ → List ℕ
 processors_note count processors =
     if lacks_processors count processors then codes "--cpus: the machine has none of these processors; how many it has: " ++ (decimal count ++ codes "\n") else []
 
--- the notes on what is named and not there, once there is a machine
+-- the notes on tasks and processors that are named but do not exist, if there is a machine
 abbrev pub absent_notes : Option Figures → List ℕ → ℕ → List ℕ
 absent_notes None tasks processors = []
 absent_notes (Some s) tasks processors = tasks_note s tasks ++ processors_note (length s.processors) processors
 
--- where no line was bad or refused, and yet none made a machine
+-- the note that no line made a machine, if no line was bad or refused
 abbrev pub unmade_note : ℕ → List ℕ
 unmade_note n = if n == 0 then codes "the trace makes no machine, so there is nothing to show: it begins with a line such as machine cfs 2\n" else []
 
@@ -47,7 +51,7 @@ unmade_note n = if n == 0 then codes "the trace makes no machine, so there is no
 abbrev pub trouble_note : ℕ → List ℕ
 trouble_note n = if n == 0 then [] else codes "lines bad or refused: " ++ (decimal n ++ codes "\n")
 
--- the last notes, at the schedule of the whole trace
+-- the last notes, by the schedule of the whole trace, if there is one, and the number of bad or refused lines
 abbrev pub last_notes : Option Figures → ℕ → List ℕ
 last_notes None n = unmade_note n ++ trouble_note n
 last_notes (Some s) n = waiting_notes s TASKS ++ trouble_note n

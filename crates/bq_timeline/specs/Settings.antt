@@ -18,7 +18,7 @@ use Rattle.bq_timeline.specs.declared.settings.Settings.{Settings}
 use Rattle.bq_timeline.specs.declared.settings.SettingsFault.{SettingsFault}
 use Rattle.bq_timeline.specs.declared.settings.SettingsFault.TheVariants as fault
 
--- the form of that name
+-- the form of this name, if there is one
 abbrev pub form_of : List ℕ → Option FormName
 form_of word =
     if bytes_eq word (codes "report") then Some Report
@@ -31,11 +31,11 @@ form_of word =
     else if bytes_eq word (codes "perfetto") then Some Perfetto
     else None
 
--- the tasks from the first to the last, unless they run backwards
+-- the tasks from the first to the last, unless the range runs backwards
 abbrev pub tasks_between : ℕ → ℕ → Option (List ℕ)
 tasks_between first last = if nat_lt last first then None else Some (range_with_len first (last + 1 - first))
 
--- one task, or where there is a dash a range
+-- one task, or a range if there is a dash
 abbrev pub tasks_at : List ℕ → Option ℕ → Option (List ℕ)
 tasks_at part None = option_map (λ only. only ∷ []) (task_of part)
 tasks_at part (Some dash) = option_and_then (λ first. option_and_then (tasks_between first) (task_of (drop (dash + 1) part))) (task_of (take dash part))
@@ -45,20 +45,20 @@ abbrev pub is_name : List ℕ → Bool
 is_name [] = false
 is_name (byte ∷ bytes) = not (is_ascii_digit byte)
 
--- the tasks that one part names by their numbers; a name is no number
+-- the tasks that one part names by number; a name adds none
 abbrev pub tasks_of_part : List ℕ → Option (List ℕ)
 tasks_of_part part = if is_name part then Some [] else tasks_at part (position is_dash part)
 
--- the tasks that the part names stand behind those that were there
+-- the tasks that the part names by number are added at the end
 abbrev pub AddsPart : List ℕ → List ℕ → List ℕ → Type 0
 AddsPart part old new = (more : List ℕ) × (tasks_of_part part ≡ Some more) × (new ≡ old ++ more)
 
--- the tasks that parts name by their numbers, one part after another: none where one of them is neither a number, a range nor a name
+-- the tasks that parts name by number, one part after another; `None` if a part is neither a number, a range nor a name
 abbrev pub tasks_in : List (List ℕ) → Option (List ℕ)
 tasks_in [] = Some []
 tasks_in (part ∷ parts) = option_and_then (λ some. option_map (λ more. some ++ more) (tasks_in parts)) (tasks_of_part part)
 
--- the tasks that the parts between commas name by their numbers
+-- the tasks that the parts between commas name by number
 abbrev pub tasks_of : List ℕ → Option (List ℕ)
 tasks_of word = tasks_in (slice_split is_comma word)
 
@@ -66,7 +66,7 @@ tasks_of word = tasks_in (slice_split is_comma word)
 abbrev pub names_in : List ℕ → List (List ℕ)
 names_in word = filter is_name (slice_split is_comma word)
 
--- this many columns, if they are from 20 to 10,000, the least and the greatest width
+-- this many columns, if the number is from 20 to 10,000, the least and the greatest width
 abbrev pub as_width : ℕ → Option ℕ
 as_width columns = if nat_le LEAST_WIDTH columns && nat_le columns GREATEST_WIDTH then Some columns else None
 
@@ -74,59 +74,59 @@ as_width columns = if nat_le LEAST_WIDTH columns && nat_le columns GREATEST_WIDT
 abbrev pub width_of : List ℕ → Option ℕ
 width_of word = option_and_then as_width (decimal_of word)
 
--- what a word asks for, or the default where there is no word
+-- what a word asks for, or the default if there is no word
 abbrev pub asked_or : {A : Type 0} → A → (List ℕ → Option A) → Option (String Global) → Option A
 asked_or a read None = Some a
 asked_or a read (Some word) = read (string_bytes word)
 
--- the form, a report where none is named
+-- the form that is asked for, a report if none is named
 abbrev pub form_asked : Words → Option FormName
 form_asked w = asked_or Report form_of w.form
 
--- the first moment, 0 where none is named
+-- the first moment, 0 if none is named
 abbrev pub from_asked : Words → Option ℕ
 from_asked w = asked_or 0 duration_of w.from
 
--- the last moment, no end where none is named
+-- the last moment, no end if none is named
 abbrev pub to_asked : Words → Option ℕ
 to_asked w = asked_or (2 ^ 64 - 1) duration_of w.to
 
--- the processors as bits, all where none is named
+-- the processors as bits, all if none is named
 abbrev pub processors_asked : Words → Option ℕ
 processors_asked w = asked_or (2 ^ 64 - 1) processors_of w.cpus
 
--- the tasks that are named by their numbers; where no word names any task the list is empty, and stands for all
+-- the tasks that are asked for by number; empty if no task is named, which means every task
 abbrev pub tasks_asked : Words → Option (List ℕ)
 tasks_asked w = asked_or [] tasks_of w.tasks
 
--- the names in a word, none where there is no word
+-- the names in a word, none if there is no word
 abbrev pub names_given : Option (String Global) → List (List ℕ)
 names_given None = []
 names_given (Some word) = names_in (string_bytes word)
 
--- the tasks that are named by their names
+-- the names of the tasks that are asked for by name
 abbrev pub names_asked : Words → List (List ℕ)
 names_asked w = names_given w.tasks
 
--- the columns of a map, 80 where no width is named
+-- the columns of a map, 80 if no width is named
 abbrev pub width_asked : Words → Option ℕ
 width_asked w = asked_or 80 width_of w.width
 
--- the theme of a picture, light where none is named
+-- the theme of a picture, light if none is named
 abbrev pub theme_asked : Words → Option Theme
 theme_asked w = asked_or Light theme_of w.theme
 
--- the text of a word, where there is one
+-- the text of a word, if there is one
 abbrev pub text_of : Option (String Global) → Option (List ℕ)
 text_of word = option_map (λ (t : String Global). string_bytes t) word
 
--- the form shows a stretch of time: a report and JSON have the figures of the whole
+-- the form shows a stretch of time: a report and JSON have the figures of the whole trace
 abbrev pub has_stretch : FormName → Bool
 has_stretch Report = false
 has_stretch Json = false
 has_stretch other = true
 
--- the form is as wide as it is asked to be
+-- an option sets how wide the form is
 abbrev pub has_width : FormName → Bool
 has_width Map = true
 has_width other = false
@@ -136,7 +136,7 @@ abbrev pub has_look : FormName → Bool
 has_look Svg = true
 has_look other = false
 
--- an option is not given, or the form heeds it
+-- an option is missing, or the form heeds it
 abbrev pub is_heeded : Bool → Option (String Global) → Bool
 is_heeded heeds None = true
 is_heeded heeds (Some word) = heeds
@@ -176,12 +176,12 @@ IsUnheeded form w fault.ThemeUnused = is_heeded (has_look form) w.theme ≡ fals
 IsUnheeded form w fault.TitleUnused = is_heeded (has_look form) w.title ≡ false
 IsUnheeded form w other = ⊥
 
--- so it is for the form that is asked for
+-- the fault names an option that the form that is asked for does not heed
 abbrev pub IsUnused : Words → SettingsFault → Type 0
 IsUnused w why = (form : FormName) × (form_asked w ≡ Some form) × IsUnheeded form w why
 
--- the word that the fault names is not of its kind, or the moments run backwards, or the form does not heed an option; memory may run out
--- whatever the words are
+-- the word that the fault names is not of its kind, or the first moment is after the last, or the form does not heed an option; memory may
+-- run out whatever the words are
 abbrev pub IsNoSettings : Words → SettingsFault → Type 0
 IsNoSettings w fault.Form = form_asked w ≡ None
 IsNoSettings w fault.From = from_asked w ≡ None
@@ -193,3 +193,25 @@ IsNoSettings w fault.Width = width_asked w ≡ None
 IsNoSettings w fault.Theme = theme_asked w ≡ None
 IsNoSettings w fault.OutOfMemory = ⊤
 IsNoSettings w unused = IsUnused w unused
+
+-- the word that a fault refuses; none if the fault is not that of one word
+abbrev pub word_refused : Words → SettingsFault → Option (String Global)
+word_refused w fault.Form = w.form
+word_refused w fault.From = w.from
+word_refused w fault.To = w.to
+word_refused w fault.Processors = w.cpus
+word_refused w fault.Tasks = w.tasks
+word_refused w fault.Width = w.width
+word_refused w fault.Theme = w.theme
+word_refused w other = None
+
+-- the option of the word that a fault refuses
+abbrev pub option_refused : SettingsFault → List ℕ
+option_refused fault.Form = codes "as"
+option_refused fault.From = codes "from"
+option_refused fault.To = codes "to"
+option_refused fault.Processors = codes "cpus"
+option_refused fault.Tasks = codes "tasks"
+option_refused fault.Width = codes "width"
+option_refused fault.Theme = codes "theme"
+option_refused other = []

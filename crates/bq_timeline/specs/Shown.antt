@@ -9,7 +9,7 @@ use Rattle.bq_timeline.specs.declared.settings.Settings.{Settings}
 use Rattle.bq_timeline.specs.declared.shown.Shown.{Shown}
 use Rattle.bq_timeline.specs.declared.shown.Shown.TheVariants as form
 
--- a person reads the form line by line, so that notes on lines may stand in it
+-- a person reads the form line by line, so that it may contain notes on lines
 abbrev pub is_read_by_lines : FormName → Bool
 is_read_by_lines named.Report = true
 is_read_by_lines named.Map = true
@@ -42,28 +42,28 @@ window_of (form.Svg picture) = picture.window
 window_of (form.Perfetto trace) = trace.window
 window_of (form.Why choices) = choices.window
 
--- It is the form of that name, and it shows that window.
+-- The form has this name, and shows this window.
 pub record IsShown (form : FormName) (window : Window) (shown : Shown) : Type 0 where
   pub form_is : name_of shown ≡ form
   pub window_is : window_of shown ≡ window
 
--- It is the window that the settings ask for, with the tasks that have the names that they ask for.
+-- The window is the one that the settings ask for, with the tasks that have the names that they ask for.
 pub record IsWindowOf (s : Settings) (named : NamedTasks) (window : Window) : Type 0 where
   pub from : window.from ≡ s.window.from
   pub to : window.to ≡ s.window.to
   pub processors : window.processors ≡ s.window.processors
   pub tasks : window.tasks.items ≡ s.window.tasks.items ++ tasks_for named s.names.items
 
--- It is the form that the settings ask for, of the window that they ask for, where tasks have these names.
+-- The form and its window are those that the settings ask for, if tasks have these names.
 abbrev pub IsAskedFor : Settings → NamedTasks → Shown → Type 0
 IsAskedFor s named shown = (window : Window) × IsWindowOf s named window × IsShown s.form window shown
 
--- There is a form, and it is that.
+-- There is a form, and it is the one that the settings ask for.
 abbrev pub ShowsAsked : Settings → NamedTasks → Option Shown → Type 0
 ShowsAsked s named None = ⊥
 ShowsAsked s named (Some shown) = IsAskedFor s named shown
 
--- It is a form of the same name, and it shows the same window.
+-- The form has the same name as before, and shows the same window.
 pub record StaysShown (old new : Shown) : Type 0 where
   pub form_is : name_of new ≡ name_of old
   pub window_is : window_of new ≡ window_of old

@@ -16,17 +16,17 @@ use std::alloc::{AllocError, Global};
 /// The head of the table, above the lines of the bounds.
 const HEAD: &str = "  cpu law                 charges left out  greatest ms   at most ms   of it\n";
 
-/// The charges of all processors, measured against the bounds of the rule as the trace comes.
+/// The charges of all processors, measured against the bounds of the rule, event by event.
 #[derive(Drop)]
 pub struct BoundsTable {
     alloc: Global,
     bounds: Bounds,
-    /// How the processor of the next event stands.
+    /// The running task of the next event's processor, if one runs.
     running: Option<RunningTask>,
 }
 
 impl BoundsTable {
-    /// Nothing has happened at this many processors.
+    /// A table for this many processors, before the first event.
     pub fn new(alloc: Global, rule: Rule, processors: usize) -> Result<BoundsTable, AllocError> {
         Ok(BoundsTable {
             alloc,
@@ -35,7 +35,7 @@ impl BoundsTable {
         })
     }
 
-    /// Notes how the processor of an event stands before it.
+    /// Notes the running task of an event's processor before the event.
     pub fn comes(&mut self, event: &Event, machine: &AnyCore) {
         self.running = match place_of(event) {
             Some((processor, _)) => match machine.seen(processor) {
@@ -86,7 +86,7 @@ impl BoundsTable {
         Ok(())
     }
 
-    /// Adds the lines of each of these processors at which a law was measured; nothing where none was.
+    /// Adds the lines of each of these processors at which a law was measured. Adds nothing if none was.
     pub fn write(&self, processors: u64, text: &mut String) -> Result<(), AllocError> {
         let mut lines = String::new(self.alloc);
         for number in 0..PROCESSORS {
@@ -103,7 +103,7 @@ impl BoundsTable {
         text.push_str(lines.as_str())
     }
 
-    /// The line of what a processor charged.
+    /// Adds the line of what a processor charged.
     fn write_charges(&self, number: u8, text: &mut String) -> Result<(), AllocError> {
         let law = match self.bounds.rule {
             Rule::Cfs => "beyond the least",
@@ -122,7 +122,7 @@ impl BoundsTable {
         }
     }
 
-    /// The line of what its tasks were owed.
+    /// Adds the line of what a processor's tasks were owed.
     fn write_lags(&self, number: u8, text: &mut String) -> Result<(), AllocError> {
         match self.bounds.lags(number) {
             Some(lags) => write_line(
@@ -138,7 +138,7 @@ impl BoundsTable {
     }
 }
 
-/// What is known of the tasks of a processor that has just been charged, by its mark and by those that come first; nothing where no
+/// What is known of a processor's tasks right after a charge, by its mark and by the running and the first waiting task. `None` if no
 /// task runs.
 fn glance_at<Q: RunQueue>(cpu: &Cpu<Q>) -> Option<Glance> {
     let running = how_it_stands(cpu)?;
@@ -152,7 +152,7 @@ fn glance_at<Q: RunQueue>(cpu: &Cpu<Q>) -> Option<Glance> {
     })
 }
 
-/// A line of the table; none where nothing was measured.
+/// Adds a line of the table. Adds nothing if nothing was measured.
 fn write_line(
     number: u8,
     law: &str,

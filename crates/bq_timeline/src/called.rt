@@ -1,4 +1,4 @@
-//! The tasks that are asked for by their names.
+//! The tasks that are asked for by name.
 ghost use Rattle.std.specs.Prelude.{◌≡◌, ◌++◌, IfOk, OnOk, option_map, string_bytes};
 ghost use Rattle.bq_report.specs.Names.{name_of};
 ghost use Rattle.bq_timeline.specs.Called.{is_named, lacking_note, quoted, shown_letter, tasks_called, tasks_for, uncalled_note, uncalled_notes};
@@ -7,11 +7,11 @@ use bq_disc::limits::TASKS;
 use bq_report::Names;
 use std::alloc::{AllocError, Global};
 
-/// A number that no task can have: tasks are 0 to 1023. It stands behind the tasks that have some names, since no task at all would
-/// stand for every task.
+/// A number that no task can have: tasks are 0 to 1023. It follows the tasks that have the names, because an empty list of tasks would
+/// mean every task.
 pub const NO_TASK: u16 = u16::MAX;
 
-/// Adds the tasks that have the names that are asked for, and `NO_TASK`. Where no name is asked for, nothing is added.
+/// Adds the tasks that have the names that are asked for, and `NO_TASK`. Adds nothing if no name is asked for.
 #[tactic(auto, using(crate::proofs::CalledLemmas::tasks_for_some))]
 pub fn add_called(
     alloc: Global,
@@ -58,7 +58,7 @@ fn note_name(alloc: Global, notes: &mut String, name: &str, names: &Names) -> Re
     note_lacking(alloc, notes, name)
 }
 
-/// Notes that no task is called so.
+/// Notes that no task has this name.
 fn note_lacking(alloc: Global, notes: &mut String, name: &str) -> Result<(), AllocError>
     ensures { OnOk result (string_bytes notes.new ≡ string_bytes notes.old ++ lacking_note name.now) }
 {
@@ -90,7 +90,7 @@ pub fn shown_letter(letter: char) -> char
     }
 }
 
-/// The tasks that have the name, in order.
+/// The tasks that have the name, in order of their numbers.
 #[tactic(auto, using(crate::proofs::CalledLemmas::called_none, crate::proofs::CalledLemmas::called_on, crate::proofs::CalledLemmas::called_off))]
 fn tasks_called(alloc: Global, name: &str, names: &Names) -> Result<Vec<u16>, AllocError>
     ensures { IfOk result (λ tasks. tasks.items ≡ tasks_called names.now name.now) }
@@ -104,7 +104,7 @@ fn tasks_called(alloc: Global, name: &str, names: &Names) -> Result<Vec<u16>, Al
     Ok(tasks)
 }
 
-/// Whether there is another name, and it is this one.
+/// Whether there is another name, and it equals this one.
 fn is_named(name: &str, other: Option<&str>) -> bool
     ensures { result ≡ is_named name.now (option_map (λ o. o.now) other.entry) }
 {

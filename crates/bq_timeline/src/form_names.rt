@@ -1,4 +1,4 @@
-//! The forms by their names.
+//! The forms by name.
 ghost use Rattle.std.specs.Prelude.{◌≡◌};
 ghost use Rattle.bq_timeline.specs.Settings.{form_of, has_look, has_stretch, has_width};
 ghost use Rattle.bq_timeline.specs.Shown.{is_read_by_lines};
@@ -16,7 +16,7 @@ pub enum FormName {
     Perfetto,
 }
 
-/// A text that ends with the names of the forms that come behind the report's.
+/// `before`, followed by the names of the forms other than the report.
 #[macro_export]
 macro_rules! with_forms {
     ($before:literal) => {
@@ -24,7 +24,7 @@ macro_rules! with_forms {
     };
 }
 
-/// A text that ends with the names of the forms that show a stretch of time.
+/// `before`, followed by the names of the forms that show a stretch of time.
 #[macro_export]
 macro_rules! with_stretches {
     ($before:literal) => {
@@ -33,7 +33,7 @@ macro_rules! with_stretches {
 }
 
 impl FormName {
-    /// The form of that name.
+    /// The form of this name, if there is one.
     pub fn of_word(word: &str) -> Option<FormName>
         ensures { result ≡ form_of word.now }
     {
@@ -50,28 +50,28 @@ impl FormName {
         }
     }
 
-    /// Whether it shows a stretch of time. A report and JSON have the figures of the whole.
+    /// Whether the form shows a stretch of time. A report and JSON have the figures of the whole trace.
     pub fn has_stretch(self) -> bool
         ensures { result ≡ has_stretch self }
     {
         !matches!(self, FormName::Report | FormName::Json)
     }
 
-    /// Whether `--width` sets how wide it is.
+    /// Whether `--width` sets how wide the form is.
     pub fn has_width(self) -> bool
         ensures { result ≡ has_width self }
     {
         matches!(self, FormName::Map)
     }
 
-    /// Whether it has a theme and a title.
+    /// Whether the form has a theme and a title.
     pub fn has_look(self) -> bool
         ensures { result ≡ has_look self }
     {
         matches!(self, FormName::Svg)
     }
 
-    /// Whether a person reads it line by line, so that notes on lines may stand in it.
+    /// Whether a person reads the form line by line, so that it may contain notes on lines.
     pub fn has_notes(self) -> bool
         ensures { result ≡ is_read_by_lines self }
     {

@@ -1,7 +1,7 @@
-//! The command `timeline`: a trace, read as `replay` reads it, shown as a schedule in a form that people read.
-//! Promises that the schedule shown is that of the events and answers of the trace, that no refused or bad line is
+//! The command `timeline`: a trace, read as `replay` reads it, and shown as a schedule in a form that people read.
+//! Promises that the schedule shown is the schedule of the trace's events and answers, that no refused or bad line is
 //! passed over, and that what is shown, and how, is what the words of the options ask for.
-//! Stands on bq_trace's sinks, on bq_schedule and its forms, and on bq_why.
+//! Builds on bq_trace's sinks, on bq_schedule and its forms, and on bq_why.
 #![tactic(auto)]
 
 pub mod bounds_table;
@@ -9,11 +9,13 @@ pub mod called;
 mod foreign;
 pub mod form_names;
 pub mod numbers;
+pub mod refused;
 pub mod screen;
 pub mod settings;
 pub mod showing;
 pub mod shown;
 pub mod viewer;
 
+pub use refused::{RefusedWord, word_after};
 pub use settings::{Settings, SettingsFault, Words};
 pub use showing::{Outcome, show};

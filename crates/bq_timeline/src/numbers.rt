@@ -14,10 +14,10 @@ pub const LEAST_WIDTH: u64 = 20;
 /// The most columns of a map.
 pub const GREATEST_WIDTH: u64 = 10_000;
 
-/// The tasks that a word names by their numbers: numbers and ranges with commas between them, as `1-3,9`. Names may stand among them,
-/// as in `1-3,editor`: a part that begins with no digit is a name.
+/// The tasks that a word names by number: numbers and ranges with commas between them, as `1-3,9`. Names may be among them, as in
+/// `1-3,editor`: a part that does not begin with a digit is a name. Names add no tasks here.
 ///
-/// None where a part between commas is something else, or a range runs backwards.
+/// `None` if a part between commas is something else, or if a range runs backwards.
 #[tactic(auto, using(crate::proofs::TaskLemmas::tasks_on, crate::proofs::TaskLemmas::tasks_none, crate::proofs::TaskLemmas::tasks_done))]
 pub fn tasks(alloc: Global, word: &str) -> Result<Option<Vec<u16>>, AllocError>
     ensures { IfOk result (λ tasks. option_map (λ t. t.items) tasks ≡ tasks_of word.now) }
@@ -36,7 +36,7 @@ pub fn tasks(alloc: Global, word: &str) -> Result<Option<Vec<u16>>, AllocError>
     Ok(Some(tasks))
 }
 
-/// The names of tasks in a word: the parts between commas that are not empty and begin with no digit.
+/// The names of tasks in a word: the nonempty parts between commas that do not begin with a digit.
 pub fn names(alloc: Global, word: &str) -> Result<Vec<String>, AllocError>
     ensures { IfOk result (λ names. map string_bytes names.items ≡ names_in word.now) }
 {
@@ -59,7 +59,7 @@ fn is_name(part: &[u8]) -> bool
     }
 }
 
-/// Adds the tasks that a part names by their numbers. Answers whether it is a number, a range or a name.
+/// Adds the tasks that a part names by number. Answers whether the part is a number, a range or a name.
 #[tactic(auto, using(crate::proofs::TaskLemmas::name_adds))]
 fn push_tasks(tasks: &mut Vec<u16>, part: &[u8]) -> Result<bool, AllocError>
     ensures { IfOk result (λ named. MatchBool named (AddsPart part.now tasks.old.items tasks.new.items) (tasks_of_part part.now ≡ None)) }
@@ -91,7 +91,7 @@ fn push_range(tasks: &mut Vec<u16>, first: u16, last: u16) -> Result<(), AllocEr
     Ok(())
 }
 
-/// The first and the last task of a range, in order; for a number, that task twice. None if the part is neither.
+/// The first and the last task of a range, in order. A number is a range of one task. `None` if the part is neither, or runs backwards.
 fn ends(part: &[u8]) -> Option<(u16, u16)>
     ensures tasks { option_map (λ e. range_with_len e.0 (e.1 + 1 - e.0)) result ≡ tasks_at part.now (position is_dash part.now) }
     ensures order { IfSome result (λ e. e.0 ≤ e.1) }
@@ -112,7 +112,7 @@ fn ends(part: &[u8]) -> Option<(u16, u16)>
     }
 }
 
-/// Where a range has its dash.
+/// Where a range has its dash, if it has one.
 fn dash(part: &[u8]) -> Option<usize>
     ensures value { result ≡ position is_dash part.now }
     ensures within { IfSome result (λ dash. dash < length part.now) }
@@ -128,7 +128,7 @@ fn is_dash(byte: u8) -> bool
 
 /// The columns that a word asks for: from `LEAST_WIDTH` to `GREATEST_WIDTH`.
 ///
-/// None if the word is no number, or one outside that range.
+/// `None` if the word is no number, or if the number is outside that range.
 pub fn width(word: &str) -> Option<usize>
     ensures { result ≡ width_of word.now }
 {

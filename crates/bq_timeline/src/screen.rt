@@ -1,15 +1,15 @@
-//! What is written of a trace: the form, with notes on its lines where a person reads it, and what goes to standard error.
+//! What is written of a trace: the form, with notes on lines if a person reads it, and what goes to standard error.
 ghost use Rattle.std.specs.Prelude.{◌≡◌, ◌++◌, ℕ, IfOk, OnOk, None, Some, string_bytes};
 ghost use Rattle.std.specs.List.{list_any};
 ghost use Rattle.bq_report.specs.Names.{Learns, name_of};
 ghost use Rattle.bq_timeline.specs.Called.{tasks_for};
 ghost use Rattle.bq_timeline.specs.Beginning.{Begins, BeginsForm};
-ghost use Rattle.bq_timeline.specs.Notes.{absent_notes, lacks_processors, lacks_tasks, last_notes, processors_note, tasks_note, trouble_note, unmade_note, waiting_note, waiting_notes};
+ghost use Rattle.bq_timeline.specs.Notes.{absent_notes, is_number, lacks_processors, lacks_tasks, last_notes, processors_note, tasks_note, trouble_note, unmade_note, waiting_note, waiting_notes};
 ghost use Rattle.bq_schedule.specs.Figures.{task_of};
 ghost use Rattle.bq_timeline.specs.Shown.{IsAskedFor, is_read_by_lines};
 
 use crate::bounds_table::BoundsTable;
-use crate::called::{add_called, note_uncalled};
+use crate::called::{NO_TASK, add_called, note_uncalled};
 use crate::foreign::foreign_text;
 use crate::settings::Settings;
 use crate::shown::Shown;
@@ -20,36 +20,36 @@ use bq_parts::{Event, Refusal, Reply};
 use bq_report::Names;
 use bq_schedule::{Change, Schedule};
 use bq_trace::AnyCore;
-use bq_why::faults::{Fault, NOT_READ_ON, why_bad};
+use bq_why::faults::{Fault, NOT_READ_ON, meant_keyword, why_bad};
 use bq_why::{Because, InWords, Occurrence};
 use bq_words::Rule;
 use std::alloc::{AllocError, Global};
 
-/// What is written of a trace, as far as it has come.
+/// What is written of a trace so far.
 #[derive(Drop)]
 pub struct Screen {
     names: Names,
-    /// What is asked for, until the form begins: by then the comments above have named the tasks.
+    /// The settings, until the form begins. By then the comments at the top of the trace have named the tasks.
     asked: Option<Settings>,
     /// The rule of the machine, once there is one.
     rule: Option<Rule>,
     /// The form, once it has begun.
     shown: Option<Shown>,
     has_notes: bool,
-    /// The bounds of the rule, once there is a machine, where the form shows them.
+    /// How near the bounds of the rule are, once the form has begun, if it is the report.
     near: Option<BoundsTable>,
     /// The processors that are shown, by bits.
     processors: u64,
-    /// The tasks that are shown, once the form has begun; none where all are shown.
+    /// The tasks that are shown, once the form has begun. Empty if all are shown.
     tasks: Vec<u16>,
-    /// What goes to the output, since it was cleared last.
+    /// What goes to the output, since the text was cleared last.
     pub text: String,
     /// What goes to standard error.
     pub notes: String,
 }
 
 impl Screen {
-    /// Nothing is written yet.
+    /// A screen on which nothing is written yet.
     pub fn new(alloc: Global, settings: Settings) -> Screen
         ensures asked { result.asked ≡ Some settings }
         ensures names { (task : ℕ) → name_of result.names task ≡ None }
@@ -70,7 +70,7 @@ impl Screen {
         }
     }
 
-    /// Where notes on lines go: into the form that a person reads, and else to standard error.
+    /// The text for notes on lines: the form if a person reads it, otherwise what goes to standard error.
     fn notes(&mut self) -> &mut String {
         if self.has_notes {
             &mut self.text
@@ -87,8 +87,8 @@ impl Screen {
         self.rule = Some(rule);
     }
 
-    /// Begins the form that is asked for under the rule of the machine, if there is one and the form has not begun. It shows the tasks
-    /// that are asked for, by number or by a name that has come so far.
+    /// Begins the form that is asked for, if there is a machine and the form has not begun. It shows the tasks that are asked for by number,
+    /// or by a name that a comment has given so far.
     pub fn begin(&mut self, alloc: Global, schedule: &Schedule) -> Result<(), AllocError>
         ensures { OnOk result (Begins self.old self.new) }
     {
@@ -101,7 +101,7 @@ impl Screen {
         }
     }
 
-    /// The form of these settings begins.
+    /// Begins the form of these settings.
     #[tactic(auto, using(crate::proofs::ShownLemmas::stays_asked))]
     fn begin_form(
         &mut self,
@@ -121,7 +121,7 @@ impl Screen {
         Ok(())
     }
 
-    /// The bounds of the rule are to be shown, if the form shows them.
+    /// Prepares to show how near the bounds of the rule are, if the form is the report.
     fn begin_near(
         &mut self,
         alloc: Global,
@@ -143,7 +143,7 @@ impl Screen {
         }
     }
 
-    /// The form that is asked for: its window also has the tasks that are asked for by name.
+    /// The form that is asked for. Its window also has the tasks that are asked for by name.
     fn form_of(&mut self, alloc: Global, settings: Settings) -> Result<Shown, AllocError>
         ensures form { IfOk result (IsAskedFor settings self.old.names) }
         ensures tasks { OnOk result (self.new.tasks.items ≡ settings.window.tasks.items ++ tasks_for self.old.names settings.names.items) }
@@ -163,7 +163,7 @@ impl Screen {
         Ok(Shown::of(alloc, form, window, width, look))
     }
 
-    /// A comment may name a task.
+    /// A comment came, which may name a task.
     pub(crate) fn comment(&mut self, line: &[u8]) -> Result<(), AllocError>
         ensures learned { OnOk result (Learns line.now self.old.names self.new.names) }
         ensures asked { self.new.asked ≡ self.old.asked }
@@ -236,7 +236,7 @@ impl Screen {
         shown.take(change, schedule, &self.names, &mut self.text)
     }
 
-    /// The word of an image is no hex.
+    /// The word of an image is not hex.
     pub fn unspelled(&mut self, number: u64) -> Result<(), AllocError> {
         write!(self.notes(), "line {number}: the image is no hex\n")
     }
@@ -250,15 +250,16 @@ impl Screen {
         )
     }
 
-    /// A processor is to be shown that is not there.
+    /// A processor is asked for that the machine does not have.
     pub fn not_there(&mut self, number: u64, processor: u8) -> Result<(), AllocError> {
         let because = Because(Refusal::NoProcessor);
         write!(self.notes(), "line {number}: show {processor}: {because}\n")
     }
 
-    /// A line is bad. Where it should have made the machine, the trace is not read on.
+    /// A line is bad. If it should have made the machine, the rest of the trace is not read.
     pub fn bad(
         &mut self,
+        alloc: Global,
         number: u64,
         line: Option<&[u8]>,
         is_open: bool,
@@ -269,13 +270,19 @@ impl Screen {
             }
         }
         let fault = why_bad(line, is_open);
-        if is_open || matches!(fault, Fault::NoMachine) {
-            return write!(self.notes(), "line {number}: {fault}\n");
+        let meant = meant_keyword(alloc, &fault)?;
+        let notes = self.notes();
+        write!(notes, "line {number}: {fault}")?;
+        if let Some(meant) = meant {
+            write!(notes, "; did you mean {meant}?")?;
         }
-        write!(self.notes(), "line {number}: {fault}; {NOT_READ_ON}\n")
+        if is_open || matches!(fault, Fault::NoMachine) {
+            return notes.push_str("\n");
+        }
+        write!(notes, "; {NOT_READ_ON}\n")
     }
 
-    /// This many wakes did nothing, since their task did not wait. No trace tells them.
+    /// Notes how many wakes did nothing because their task did not wait. No trace shows these wakes.
     pub fn count_missed(&mut self, wakes: u64)
         ensures notes { self.new.notes ≡ self.old.notes }
         ensures named { (self.new.tasks ≡ self.old.tasks) × (self.new.processors ≡ self.old.processors) }
@@ -285,7 +292,7 @@ impl Screen {
         }
     }
 
-    /// The trace is over. This many lines were bad or refused.
+    /// The trace is over. `troubles` is how many lines were bad or refused.
     pub fn end(&mut self, schedule: &Schedule, troubles: u64) -> Result<(), AllocError>
         ensures { OnOk result (string_bytes self.new.notes ≡ (string_bytes self.old.notes ++ absent_notes (Some schedule.now) self.old.tasks.items self.old.processors)
             ++ last_notes (Some schedule.now) troubles) }
@@ -304,7 +311,7 @@ impl Screen {
         note_troubles(&mut self.notes, troubles)
     }
 
-    /// The form ends, if it has begun.
+    /// Ends the form, if it has begun.
     fn end_form(&mut self, schedule: &Schedule) -> Result<(), AllocError>
         ensures tasks { self.new.tasks ≡ self.old.tasks }
         ensures processors { self.new.processors ≡ self.old.processors }
@@ -316,7 +323,7 @@ impl Screen {
         }
     }
 
-    /// The trace is over, and made no machine. This many lines were bad.
+    /// The trace is over and made no machine. `troubles` is how many lines were bad or refused.
     pub fn end_unmade(&mut self, troubles: u64) -> Result<(), AllocError>
         ensures { OnOk result (string_bytes self.new.notes ≡ string_bytes self.old.notes ++ last_notes None troubles) }
     {
@@ -325,7 +332,7 @@ impl Screen {
     }
 }
 
-/// Notes that none of the tasks or of the processors that are named is there, where that is so.
+/// Notes if none of the named tasks, or none of the named processors, exists.
 fn note_absent(
     notes: &mut String,
     schedule: &Schedule,
@@ -338,21 +345,28 @@ fn note_absent(
     note_processors(notes, schedule.processors(), processors)
 }
 
-/// Notes that none of the tasks that are named is there, where that is so.
+/// Notes if tasks are asked for by number and none of those that are asked for exists.
 fn note_tasks(notes: &mut String, schedule: &Schedule, tasks: &[u16]) -> Result<(), AllocError>
     ensures { OnOk result (string_bytes notes.new ≡ string_bytes notes.old ++ tasks_note schedule.now tasks.now) }
 {
     if !lacks_tasks(schedule, tasks) {
         return Ok(());
     }
-    notes.push_str("--tasks: the trace has none of these tasks\n")
+    notes.push_str("--tasks: there is no task with such a number\n")
 }
 
-/// Whether tasks are named, and none of them was admitted.
+/// Whether tasks are asked for by number, and none of those that are asked for was admitted.
 fn lacks_tasks(schedule: &Schedule, tasks: &[u16]) -> bool
     ensures { result ≡ lacks_tasks schedule.now tasks.now }
 {
-    !tasks.is_empty() && !admits_any(schedule, tasks)
+    has_number(tasks) && !admits_any(schedule, tasks)
+}
+
+/// Whether a task is asked for by number. Names have notes of their own.
+fn has_number(tasks: &[u16]) -> bool
+    ensures { result ≡ list_any is_number tasks.now }
+{
+    tasks.iter().any(|id| *id < NO_TASK)
 }
 
 /// Whether one of some tasks was ever admitted.
@@ -369,7 +383,7 @@ fn is_admitted(schedule: &Schedule, id: u16) -> bool
     schedule.task(id).is_admitted
 }
 
-/// Notes that none of the processors that are named by bits is one of this many, where that is so.
+/// Notes if none of the processors that the bits name is one of this many.
 fn note_processors(notes: &mut String, count: usize, processors: u64) -> Result<(), AllocError>
     ensures { OnOk result (string_bytes notes.new ≡ string_bytes notes.old ++ processors_note count processors) }
 {
@@ -382,14 +396,14 @@ fn note_processors(notes: &mut String, count: usize, processors: u64) -> Result<
     )
 }
 
-/// Whether none of the processors that are named by bits is one of this many.
+/// Whether none of the processors that the bits name is one of this many.
 fn lacks_processors(count: usize, processors: u64) -> bool
     ensures { result ≡ lacks_processors count processors }
 {
     count < usize::from(PROCESSORS) && processors % (1u64 << count) == 0
 }
 
-/// Notes that no line made a machine, where none was bad.
+/// Notes that no line made a machine, if no line was bad or refused.
 fn note_unmade(notes: &mut String, troubles: u64) -> Result<(), AllocError>
     ensures { OnOk result (string_bytes notes.new ≡ string_bytes notes.old ++ unmade_note troubles) }
 {
@@ -402,7 +416,7 @@ fn note_unmade(notes: &mut String, troubles: u64) -> Result<(), AllocError>
     ))
 }
 
-/// Notes each task that was placed on a processor which was never drained after.
+/// Notes each task that was placed on a processor that was never drained after.
 fn note_waiting(notes: &mut String, schedule: &Schedule) -> Result<(), AllocError>
     ensures { OnOk result (string_bytes notes.new ≡ string_bytes notes.old ++ waiting_notes schedule.now TASKS) }
 {
@@ -412,7 +426,7 @@ fn note_waiting(notes: &mut String, schedule: &Schedule) -> Result<(), AllocErro
     Ok(())
 }
 
-/// Notes a task that was placed on such a processor, if it was.
+/// Notes a task that was placed on a processor that was never drained after, if there is such a processor.
 fn note_task(notes: &mut String, task: u16, processor: Option<u8>) -> Result<(), AllocError>
     ensures { OnOk result (string_bytes notes.new ≡ string_bytes notes.old ++ waiting_note task processor) }
 {

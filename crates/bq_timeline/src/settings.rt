@@ -20,99 +20,99 @@ use thiserror::Error;
 /// The words of the options, as they were given.
 #[derive(Drop)]
 pub struct Words {
-    /// The trace; none, or `-`, is standard input.
+    /// The trace. Without a word, or with `-`, it is standard input.
     pub file: Option<String>,
-    /// The form, `report` where none is named.
+    /// The form; `report` if none is named.
     pub form: Option<String>,
-    /// The first moment, as `1.5ms`; 0 where none is named.
+    /// The first moment, as `1.5ms`; 0 if none is named.
     pub from: Option<String>,
-    /// The last moment, as `2s`; no end where none is named.
+    /// The last moment, as `2s`; no end if none is named.
     pub to: Option<String>,
-    /// The processors, from 0 to 63, as `0-3,8`; all where none is named.
+    /// The processors, from 0 to 63, as `0-3,8`; all if none is named.
     pub cpus: Option<String>,
-    /// The tasks, from 0 to 65535 or by their names, as `1-3,9,editor`; all where none is named.
+    /// The tasks, from 0 to 65535 or by name, as `1-3,9,editor`; all if none is named.
     pub tasks: Option<String>,
-    /// The columns of a map, from 20 to 10,000; 80 where none are named.
+    /// The columns of a map, from 20 to 10,000; 80 if no width is named.
     pub width: Option<String>,
-    /// The theme of a picture, `light` where none is named.
+    /// The theme of a picture; `light` if none is named.
     pub theme: Option<String>,
-    /// What a picture is called.
+    /// The title of a picture.
     pub title: Option<String>,
 }
 
 /// What a timeline is to show.
 #[derive(Drop)]
 pub struct Settings {
-    /// The form in which it is shown.
+    /// The form in which the schedule is shown.
     pub form: FormName,
-    /// The stretch of time, the processors, and the tasks by their numbers.
+    /// The stretch of time, the processors, and the tasks that are asked for by number.
     pub window: Window,
     /// The names of the tasks that are asked for by name.
     pub names: Vec<String>,
     /// The columns of a map, from 20 to 10,000.
     pub width: usize,
-    /// How a picture looks, and what it is called.
+    /// The theme and the title of a picture.
     pub look: Look,
 }
 
-/// What a word for the form has to be.
-const FORMS: &str = with_forms!("--as: a form is report, ");
+/// What a word for the form must be.
+const FORMS: &str = with_forms!("a form is report, ");
 
-/// What a word for a moment has to be.
+/// What a word for a moment must be.
 const TIME: &str = with_units!("a time is a number and ", ", as 1500us, 1.5ms or 2s");
 
-/// What a word for tasks has to be.
+/// What a word for tasks must be.
 const TASKS: &str = with_tasks!(
-    "--tasks: tasks are numbers from ",
+    "tasks are numbers from ",
     ", ranges and names, as 1-3 or 1,editor; a name begins with no digit"
 );
 
 /// Why a form shows no stretch of time.
 const WHOLE: &str = with_stretches!("a report and JSON have the figures of the whole; say --as ");
 
-/// What a word for the theme has to be.
-const THEMES: &str = with_themes!("--theme: a theme is light, ");
+/// What a word for the theme must be.
+const THEMES: &str = with_themes!("a theme is light, ");
 
-/// Why words are no settings.
+/// Why words are no settings. A fault of one word says only what is right; `SettingsFault::refused` answers the word.
 #[derive(Clone, Copy, Debug, PartialEq, Eq, Error)]
 pub enum SettingsFault {
-    /// No form has that name.
+    /// No form has this name.
     #[error("{words}", words = FORMS)]
     Form,
-    /// That is no time.
-    #[error("--from: {words}", words = TIME)]
+    /// The word of `--from` is no time.
+    #[error("{words}", words = TIME)]
     From,
-    /// That is no time.
-    #[error("--to: {words}", words = TIME)]
+    /// The word of `--to` is no time.
+    #[error("{words}", words = TIME)]
     To,
     /// The first moment is after the last.
     #[error("--from is after --to: nothing lies between them")]
     Backwards,
-    /// These are no processors.
-    #[error("--cpus: processors are numbers from 0 to {last} and ranges, as 0-3 or 0,2", last = LAST_PROCESSOR)]
+    /// The word of `--cpus` is no list of processors.
+    #[error("processors are numbers from 0 to {last} and ranges, as 0-3 or 0,2", last = LAST_PROCESSOR)]
     Processors,
-    /// These are no tasks.
+    /// The word of `--tasks` is no list of tasks.
     #[error("{words}", words = TASKS)]
     Tasks,
     /// The word for the width is no width.
-    #[error("--width: a width is a number from {least} to {greatest}", least = LEAST_WIDTH, greatest = GREATEST_WIDTH)]
+    #[error("a width is a number from {least} to {greatest}", least = LEAST_WIDTH, greatest = GREATEST_WIDTH)]
     Width,
-    /// No theme has that name.
+    /// No theme has this name.
     #[error("{words}", words = THEMES)]
     Theme,
-    /// A first moment is said, and the form shows no stretch of time.
+    /// A first moment is given, but the form shows no stretch of time.
     #[error("--from: {words}", words = WHOLE)]
     FromUnused,
-    /// A last moment is said, and the form shows no stretch of time.
+    /// A last moment is given, but the form shows no stretch of time.
     #[error("--to: {words}", words = WHOLE)]
     ToUnused,
-    /// A width is said, and the form is no map.
+    /// A width is given, but the form is no map.
     #[error("--width: only a map has a width; say --as map too")]
     WidthUnused,
-    /// A theme is said, and the form is no picture.
+    /// A theme is given, but the form is no picture.
     #[error("--theme: only an svg has a theme; say --as svg too")]
     ThemeUnused,
-    /// A title is said, and the form is no picture.
+    /// A title is given, but the form is no picture.
     #[error("--title: only an svg has a title; say --as svg too")]
     TitleUnused,
     #[error("out of memory")]
@@ -127,10 +127,10 @@ impl From<AllocError> for SettingsFault {
     }
 }
 
-/// The columns of a map where none are asked for.
+/// How many columns a map has if no width is given.
 const COLUMNS: usize = 80;
 
-/// A text with how many columns those are.
+/// `before`, this number of columns, and `behind` as one text.
 #[macro_export]
 macro_rules! with_columns {
     ($before:literal, $behind:literal) => {
@@ -176,7 +176,7 @@ impl Settings {
     }
 }
 
-/// Checks that the form heeds each option that is given; the fault names the first that it does not heed.
+/// Checks that the form heeds each option that is given. The fault names the first option that it does not heed.
 fn heed_all(form: FormName, words: &Words) -> Result<(), SettingsFault>
     ensures all { OnOk result (HeedsAll form words.now) }
     ensures fault { IfErr result (IsUnheeded form words.now) }
@@ -199,7 +199,7 @@ fn heed_all(form: FormName, words: &Words) -> Result<(), SettingsFault>
     Ok(())
 }
 
-/// Whether an option is not given, or the form heeds it.
+/// Whether an option is missing, or the form heeds it.
 fn is_heeded(heeds: bool, word: &Option<String>) -> bool
     ensures { result ≡ is_heeded heeds word.now }
 {
@@ -209,7 +209,7 @@ fn is_heeded(heeds: bool, word: &Option<String>) -> bool
     }
 }
 
-/// The form that a word names, or the default where there is no word. None where no form has that name.
+/// The form that a word names, or the default if there is no word. `None` if no form has this name.
 fn form_or(word: &Option<String>, default: FormName) -> Option<FormName>
     ensures { result ≡ asked_or default form_of word.now }
 {
@@ -219,7 +219,7 @@ fn form_or(word: &Option<String>, default: FormName) -> Option<FormName>
     }
 }
 
-/// The nanoseconds that a word writes, or the default where there is no word. None where the word is no time.
+/// The nanoseconds that a word writes, or the default if there is no word. `None` if the word is no time.
 fn time_or(word: &Option<String>, default: u64) -> Option<u64>
     ensures { result ≡ asked_or default duration_of word.now }
 {
@@ -229,7 +229,7 @@ fn time_or(word: &Option<String>, default: u64) -> Option<u64>
     }
 }
 
-/// The processors that a word names, as bits, or the default where there is no word. None where the word names something else.
+/// The processors that a word names, as bits, or the default if there is no word. `None` if the word names something else.
 fn processors_or(word: &Option<String>, default: u64) -> Option<u64>
     ensures { result ≡ asked_or default processors_of word.now }
 {
@@ -239,7 +239,7 @@ fn processors_or(word: &Option<String>, default: u64) -> Option<u64>
     }
 }
 
-/// The names of tasks in a word; none where there is no word.
+/// The names of tasks in a word. Empty if there is no word.
 fn names_or_none(alloc: Global, word: &Option<String>) -> Result<Vec<String>, AllocError>
     ensures { IfOk result (λ names. map string_bytes names.items ≡ names_given word.now) }
 {
@@ -249,7 +249,7 @@ fn names_or_none(alloc: Global, word: &Option<String>) -> Result<Vec<String>, Al
     }
 }
 
-/// The columns that a word asks for, or the default where there is no word. None where the word is no width.
+/// The columns that a word asks for, or the default if there is no word. `None` if the word is no width.
 fn width_or(word: &Option<String>, default: usize) -> Option<usize>
     ensures { result ≡ asked_or default width_of word.now }
 {
@@ -259,7 +259,7 @@ fn width_or(word: &Option<String>, default: usize) -> Option<usize>
     }
 }
 
-/// The theme that a word names, or the default where there is no word. None where no theme has that name.
+/// The theme that a word names, or the default if there is no word. `None` if no theme has this name.
 fn theme_or(word: &Option<String>, default: Theme) -> Option<Theme>
     ensures { result ≡ asked_or default theme_of word.now }
 {

@@ -3,7 +3,7 @@ ghost use Rattle.std.specs.Prelude.{◌≡◌, ℕ, List, [], IfOk, IfErr, OnOk}
 ghost use Rattle.bq_lines.specs.Kept.{StandsFor};
 ghost use Rattle.bq_streams.specs.Counts.{inner_of, calls_of, failures_of};
 ghost use Rattle.bq_streams.specs.Faults.{IsFault, IsWriteFault};
-ghost use Rattle.bq_trace.specs.Telling.{GoesOn};
+ghost use Rattle.bq_trace.specs.Reporting.{ReportsPiece};
 ghost use Rattle.bq_trace.specs.Trace.{start};
 ghost use Rattle.bq_timeline.specs.Timelines.{Watches, Closes, IsTimeline};
 
@@ -14,7 +14,7 @@ use bq_trace::TracePosition;
 use std::alloc::Global;
 use std::io::{Read, Write};
 
-/// What came of a timeline.
+/// The result of a timeline.
 #[derive(Drop)]
 pub struct Outcome {
     /// Whether no line was bad or refused.
@@ -23,8 +23,8 @@ pub struct Outcome {
     pub notes: String,
 }
 
-/// Reads a trace to its end and writes its timeline. Notes on lines that do not stand in it go to `errors` as the lines come. If a note
-/// cannot be written there, that stops nothing.
+/// Reads a trace to its end and writes its timeline. Notes on lines that are not part of the timeline go to `errors` as the lines come.
+/// If such a note cannot be written, the timeline goes on.
 pub fn show<R: Read, W: Write, E: Write>(
     alloc: Global,
     settings: Settings,
@@ -32,10 +32,10 @@ pub fn show<R: Read, W: Write, E: Write>(
     output: &mut Counted<W>,
     errors: &mut E,
 ) -> Result<Outcome, StreamFault>
-    // It is that of all lines that the reader gave.
+    // The timeline shows all lines that the reader gave.
     ensures timeline { IfOk result (IsTimeline (R.remaining (inner_of input.old)) (R.remaining (inner_of input.new))) }
 
-    // No read and no write has failed: the first failure ends it.
+    // No read and no write failed: the first failure ends the timeline.
     ensures reads { OnOk result (failures_of input.new ≡ failures_of input.old) }
     ensures writes { OnOk result (failures_of output.new ≡ failures_of output.old) }
 
@@ -62,7 +62,7 @@ struct Showing {
     viewer: Viewer,
 }
 
-// Written out, so that letting it go is one call.
+// Written out, so that dropping it is one call.
 impl Drop for Showing {
     fn drop(self) {
         let Showing {
@@ -87,15 +87,15 @@ impl Showing {
         }
     }
 
-    /// Takes a piece, and writes what is ripe, notes first.
+    /// Takes a piece, and writes what is ready, notes first.
     fn feed<W: Write, E: Write>(
         &mut self,
         piece: &[u8],
         output: &mut Counted<W>,
         errors: &mut E,
     ) -> Result<(), StreamFault>
-        ensures told { OnOk result ((begun : List ℕ) → StandsFor self.old.position.begun begun
-            → Watches self.old.viewer self.new.viewer (λ told. GoesOn self.old.position begun piece.now told self.new.position)) }
+        ensures reported { OnOk result ((begun : List ℕ) → StandsFor self.old.position.begun begun
+            → Watches self.old.viewer self.new.viewer (λ reported. ReportsPiece self.old.position begun piece.now reported self.new.position)) }
         ensures kept { OnOk result (failures_of output.new ≡ failures_of output.old) }
         ensures fault { IfErr result (λ e. IsWriteFault e (failures_of output.old) (failures_of output.new)) }
     {
@@ -107,9 +107,9 @@ impl Showing {
         Ok(())
     }
 
-    /// The trace is over: writes what is left.
+    /// The trace is over: writes what is left, and answers the last notes.
     fn finish<W: Write>(&mut self, output: &mut Counted<W>) -> Result<Outcome, StreamFault>
-        ensures told { IfOk result (λ outcome. (begun : List ℕ) → StandsFor self.old.position.begun begun
+        ensures reported { IfOk result (λ outcome. (begun : List ℕ) → StandsFor self.old.position.begun begun
             → Closes self.old begun outcome) }
         ensures kept { OnOk result (failures_of output.new ≡ failures_of output.old) }
         ensures fault { IfErr result (λ e. IsWriteFault e (failures_of output.old) (failures_of output.new)) }

@@ -1,4 +1,4 @@
-//! The forms, behind one name.
+//! All forms as one type.
 ghost use Rattle.bq_timeline.specs.Shown.{IsShown, StaysShown};
 
 use crate::form_names::FormName;
@@ -9,7 +9,7 @@ use bq_why::Why;
 use bq_words::Rule;
 use std::alloc::{AllocError, Global};
 
-/// A form of one of the names.
+/// One of the forms.
 #[derive(Drop)]
 pub enum Shown {
     Report(Report),
@@ -19,12 +19,12 @@ pub enum Shown {
     Json(Json),
     Svg(Svg),
     Perfetto(Perfetto),
-    /// It is written from the machine itself, choice by choice.
+    /// This form is written from the machine itself, choice by choice.
     Why(Why),
 }
 
 impl Shown {
-    /// The form of that name, of what the window shows.
+    /// The form of this name, for what the window shows.
     pub fn of(alloc: Global, form: FormName, window: Window, width: usize, look: Look) -> Shown
         ensures { IsShown form window result }
     {
@@ -40,7 +40,7 @@ impl Shown {
         }
     }
 
-    /// Begins, under a rule, at a schedule to which nothing has happened.
+    /// Begins the form under a rule, with a schedule to which nothing has happened.
     pub fn begin(
         &mut self,
         rule: Rule,
@@ -74,7 +74,7 @@ impl Shown {
         }
     }
 
-    /// This many wakes did nothing, since their task did not wait.
+    /// Notes how many wakes did nothing because their task did not wait.
     pub fn count_missed(&mut self, wakes: u64) {
         match self {
             Shown::Report(form) => form.count_missed(wakes),
@@ -103,7 +103,7 @@ impl Shown {
         }
     }
 
-    /// Ends, at the schedule of the whole trace.
+    /// Ends the form, with the schedule of the whole trace.
     pub fn end(
         &mut self,
         schedule: &Schedule,

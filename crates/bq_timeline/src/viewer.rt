@@ -1,10 +1,10 @@
-//! The sink of a timeline: the schedule that a trace tells, and the form that it is shown in.
+//! The sink of a timeline: the schedule of a trace, and the form in which it is shown.
 ghost use Rattle.bq_streams.specs.Counts.{one_more};
 ghost use Rattle.bq_timeline.specs.Notes.{absent_notes, last_notes};
 ghost use Rattle.bq_report.specs.Names.{name_of};
 ghost use Rattle.bq_timeline.specs.Beginning.{BeginsWith, Ends};
 ghost use Rattle.bq_timeline.specs.Timelines.{Keeps};
-ghost use Rattle.bq_timeline.specs.Comments.{Hears, IsSkipped, Rests};
+ghost use Rattle.bq_timeline.specs.Comments.{ReadsComment, IsSkipped, Rests};
 ghost use Rattle.bq_trace.specs.Borrowed.{event_of};
 ghost use Rattle.std.specs.Prelude.{◌≡◌, ◌++◌, ℕ, OnOk, string_bytes};
 
@@ -14,7 +14,7 @@ use bq_schedule::Schedule;
 use bq_trace::{Sink, TraceEvent};
 use std::alloc::{AllocError, Global};
 
-/// A trace as far as it has come: its schedule, once it has a machine, and how many of its lines were bad or refused.
+/// A trace so far: its schedule, once it has a machine, and how many of its lines were bad or refused.
 #[derive(Drop)]
 pub struct Viewer {
     alloc: Global,
@@ -24,7 +24,7 @@ pub struct Viewer {
 }
 
 impl Viewer {
-    /// No line has come.
+    /// A viewer to which no line has come.
     pub fn new(alloc: Global, settings: Settings) -> Viewer
         ensures schedule { result.schedule ≡ None }
         ensures troubles { result.troubles ≡ 0 }
@@ -39,8 +39,8 @@ impl Viewer {
         }
     }
 
-    /// This many wakes of a simulation did nothing, since their task did not wait. No trace tells them; the report and the JSON
-    /// show them.
+    /// Notes how many wakes of a simulation did nothing because their task did not wait. No trace shows these wakes; the report and the
+    /// JSON do.
     pub fn count_missed(&mut self, wakes: u64)
         ensures schedule { self.new.schedule ≡ self.old.schedule }
         ensures troubles { self.new.troubles ≡ self.old.troubles }
@@ -48,7 +48,8 @@ impl Viewer {
         self.screen.count_missed(wakes);
     }
 
-    /// The form begins, if there is a machine and it has not: at the first line below the machine's that is no comment.
+    /// Begins the form, if there is a machine and the form has not begun. It is called at the end, and at each line that says something,
+    /// except the machine's and those that read a counter.
     fn begin(&mut self) -> Result<(), AllocError>
         ensures schedule { self.new.schedule ≡ self.old.schedule }
         ensures troubles { self.new.troubles ≡ self.old.troubles }
@@ -60,7 +61,7 @@ impl Viewer {
         }
     }
 
-    /// The form begins, if it can, and one line more is bad or refused.
+    /// Begins the form, if it can, and counts one more line that is bad or refused.
     fn begin_trouble(&mut self) -> Result<(), AllocError>
         ensures schedule { self.new.schedule ≡ self.old.schedule }
         ensures troubles { OnOk result (self.new.troubles ≡ one_more self.old.troubles) }
@@ -81,7 +82,7 @@ impl Viewer {
         Ok(())
     }
 
-    /// The trace is over, and its form has begun.
+    /// The trace is over, and its form has begun if there is a machine.
     fn close(&mut self) -> Result<(), AllocError>
         ensures schedule { self.new.schedule ≡ self.old.schedule }
         ensures troubles { self.new.troubles ≡ self.old.troubles }
@@ -102,9 +103,9 @@ impl Sink for Viewer {
     fn take(&mut self, number: u64, event: &TraceEvent<'_>) -> Result<(), AllocError>
         ensures kept { OnOk result (Keeps self.old (event_of event.now) self.new) }
 
-        // A comment changes only the names, also where memory runs out.
+        // A comment changes only the names, even if memory runs out.
         ensures rest { IsSkipped (event_of event.now) → Rests self.old self.new }
-        ensures heard { OnOk result (Hears (event_of event.now) self.old.screen.names self.new.screen.names) }
+        ensures short_line { OnOk result (ReadsComment (event_of event.now) self.old.screen.names self.new.screen.names) }
     {
         match event {
             TraceEvent::Opened { rule, size } => {
@@ -151,7 +152,8 @@ impl Sink for Viewer {
             TraceEvent::CounterRead { .. } => Ok(()),
             TraceEvent::Bad { line } => {
                 self.begin_trouble()?;
-                self.screen.bad(number, *line, self.schedule.is_some())
+                self.screen
+                    .bad(self.alloc, number, *line, self.schedule.is_some())
             }
         }
     }

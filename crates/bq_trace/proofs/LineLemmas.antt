@@ -9,7 +9,8 @@ use Rattle.bq_trace.specs.Feeding.{with_feeds}
 use Rattle.bq_trace.specs.declared.progress.Progress.{Progress}
 
 -- one chain after another
-pub AnswersAll-append : (p m q : Progress) (xs ys : List (List ℕ)) (t u : List ℕ) → AnswersAll p xs t m → AnswersAll m ys u q → AnswersAll p (xs ++ ys) (t ++ u) q
+pub AnswersAll-append : (p m q : Progress) (xs ys : List (List ℕ)) (t u : List ℕ)
+    → AnswersAll p xs t m → AnswersAll m ys u q → AnswersAll p (xs ++ ys) (t ++ u) q
 AnswersAll-append p m q [] ys t u h k =
     subst (λ s. AnswersAll s ys (t ++ u) q) h.1 (subst (λ l. AnswersAll m ys (l ++ u) q) (sym h.0) k)
 AnswersAll-append p m q (x ∷ xs) ys t u h k =
@@ -23,7 +24,8 @@ parts_not_empty : (bs : List ℕ) → (part : List ℕ) × (others : List (List 
 parts_not_empty [] = ([], [], refl)
 parts_not_empty (b ∷ bs) = parts_onto b (is_feed b) (slice_split is_feed bs)
   where
-    parts_onto : (b : ℕ) (c : Bool) (ps : List (List ℕ)) → (part : List ℕ) × (others : List (List ℕ)) × (cond c ([] ∷ ps) (onto_first b ps) ≡ part ∷ others)
+    parts_onto : (b : ℕ) (c : Bool) (ps : List (List ℕ))
+        → (part : List ℕ) × (others : List (List ℕ)) × (cond c ([] ∷ ps) (onto_first b ps) ≡ part ∷ others)
     parts_onto b true ps = ([], ps, refl)
     parts_onto b false [] = (b ∷ [], [], refl)
     parts_onto b false (p ∷ ps) = (b ∷ p, ps, refl)
@@ -36,7 +38,9 @@ lines-first line more one =
     ∙ ap (λ ps. strip_carriage_return line ∷ lines_of_parts ps) (sym n.2)
 
 -- the lines of a text that begins with whole lines
-pub lines-with_feeds : (ended : List (List ℕ)) (more : List ℕ) → AllByRecursion IsOneLine ended → lines (with_feeds ended ++ more) ≡ map strip_carriage_return ended ++ lines more
+pub lines-with_feeds : (ended : List (List ℕ)) (more : List ℕ)
+    → AllByRecursion IsOneLine ended
+    → lines (with_feeds ended ++ more) ≡ map strip_carriage_return ended ++ lines more
 lines-with_feeds [] more each = refl
 lines-with_feeds (line ∷ ended) more each =
     ap lines (append_assoc (line ++ 10 ∷ []) (with_feeds ended) more ∙ append_assoc line (10 ∷ []) (with_feeds ended ++ more))

@@ -13,6 +13,9 @@ two_digits n low high =
     decimal_step n low (search rules) ∙ ap (λ ds. ds ++ (48 + n % 10) ∷ []) (decimal_digit (n / 10) (at_most_nine_tens n high))
 
 -- a text to which the tens and then the ones are added
-pub adds_two_digits : (old more new : List ℕ) (n : ℕ) → 10 ≤ n → n < 100 → more ≡ old ++ (48 + n / 10) ∷ [] → new ≡ more ++ (48 + n % 10) ∷ [] → new ≡ old ++ decimal n
+pub adds_two_digits : (old more new : List ℕ) (n : ℕ) → 10 ≤ n → n < 100 → more ≡ old ++ (48 + n / 10) ∷ []
+    → new ≡ more ++ (48 + n % 10) ∷ []
+    → new ≡ old ++ decimal n
 adds_two_digits old more new n low high first second =
-    second ∙ ap (λ l. l ++ (48 + n % 10) ∷ []) first ∙ append_assoc old ((48 + n / 10) ∷ []) ((48 + n % 10) ∷ []) ∙ ap (λ l. old ++ l) (sym (two_digits n low high))
+    second ∙ ap (λ l. l ++ (48 + n % 10) ∷ []) first ∙ append_assoc old ((48 + n / 10) ∷ []) ((48 + n % 10) ∷ [])
+    ∙ ap (λ l. old ++ l) (sym (two_digits n low high))

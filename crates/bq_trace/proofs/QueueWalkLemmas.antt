@@ -31,11 +31,14 @@ follows_along None x y p q = refl
 follows_along (Some (v, id)) x y p q = after_along v id x y p q
 
 -- the rest of a rising queue comes after its first
-rest_later : (x : Task) (xs : List Task) → NoneRunsBefore x xs → with_id x.id xs ≡ None → AllByRecursion (λ y. comes_after x.v x.id y ≡ true) xs
+rest_later : (x : Task) (xs : List Task) → NoneRunsBefore x xs → with_id x.id xs ≡ None
+    → AllByRecursion (λ y. comes_after x.v x.id y ≡ true) xs
 rest_later x [] r d = tt
 rest_later x (y ∷ xs) r d = let s = with_id-none x.id y xs d in (comes_later x y r.0 s.0, rest_later x xs r.1 s.1)
 
-all_follow : (last : Option (ℕ × ℕ)) (x : Task) (xs : List Task) → follows last x ≡ true → AllByRecursion (λ y. comes_after x.v x.id y ≡ true) xs → rest_after last xs ≡ xs
+all_follow : (last : Option (ℕ × ℕ)) (x : Task) (xs : List Task)
+    → follows last x ≡ true → AllByRecursion (λ y. comes_after x.v x.id y ≡ true) xs
+    → rest_after last xs ≡ xs
 all_follow last x [] h a = refl
 all_follow last x (y ∷ xs) h a = let e = follows_along last x y h a.0 in rw e (ap (λ l. y ∷ l) (all_follow last x xs h a.1))
 
@@ -44,14 +47,17 @@ all_later x [] a = refl
 all_later x (y ∷ xs) a = let e = a.0 in rw e (ap (λ l. y ∷ l) (all_later x xs a.1))
 
 -- the first of the queue is the next
-step_at_first : (last : Option (ℕ × ℕ)) (x : Task) (xs : List Task) → follows last x ≡ true → AllByRecursion (λ y. comes_after x.v x.id y ≡ true) xs
+step_at_first : (last : Option (ℕ × ℕ)) (x : Task) (xs : List Task)
+    → follows last x ≡ true → AllByRecursion (λ y. comes_after x.v x.id y ≡ true) xs
     → rest_after last (x ∷ xs) ≡ x ∷ rest_after (Some (x.v, x.id)) (x ∷ xs)
 step_at_first last x xs h a =
     let e = not_after_itself x in
     rw (h, e) (ap (λ l. x ∷ l) (all_follow last x xs h a ∙ sym (all_later x xs a)))
 
 -- a task that does not follow does not come after one that does
-skipped : (last : Option (ℕ × ℕ)) (x t : Task) (b : Bool) → follows last x ≡ false → follows last t ≡ true → comes_after t.v t.id x ≡ b → b ≡ false
+skipped : (last : Option (ℕ × ℕ)) (x t : Task) (b : Bool) → follows last x ≡ false → follows last t ≡ true
+    → comes_after t.v t.id x ≡ b
+    → b ≡ false
 skipped last x t true h k e = let l = follows_along last t x k e in cc
 skipped last x t false h k e = refl
 
@@ -59,20 +65,26 @@ found_follows : (last : Option (ℕ × ℕ)) (xs : List Task) (t : Task) → fin
 found_follows last [] t f = cc
 found_follows last (x ∷ xs) t f = found (follows last x) refl f (found_follows last xs t)
   where
-    found : (b : Bool) → follows last x ≡ b → cond b (Some x) (find (follows last) xs) ≡ Some t → (find (follows last) xs ≡ Some t → follows last t ≡ true) → follows last t ≡ true
+    found : (b : Bool) → follows last x ≡ b → cond b (Some x) (find (follows last) xs) ≡ Some t
+        → (find (follows last) xs ≡ Some t → follows last t ≡ true)
+        → follows last t ≡ true
     found true e f more = let same : x ≡ t = cc in subst (λ (y : Task). follows last y ≡ true) same e
     found false e f more = more f
 
 -- the next task, and those after it
-pub rest_after-next : (last : Option (ℕ × ℕ)) (xs : List Task) (t : Task) → IsRising xs → HasDistinctIds xs → find (follows last) xs ≡ Some t → rest_after last xs ≡ t ∷ rest_after (Some (t.v, t.id)) xs
+pub rest_after-next : (last : Option (ℕ × ℕ)) (xs : List Task) (t : Task)
+    → IsRising xs → HasDistinctIds xs → find (follows last) xs ≡ Some t
+    → rest_after last xs ≡ t ∷ rest_after (Some (t.v, t.id)) xs
 rest_after-next last [] t r d f = cc
 rest_after-next last (x ∷ xs) t r d f = next (follows last x) refl f (rest_after-next last xs t r.1 d.1)
   where
     next : (b : Bool) → follows last x ≡ b → cond b (Some x) (find (follows last) xs) ≡ Some t
-        → (find (follows last) xs ≡ Some t → rest_after last xs ≡ t ∷ rest_after (Some (t.v, t.id)) xs) → rest_after last (x ∷ xs) ≡ t ∷ rest_after (Some (t.v, t.id)) (x ∷ xs)
+        → (find (follows last) xs ≡ Some t → rest_after last xs ≡ t ∷ rest_after (Some (t.v, t.id)) xs)
+        → rest_after last (x ∷ xs) ≡ t ∷ rest_after (Some (t.v, t.id)) (x ∷ xs)
     next true e f more =
         let same : x ≡ t = cc in
-        subst (λ (y : Task). rest_after last (x ∷ xs) ≡ y ∷ rest_after (Some (y.v, y.id)) (x ∷ xs)) same (step_at_first last x xs e (rest_later x xs r.0 d.0))
+        subst (λ (y : Task). rest_after last (x ∷ xs) ≡ y ∷ rest_after (Some (y.v, y.id)) (x ∷ xs)) same
+        (step_at_first last x xs e (rest_later x xs r.0 d.0))
     next false e f more =
         let k = found_follows last xs t f in
         let n = skipped last x t (comes_after t.v t.id x) e k refl in

@@ -43,31 +43,41 @@ Underway-none from old s first empty = record {
 }
 
 -- each of two lists of lines together is one line
-pub AllByRecursion-append : (xs ys : List (List ℕ)) → AllByRecursion IsOneLine xs → AllByRecursion IsOneLine ys → AllByRecursion IsOneLine (xs ++ ys)
+pub AllByRecursion-append : (xs ys : List (List ℕ)) → AllByRecursion IsOneLine xs → AllByRecursion IsOneLine ys
+    → AllByRecursion IsOneLine (xs ++ ys)
 AllByRecursion-append [] ys h k = k
 AllByRecursion-append (x ∷ xs) ys h k = (h.0, AllByRecursion-append xs ys h.1 k)
 
 -- two pieces end the lines that their join does
-pub with_feeds-join : (begun piece rest more last : List ℕ) (ended others : List (List ℕ)) → begun ++ piece ≡ with_feeds ended ++ rest → rest ++ more ≡ with_feeds others ++ last
+pub with_feeds-join : (begun piece rest more last : List ℕ) (ended others : List (List ℕ))
+    → begun ++ piece ≡ with_feeds ended ++ rest → rest ++ more ≡ with_feeds others ++ last
     → begun ++ (piece ++ more) ≡ with_feeds (ended ++ others) ++ last
 with_feeds-join begun piece rest more last ended others first second =
-    sym (append_assoc begun piece more) ∙ ap (λ l. l ++ more) first ∙ append_assoc (with_feeds ended) rest more ∙ ap (λ l. with_feeds ended ++ l) second
-    ∙ sym (append_assoc (with_feeds ended) (with_feeds others) last) ∙ ap (λ l. l ++ last) (sym (flat_map-append (λ line. line ++ 10 ∷ []) ended others))
+    sym (append_assoc begun piece more) ∙ ap (λ l. l ++ more) first ∙ append_assoc (with_feeds ended) rest more
+    ∙ ap (λ l. with_feeds ended ++ l) second ∙ sym (append_assoc (with_feeds ended) (with_feeds others) last)
+    ∙ ap (λ l. l ++ last) (sym (flat_map-append (λ line. line ++ 10 ∷ []) ended others))
 
 -- a piece and another one that goes on from its rest are one piece, answered by both texts
-pub Continues-join : (s t u : TracePosition) (begun piece more text others : List ℕ) → (h : Continues s begun piece text t) → Continues t h.rest more others u → Continues s begun (piece ++ more) (text ++ others) u
+pub Continues-join : (s t u : TracePosition) (begun piece more text others : List ℕ)
+    → (h : Continues s begun piece text t) → Continues t h.rest more others u
+    → Continues s begun (piece ++ more) (text ++ others) u
 Continues-join s t u begun piece more text others h k = record {
   ended = h.ended ++ k.ended;
   rest = k.rest;
   whole = with_feeds-join begun piece h.rest more k.rest h.ended k.ended h.whole k.whole;
   each = AllByRecursion-append h.ended k.ended h.each k.each;
-  chain = subst (λ ls. AnswersAll s.progress ls (text ++ others) u.progress) (sym (map-append strip_carriage_return h.ended k.ended))
-      (AnswersAll-append s.progress t.progress u.progress (map strip_carriage_return h.ended) (map strip_carriage_return k.ended) text others h.chain k.chain);
+  chain =
+      subst (λ ls. AnswersAll s.progress ls (text ++ others) u.progress)
+      (sym (map-append strip_carriage_return h.ended k.ended))
+      (AnswersAll-append s.progress t.progress u.progress (map strip_carriage_return h.ended)
+      (map strip_carriage_return k.ended) text others h.chain k.chain);
   stands = k.stands;
 }
 
 -- a piece that is read and fed to the session leaves the replay underway
-pub Underway-more : (from mid to old now new : Option (List ℕ)) (s t : TracePosition) (piece : List ℕ) → (h : Underway from mid old now s) → Consumes mid to piece → Feeds s h.rest piece t now new → Underway from to old new t
+pub Underway-more : (from mid to old now new : Option (List ℕ)) (s t : TracePosition) (piece : List ℕ)
+    → (h : Underway from mid old now s) → Consumes mid to piece → Feeds s h.rest piece t now new
+    → Underway from to old new t
 Underway-more from mid to old now new s t piece h consumed fed = record {
   input = h.input ++ piece;
   output = h.output ++ fed.text;
@@ -76,14 +86,19 @@ Underway-more from mid to old now new s t piece h consumed fed = record {
   consumed = Consumes-trans from mid to h.input piece h.consumed consumed;
   whole = with_feeds-join [] h.input h.rest piece fed.goes_on.rest h.ended fed.goes_on.ended h.whole fed.goes_on.whole;
   each = AllByRecursion-append h.ended fed.goes_on.ended h.each fed.goes_on.each;
-  chain = subst (λ ls. AnswersAll start ls (h.output ++ fed.text) t.progress) (sym (map-append strip_carriage_return h.ended fed.goes_on.ended))
-      (AnswersAll-append start s.progress t.progress (map strip_carriage_return h.ended) (map strip_carriage_return fed.goes_on.ended) h.output fed.text h.chain fed.goes_on.chain);
+  chain =
+      subst (λ ls. AnswersAll start ls (h.output ++ fed.text) t.progress)
+      (sym (map-append strip_carriage_return h.ended fed.goes_on.ended))
+      (AnswersAll-append start s.progress t.progress (map strip_carriage_return h.ended)
+      (map strip_carriage_return fed.goes_on.ended) h.output fed.text h.chain fed.goes_on.chain);
   stands = fed.goes_on.stands;
   added = Appends-trans old now new h.output fed.text h.added fed.added;
 }
 
 -- a replay whose reader has no more and whose last line is answered is done
-pub Underway-ends : (from mid to old now new : Option (List ℕ)) (s : TracePosition) (clean : Bool) → (h : Underway from mid old now s) → Consumes mid to [] → IsAtEnd to → Finishes s h.rest now new clean → Replays from to old new clean
+pub Underway-ends : (from mid to old now new : Option (List ℕ)) (s : TracePosition) (clean : Bool)
+    → (h : Underway from mid old now s) → Consumes mid to [] → IsAtEnd to → Finishes s h.rest now new clean
+    → Replays from to old new clean
 Underway-ends from mid to old now new s clean h consumed at_end f = record {
   input = h.input;
   output = h.output ++ f.text;
@@ -99,15 +114,19 @@ Underway-ends from mid to old now new s clean h consumed at_end f = record {
 }
 
 -- where a piece breaks off, a beginning of the answers to what was read was written
-pub Underway-breaks : (from mid to old now new : Option (List ℕ)) (s : TracePosition) (piece : List ℕ) → (h : Underway from mid old now s) → Consumes mid to piece → BreaksOff s h.rest piece now new → ReplaysInPart from to old new
+pub Underway-breaks : (from mid to old now new : Option (List ℕ)) (s : TracePosition) (piece : List ℕ)
+    → (h : Underway from mid old now s) → Consumes mid to piece → BreaksOff s h.rest piece now new
+    → ReplaysInPart from to old new
 Underway-breaks from mid to old now new s piece h consumed b = record {
   input = h.input ++ piece;
   consumed = Consumes-trans from mid to h.input piece h.consumed consumed;
   beginning = record {
     answered = map strip_carriage_return h.ended ++ b.answered;
     others = b.others;
-    whole = ap (λ l. lines (l ++ piece)) h.whole ∙ ap lines (append_assoc (with_feeds h.ended) h.rest piece) ∙ lines-with_feeds h.ended (h.rest ++ piece) h.each
-        ∙ ap (λ ls. map strip_carriage_return h.ended ++ ls) b.whole ∙ sym (append_assoc (map strip_carriage_return h.ended) b.answered b.others);
+    whole =
+        ap (λ l. lines (l ++ piece)) h.whole ∙ ap lines (append_assoc (with_feeds h.ended) h.rest piece)
+        ∙ lines-with_feeds h.ended (h.rest ++ piece) h.each ∙ ap (λ ls. map strip_carriage_return h.ended ++ ls) b.whole
+        ∙ sym (append_assoc (map strip_carriage_return h.ended) b.answered b.others);
     text = h.output ++ b.text;
     final = b.final;
     chain = AnswersAll-append start s.progress b.final (map strip_carriage_return h.ended) b.answered h.output b.text h.chain b.chain;
@@ -123,7 +142,8 @@ Underway-breaks from mid to old now new s piece h consumed b = record {
 }
 
 -- where the reader gives nothing more, a beginning of the answers to what it gave was written
-pub Underway-stops : (from mid to old new : Option (List ℕ)) (s : TracePosition) → (h : Underway from mid old new s) → Keeps mid to → ReplaysInPart from to old new
+pub Underway-stops : (from mid to old new : Option (List ℕ)) (s : TracePosition)
+    → (h : Underway from mid old new s) → Keeps mid to → ReplaysInPart from to old new
 Underway-stops from mid to old new s h kept = record {
   input = h.input;
   consumed = Consumes-kept from mid to h.input h.consumed kept;

@@ -15,11 +15,16 @@ only : (new : List ℕ) (Holds : List ℕ → Type 0) (a : Adds [] new Holds) �
 only new Holds a = subst Holds (sym a.added) a.holds
 
 -- all of it was written
-pub feeds_all : (s t : TracePosition) (begun piece answers : List ℕ) (old new : Option (List ℕ)) → Adds [] answers (λ l. Continues s begun piece l t) → Appends old new answers → Feeds s begun piece t old new
-feeds_all s t begun piece answers old new a written = record { text = answers; goes_on = only answers (λ l. Continues s begun piece l t) a; added = written }
+pub feeds_all : (s t : TracePosition) (begun piece answers : List ℕ) (old new : Option (List ℕ))
+    → Adds [] answers (λ l. Continues s begun piece l t) → Appends old new answers
+    → Feeds s begun piece t old new
+feeds_all s t begun piece answers old new a written =
+    record { text = answers; goes_on = only answers (λ l. Continues s begun piece l t) a; added = written }
 
 -- a beginning of it was written
-pub feeds_part : (s t : TracePosition) (begun piece answers : List ℕ) (old new : Option (List ℕ)) → Adds [] answers (λ l. Continues s begun piece l t) → AppendsPart old new answers → BreaksOff s begun piece old new
+pub feeds_part : (s t : TracePosition) (begun piece answers : List ℕ) (old new : Option (List ℕ))
+    → Adds [] answers (λ l. Continues s begun piece l t) → AppendsPart old new answers
+    → BreaksOff s begun piece old new
 feeds_part s t begun piece answers old new a part =
     let c : Continues s begun piece answers t = only answers (λ l. Continues s begun piece l t) a in
     record {
@@ -45,13 +50,21 @@ feeds_none s begun piece w = record {
 }
 
 -- the last line's answer was written
-pub finishes_all : (s t : TracePosition) (begun answers : List ℕ) (old new : Option (List ℕ)) → Adds [] answers (λ l. AnswersAll s.progress (lines begun) l t.progress) → Appends old new answers
+pub finishes_all : (s t : TracePosition) (begun answers : List ℕ) (old new : Option (List ℕ))
+    → Adds [] answers (λ l. AnswersAll s.progress (lines begun) l t.progress) → Appends old new answers
     → Finishes s begun old new t.progress.clean
 finishes_all s t begun answers old new a written =
-    record { text = answers; final = t.progress; chain = only answers (λ l. AnswersAll s.progress (lines begun) l t.progress) a; is_clean = refl; added = written }
+    record {
+      text = answers;
+      final = t.progress;
+      chain = only answers (λ l. AnswersAll s.progress (lines begun) l t.progress) a;
+      is_clean = refl;
+      added = written;
+    }
 
 -- a beginning of it was written
-pub finishes_part : (s t : TracePosition) (begun answers : List ℕ) (old new : Option (List ℕ)) → Adds [] answers (λ l. AnswersAll s.progress (lines begun) l t.progress) → AppendsPart old new answers
+pub finishes_part : (s t : TracePosition) (begun answers : List ℕ) (old new : Option (List ℕ))
+    → Adds [] answers (λ l. AnswersAll s.progress (lines begun) l t.progress) → AppendsPart old new answers
     → BreaksOff s begun [] old new
 finishes_part s t begun answers old new a part = record {
   answered = lines begun;

@@ -21,11 +21,20 @@ pub record HasRead (s : TracePosition) (input : List ℕ) (t : TracePosition) (o
 nothing_read : (s : TracePosition) (w : Option (List ℕ)) → s.begun ≡ Some [] → HasRead s [] s w w
 nothing_read s w empty = record {
   output = [];
-  goes_on = record { ended = []; rest = []; whole = refl; each = tt; chain = (refl, refl); stands = subst (λ k. StandsFor k []) (sym empty) stands_for_nothing };
+  goes_on = record {
+    ended = [];
+    rest = [];
+    whole = refl;
+    each = tt;
+    chain = (refl, refl);
+    stands = subst (λ k. StandsFor k []) (sym empty) stands_for_nothing;
+  };
   added = Appends-nil w;
 }
 
-one_more : (s t u : TracePosition) (input piece : List ℕ) (old now new : Option (List ℕ)) → (h : HasRead s input t old now) → Feeds t h.goes_on.rest piece u now new → HasRead s (input ++ piece) u old new
+one_more : (s t u : TracePosition) (input piece : List ℕ) (old now new : Option (List ℕ))
+    → (h : HasRead s input t old now) → Feeds t h.goes_on.rest piece u now new
+    → HasRead s (input ++ piece) u old new
 one_more s t u input piece old now new h fed = record {
   output = h.output ++ fed.text;
   goes_on = Continues-join s t u [] input piece h.output fed.text h.goes_on fed.goes_on;
@@ -33,15 +42,20 @@ one_more s t u input piece old now new h fed = record {
 }
 
 -- some more pieces are read
-more : (s t u : TracePosition) (input : List ℕ) (pieces : List (List ℕ)) (old now new : Option (List ℕ)) → HasRead s input t old now → IsFed t pieces u now new → HasRead s (input ++ joined pieces) u old new
+more : (s t u : TracePosition) (input : List ℕ) (pieces : List (List ℕ)) (old now new : Option (List ℕ))
+    → HasRead s input t old now → IsFed t pieces u now new → HasRead s (input ++ joined pieces) u old new
 more s t u input [] old now new h f =
-    subst (λ w. HasRead s (input ++ []) u old w) (sym f.1) (subst (λ v. HasRead s (input ++ []) v old now) (sym f.0) (subst (λ i. HasRead s i t old now) (sym (append-nil input)) h))
+    subst (λ w. HasRead s (input ++ []) u old w) (sym f.1)
+    (subst (λ v. HasRead s (input ++ []) v old now) (sym f.0) (subst (λ i. HasRead s i t old now) (sym (append-nil input)) h))
 more s t u input (piece ∷ pieces) old now new h f =
     let next = one_more s t f.0 input piece old now f.1 h (f.2 h.goes_on.rest h.goes_on.stands) in
-    subst (λ i. HasRead s i u old new) (append_assoc input piece (joined pieces)) (more s f.0 u (input ++ piece) pieces old f.1 new next f.3)
+    subst (λ i. HasRead s i u old new) (append_assoc input piece (joined pieces))
+    (more s f.0 u (input ++ piece) pieces old f.1 new next f.3)
 
 -- the line that has begun is the last
-ends : (s t : TracePosition) (input : List ℕ) (old now new : Option (List ℕ)) (clean : Bool) → s.progress ≡ start → (h : HasRead s input t old now) → Finishes t h.goes_on.rest now new clean → GetsAnswers input old new clean
+ends : (s t : TracePosition) (input : List ℕ) (old now new : Option (List ℕ)) (clean : Bool)
+    → s.progress ≡ start → (h : HasRead s input t old now) → Finishes t h.goes_on.rest now new clean
+    → GetsAnswers input old new clean
 ends s t input old now new clean first h f =
     let c = h.goes_on in
     record {
@@ -49,7 +63,8 @@ ends s t input old now new clean first h f =
       added = Appends-trans old now new h.output f.text h.added f.added;
       answers = record {
         final = f.final;
-        chain = subst (λ ls. AnswersAll start ls (h.output ++ f.text) f.final) (sym (ap lines c.whole ∙ lines-with_feeds c.ended c.rest c.each))
+        chain =
+            subst (λ ls. AnswersAll start ls (h.output ++ f.text) f.final) (sym (ap lines c.whole ∙ lines-with_feeds c.ended c.rest c.each))
             (AnswersAll-append start t.progress f.final (map strip_carriage_return c.ended) (lines c.rest) h.output f.text
             (subst (λ p. AnswersAll p (map strip_carriage_return c.ended) h.output t.progress) first c.chain) f.chain);
         is_clean = f.is_clean;

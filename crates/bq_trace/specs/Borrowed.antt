@@ -6,7 +6,7 @@ use Rattle.bq_trace.specs.TraceEvents.{TraceEvent, Opened, Skipped, Comes, Answe
 use Rattle.bq_trace.specs.declared.trace_event.TraceEvent.{TraceEvent as Given}
 use Rattle.bq_trace.specs.declared.trace_event.TraceEvent.TheVariants as given
 
--- what is borrowed is what it holds now
+-- the event with the values that its borrows hold now
 abbrev pub event_of : Given → TraceEvent
 event_of (given.Opened rule size) = Opened rule size
 event_of (given.Skipped line) = Skipped line.now

@@ -7,6 +7,7 @@ use Rattle.bq_words.specs.declared.rule.Rule.TheVariants as rules
 use Rattle.bq_trace.specs.declared.any_core.RuleCore.{RuleCore}
 use Rattle.bq_trace.specs.declared.any_core.RuleCore.TheVariants as ruled
 
+-- the machine of a core: its rule, its world, and these counters
 abbrev pub machine_of : RuleCore → List ℕ → Driven
 machine_of (ruled.Cfs w) counters = record { rule = rules.Cfs; world = w; counters = counters }
 machine_of (ruled.Eevdf w) counters = record { rule = rules.Eevdf; world = w; counters = counters }

@@ -8,11 +8,11 @@ use Rattle.bq_trace.specs.Trace.{AnswersAll, WritesBeginning}
 use Rattle.bq_trace.specs.declared.progress.Progress.{Progress}
 use Rattle.bq_trace.specs.declared.trace_position.TracePosition.{TracePosition}
 
--- lines, and a line feed after each
+-- the lines, with a line feed after each
 abbrev pub with_feeds : List (List ℕ) → List ℕ
 with_feeds ended = flat_map (λ line. line ++ 10 ∷ []) ended
 
--- The piece goes on with the line that has begun: the lines that it ends are answered by the text, and the rest has begun.
+-- The piece continues the line that has begun. The text answers the lines that end in the piece, and the rest begins the next line.
 pub record Continues (s : TracePosition) (begun piece text : List ℕ) (t : TracePosition) : Type 0 where
   pub ended : List (List ℕ)
   pub rest : List ℕ
@@ -21,17 +21,17 @@ pub record Continues (s : TracePosition) (begun piece text : List ℕ) (t : Trac
   pub chain : AnswersAll s.progress (map strip_carriage_return ended) text t.progress
   pub stands : StandsFor t.begun rest
 
--- The piece goes on with the line that has begun, by `Continues`, and the writer got the text.
+-- The piece continues the line that has begun, as `Continues` says, and the writer got the text.
 pub record Feeds (s : TracePosition) (begun piece : List ℕ) (t : TracePosition) (old new : Option (List ℕ)) : Type 0 where
   pub text : List ℕ
   pub goes_on : Continues s begun piece text t
   pub added : Appends old new text
 
--- A beginning of the answers to the lines of the begun line and the piece was written.
+-- Only a beginning of the answers to the begun line and the piece was written.
 abbrev pub BreaksOff : TracePosition → List ℕ → List ℕ → Option (List ℕ) → Option (List ℕ) → Type 0
 BreaksOff s begun piece old new = WritesBeginning s.progress (lines (begun ++ piece)) old new
 
--- The line that has begun is the last.
+-- The line that has begun is the last one: the writer got its answer.
 pub record Finishes (s : TracePosition) (begun : List ℕ) (old new : Option (List ℕ)) (clean : Bool) : Type 0 where
   pub text : List ℕ
   pub final : Progress

@@ -3,7 +3,7 @@ use Rattle.std.specs.Prelude.{ℕ, List, ◌++◌}
 use Rattle.bq_trace.specs.Feeding.{Continues}
 use Rattle.bq_trace.specs.declared.trace_position.TracePosition.{TracePosition}
 
--- A piece, and then another from what has begun, do what their join does.
+-- Two pieces, one after the other, do what their join does.
 abbrev pub PiecesJoin : Type 0
 PiecesJoin =
     (s t u : TracePosition) (begun piece more text others : List ℕ) → (h : Continues s begun piece text t)

@@ -9,7 +9,7 @@ pub mod Machines
 pub mod Replaying
 pub mod Seeing
 pub mod Sessions
-pub mod Telling
+pub mod Reporting
 pub mod Texts
 pub mod Trace
 pub mod TraceEvents

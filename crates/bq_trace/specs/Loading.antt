@@ -19,25 +19,25 @@ use Rattle.bq_trace.specs.Doing.{DoesAndAnswers}
 abbrev pub fault_line : LoadFault → List ℕ
 fault_line why = refused_line (fault_text why)
 
--- the line that refuses a word that is no hex
+-- the line that refuses a word that is not hex
 abbrev pub no_hex_line : List ℕ
 no_hex_line = refused_line (codes "hex")
 
--- the word is no hex
+-- the word is not hex: it is refused, and the machine stays as it is
 abbrev pub RefusesHex : Driven → List ℕ → List ℕ → Driven → Type 0
 RefusesHex m image text n = (error : FromHexError) × (decode_of image ≡ Err error) × (text ≡ no_hex_line) × (n ≡ m)
 
--- it spells bytes that don't load
+-- the word spells bytes that do not load: they are refused, and the machine stays as it is
 abbrev pub RefusesImage : Driven → List ℕ → List ℕ → Driven → Type 0
 RefusesImage m image text n =
     (bytes : List ℕ) × (why : LoadFault) × (decode_of image ≡ Ok bytes) × IsUnloaded bytes why × (why ≢ fault.OutOfMemory) × (text ≡ fault_line why) × (n ≡ m)
 
--- it spells the image of a program that is accepted, which is installed
+-- the word spells the image of a program that is accepted, and its policy is installed as an event
 abbrev pub InstallsImage : Driven → ℕ → Hook → ℕ → List ℕ → List ℕ → Driven → Type 0
 InstallsImage m c hook generation image text n =
     (bytes : List ℕ) × (policy : Accepted) × (answer : Result Reply Refusal) × (decode_of image ≡ Ok bytes) × Loads bytes policy
     × DoesAndAnswers m (Install c hook generation (Some policy)) answer text n
 
--- An image is refused, and nothing happens, or its policy is installed as an event.
+-- An image is refused and nothing happens, or its policy is installed as an event.
 abbrev pub LoadsAndAnswers : Driven → ℕ → Hook → ℕ → List ℕ → List ℕ → Driven → Type 0
 LoadsAndAnswers m c hook generation image text n = RefusesHex m image text n ⊎ (RefusesImage m image text n ⊎ InstallsImage m c hook generation image text n)

@@ -1,13 +1,13 @@
--- The machine that a trace drives: the discipline of its queues, its world, and the counters that its policies share.
+-- The machine that a trace drives: its rule, its world, and the counters that its policies share.
 use Rattle.std.specs.Prelude.{◌≢◌, ℕ, List, replicate, Result, Err}
 use Rattle.bq_disc.specs.Discipline.{Discipline}
 use Rattle.bq_cfs.specs.Cfs.{cfs}
 use Rattle.bq_eevdf.specs.Eevdf.{eevdf}
-use Rattle.bq_bpf.specs.declared.board.Call.{Call as Asked}
+use Rattle.bq_bpf.specs.declared.board.CounterCall.{CounterCall}
 use Rattle.bq_bpf.specs.declared.board.TheConstants.{COUNTERS}
 use Rattle.bq_bpf.specs.Counters.{Counts, Through}
 use Rattle.bq_parts.specs.World.{World, opening_world}
-use Rattle.bq_parts.specs.Choices.{PolicySemantics, policies}
+use Rattle.bq_parts.specs.Choices.{PolicySemantics, by_programs}
 use Rattle.bq_parts.specs.Steps.{WorldStep}
 use Rattle.bq_parts.specs.declared.event.Event.{Event}
 use Rattle.bq_parts.specs.declared.reply.Reply.{Reply}
@@ -24,28 +24,29 @@ pub record Driven : Type 0 where
   pub world : World
   pub counters : List ℕ
 
+-- the discipline that a rule names
 abbrev pub discipline_of : Rule → Discipline
 discipline_of Cfs = cfs
 discipline_of Eevdf = eevdf
 
--- what the machine's world runs under
+-- the meaning of policies under a rule, by which the machine's world runs
 abbrev pub semantics_of : Rule → PolicySemantics
-semantics_of rule = policies (discipline_of rule)
+semantics_of rule = by_programs (discipline_of rule)
 
 -- a machine to which nothing has happened
 abbrev pub opening_machine : Rule → ProcessorCount → Driven
 opening_machine rule size = record { rule = rule; world = opening_world (processors_in size); counters = replicate COUNTERS 0 }
 
--- One event is a step of a world, and what it asked of the counters leads from the ones to the others.
+-- One event is a step of a world, and the policies' calls lead from the old counters to the new ones.
 pub record Advances (s : PolicySemantics) (w : World) (old : List ℕ) (event : Event) (answer : Result Reply Refusal) (v : World) (new : List ℕ) : Type 0 where
-  pub calls : List Asked
+  pub calls : List CounterCall
   pub step : WorldStep s w event calls answer v
   pub through : Through Counts old calls new
 
--- One event is a step of a world, what it asked of the counters leads from the ones to the others, and it has an answer that
--- is not lack of memory.
+-- One event is a step of a world, the policies' calls lead from the old counters to the new ones, and the answer is not lack
+-- of memory.
 pub record Steps (s : PolicySemantics) (w : World) (old : List ℕ) (event : Event) (answer : Result Reply Refusal) (v : World) (new : List ℕ) : Type 0 where
-  pub calls : List Asked
+  pub calls : List CounterCall
   pub step : WorldStep s w event calls answer v
   pub through : Through Counts old calls new
   pub answered : answer ≢ Err OutOfMemory

@@ -4,7 +4,7 @@ use Rattle.std.specs.Str.Lines.{lines}
 use Rattle.std.specs.Io.KnownBytes.{Appends, Consumes, IsAtEnd}
 use Rattle.bq_trace.specs.Trace.{TraceText, WritesBeginning, start}
 
--- The reader gave these bytes and has no more, and the writer got their answers.
+-- The reader gave these bytes and has no more, and the writer got the answers to them.
 pub record Replays (from to old new : Option (List ℕ)) (clean : Bool) : Type 0 where
   pub input : List ℕ
   pub output : List ℕ
@@ -13,7 +13,7 @@ pub record Replays (from to old new : Option (List ℕ)) (clean : Bool) : Type 0
   pub added : Appends old new output
   pub answers : TraceText input output clean
 
--- The reader gave these bytes, and the writer got a beginning of their answers.
+-- The reader gave these bytes, and the writer got a beginning of the answers to them.
 pub record ReplaysInPart (from to old new : Option (List ℕ)) : Type 0 where
   pub input : List ℕ
   pub consumed : Consumes from to input

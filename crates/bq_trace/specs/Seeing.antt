@@ -1,4 +1,4 @@
--- What is seen of a machine.
+-- What a machine shows of a processor.
 use Rattle.std.specs.Prelude.{ℕ, Option}
 use Rattle.std.specs.Option.{option_map}
 use Rattle.bq_parts.specs.Processors.{Processor}
@@ -9,11 +9,11 @@ use Rattle.bq_trace.specs.Machines.{Driven}
 use Rattle.bq_trace.specs.declared.any_core.Seen.{Seen}
 use Rattle.bq_trace.specs.declared.any_core.Seen.TheVariants as seen
 
--- a processor, and the rule that it is under
+-- a processor, and the rule of its machine
 abbrev pub seen_of : Seen → Rule × Processor
 seen_of (seen.Cfs cpu) = (rules.Cfs, cpu.now)
 seen_of (seen.Eevdf cpu) = (rules.Eevdf, cpu.now)
 
--- the processor of a machine, if it has it, under its rule
+-- a processor of a machine with the machine's rule, if the machine has it
 abbrev pub seen_in : Driven → ℕ → Option (Rule × Processor)
 seen_in m c = option_map (λ p. (m.rule, p)) (processor_in m.world c)

@@ -7,27 +7,27 @@ use Rattle.bq_trace.specs.Feeding.{Feeds, Finishes}
 use Rattle.bq_trace.specs.Trace.{TraceText, start}
 use Rattle.bq_trace.specs.declared.trace_position.TracePosition.{TracePosition}
 
--- A session is fed some pieces, one after another, as a feed promises it.
+-- A session is fed some pieces, one after another, and each feed does what its contract says.
 abbrev pub IsFed : TracePosition → List (List ℕ) → TracePosition → Option (List ℕ) → Option (List ℕ) → Type 0
 IsFed s [] t old new = (t ≡ s) × (new ≡ old)
 IsFed s (piece ∷ pieces) t old new =
     (mid : TracePosition) × (now : Option (List ℕ)) × ((begun : List ℕ) → StandsFor s.begun begun → Feeds s begun piece mid old now) × IsFed mid pieces t now new
 
--- And it is finished, as its finish promises it.
+-- A session is finished, and the finish does what its contract says.
 abbrev pub IsFinished : TracePosition → Option (List ℕ) → Option (List ℕ) → Bool → Type 0
 IsFinished s old new clean = (begun : List ℕ) → StandsFor s.begun begun → Finishes s begun old new clean
 
--- pieces, joined
+-- all pieces in one
 abbrev pub joined : List (List ℕ) → List ℕ
 joined pieces = flat_map (λ piece. piece) pieces
 
--- What the writer got are the answers to an input.
+-- The writer got the answers to an input.
 pub record GetsAnswers (input : List ℕ) (old new : Option (List ℕ)) (clean : Bool) : Type 0 where
   pub output : List ℕ
   pub added : Appends old new output
   pub answers : TraceText input output clean
 
--- Where a session begins, is fed some pieces and is finished, the writer got the answers to the joined pieces.
+-- If a session begins, is fed some pieces and is finished, the writer got the answers to the joined pieces.
 abbrev pub SessionAnswers : Type 0
 SessionAnswers =
     (s t : TracePosition) (pieces : List (List ℕ)) (old now new : Option (List ℕ)) (clean : Bool) →

@@ -1,4 +1,4 @@
--- The lines that a trace is answered by (this project's own trace format).
+-- The lines that answer a trace (this project's own trace format).
 use Rattle.std.specs.Prelude.{ℕ, List, ◌∷◌, ◌++◌, nat_lt, Option, Some, None, Result, Ok, Err, if◌then◌else◌, codes}
 use Rattle.std.specs.List.{flat_map}
 use Rattle.std.specs.Fmt.{decimal}
@@ -19,19 +19,20 @@ abbrev pub task_text : Option ℕ → List ℕ
 task_text None = codes "none"
 task_text (Some t) = decimal t
 
--- whose choice it was
+-- who made the choice
 abbrev pub who_text : By → List ℕ
 who_text Policy = codes "policy"
 who_text Discipline = codes "rule"
 
--- who runs, by whose choice, and after how many steps of a policy
+-- the task that runs, who chose it, and how many steps a policy took
 abbrev pub run_text : Option ℕ → By → ℕ → List ℕ
 run_text run by steps = codes " run " ++ (task_text run ++ (codes " by " ++ (who_text by ++ (codes " steps " ++ decimal steps))))
 
--- numbers, a space before each
+-- numbers, with a space before each
 abbrev pub spaced : List ℕ → List ℕ
 spaced numbers = flat_map (λ n. 32 ∷ decimal n) numbers
 
+-- what was done at an event, without the line's end
 abbrev pub reply_text : Reply → List ℕ
 reply_text Admitted = codes "admit ok"
 reply_text Retired = codes "retire ok"
@@ -50,19 +51,20 @@ abbrev pub event_line : Result Reply Refusal → List ℕ
 event_line (Ok reply) = reply_text reply ++ codes "\n"
 event_line (Err refusal) = refused_line (refusal_text refusal)
 
--- the line for a line that says nothing known
+-- the answer to a bad line, by its number
 abbrev pub bad_line : ℕ → List ℕ
 bad_line n = codes "bad " ++ (decimal n ++ codes "\n")
 
+-- a task: its id, its virtual runtime and its deadline
 abbrev pub entity_text : Task → List ℕ
 entity_text t = decimal t.id ++ (codes ":" ++ (decimal t.v ++ (codes ":" ++ decimal t.deadline)))
 
--- the task that runs, or `none`
+-- the running task, or `none`
 abbrev pub current_text : Option Task → List ℕ
 current_text None = codes "none"
 current_text (Some t) = entity_text t
 
--- tasks, a space before each
+-- tasks, with a space before each
 abbrev pub spaced_entities : List Task → List ℕ
 spaced_entities tasks = flat_map (λ t. 32 ∷ entity_text t) tasks
 
@@ -71,7 +73,7 @@ abbrev pub processor_line : ℕ → Running → List ℕ
 processor_line c p =
     codes "show " ++ (decimal c ++ (codes " mark " ++ (decimal p.kept ++ (codes " run " ++ (current_text p.current ++ (codes " queue" ++ (spaced_entities p.queue ++ codes "\n")))))))
 
--- the line that shows a processor, or the refusal of one that the machine doesn't have
+-- the line that shows a processor, or that refuses one that the machine does not have
 abbrev pub show_line : World → ℕ → List ℕ
 show_line w c = if nat_lt c (count_in w) then processor_line c (processor_at w c).running else event_line (Err NoProcessor)
 

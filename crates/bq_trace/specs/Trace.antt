@@ -1,4 +1,4 @@
--- What a trace's lines are answered (this project's own trace format).
+-- The answers to a trace's lines (this project's own trace format).
 use Rattle.std.specs.Prelude.{◌≡◌, ℕ, Bool, true, false, ◌&&◌, not, List, [], ◌∷◌, ◌++◌, Option, Result, Ok, Err, slice_index, nat_lt, if◌then◌else◌}
 use Rattle.std.specs.Str.Lines.{lines}
 use Rattle.bq_bpf.specs.declared.board.TheConstants.{COUNTERS}
@@ -14,17 +14,17 @@ use Rattle.bq_lines.specs.Lines.{reading_of}
 use Rattle.bq_trace.specs.Texts.{bad_line, show_line, counter_line}
 use Rattle.bq_lines.specs.declared.command.Command.TheVariants.{Machine, Does, Wake, Load, Show, Counter}
 use Rattle.bq_lines.specs.declared.command.LineReading.{LineReading}
-use Rattle.bq_lines.specs.declared.command.LineReading.TheVariants.{Skipped, Bad, Says}
+use Rattle.bq_lines.specs.declared.command.LineReading.TheVariants.{Skipped, Bad, Asks}
 use Rattle.bq_trace.specs.declared.progress.Phase.{Phase}
 use Rattle.bq_trace.specs.declared.progress.Phase.TheVariants.{Waiting, Over, Running}
 use Rattle.bq_trace.specs.declared.progress.Progress.{Progress}
 
--- What follows the begin of a wake: the end, unless the begin was refused.
+-- What follows the begin of a wake: its end, or nothing if the begin was refused.
 abbrev pub EndsWake : Result Reply Refusal → Driven → ℕ → ℕ → List ℕ → Driven → Type 0
 EndsWake (Err refusal) m c now text n = (text ≡ []) × (n ≡ m)
 EndsWake (Ok begun) m c now text n = (answer : Result Reply Refusal) × DoesAndAnswers m (EndWake c now) answer text n
 
--- A wake is a begin and what follows it; the text is that of both.
+-- A wake is a begin and what follows the begin; the text answers both.
 pub record Wakes (m : Driven) (c task now : ℕ) (text : List ℕ) (n : Driven) : Type 0 where
   pub begun : Result Reply Refusal
   pub mid : Driven
@@ -34,50 +34,51 @@ pub record Wakes (m : Driven) (c task now : ℕ) (text : List ℕ) (n : Driven) 
   pub ends : EndsWake begun mid c now more n
   pub whole : text ≡ first ++ more
 
--- What the line of this number writes in a phase, the phase after it, and whether it was called bad.
-abbrev pub Answers : Phase → LineReading → ℕ → List ℕ → Phase → Bool → Type 0
-Answers Over reading n text after bad = (text ≡ []) × (after ≡ Over) × (bad ≡ false)
-Answers Waiting Skipped n text after bad = (text ≡ []) × (after ≡ Waiting) × (bad ≡ false)
-Answers Waiting (Says (Machine rule size)) n text after bad = (text ≡ []) × (after ≡ Running (opening_machine rule size)) × (bad ≡ false)
-Answers Waiting reading n text after bad = (text ≡ bad_line n) × (after ≡ Over) × (bad ≡ true)
-Answers (Running m) Skipped n text after bad = (text ≡ []) × (after ≡ Running m) × (bad ≡ false)
-Answers (Running m) (Says (Does event)) n text after bad =
+-- The answer to the line of this number in a phase, the phase after it, and whether the line was called bad.
+abbrev pub AnswersAtPhase : Phase → LineReading → ℕ → List ℕ → Phase → Bool → Type 0
+AnswersAtPhase Over reading n text after bad = (text ≡ []) × (after ≡ Over) × (bad ≡ false)
+AnswersAtPhase Waiting Skipped n text after bad = (text ≡ []) × (after ≡ Waiting) × (bad ≡ false)
+AnswersAtPhase Waiting (Asks (Machine rule size)) n text after bad = (text ≡ []) × (after ≡ Running (opening_machine rule size)) × (bad ≡ false)
+AnswersAtPhase Waiting reading n text after bad = (text ≡ bad_line n) × (after ≡ Over) × (bad ≡ true)
+AnswersAtPhase (Running m) Skipped n text after bad = (text ≡ []) × (after ≡ Running m) × (bad ≡ false)
+AnswersAtPhase (Running m) (Asks (Does event)) n text after bad =
     (k : Driven) × (answer : Result Reply Refusal) × DoesAndAnswers m event answer text k × (after ≡ Running k) × (bad ≡ false)
-Answers (Running m) (Says (Wake c task now)) n text after bad = (k : Driven) × Wakes m c task now text k × (after ≡ Running k) × (bad ≡ false)
-Answers (Running m) (Says (Load c hook generation image)) n text after bad = (k : Driven) × LoadsAndAnswers m c hook generation image text k × (after ≡ Running k) × (bad ≡ false)
-Answers (Running m) (Says (Counter i)) n text after bad =
+AnswersAtPhase (Running m) (Asks (Wake c task now)) n text after bad = (k : Driven) × Wakes m c task now text k × (after ≡ Running k) × (bad ≡ false)
+AnswersAtPhase (Running m) (Asks (Load c hook generation image)) n text after bad = (k : Driven) × LoadsAndAnswers m c hook generation image text k × (after ≡ Running k) × (bad ≡ false)
+AnswersAtPhase (Running m) (Asks (Counter i)) n text after bad =
     (text ≡ (if nat_lt i COUNTERS then counter_line i (slice_index m.counters i) else bad_line n)) × (after ≡ Running m) × (bad ≡ not (nat_lt i COUNTERS))
-Answers (Running m) (Says (Show c)) n text after bad = (text ≡ show_line m.world c) × (after ≡ Running m) × (bad ≡ false)
-Answers (Running m) (Says (Machine rule size)) n text after bad = (text ≡ bad_line n) × (after ≡ Running m) × (bad ≡ true)
-Answers (Running m) Bad n text after bad = (text ≡ bad_line n) × (after ≡ Running m) × (bad ≡ true)
+AnswersAtPhase (Running m) (Asks (Show c)) n text after bad = (text ≡ show_line m.world c) × (after ≡ Running m) × (bad ≡ false)
+AnswersAtPhase (Running m) (Asks (Machine rule size)) n text after bad = (text ≡ bad_line n) × (after ≡ Running m) × (bad ≡ true)
+AnswersAtPhase (Running m) Bad n text after bad = (text ≡ bad_line n) × (after ≡ Running m) × (bad ≡ true)
 
--- One line after p, by what it says: what is written, and what holds then.
+-- The answer to one line after p, by what the line says, and the state after it.
 pub record AnswersReading (p : Progress) (reading : LineReading) (text : List ℕ) (q : Progress) : Type 0 where
   pub counted : q.line ≡ one_more p.line
   pub bad : Bool
-  pub answered : Answers p.phase reading q.line text q.phase bad
+  pub answered : AnswersAtPhase p.phase reading q.line text q.phase bad
   pub clean : q.clean ≡ (p.clean && not bad)
 
+-- the answer to one line after p, and the state after it
 abbrev pub AnswersLine : Progress → List ℕ → List ℕ → Progress → Type 0
 AnswersLine p line text q = AnswersReading p (reading_of line) text q
 
--- Lines in order, each answered where the one before it left off.
+-- The answers to lines in order, each in the state that the one before it left.
 abbrev pub AnswersAll : Progress → List (List ℕ) → List ℕ → Progress → Type 0
 AnswersAll p [] text q = (text ≡ []) × (q ≡ p)
 AnswersAll p (line ∷ others) text q =
     (m : Progress) × (first : List ℕ) × (more : List ℕ) × AnswersLine p line first m × AnswersAll m others more q × (text ≡ first ++ more)
 
--- before the first line
+-- the state before the first line
 abbrev pub start : Progress
 start = record { phase = Waiting; line = 0; clean = true }
 
--- The output that an input has. It is clean where no line was called bad.
+-- The output that answers an input. It is clean if no line was called bad.
 pub record TraceText (input output : List ℕ) (clean : Bool) : Type 0 where
   pub final : Progress
   pub chain : AnswersAll start (lines input) output final
   pub is_clean : clean ≡ final.clean
 
--- What a writer holds grew by a beginning of the answers to some of the lines, the first ones.
+-- The writer got a beginning of the answers to the first few of these lines.
 pub record WritesBeginning (p : Progress) (all : List (List ℕ)) (old new : Option (List ℕ)) : Type 0 where
   pub answered : List (List ℕ)
   pub others : List (List ℕ)

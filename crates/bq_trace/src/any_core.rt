@@ -1,4 +1,4 @@
-//! The machine that a trace drives: a core of one of the sizes that a trace may ask for, under one of its rules.
+//! The machine that a trace drives: a core of one of the sizes and under one of the rules that a trace may ask for.
 ghost use Rattle.std.specs.Prelude.{◌≡◌, ◌<◌, slice_index, IfOk};
 ghost use Rattle.std.specs.Borrow.{Bor};
 ghost use Rattle.std.specs.Option.{option_map};
@@ -18,7 +18,7 @@ use bq_words::{ProcessorCount, Rule};
 use std::alloc::{AllocError, Global};
 use std::marker::Model;
 
-/// A processor under the rule of its machine, as it stands now.
+/// A processor, under whichever rule its machine has.
 #[derive(Clone, Copy)]
 pub enum Seen<'a> {
     /// Under CFS.
@@ -60,7 +60,7 @@ impl Model for AnyCore {
 }
 
 impl AnyCore {
-    ghost use Rattle.bq_trace.specs.Telling.{Moves};
+    ghost use Rattle.bq_trace.specs.Reporting.{AdvancesMachine};
     ghost use Rattle.bq_trace.specs.Seeing.{seen_in};
 
     /// A machine to which nothing has happened.
@@ -84,7 +84,7 @@ impl AnyCore {
         })
     }
 
-    /// The rule of its processors.
+    /// The rule of the machine's processors.
     pub fn rule(&self) -> Rule
         ensures { result ≡ self.now.rule }
     {
@@ -94,18 +94,18 @@ impl AnyCore {
         }
     }
 
-    /// Does one event.
+    /// Does one event. An `Err` is the reason why the event was refused.
     pub fn step(&mut self, alloc: Global, event: Event) -> Result<Reply, Refusal>
-        ensures { Moves self.old event result self.new }
+        ensures { AdvancesMachine self.old event result self.new }
     {
-        // Each arm returns by itself, since a reply is large and would else be moved again.
+        // Each arm returns by itself: a reply is large, and a common return would move it again.
         match &mut self.core {
             RuleCore::Cfs(core) => return core.step(alloc, event, &mut self.board),
             RuleCore::Eevdf(core) => return core.step(alloc, event, &mut self.board),
         }
     }
 
-    /// The value of a counter.
+    /// The value of a counter that the policies share.
     pub fn counter(&self, counter: u8) -> u64
         requires { counter < COUNTERS }
         ensures { result ≡ slice_index self.now.counters counter }
@@ -113,7 +113,7 @@ impl AnyCore {
         self.board.value(counter)
     }
 
-    /// A processor as it stands now, if the machine has it.
+    /// A processor as it is now, if the machine has it.
     pub fn seen(&self, processor: u8) -> Option<Seen<'_>>
         ensures { option_map seen_of result ≡ seen_in self.now processor }
     {

@@ -2,13 +2,13 @@
 ghost use Rattle.bq_trace.specs.Laws.{PiecesJoin};
 ghost use Rattle.bq_trace.specs.Sessions.{SessionAnswers};
 
-/// Two pieces do what their join does.
+/// Two pieces, one after the other, do what their join does.
 pub fn pieces_join()
     ensures { PiecesJoin }
 {}
 
-/// A session that begins, is fed some pieces and is finished, each as its contract says, has written the answers to the
-/// joined pieces: what a replay of their whole writes.
+/// A session that begins, is fed some pieces and is finished has written the answers to the joined pieces, if each call did
+/// what its contract says. A replay of the joined pieces writes these answers, too.
 pub fn session_answers()
     ensures { SessionAnswers }
 {}

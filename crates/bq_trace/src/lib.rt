@@ -1,7 +1,7 @@
 //! A trace of events, read in pieces from any reader, and the lines that answer it, written to any writer.
 //! Promises that what is written is the text of the replies that the core gives, line by line.
-//! A sink gets the events of a trace, one by one; that text is a sink.
-//! Stands on counted streams, on the lines of a trace, on the core's step and on the two disciplines.
+//! A sink gets the events of a trace, one by one; the text that answers a trace is a sink.
+//! Builds on counted streams, on the lines of a trace, on the core's step and on the two disciplines.
 #![tactic(auto)]
 
 mod any_core;

@@ -13,7 +13,7 @@ use bq_load::{LoadFault, load};
 use bq_parts::Event;
 use std::alloc::{AllocError, Global};
 
-/// An image that is to be installed, spelled in hex: the processor, the hook and the number under which it comes there.
+/// An image to install, spelled in hex, with the processor, the hook and the generation that it is installed under.
 #[derive(Drop)]
 pub struct Installation<'a> {
     pub processor: u8,
@@ -24,10 +24,10 @@ pub struct Installation<'a> {
 
 impl AnyCore {
     ghost use Rattle.bq_trace.specs.TraceEvents.{Gets};
-    ghost use Rattle.bq_trace.specs.Telling.{InstallationHappens};
+    ghost use Rattle.bq_trace.specs.Reporting.{InstallationHappens};
 
-    /// Loads an image that is spelled in hex and installs its policy as an event, and tells what comes of it. What doesn't
-    /// load is refused, and is no event.
+    /// Loads an image that is spelled in hex, installs its policy as an event, and reports what happens. An image that does not
+    /// load is refused, and nothing happens in the machine.
     pub fn install_image<S: Sink>(
         &mut self,
         alloc: Global,
@@ -35,7 +35,7 @@ impl AnyCore {
         installation: Installation<'_>,
         sink: &mut S,
     ) -> Result<(), AllocError>
-        ensures { OnOk result (Gets S.takes sink.old sink.new (λ told. InstallationHappens self.old number installation.entry told self.new)) }
+        ensures { OnOk result (Gets S.takes sink.old sink.new (λ reported. InstallationHappens self.old number installation.entry reported self.new)) }
     {
         let Installation {
             processor,
@@ -66,7 +66,7 @@ impl AnyCore {
     }
 }
 
-/// Adds the line that refuses an image.
+/// Adds the line that refuses an image, with the reason.
 pub fn write_fault(text: &mut String, fault: LoadFault) -> Result<(), AllocError>
     ensures { OnOk result (string_bytes text.new ≡ string_bytes text.old ++ fault_line fault) }
 {

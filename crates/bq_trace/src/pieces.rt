@@ -9,7 +9,7 @@ use bq_streams::{Counted, PIECE, READS, StreamFault};
 use std::alloc::Global;
 use std::io::{Read, Write};
 
-/// Reads a trace to its end and writes the answers. True if no line was bad.
+/// Reads a trace to its end and writes the answers. Answers true if no line was bad.
 ///
 /// # Example
 ///
@@ -26,15 +26,15 @@ pub fn replay<R: Read, W: Write>(
     input: &mut Counted<R>,
     output: &mut Counted<W>,
 ) -> Result<bool, StreamFault>
-    // What was read and what was written are a trace and its answers, and nothing is left.
+    // The input was read to its end, and the answers to the trace were written.
     ensures ok { IfOk result (λ clean. Replays (R.remaining (inner_of input.old)) (R.remaining (inner_of input.new))
         (W.contents (inner_of output.old)) (W.contents (inner_of output.new)) clean) }
 
-    // No read and no write has failed then: the first failure ends it.
+    // No read and no write failed: the first failure ends the replay.
     ensures reads { OnOk result (failures_of input.new ≡ failures_of input.old) }
     ensures writes { OnOk result (failures_of output.new ≡ failures_of output.old) }
 
-    // After a fault a beginning of the answers to what was read is written.
+    // After a fault, a beginning of the answers to what was read is written.
     ensures part { OnErr result (ReplaysInPart (R.remaining (inner_of input.old)) (R.remaining (inner_of input.new))
         (W.contents (inner_of output.old)) (W.contents (inner_of output.new))) }
 

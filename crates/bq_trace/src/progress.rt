@@ -1,13 +1,13 @@
-//! What each line of a trace does, and what comes of it.
+//! What each line of a trace does, and what is reported of it.
 ghost use Rattle.std.specs.Prelude.{◌≡◌, ◌↔◌, IsTrue, ℕ, List, Result, Err, is_ok, false, IfOk, OnOk};
 ghost use Rattle.std.specs.Borrow.{Bor};
 ghost use Rattle.std.specs.Option.{option_map};
 ghost use Rattle.bq_parts.specs.declared.reply.Reply.{Reply};
 ghost use Rattle.bq_parts.specs.declared.refusal.Refusal.{Refusal};
 ghost use Rattle.bq_parts.specs.declared.refusal.Refusal.TheVariants as no;
-ghost use Rattle.bq_lines.specs.Lines.{reading_heard};
+ghost use Rattle.bq_lines.specs.Lines.{reading_of_short_line};
 ghost use Rattle.bq_trace.specs.TraceEvents.{Gets};
-ghost use Rattle.bq_trace.specs.Telling.{Happens, WakeHappens, Tells};
+ghost use Rattle.bq_trace.specs.Reporting.{Happens, WakeHappens, Reports};
 
 use crate::any_core::AnyCore;
 use crate::bare::bare;
@@ -16,7 +16,7 @@ use crate::reporting::{report, report_bad, report_skipped};
 use crate::sink::Sink;
 use crate::trace_event::TraceEvent;
 use bq_bpf::board::COUNTERS;
-use bq_lines::{Command, LineReading, read_heard};
+use bq_lines::{Command, LineReading, read_short_line};
 use bq_parts::{Event, Refusal, Reply};
 use std::alloc::{AllocError, Global};
 
@@ -31,7 +31,7 @@ fn is_out_of_memory(answer: &Result<Reply, Refusal>) -> bool
 }
 
 impl AnyCore {
-    /// Does an event, and reports it before and after. True where it was not refused.
+    /// Does an event, and reports it before and after. Answers true if the event was not refused.
     pub fn perform<S: Sink>(
         &mut self,
         alloc: Global,
@@ -40,11 +40,11 @@ impl AnyCore {
         sink: &mut S,
     ) -> Result<bool, AllocError>
         ensures { IfOk result (λ done. (answer : Result Reply Refusal) × (is_ok answer ≡ done)
-            × Gets S.takes sink.old sink.new (λ told. Happens self.old number event answer told self.new)) }
+            × Gets S.takes sink.old sink.new (λ reported. Happens self.old number event answer reported self.new)) }
     {
-        let told = bare(&event);
+        let reported = bare(&event);
         let coming = TraceEvent::Comes {
-            event: &told,
+            event: &reported,
             machine: self,
         };
         sink.take(number, &coming)?;
@@ -53,7 +53,7 @@ impl AnyCore {
             return Err(AllocError);
         }
         let answered = TraceEvent::Answered {
-            event: &told,
+            event: &reported,
             answer: &answer,
             machine: self,
         };
@@ -61,7 +61,7 @@ impl AnyCore {
         Ok(answer.is_ok())
     }
 
-    /// Begins a wake, and ends it unless that was refused. No such line is bad.
+    /// Begins a wake, and ends it unless the begin was refused. Answers false: the line of a wake is never bad.
     fn wake<S: Sink>(
         &mut self,
         alloc: Global,
@@ -71,7 +71,7 @@ impl AnyCore {
         now: u64,
         sink: &mut S,
     ) -> Result<bool, AllocError>
-        ensures { IfOk result (λ bad. (bad ≡ false) × Gets S.takes sink.old sink.new (λ told. WakeHappens self.old number processor task now told self.new)) }
+        ensures { IfOk result (λ bad. (bad ≡ false) × Gets S.takes sink.old sink.new (λ reported. WakeHappens self.old number processor task now reported self.new)) }
     {
         let begun = self.perform(alloc, number, Event::BeginWake { processor, task }, sink)?;
         if begun {
@@ -80,7 +80,7 @@ impl AnyCore {
         Ok(false)
     }
 
-    /// Does what the line of this number says and tells what comes of it. True where the line is bad.
+    /// Does what the line of this number says, and reports what happens. Answers true if the line is bad.
     fn obey<S: Sink>(
         &mut self,
         alloc: Global,
@@ -90,22 +90,22 @@ impl AnyCore {
         sink: &mut S,
     ) -> Result<bool, AllocError>
         ensures { IfOk result (λ bad. Gets S.takes sink.old sink.new
-            (λ told. Tells (Phase.Running self.old) number (option_map (λ (l : Bor (List ℕ)). l.now) line.entry) reading.entry told (Phase.Running self.new) bad)) }
+            (λ reported. Reports (Phase.Running self.old) number (option_map (λ (l : Bor (List ℕ)). l.now) line.entry) reading.entry reported (Phase.Running self.new) bad)) }
     {
         match reading {
             LineReading::Skipped => report_skipped(number, line, sink),
-            LineReading::Says(Command::Does(event)) => {
+            LineReading::Asks(Command::Does(event)) => {
                 self.perform(alloc, number, event, sink)?;
                 Ok(false)
             }
-            LineReading::Says(
+            LineReading::Asks(
                 Command::Wake {
                     processor,
                     task,
                     now,
                 },
             ) => { self.wake(alloc, number, processor, task, now, sink) }
-            LineReading::Says(
+            LineReading::Asks(
                 Command::Load {
                     processor,
                     hook,
@@ -122,7 +122,7 @@ impl AnyCore {
                 self.install_image(alloc, number, installation, sink)?;
                 Ok(false)
             }
-            LineReading::Says(Command::Counter { counter }) => {
+            LineReading::Asks(Command::Counter { counter }) => {
                 if usize::from(counter) >= COUNTERS {
                     return report_bad(number, line, sink);
                 }
@@ -130,7 +130,7 @@ impl AnyCore {
                 report(number, &TraceEvent::CounterRead { counter, value }, sink)?;
                 Ok(false)
             }
-            LineReading::Says(Command::Show { processor }) => {
+            LineReading::Asks(Command::Show { processor }) => {
                 let shown = TraceEvent::ProcessorAsked {
                     processor,
                     machine: self,
@@ -138,27 +138,27 @@ impl AnyCore {
                 report(number, &shown, sink)?;
                 Ok(false)
             }
-            LineReading::Bad | LineReading::Says(Command::Machine { .. }) => {
+            LineReading::Bad | LineReading::Asks(Command::Machine { .. }) => {
                 report_bad(number, line, sink)
             }
         }
     }
 }
 
-/// Where a trace stands: before its machine line, past one that failed, or with its machine.
+/// How far a trace is: before its machine line, after a first line that was not one, or with its machine.
 #[derive(Drop)]
 pub enum Phase {
     /// No machine line has come yet.
     Waiting,
-    /// The first line that says something was no machine line, so nothing is done any more.
+    /// The first line that says something was no machine line. The trace does nothing any more.
     Over,
     /// The machine, after the events so far.
     Running(AnyCore),
 }
 
 impl Phase {
-    /// Does what the line of this number says, where no machine line has come yet, and tells what comes of it. True where
-    /// the line is bad.
+    /// Does what the line of this number says while no machine line has come yet, and reports what happens. Answers true if the
+    /// line is bad.
     ///
     /// A machine is large and is built on the stack here, so this is kept out of the path of every other line.
     #[inline(never)]
@@ -172,11 +172,11 @@ impl Phase {
     ) -> Result<bool, AllocError>
         requires { self.now ≡ Phase.Waiting }
         ensures { IfOk result (λ bad. Gets S.takes sink.old sink.new
-            (λ told. Tells Phase.Waiting number (option_map (λ (l : Bor (List ℕ)). l.now) line.entry) reading.now told self.new bad)) }
+            (λ reported. Reports Phase.Waiting number (option_map (λ (l : Bor (List ℕ)). l.now) line.entry) reading.now reported self.new bad)) }
     {
         match reading {
             LineReading::Skipped => report_skipped(number, line, sink),
-            LineReading::Says(Command::Machine { rule, size }) => {
+            LineReading::Asks(Command::Machine { rule, size }) => {
                 *self = Phase::Running(AnyCore::new(alloc, *rule, *size)?);
                 let opened = TraceEvent::Opened {
                     rule: *rule,
@@ -192,7 +192,7 @@ impl Phase {
         }
     }
 
-    /// Does what the line of this number says and tells what comes of it. True where the line is bad.
+    /// Does what the line of this number says, and reports what happens. Answers true if the line is bad.
     fn answer<S: Sink>(
         &mut self,
         alloc: Global,
@@ -201,20 +201,26 @@ impl Phase {
         sink: &mut S,
     ) -> Result<bool, AllocError>
         ensures { IfOk result (λ bad. Gets S.takes sink.old sink.new
-            (λ told. Tells self.old number (option_map (λ (l : Bor (List ℕ)). l.now) line.entry) (reading_heard (option_map (λ (l : Bor (List ℕ)). l.now) line.entry)) told self.new bad)) }
+            (λ reported. Reports self.old number (option_map (λ (l : Bor (List ℕ)). l.now) line.entry) (reading_of_short_line (option_map (λ (l : Bor (List ℕ)). l.now) line.entry)) reported self.new bad)) }
     {
         match self {
             Phase::Over => Ok(false),
-            Phase::Waiting => self.begin(alloc, number, line, &read_heard(line), sink),
-            Phase::Running(machine) => machine.obey(alloc, number, line, read_heard(line), sink),
+            Phase::Waiting => self.begin(alloc, number, line, &read_short_line(line), sink),
+            Phase::Running(machine) => machine.obey(
+                alloc,
+                number,
+                line,
+                read_short_line(line),
+                sink,
+            ),
         }
     }
 }
 
-/// The state after some lines.
+/// The state of a trace after some lines.
 #[derive(Drop)]
 pub struct Progress {
-    /// Where the trace stands.
+    /// How far the trace is.
     pub phase: Phase,
     /// How many lines there were. The count stops at its greatest value.
     pub line: u64,
@@ -224,9 +230,9 @@ pub struct Progress {
 
 impl Progress {
     ghost use Rattle.bq_trace.specs.Trace.{start};
-    ghost use Rattle.bq_trace.specs.Telling.{TellsHeard};
+    ghost use Rattle.bq_trace.specs.Reporting.{ReportsShortLine};
 
-    /// Before the first line.
+    /// The state before the first line.
     pub fn start() -> Progress
         ensures { result ≡ start }
     {
@@ -237,7 +243,7 @@ impl Progress {
         }
     }
 
-    /// Does what the next line says, and reports what comes of it. `line` is what was kept of it: `None` if it is too long.
+    /// Does what the next line says, and reports what happens. `line` is what was kept of the line: `None` if it is too long.
     /// After an `Err` the state is of no use.
     pub fn answer<S: Sink>(
         &mut self,
@@ -246,7 +252,7 @@ impl Progress {
         sink: &mut S,
     ) -> Result<(), AllocError>
         ensures { OnOk result (Gets S.takes sink.old sink.new
-            (λ told. TellsHeard self.old (option_map (λ (l : Bor (List ℕ)). l.now) line.entry) told self.new)) }
+            (λ reported. ReportsShortLine self.old (option_map (λ (l : Bor (List ℕ)). l.now) line.entry) reported self.new)) }
     {
         self.line = self.line.saturating_add(1);
         let bad = self.phase.answer(alloc, self.line, line, sink)?;

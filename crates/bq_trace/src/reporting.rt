@@ -4,7 +4,7 @@ ghost use Rattle.std.specs.Borrow.{Bor};
 ghost use Rattle.std.specs.Option.{option_map};
 ghost use Rattle.bq_trace.specs.Borrowed.{event_of};
 ghost use Rattle.bq_trace.specs.TraceEvents.{Gets, Bad};
-ghost use Rattle.bq_trace.specs.Telling.{skips};
+ghost use Rattle.bq_trace.specs.Reporting.{skips};
 
 use crate::sink::Sink;
 use crate::trace_event::TraceEvent;
@@ -12,18 +12,19 @@ use std::alloc::AllocError;
 
 /// Reports one event.
 pub fn report<S: Sink>(number: u64, event: &TraceEvent<'_>, sink: &mut S) -> Result<(), AllocError>
-    ensures { OnOk result (Gets S.takes sink.old sink.new (λ told. told ≡ (number, event_of event.now) ∷ [])) }
+    ensures { OnOk result (Gets S.takes sink.old sink.new (λ reported. reported ≡ (number, event_of event.now) ∷ [])) }
 {
     sink.take(number, event)
 }
 
-/// Reports a line that says nothing, unless it is too long to keep. Answers false: such a line is not bad.
+/// Reports a line that says nothing. Answers false: such a line is not bad. `line` is `None` only for a line that is too long. Such a
+/// line is bad, so it does not come here.
 pub fn report_skipped<S: Sink>(
     number: u64,
     line: Option<&[u8]>,
     sink: &mut S,
 ) -> Result<bool, AllocError>
-    ensures { IfOk result (λ bad. (bad ≡ false) × Gets S.takes sink.old sink.new (λ told. told ≡ skips number (option_map (λ (l : Bor (List ℕ)). l.now) line.entry))) }
+    ensures { IfOk result (λ bad. (bad ≡ false) × Gets S.takes sink.old sink.new (λ reported. reported ≡ skips number (option_map (λ (l : Bor (List ℕ)). l.now) line.entry))) }
 {
     if let Some(line) = line {
         sink.take(number, &TraceEvent::Skipped { line })?;
@@ -31,13 +32,13 @@ pub fn report_skipped<S: Sink>(
     Ok(false)
 }
 
-/// Reports a bad line.
+/// Reports a bad line. Answers true.
 pub fn report_bad<S: Sink>(
     number: u64,
     line: Option<&[u8]>,
     sink: &mut S,
 ) -> Result<bool, AllocError>
-    ensures { IfOk result (λ bad. (bad ≡ true) × Gets S.takes sink.old sink.new (λ told. told ≡ (number, Bad (option_map (λ (l : Bor (List ℕ)). l.now) line.entry)) ∷ [])) }
+    ensures { IfOk result (λ bad. (bad ≡ true) × Gets S.takes sink.old sink.new (λ reported. reported ≡ (number, Bad (option_map (λ (l : Bor (List ℕ)). l.now) line.entry)) ∷ [])) }
 {
     sink.take(number, &TraceEvent::Bad { line })?;
     Ok(true)

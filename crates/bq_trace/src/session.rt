@@ -10,7 +10,7 @@ use std::alloc::Global;
 use std::io::Write;
 use std::marker::Model;
 
-/// A replay of a trace that comes in pieces. Contracts see how far it has come.
+/// A replay of a trace that comes in pieces. Contracts see its position in the trace.
 ///
 /// # Example
 ///
@@ -27,7 +27,7 @@ use std::marker::Model;
 pub struct Session {
     alloc: Global,
     position: TracePosition,
-    /// The answers to one piece, kept only for its memory.
+    /// The answers to one piece. They are kept only so that their memory is used again.
     answers: String,
 }
 
@@ -65,6 +65,7 @@ impl Session {
         }
     }
 
+    /// Runs the lines that this piece ends, and writes their answers.
     fn go_on<W: Write>(&mut self, piece: &[u8], out: &mut Counted<W>) -> Result<(), StreamFault>
         ensures ok { OnOk result ((begun : List ℕ) → StandsFor self.old.begun begun
             → Feeds self.old begun piece.now self.new (W.contents (inner_of out.old)) (W.contents (inner_of out.new))) }
@@ -79,8 +80,8 @@ impl Session {
         Ok(())
     }
 
-    /// Runs the lines that this piece ends, and writes their answers. A fault ends the session: a beginning of the answers is
-    /// written, and the fault is the writer's only if the writer failed.
+    /// Runs the lines that this piece ends, and writes their answers. A fault ends the session: only a beginning of the answers
+    /// is written, and the fault is `Write` only if the writer failed.
     pub fn feed<W: Write>(
         mut self,
         piece: &[u8],
@@ -97,6 +98,7 @@ impl Session {
         Ok(self)
     }
 
+    /// Runs the last line, if no line feed ended it, and writes its answer. Answers true if no line of the trace was bad.
     fn end<W: Write>(&mut self, out: &mut Counted<W>) -> Result<bool, StreamFault>
         ensures ok { IfOk result (λ clean. (begun : List ℕ) → StandsFor self.old.begun begun
             → Finishes self.old begun (W.contents (inner_of out.old)) (W.contents (inner_of out.new)) clean) }
@@ -111,7 +113,7 @@ impl Session {
         Ok(self.position.progress.clean)
     }
 
-    /// Runs the last line, if no line feed ended it. True if no line of the trace was bad.
+    /// Runs the last line, if no line feed ended it. Answers true if no line of the trace was bad.
     pub fn finish<W: Write>(mut self, out: &mut Counted<W>) -> Result<bool, StreamFault>
         ensures ok { IfOk result (λ clean. (begun : List ℕ) → StandsFor self.begun begun
             → Finishes self begun (W.contents (inner_of out.old)) (W.contents (inner_of out.new)) clean) }

@@ -8,7 +8,7 @@ use bq_disc::{Entity, RunQueue};
 use bq_parts::{Cpu, Refusal};
 use std::alloc::AllocError;
 
-/// Adds what stands before a task, and the task by its id, v and deadline.
+/// Adds `before`, and then a task: its id, its virtual runtime and its deadline.
 fn write_entity(text: &mut String, before: &str, entity: &Entity) -> Result<(), AllocError>
     ensures { OnOk result (string_bytes text.new ≡ string_bytes text.old ++ (before.now ++ entity_text entity.now)) }
 {
@@ -18,7 +18,7 @@ fn write_entity(text: &mut String, before: &str, entity: &Entity) -> Result<(), 
     write!(text, "{before}{id}:{v}:{deadline}")
 }
 
-/// Adds the task that runs, or `none`.
+/// Adds the running task, or `none`.
 fn write_current<Q: RunQueue>(text: &mut String, cpu: &Cpu<Q>) -> Result<(), AllocError>
     ensures { OnOk result (string_bytes text.new ≡ string_bytes text.old ++ current_text cpu.now.running.current) }
 {
@@ -28,7 +28,7 @@ fn write_current<Q: RunQueue>(text: &mut String, cpu: &Cpu<Q>) -> Result<(), All
     }
 }
 
-/// Adds the tasks of the queue by rising (v, id), a space before each.
+/// Adds the tasks of the queue in order of (v, id), with a space before each.
 fn write_queue<Q: RunQueue>(text: &mut String, cpu: &Cpu<Q>) -> Result<(), AllocError>
     ensures { OnOk result (string_bytes text.new ≡ string_bytes text.old ++ spaced_entities cpu.now.running.queue) }
 {
@@ -56,7 +56,7 @@ pub fn write_processor<Q: RunQueue>(
     text.push_str("\n")
 }
 
-/// Adds the line that shows a processor of a machine, or refuses it.
+/// Adds the line that shows a processor, or refuses a processor that the machine does not have.
 pub fn write_shown(text: &mut String, processor: u8, machine: &AnyCore) -> Result<(), AllocError>
     ensures { OnOk result (string_bytes text.new ≡ string_bytes text.old ++ show_line machine.now.world processor) }
 {

@@ -1,4 +1,4 @@
-//! What takes the events of a trace, one by one. The text that answers a trace is such a sink.
+//! A sink takes the events of a trace, one by one. The text that answers a trace is a sink.
 ghost use Rattle.std.specs.Prelude.{◌≡◌, ◌++◌, ℕ, OnOk, string_bytes};
 ghost use Rattle.bq_trace.specs.TraceEvents.{TraceEvent as Traced, text_of};
 ghost use Rattle.bq_trace.specs.Borrowed.{event_of};
@@ -13,10 +13,10 @@ use std::alloc::AllocError;
 ///
 /// A `String` is a sink: it takes the lines that answer a trace.
 pub trait Sink {
-    /// How a sink stands before an event and after it, with the number of its line.
+    /// How an event with the number of its line changes the sink: the sink before and after.
     ghost takes: { Self → ℕ → Traced → Self → Type 0 };
 
-    /// Takes an event. `number` is that of its line, from 1; 0 for a comment that a simulation puts above the trace.
+    /// Takes an event. `number` is the number of its line, from 1. It is 0 for a comment that a simulation puts above the trace.
     fn take(&mut self, number: u64, event: &TraceEvent<'_>) -> Result<(), AllocError>
         ensures { OnOk result (takes self.old number (event_of event.now) self.new) };
 }
@@ -24,7 +24,7 @@ pub trait Sink {
 impl Sink for String {
     ghost takes = { λ old n traced new. string_bytes new ≡ string_bytes old ++ text_of n traced };
 
-    // Inlined, so that no event is built where nothing reads it.
+    // Inlined, so that no event is built that nothing reads.
     #[inline(always)]
     fn take(&mut self, number: u64, event: &TraceEvent<'_>) -> Result<(), AllocError> {
         match event {

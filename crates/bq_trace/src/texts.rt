@@ -1,4 +1,4 @@
-//! The lines that a trace is answered by.
+//! The lines that answer a trace.
 ghost use Rattle.std.specs.Prelude.{◌≡◌, ◌<◌, ◌+◌, ◌++◌, ◌∷◌, [], OnOk, Ok, Err, codes, string_bytes};
 ghost use Rattle.std.specs.Fmt.{decimal};
 ghost use Rattle.bq_parts.specs.declared.reply.Reply.TheVariants.{Begun, Placed, Blocked};
@@ -24,7 +24,7 @@ fn write_large(text: &mut String, number: u32) -> Result<(), AllocError>
     write!(text, "{number}")
 }
 
-/// Adds a number. One of a digit or two, as most ids, loads and steps are, takes no formatter.
+/// Adds a number. Most ids, loads and steps have one or two digits, and these need no formatter.
 fn write_number(text: &mut String, number: u32) -> Result<(), AllocError>
     ensures { OnOk result (string_bytes text.new ≡ string_bytes text.old ++ decimal number) }
 {
@@ -48,7 +48,7 @@ fn write_task(text: &mut String, task: Option<u16>) -> Result<(), AllocError>
     }
 }
 
-/// Adds what stands before a number, and the number.
+/// Adds `before`, and then a number.
 fn write_numbered(text: &mut String, before: &str, number: u32) -> Result<(), AllocError>
     ensures { OnOk result (string_bytes text.new ≡ string_bytes text.old ++ (before.now ++ decimal number)) }
 {
@@ -56,7 +56,7 @@ fn write_numbered(text: &mut String, before: &str, number: u32) -> Result<(), Al
     write_number(text, number)
 }
 
-/// Adds numbers, a space before each.
+/// Adds numbers, with a space before each.
 fn write_spaced(text: &mut String, numbers: &[u16]) -> Result<(), AllocError>
     ensures { OnOk result (string_bytes text.new ≡ string_bytes text.old ++ spaced numbers.now) }
 {
@@ -66,14 +66,14 @@ fn write_spaced(text: &mut String, numbers: &[u16]) -> Result<(), AllocError>
     Ok(())
 }
 
-/// Ends the line of a choice that no policy was asked for, as most are.
+/// Ends the line of a choice for which no policy was asked. Most choices are such.
 fn write_unasked(text: &mut String) -> Result<(), AllocError>
     ensures { OnOk result (string_bytes text.new ≡ string_bytes text.old ++ codes " by rule steps 0\n") }
 {
     text.push_str(" by rule steps 0\n")
 }
 
-/// Adds whose choice it was and after how many steps of a policy, and ends the line.
+/// Adds who made the choice and how many steps a policy took, and ends the line.
 fn write_choice(text: &mut String, by: By, steps: u32) -> Result<(), AllocError>
     ensures { OnOk result (string_bytes text.new ≡ string_bytes text.old ++ (codes " by " ++ (who_text by ++ (codes " steps " ++ (decimal steps ++ codes "\n"))))) }
 {
@@ -89,7 +89,7 @@ fn write_choice(text: &mut String, by: By, steps: u32) -> Result<(), AllocError>
     text.push_str("\n")
 }
 
-/// Adds ` run `, who runs, by whose choice, and after how many steps of a policy, and ends the line.
+/// Adds ` run `, the task that runs, who chose it and how many steps a policy took, and ends the line.
 fn write_runner(text: &mut String, run: Option<u16>, by: By, steps: u32) -> Result<(), AllocError>
     ensures { OnOk result (string_bytes text.new ≡ string_bytes text.old ++ (run_text run by steps ++ codes "\n")) }
 {
@@ -179,14 +179,14 @@ fn write_reply(text: &mut String, reply: &Reply) -> Result<(), AllocError>
     }
 }
 
-/// Adds the line that answers a refused event.
+/// Adds the line that refuses an event, with the reason.
 pub fn write_refusal(text: &mut String, refusal: Refusal) -> Result<(), AllocError>
     ensures { OnOk result (string_bytes text.new ≡ string_bytes text.old ++ event_line (Err refusal)) }
 {
     write!(text, "refused {refusal}\n")
 }
 
-/// Adds the line that calls a line of this number bad.
+/// Adds the line that calls the line of this number bad.
 pub fn write_bad(text: &mut String, number: u64) -> Result<(), AllocError>
     ensures { OnOk result (string_bytes text.new ≡ string_bytes text.old ++ bad_line number) }
 {

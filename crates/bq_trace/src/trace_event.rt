@@ -1,4 +1,4 @@
-//! What a line of a trace brings.
+//! What a line of a trace leads to.
 
 use crate::any_core::AnyCore;
 use bq_load::LoadFault;
@@ -13,7 +13,7 @@ pub enum TraceEvent<'a> {
         rule: Rule,
         size: ProcessorCount,
     },
-    /// The line says nothing: it has no words, or is a comment. A comment too long to keep is not reported.
+    /// The line says nothing: it has no words, or is a comment. A line that is too long is `Bad`, even if it is a comment.
     Skipped {
         line: &'a [u8],
     },
@@ -22,7 +22,7 @@ pub enum TraceEvent<'a> {
         event: &'a Event,
         machine: &'a AnyCore,
     },
-    /// The event of the last `Comes` was done or refused; `machine` is as it is after it.
+    /// The event of the last `Comes` was done or refused. `machine` is the machine after the event.
     Answered {
         event: &'a Event,
         answer: &'a Result<Reply, Refusal>,
@@ -44,7 +44,7 @@ pub enum TraceEvent<'a> {
         counter: u8,
         value: u64,
     },
-    /// The line is bad. `None`: it is too long to keep.
+    /// The line is bad. `line` is `None` if it is too long to keep.
     Bad {
         line: Option<&'a [u8]>,
     },

@@ -1,4 +1,4 @@
-//! Where a replay stands in a trace.
+//! The position of a replay in its trace.
 ghost use Rattle.std.specs.Prelude.{◌≡◌, ◌++◌, ℕ, List, [], OnOk, Some};
 ghost use Rattle.std.specs.Str.Lines.{lines, strip_carriage_return};
 ghost use Rattle.bq_lines.specs.Kept.{IsOneLine, StandsFor};
@@ -6,34 +6,34 @@ ghost use Rattle.bq_trace.specs.TraceEvents.{Gets};
 
 use crate::progress::Progress;
 use crate::sink::Sink;
-use bq_lines::{Begun, first_line};
+use bq_lines::{PartialLine, first_line};
 use std::alloc::{AllocError, Global};
 
-/// Where a replay stands: after some lines, and in a line that has begun.
+/// The position of a replay: after some lines, and in a line that has begun.
 #[derive(Drop)]
 pub struct TracePosition {
-    /// After the lines that have ended.
+    /// The state after the lines that have ended.
     pub progress: Progress,
     /// The line that has begun.
-    pub begun: Begun,
+    pub begun: PartialLine,
 }
 
 impl TracePosition {
     ghost use Rattle.bq_trace.specs.Trace.{start};
-    ghost use Rattle.bq_trace.specs.Telling.{TellsLine, Story, GoesOn};
+    ghost use Rattle.bq_trace.specs.Reporting.{ReportsLine, Story, ReportsPiece};
 
-    /// Before the first byte. The line that has begun is kept in memory from `alloc`.
+    /// The position before the first byte. The line that has begun is kept in memory from `alloc`.
     pub fn new(alloc: Global) -> TracePosition
         ensures progress { result.progress ≡ start }
         ensures begun { result.begun ≡ Some [] }
     {
         TracePosition {
             progress: Progress::start(),
-            begun: Begun::new(alloc),
+            begun: PartialLine::new(alloc),
         }
     }
 
-    /// The line that has begun ends with these bytes and a line feed. Tells what comes of it.
+    /// The line that has begun ends with these bytes and a line feed. Reports what happens.
     fn end_line<S: Sink>(
         &mut self,
         alloc: Global,
@@ -41,8 +41,8 @@ impl TracePosition {
         sink: &mut S,
     ) -> Result<(), AllocError>
         requires { IsOneLine tail.now }
-        ensures told { OnOk result ((line : List ℕ) → StandsFor self.old.begun line
-            → Gets S.takes sink.old sink.new (λ told. TellsLine self.old.progress (strip_carriage_return (line ++ tail.now)) told self.new.progress)) }
+        ensures reported { OnOk result ((line : List ℕ) → StandsFor self.old.begun line
+            → Gets S.takes sink.old sink.new (λ reported. ReportsLine self.old.progress (strip_carriage_return (line ++ tail.now)) reported self.new.progress)) }
         ensures cleared { OnOk result (self.new.begun ≡ Some []) }
     {
         if let Some(line) = self.begun.whole_line(tail) {
@@ -54,7 +54,7 @@ impl TracePosition {
         Ok(())
     }
 
-    /// The trace goes on with this piece. Tells what comes of the lines that it ends.
+    /// The trace goes on with this piece. Reports what the lines that end in it do.
     pub fn go_on<S: Sink>(
         &mut self,
         alloc: Global,
@@ -62,7 +62,7 @@ impl TracePosition {
         sink: &mut S,
     ) -> Result<(), AllocError>
         ensures { OnOk result ((begun : List ℕ) → StandsFor self.old.begun begun
-            → Gets S.takes sink.old sink.new (λ told. GoesOn self.old begun piece.now told self.new)) }
+            → Gets S.takes sink.old sink.new (λ reported. ReportsPiece self.old begun piece.now reported self.new)) }
     {
         let mut rest = piece;
         while let Some((tail, more)) = first_line(rest) {
@@ -72,10 +72,10 @@ impl TracePosition {
         self.begun.extend(rest)
     }
 
-    /// The trace ends here. Tells what comes of the line that has begun.
+    /// The trace ends here. Reports what the line that has begun does.
     pub fn end<S: Sink>(&mut self, alloc: Global, sink: &mut S) -> Result<(), AllocError>
         ensures { OnOk result ((begun : List ℕ) → StandsFor self.old.begun begun
-            → Gets S.takes sink.old sink.new (λ told. Story self.old.progress (lines begun) told self.new.progress)) }
+            → Gets S.takes sink.old sink.new (λ reported. Story self.old.progress (lines begun) reported self.new.progress)) }
     {
         if self.begun.is_empty() {
             return Ok(());

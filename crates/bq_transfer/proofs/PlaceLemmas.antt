@@ -15,7 +15,7 @@ use Rattle.bq_states.specs.declared.abstract_state.ValueKind.{ValueKind}
 use Rattle.bq_states.specs.declared.abstract_state.ValueKind.TheVariants.{Entry, Stack}
 use Rattle.bq_states.specs.declared.abstract_state.AbstractValue.{AbstractValue}
 use Rattle.bq_states.specs.declared.abstract_state.AbstractState.{AbstractState}
-use Rattle.bq_states.specs.Certainty.{Pointer, Stands}
+use Rattle.bq_states.specs.Certainty.{Pointer, CertaintyHolds}
 use Rattle.bq_transfer.specs.Ready.{IsPlaced}
 use Rattle.bq_states.specs.AbstractStates.{bound_of}
 
@@ -29,27 +29,43 @@ pub sum_on_stack : (base at : ℕ) (off : ℤ) → base ≤ 512 → at ≤ 512 �
 sum_on_stack base at off low high is = let e : (base + word_of off) % 2 ^ 64 ≡ at = omega (arith, ints) in sum_is base (word_of off) ∙ e
 
 -- the sum of an offset and an instruction's own, which fits 16 bits, is the place
-pub sum_with_short_offset : (base at : ℕ) (off : ℤ) → SFits w16 off → at < 2 ^ 64 → pos at ≡ (pos base +ℤ off) → alu_result W64 Add base (word_of off) ≡ at
-sum_with_short_offset base at off fits small is = let e : (base + word_of off) % 2 ^ 64 ≡ at = omega (arith, ints) in sum_is base (word_of off) ∙ e
+pub sum_with_short_offset : (base at : ℕ) (off : ℤ) → SFits w16 off → at < 2 ^ 64 → pos at ≡ (pos base +ℤ off)
+    → alu_result W64 Add base (word_of off) ≡ at
+sum_with_short_offset base at off fits small is =
+    let e : (base + word_of off) % 2 ^ 64 ≡ at = omega (arith, ints) in sum_is base (word_of off) ∙ e
 
 option_same : (a b : ℕ) (v : Option ℕ) → Some a ≡ v → v ≡ Some b → a ≡ b
 option_same a b v p q = let e : Some a ≡ Some b = p ∙ q in cc
 
 -- an access that is placed is found there, and stays inside
-pub placed_in : (shapes : List MapShape) (context : ℕ) (state : AbstractState) (size : Size) (r : ℕ) (off : ℤ) (kind : ValueKind) (at : ℕ) → SFits w16 off → IsPlaced shapes context state size r off kind at → (known : AbstractValue) → Some known ≡ slice_index_or state.registers r None → (bound : ℕ) → Some bound ≡ bound_of shapes context known.kind → bound ≤ 65536 → (sum : Range) (word : ℕ) → word ≡ word_of off → (known.offset.lo ≡ known.offset.hi → sum.lo ≡ alu_result W64 Add known.offset.lo word) → (known.offset.lo ≡ known.offset.hi → sum.hi ≡ alu_result W64 Add known.offset.lo word) → (known.kind ≡ kind) × (sum.lo ≡ at) × (sum.hi ≡ at) × (at + byte_count size ≤ bound)
+pub placed_in : (shapes : List MapShape) (context : ℕ) (state : AbstractState) (size : Size) (r : ℕ) (off : ℤ)
+    (kind : ValueKind) (at : ℕ)
+    → SFits w16 off → IsPlaced shapes context state size r off kind at
+    → (known : AbstractValue) → Some known ≡ slice_index_or state.registers r None → (bound : ℕ)
+    → Some bound ≡ bound_of shapes context known.kind → bound ≤ 65536 → (sum : Range) (word : ℕ) → word ≡ word_of off
+    → (known.offset.lo ≡ known.offset.hi → sum.lo ≡ alu_result W64 Add known.offset.lo word)
+    → (known.offset.lo ≡ known.offset.hi → sum.hi ≡ alu_result W64 Add known.offset.lo word)
+    → (known.kind ≡ kind) × (sum.lo ≡ at) × (sum.hi ≡ at) × (at + byte_count size ≤ bound)
 placed_in shapes context state size r off kind at short placed known is bound bound_is small sum word word_is low high =
-    let stands : Stands (Pointer kind placed.base) (Some known) = subst (λ (v : Option AbstractValue). Stands (Pointer kind placed.base) v) (sym is) placed.stands in
+    let stands : CertaintyHolds (Pointer kind placed.base) (Some known) =
+    subst (λ (v : Option AbstractValue). CertaintyHolds (Pointer kind placed.base) v) (sym is) placed.stands in
     let single : known.offset.lo ≡ known.offset.hi = stands.2 ∙ sym stands.3 in
-    let same : bound ≡ placed.bound = option_same bound placed.bound _ (bound_is ∙ ap (λ (k : ValueKind). bound_of shapes context k) stands.0) placed.bound_is in
+    let same : bound ≡ placed.bound =
+    option_same bound placed.bound _ (bound_is ∙ ap (λ (k : ValueKind). bound_of shapes context k) stands.0)
+    placed.bound_is in
     let fits : at < 2 ^ 64 = omega (arith, placed.inside) in
     let sums : alu_result W64 Add known.offset.lo word ≡ at =
-    ap (λ (n : ℕ). alu_result W64 Add n word) stands.2 ∙ ap (λ (n : ℕ). alu_result W64 Add placed.base n) word_is ∙ sum_with_short_offset placed.base at off short fits placed.at_is in
+    ap (λ (n : ℕ). alu_result W64 Add n word) stands.2 ∙ ap (λ (n : ℕ). alu_result W64 Add placed.base n) word_is
+    ∙ sum_with_short_offset placed.base at off short fits placed.at_is in
     (stands.0, low single ∙ sums, high single ∙ sums, omega (arith, placed.inside))
 
 -- on the stack an access stays below 512
-pub stack_inside : (shapes : List MapShape) (context : ℕ) (state : AbstractState) (size : Size) (r : ℕ) (off : ℤ) (kind : ValueKind) (at : ℕ) → kind ≡ Stack → IsPlaced shapes context state size r off kind at → at + byte_count size ≤ 512
+pub stack_inside : (shapes : List MapShape) (context : ℕ) (state : AbstractState) (size : Size)
+    (r : ℕ) (off : ℤ) (kind : ValueKind) (at : ℕ)
+    → kind ≡ Stack → IsPlaced shapes context state size r off kind at → at + byte_count size ≤ 512
 stack_inside shapes context state size r off kind at stack placed =
-    let same : 512 ≡ placed.bound = option_same 512 placed.bound _ (ap (λ (k : ValueKind). bound_of shapes context k) (sym stack)) placed.bound_is in
+    let same : 512 ≡ placed.bound =
+    option_same 512 placed.bound _ (ap (λ (k : ValueKind). bound_of shapes context k) (sym stack)) placed.bound_is in
     omega (arith, placed.inside)
 
 -- the stack is no entry

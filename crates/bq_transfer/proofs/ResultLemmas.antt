@@ -13,20 +13,38 @@ use Rattle.bq_states.specs.declared.abstract_state.ValueKind.TheVariants.{Number
 use Rattle.bq_states.specs.declared.abstract_state.AbstractValue.{AbstractValue}
 use Rattle.bq_states.specs.AbstractStates.{Describes, IsEntryBase}
 use Rattle.bq_states.proofs.WordLemmas.{number_within, describes_number}
-use Rattle.bq_transfer.specs.Sides.{IsSide, IsNumberIfAny}
+use Rattle.bq_transfer.specs.Sides.{IsNeverOrNumber, IsNumberIfAny}
 
 -- a word plus a number is of the same kind, and its offset is in a range that holds the sums
-pub moved_up : (shapes : List MapShape) (kind : ValueKind) (r t : Range) (x y : ℕ) (b : Range) → Describes shapes (record { kind = kind; offset = r }) x → Within b y → ((u v : ℕ) → Within r u → Within b v → Within t ((u + v) % 2 ^ 64)) → Describes shapes (record { kind = kind; offset = t }) (alu_result W64 op.Add x y)
+pub moved_up : (shapes : List MapShape) (kind : ValueKind) (r t : Range) (x y : ℕ) (b : Range)
+    → Describes shapes (record { kind = kind; offset = r }) x → Within b y
+    → ((u v : ℕ) → Within r u → Within b v → Within t ((u + v) % 2 ^ 64))
+    → Describes shapes (record { kind = kind; offset = t }) (alu_result W64 op.Add x y)
 unfolding operate
 moved_up shapes kind r t x y b d w sums =
-    record { base = d.base; offset = (d.offset + y) % 2 ^ 64; is_base = d.is_base; within = sums d.offset y d.within w; word_is = omega (arith, d.word_is) }
+    record {
+      base = d.base;
+      offset = (d.offset + y) % 2 ^ 64;
+      is_base = d.is_base;
+      within = sums d.offset y d.within w;
+      word_is = omega (arith, d.word_is);
+    }
 
 -- a word less a number is of the same kind, and its offset is in a range that holds the differences
-pub moved_down : (shapes : List MapShape) (kind : ValueKind) (r t : Range) (x y : ℕ) (b : Range) → Describes shapes (record { kind = kind; offset = r }) x → Within b y → ((u v : ℕ) → Within r u → Within b v → Within t ((u + (2 ^ 64 - v)) % 2 ^ 64)) → Describes shapes (record { kind = kind; offset = t }) (alu_result W64 op.Sub x y)
+pub moved_down : (shapes : List MapShape) (kind : ValueKind) (r t : Range) (x y : ℕ) (b : Range)
+    → Describes shapes (record { kind = kind; offset = r }) x → Within b y
+    → ((u v : ℕ) → Within r u → Within b v → Within t ((u + (2 ^ 64 - v)) % 2 ^ 64))
+    → Describes shapes (record { kind = kind; offset = t }) (alu_result W64 op.Sub x y)
 unfolding operate
 moved_down shapes kind r t x y b d w differences =
     let fits = b.fits in
-    record { base = d.base; offset = (d.offset + (2 ^ 64 - y)) % 2 ^ 64; is_base = d.is_base; within = differences d.offset y d.within w; word_is = omega (arith, d.word_is, w) }
+    record {
+      base = d.base;
+      offset = (d.offset + (2 ^ 64 - y)) % 2 ^ 64;
+      is_base = d.is_base;
+      within = differences d.offset y d.within w;
+      word_is = omega (arith, d.word_is, w);
+    }
 
 -- a move of all 64 bits gives the word that is moved
 pub move_is_right : (x y : ℕ) → y < 2 ^ 64 → alu_result W64 op.Mov x y ≡ y
@@ -34,7 +52,8 @@ unfolding operate
 move_is_right x y h = omega arith
 
 -- a word that is moved whole is described as before
-pub copied_word : (shapes : List MapShape) (k : AbstractValue) (x y : ℕ) → Describes shapes k y → Describes shapes k (alu_result W64 op.Mov x y)
+pub copied_word : (shapes : List MapShape) (k : AbstractValue) (x y : ℕ)
+    → Describes shapes k y → Describes shapes k (alu_result W64 op.Mov x y)
 copied_word shapes k x y d = rw (move_is_right x y (omega (arith, d.word_is))) d
 
 -- what a move of 32 bits gives does not depend on its first operand
@@ -47,11 +66,16 @@ zero_word : (shapes : List MapShape) (k : AbstractValue) (b : ℕ) → k.kind �
 zero_word shapes k b kind none d = let w = number_within shapes k b kind d in omega (arith, w)
 
 -- a result that is 0
-pub null_side : (shapes : List MapShape) (k : AbstractValue) (a b : ℕ) → k.kind ≡ Number → k.offset.hi ≡ 0 → Describes shapes k b → a ≡ b → Describes shapes (record { kind = Number; offset = k.offset }) a
+pub null_side : (shapes : List MapShape) (k : AbstractValue) (a b : ℕ)
+    → k.kind ≡ Number → k.offset.hi ≡ 0 → Describes shapes k b → a ≡ b
+    → Describes shapes (record { kind = Number; offset = k.offset }) a
 null_side shapes k a b kind none d same = rw same (describes_number shapes k.offset b (number_within shapes k b kind d))
 
 -- a result that isn't
-pub entry_side : (shapes : List MapShape) (m : ℕ) (left right : AbstractValue) (a b : ℕ) → left.kind ≡ EntryOrNull m → left.offset.hi ≡ 0 → right.kind ≡ Number → right.offset.hi ≡ 0 → Describes shapes left a → Describes shapes right b → a ≢ b → Describes shapes (record { kind = Entry m; offset = left.offset }) a
+pub entry_side : (shapes : List MapShape) (m : ℕ) (left right : AbstractValue) (a b : ℕ)
+    → left.kind ≡ EntryOrNull m → left.offset.hi ≡ 0 → right.kind ≡ Number → right.offset.hi ≡ 0 → Describes shapes left a
+    → Describes shapes right b → a ≢ b
+    → Describes shapes (record { kind = Entry m; offset = left.offset }) a
 entry_side shapes m left right a b is whole kind none d e differ =
     record {
       base = d.base;
@@ -108,6 +132,6 @@ pub same_map : (kind : ValueKind) (m n : ℕ) → kind ≡ EntryOrNull m → kin
 same_map kind m n one other = cc
 
 -- a side on numbers has a number, where control goes there
-pub number_on_side : (side : Option AbstractValue) → IsSide (Some side) → IsNumberIfAny side
+pub number_on_side : (side : Option AbstractValue) → IsNeverOrNumber (Some side) → IsNumberIfAny side
 number_on_side None side = tt
 number_on_side (Some k) number = number

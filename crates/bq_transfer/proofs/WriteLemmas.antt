@@ -1,5 +1,5 @@
 -- What a store leaves known: on the stack, and in an entry.
-use Rattle.bq_states.specs.Certainty.{NoPointer, Stands}
+use Rattle.bq_states.specs.Certainty.{NoPointer, CertaintyHolds}
 use Rattle.std.proofs.Common.{◌≡◌, ◌≢◌, ℕ, zero, suc, ◌+◌, ◌*◌, ◌^◌, ◌<◌, ◌≤◌, Bool, true, false, List, Option, Some, None, length, get_or, set, refl, sym, ap, subst, arith, ◌⊎◌, inl, inr, ℤ, get_or-set_same, get_or-set_other, [], ◌∷◌}
 use Rattle.std.specs.Prelude.{slice_index, IfSome, IfOk, OnOk, Ok, Err, slice_index_or, slice_set}
 use Rattle.std.specs.declared.result.Result.{Result}
@@ -25,7 +25,7 @@ use Rattle.bq_states.specs.declared.abstract_state.ValueKind.TheVariants.{Stack,
 use Rattle.bq_states.specs.declared.abstract_state.AbstractState.{AbstractState}
 use Rattle.bq_states.specs.declared.relations.Related.{Related}
 use Rattle.bq_states.specs.declared.abstract_state.AbstractValue.{AbstractValue}
-use Rattle.bq_states.specs.AbstractStates.{Contains, Describes, Keeps, IsOfKind, keeping}
+use Rattle.bq_states.specs.AbstractStates.{Contains, Describes, StackIsAsKnown, IsOfKind, keeping}
 use Rattle.bq_transfer.specs.Transfers.{FindsPlace, IsWholeSlot, Stores, Transfers}
 use Rattle.bq_states.proofs.StoreLemmas.{low_first_byte, stored_bytes}
 use Rattle.bq_states.specs.Copies.{AreCopies, HasWord}
@@ -52,14 +52,20 @@ low_small size v k = at (cases_lt k (byte_count size))
         let beyond : length (low_bytes size v) ≤ k = omega (arith, low_long size v) in
         rw (get_or_past (low_bytes size v) k 0 beyond) (omega arith)
 
-keeps_at : (f : Setting) (w : AbstractState) (t : State) (j i : ℕ) (k : AbstractValue) (b : Bool) → j < length w.kept → Keeps f.shapes (Some k) t.stack j → Contains f w t → ((b ≡ true) × (i ≡ j)) ⊎ ((b ≡ false) × (i ≢ j)) → Keeps f.shapes (get_or (set w.kept j (Some k)) i None) t.stack i
+keeps_at : (f : Setting) (w : AbstractState) (t : State) (j i : ℕ) (k : AbstractValue) (b : Bool)
+    → j < length w.kept → StackIsAsKnown f.shapes (Some k) t.stack j → Contains f w t
+    → ((b ≡ true) × (i ≡ j)) ⊎ ((b ≡ false) × (i ≢ j))
+    → StackIsAsKnown f.shapes (get_or (set w.kept j (Some k)) i None) t.stack i
 keeps_at f w t j i k b there keeps contains (inl (_, same)) =
     rw (same, get_or-set_same w.kept j (Some k) None there) keeps
 keeps_at f w t j i k b there keeps contains (inr (_, other)) =
-    subst (λ (v : Option AbstractValue). Keeps f.shapes v t.stack i) (sym (get_or-set_other w.kept j i (Some k) None other)) (contains.kept i)
+    subst (λ (v : Option AbstractValue). StackIsAsKnown f.shapes v t.stack i)
+    (sym (get_or-set_other w.kept j i (Some k) None other)) (contains.kept i)
 
 -- a slot whose word is known
-pub contains_keeping : (f : Setting) (w : AbstractState) (t : State) (j : ℕ) (k : AbstractValue) → j < length w.kept → Keeps f.shapes (Some k) t.stack j → Contains f w t → Contains f (keeping w j k) t
+pub contains_keeping : (f : Setting) (w : AbstractState) (t : State) (j : ℕ) (k : AbstractValue)
+    → j < length w.kept → StackIsAsKnown f.shapes (Some k) t.stack j → Contains f w t
+    → Contains f (keeping w j k) t
 contains_keeping f w t j k there keeps contains = record {
   registers = contains.registers;
   set = contains.set;
@@ -70,7 +76,9 @@ contains_keeping f w t j k there keeps contains = record {
 }
 
 -- bytes written into an entry
-pub contains_entry : (f : Setting) (v : AbstractState) (s : State) (m first address n o : ℕ) (bytes : List ℕ) → IsGood f address n (InEntry m first) o → length bytes ≡ n → ((k : ℕ) → slice_index bytes k < 256) → Contains f v s → Contains f v (next (written s (InEntry m first) o bytes))
+pub contains_entry : (f : Setting) (v : AbstractState) (s : State) (m first address n o : ℕ) (bytes : List ℕ)
+    → IsGood f address n (InEntry m first) o → length bytes ≡ n → ((k : ℕ) → slice_index bytes k < 256) → Contains f v s
+    → Contains f v (next (written s (InEntry m first) o bytes))
 contains_entry f v s m first address n o bytes good long small contains =
     let entry = good.spans.1 in
     let inside = entry_inside f.shapes s.maps m first good.size contains.maps entry in
@@ -85,15 +93,24 @@ contains_entry f v s m first address n o bytes good long small contains =
     }
 
 -- the word in a slot that was written whole
-slot_word : (shapes : List MapShape) (s : State) (k : AbstractValue) (at : Range) (size : Size) (o v n : ℕ) → IsWholeSlot at size n → Within at o → Describes shapes k v → HasWord (written s InStack o (low_bytes size v)) (11 + n) v
+slot_word : (shapes : List MapShape) (s : State) (k : AbstractValue) (at : Range) (size : Size) (o v n : ℕ)
+    → IsWholeSlot at size n → Within at o → Describes shapes k v
+    → HasWord (written s InStack o (low_bytes size v)) (11 + n) v
 slot_word shapes s k at size o v n (there, double, low, high) within d =
     let place : 8 * n ≡ o = omega (arith, within) in
     let is : low_bytes size v ≡ bytes_low_first 0 8 v = ap (λ (z : Size). low_bytes z v) double in
     let whole = stored_bytes s.stack n v (low_bytes size v) is (ap length is) in
     let small : v < 2 ^ 64 = omega (arith, d.word_is) in
-    let bytes = subst (λ (p : ℕ). (i : ℕ) → i < 8 → stack_with s.stack p (low_bytes size v) (8 * n + i) ≡ Some (byte_of i v)) place whole in (
+    let bytes =
+    subst (λ (p : ℕ). (i : ℕ) → i < 8 → stack_with s.stack p (low_bytes size v) (8 * n + i) ≡ Some (byte_of i v)) place
+    whole in (
       λ lt. absurd (let no : ⊥ = omega (arith, lt) in no),
-      λ j is. let same : n ≡ j = omega (arith, is) in (small, subst (λ (m : ℕ). (i : ℕ) → i < 8 → stack_with s.stack o (low_bytes size v) (8 * m + i) ≡ Some (byte_of i v)) same bytes),
+      λ j is.
+          let same : n ≡ j = omega (arith, is) in (
+            small,
+            subst (λ (m : ℕ). (i : ℕ) → i < 8 → stack_with s.stack o (low_bytes size v) (8 * m + i) ≡ Some (byte_of i v)) same
+                bytes,
+          ),
     )
 
 some_slot : (slot : Option ℕ) (n : ℕ) (P : ℕ → Type 0) → IfSome slot P → slot ≡ Some n → P n
@@ -101,7 +118,12 @@ some_slot None n P h e = absurd (let no : ⊥ = cc in no)
 some_slot (Some m) n P h e = let same : m ≡ n = cc in subst P same h
 
 -- a store on the stack
-stores_on_stack : (shapes : List MapShape) (context_length dst : ℕ) (off : ℤ) (size : Size) (k : AbstractValue) (at : Range) (kind : ValueKind) (old new : AbstractState) (slot : Option ℕ) → IfSome slot (IsWholeSlot at size) → kind ≡ Stack → FindsPlace shapes context_length old dst off size kind at → ((f : Setting) (s : State) (o v : ℕ) → Contains f old s → Within at o → Describes f.shapes k v → Contains f new (next (written s InStack o (low_bytes size v)))) → Stores shapes context_length dst off size k old new slot
+stores_on_stack : (shapes : List MapShape) (context_length dst : ℕ) (off : ℤ) (size : Size) (k : AbstractValue) (at : Range)
+    (kind : ValueKind) (old new : AbstractState) (slot : Option ℕ)
+    → IfSome slot (IsWholeSlot at size) → kind ≡ Stack → FindsPlace shapes context_length old dst off size kind at
+    → ((f : Setting) (s : State) (o v : ℕ) → Contains f old s → Within at o → Describes f.shapes k v →
+    Contains f new (next (written s InStack o (low_bytes size v))))
+    → Stores shapes context_length dst off size k old new slot
 stores_on_stack shapes context_length dst off size k at kind old new slot whole stack finds after f s v suits contains d =
     let found = finds f s suits contains in
     let region : found.1 ≡ InStack = subst (λ (x : ValueKind). IsOfKind x found.1) stack found.5 in
@@ -116,14 +138,23 @@ stores_on_stack shapes context_length dst off size k at kind old new slot whole 
       λ n is. slot_word f.shapes s k at size found.2 v n (some_slot slot n (IsWholeSlot at size) whole is) found.6 d,
     )
 
--- the same, where the store answers that slot
-pub stores_if_ok : (shapes : List MapShape) (context_length dst : ℕ) (off : ℤ) (size : Size) (k : AbstractValue) (at : Range) (kind : ValueKind) (old new : AbstractState) (r : Result (Option ℕ) Obligation) → IfOk r (λ slot. IfSome slot (IsWholeSlot at size)) → kind ≡ Stack → FindsPlace shapes context_length old dst off size kind at → OnOk r ((f : Setting) (s : State) (o v : ℕ) → Contains f old s → Within at o → Describes f.shapes k v → Contains f new (next (written s InStack o (low_bytes size v)))) → IfOk r (Stores shapes context_length dst off size k old new)
+-- a store on the stack that answers its slot
+pub stores_if_ok : (shapes : List MapShape) (context_length dst : ℕ) (off : ℤ) (size : Size) (k : AbstractValue) (at : Range)
+    (kind : ValueKind) (old new : AbstractState) (r : Result (Option ℕ) Obligation)
+    → IfOk r (λ slot. IfSome slot (IsWholeSlot at size)) → kind ≡ Stack
+    → FindsPlace shapes context_length old dst off size kind at
+    → OnOk r ((f : Setting) (s : State) (o v : ℕ) → Contains f old s → Within at o → Describes f.shapes k v →
+    Contains f new (next (written s InStack o (low_bytes size v))))
+    → IfOk r (Stores shapes context_length dst off size k old new)
 stores_if_ok shapes context_length dst off size k at kind old new (Ok slot) whole stack finds after =
     stores_on_stack shapes context_length dst off size k at kind old new slot whole stack finds after
 stores_if_ok shapes context_length dst off size k at kind old new (Err obligation) whole stack finds after = tt
 
 -- a store into an entry
-pub stores_in_entry : (shapes : List MapShape) (context_length dst : ℕ) (off : ℤ) (size : Size) (k : AbstractValue) (at : Range) (kind : ValueKind) (m : ℕ) (state : AbstractState) → kind ≡ Entry m → FindsPlace shapes context_length state dst off size kind at → Stores shapes context_length dst off size k state state None
+pub stores_in_entry : (shapes : List MapShape) (context_length dst : ℕ) (off : ℤ) (size : Size) (k : AbstractValue)
+    (at : Range) (kind : ValueKind) (m : ℕ) (state : AbstractState)
+    → kind ≡ Entry m → FindsPlace shapes context_length state dst off size kind at
+    → Stores shapes context_length dst off size k state state None
 stores_in_entry shapes context_length dst off size k at kind m state entry finds f s v suits contains d =
     let found = finds f s suits contains in
     let into : (map : ℕ) × (first : ℕ) × (found.1 ≡ InEntry map first) = subst (λ (x : ValueKind). IsOfKind x found.1) entry found.5 in
@@ -132,34 +163,59 @@ stores_in_entry shapes context_length dst off size k at kind m state entry finds
       written s (InEntry into.0 into.1) found.2 (low_bytes size v),
       found.3,
       record { region = InEntry into.0 into.1; offset = found.2; writable = tt; good = rw (low_long size v) good; after = refl },
-      contains_entry f state s into.0 into.1 (address_of found.0 off) (byte_count size) found.2 (low_bytes size v) good (low_long size v) (low_small size v) contains,
+      contains_entry f state s into.0 into.1 (address_of found.0 off) (byte_count size) found.2 (low_bytes size v) good
+          (low_long size v) (low_small size v) contains,
       refl,
       refl,
       λ n is. absurd (let no : ⊥ = cc in no),
     )
 
 -- where an immediate can be stored, the instruction that stores it leads to the abstract state after it
-pub carries_imm : (shapes : List MapShape) (context_length dst : ℕ) (off imm : ℤ) (size : Size) (k : AbstractValue) (old new : AbstractState) (slot : Option ℕ) → ((f : Setting) → Describes f.shapes k (word_of imm)) → Stores shapes context_length dst off size k old new slot → Transfers shapes context_length (StoreImm size dst off imm) old new
+pub carries_imm : (shapes : List MapShape) (context_length dst : ℕ) (off imm : ℤ) (size : Size) (k : AbstractValue)
+    (old new : AbstractState) (slot : Option ℕ)
+    → ((f : Setting) → Describes f.shapes k (word_of imm)) → Stores shapes context_length dst off size k old new slot
+    → Transfers shapes context_length (StoreImm size dst off imm) old new
 carries_imm shapes context_length dst off imm size k old new slot word stores f s suits contains =
     let on = stores f s (word_of imm) suits contains (word f) in
     (next on.1, (on.0, on.1, on.2, on.3, refl), on.4, ap (λ (n : ℕ). n + 1) on.5)
 
 -- an abstract state with other classes and relations, which are right
-pub contains_classes : (f : Setting) (v : AbstractState) (t : State) (classes : List ℕ) (related : List (Option Related)) → AreCopies classes related t → Contains f v t → Contains f (record v { classes = classes; related = related }) t
-contains_classes f v t classes related copies contains = record { registers = contains.registers; set = contains.set; kept = contains.kept; parts = contains.parts; maps = contains.maps; copies = copies }
+pub contains_classes : (f : Setting) (v : AbstractState) (t : State) (classes : List ℕ) (related : List (Option Related))
+    → AreCopies classes related t → Contains f v t
+    → Contains f (record v { classes = classes; related = related }) t
+contains_classes f v t classes related copies contains = record {
+  registers = contains.registers;
+  set = contains.set;
+  kept = contains.kept;
+  parts = contains.parts;
+  maps = contains.maps;
+  copies = copies;
+}
 
 -- where a register can be stored, the instruction leads to the abstract state after it, with classes and relations that are right there
-pub carries_reg : (shapes : List MapShape) (context_length dst src : ℕ) (off : ℤ) (size : Size) (k : AbstractValue) (old new : AbstractState) (slot : Option ℕ) (classes : List ℕ) (related : List (Option Related)) → ((f : Setting) (s : State) → Contains f old s → (v : ℕ) × (s.register src ≡ Some v) × Describes f.shapes k v) → Stores shapes context_length dst off size k old new slot → ((t : State) (v : ℕ) → AreCopies new.classes new.related t → t.register src ≡ Some v → ((n : ℕ) → slot ≡ Some n → HasWord t (11 + n) v) → AreCopies classes related t) → Transfers shapes context_length (StoreReg size dst off src) old (record new { classes = classes; related = related })
+pub carries_reg : (shapes : List MapShape) (context_length dst src : ℕ) (off : ℤ) (size : Size) (k : AbstractValue)
+    (old new : AbstractState) (slot : Option ℕ) (classes : List ℕ) (related : List (Option Related))
+    → ((f : Setting) (s : State) → Contains f old s → (v : ℕ) × (s.register src ≡ Some v) × Describes f.shapes k v)
+    → Stores shapes context_length dst off size k old new slot
+    → ((t : State) (v : ℕ) → AreCopies new.classes new.related t → t.register src ≡ Some v →
+    ((n : ℕ) → slot ≡ Some n → HasWord t (11 + n) v) → AreCopies classes related t)
+    → Transfers shapes context_length (StoreReg size dst off src) old (record new { classes = classes; related = related })
 carries_reg shapes context_length dst src off size k old new slot classes related word stores linked f s suits contains =
     let v = word f s contains in
     let on = stores f s v.0 suits contains v.2 in
     let same : on.1.register ≡ s.register = on.6 in
     let is : on.1.register src ≡ Some v.0 = rw same v.1 in
-    let after = on.4 in
-    (next on.1, (on.0, v.0, on.1, on.2, v.1, on.3, refl), contains_classes f new (next on.1) classes related (linked (next on.1) v.0 after.copies is on.7) after, ap (λ (n : ℕ). n + 1) on.5)
+    let after = on.4 in (
+      next on.1,
+      (on.0, v.0, on.1, on.2, v.1, on.3, refl),
+      contains_classes f new (next on.1) classes related (linked (next on.1) v.0 after.copies is on.7) after,
+      ap (λ (n : ℕ). n + 1) on.5,
+    )
 
 -- a slot in which a number is kept, and each that had no pointer, has none
-pub plain_kept : (kept : List (Option AbstractValue)) (slot j : ℕ) (k : AbstractValue) → k.kind ≡ Number → Stands NoPointer (slice_index_or kept j None) → Stands NoPointer (slice_index_or (slice_set kept slot (Some k)) j None)
+pub plain_kept : (kept : List (Option AbstractValue)) (slot j : ℕ) (k : AbstractValue)
+    → k.kind ≡ Number → CertaintyHolds NoPointer (slice_index_or kept j None)
+    → CertaintyHolds NoPointer (slice_index_or (slice_set kept slot (Some k)) j None)
 plain_kept [] slot j k number plain = plain
 plain_kept (x ∷ xs) zero zero k number plain = number
 plain_kept (x ∷ xs) zero (suc j) k number plain = plain

@@ -1,4 +1,4 @@
--- What may not be shown of which instruction.
+-- Which obligations an instruction may leave unproven.
 use Rattle.std.specs.Prelude.{◌≡◌, ◌≢◌, ℕ, Some, None, slice_index_or}
 use Rattle.bq_insn.specs.declared.Insn.{Insn}
 use Rattle.bq_insn.specs.declared.Insn.TheVariants.{Alu, MovSx, Neg, End, Load, StoreImm, StoreReg, MapRef, Branch, Call, Exit}
@@ -14,26 +14,30 @@ use Rattle.bq_states.specs.declared.abstract_state.AbstractState.{AbstractState}
 use Rattle.bq_transfer.specs.declared.obligation.Obligation.{Obligation}
 use Rattle.bq_transfer.specs.declared.obligation.Obligation.TheVariants.{Unset, Access, PointerUse, Argument, Answer}
 
+-- the instruction is a load or a store
 abbrev pub IsAccess : Insn → Type 0
 IsAccess (Load size signed dst src off) = Unit {0}
 IsAccess (StoreImm size dst off imm) = Unit {0}
 IsAccess (StoreReg size dst off src) = Unit {0}
 IsAccess _ = ⊥
 
+-- the instruction is a map reference or a call
 abbrev pub TakesArgument : Insn → Type 0
 TakesArgument (MapRef dst index) = Unit {0}
 TakesArgument (Call helper) = Unit {0}
 TakesArgument _ = ⊥
 
+-- the instruction is an EXIT
 abbrev pub IsExit : Insn → Type 0
 IsExit Exit = Unit {0}
 IsExit _ = ⊥
 
--- all arithmetic but a move of a number from the instruction
+-- the arithmetic reads a register: all of it does, except a move of an immediate
 abbrev pub ReadsRegister : Operation → Source → Type 0
 ReadsRegister op src = op ≡ Mov → (r : ℕ) × (src ≡ Reg r)
 
--- the instruction reads a register as an operand; those of a call are arguments, and that of an EXIT is the answer
+-- the instruction reads a register as an operand; the registers of a call are arguments, and the register of an EXIT is
+-- the answer
 abbrev pub ReadsOperand : Insn → Type 0
 ReadsOperand (Alu w op dst src) = ReadsRegister op src
 ReadsOperand (MovSx w bits dst src) = Unit {0}
@@ -45,11 +49,11 @@ ReadsOperand (StoreReg size dst off src) = Unit {0}
 ReadsOperand (Branch w c dst src off) = Unit {0}
 ReadsOperand _ = ⊥
 
--- all arithmetic but a move of 64 bits and a move of a number from the instruction
+-- the arithmetic works on the word of a register: all of it does, except a 64-bit move and a move of an immediate
 abbrev pub Calculates : Width → Operation → Source → Type 0
 Calculates w op src = op ≡ Mov → (w ≡ W32) × (r : ℕ) × (src ≡ Reg r)
 
--- the instruction calculates with, stores or compares what a register holds
+-- the instruction calculates with the word of a register, stores it or compares it
 abbrev pub UsesWord : Insn → Type 0
 UsesWord (Alu w op dst src) = Calculates w op src
 UsesWord (MovSx w bits dst src) = Unit {0}
@@ -59,7 +63,8 @@ UsesWord (StoreReg size dst off src) = Unit {0}
 UsesWord (Branch w c dst src off) = Unit {0}
 UsesWord _ = ⊥
 
--- an operand where one is read, a pointer's use where a word is used, an access at a load or a store, an argument at a call or a map reference, an answer at an EXIT
+-- the instruction may leave the obligation unproven: Unset if it reads an operand, PointerUse if it uses a word, Access
+-- if it is a load or a store, Argument if it is a call or a map reference, Answer if it is an EXIT
 abbrev pub MayBeUnproven : Obligation → Insn → Type 0
 MayBeUnproven Unset insn = ReadsOperand insn
 MayBeUnproven PointerUse insn = UsesWord insn
@@ -67,11 +72,11 @@ MayBeUnproven Access insn = IsAccess insn
 MayBeUnproven Argument insn = TakesArgument insn
 MayBeUnproven Answer insn = IsExit insn
 
--- of the register it is not shown that it is set
+-- nothing is known of the register, not even that it is set
 abbrev pub IsUnknownAt : AbstractState → ℕ → Type 0
 IsUnknownAt state r = slice_index_or state.registers r None ≡ None
 
--- the register is set, and not to a number
+-- the register is known to be set, but not to a number
 abbrev pub IsNoNumberAt : AbstractState → ℕ → Type 0
 IsNoNumberAt state r = (k : AbstractValue) × (slice_index_or state.registers r None ≡ Some k) × (k.kind ≢ Number)
 

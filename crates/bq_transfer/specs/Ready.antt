@@ -1,4 +1,4 @@
--- What each instruction needs of the abstract state before it, so that nothing is left to be shown.
+-- What each instruction needs from the abstract state before it, so that no obligation is left unproven.
 use Rattle.std.specs.Prelude.{length, ◌≡◌, ◌≢◌, ℕ, ◌+◌, ◌-◌, ◌<◌, ◌≤◌, ℤ, pos, ◌+ℤ◌, List, Option, Some, None, slice_get, slice_index_or, ◌⊎◌}
 use Rattle.bq_insn.specs.Slots.{byte_count}
 use Rattle.bq_insn.specs.declared.Condition.TheVariants.{Equal, NotEqual}
@@ -19,7 +19,7 @@ use Rattle.bq_bpf.specs.declared.helper.Helper.{Helper}
 use Rattle.bq_bpf.specs.declared.helper.Helper.TheVariants.{Lookup, Update, Now, Processor, AddCounter, ReadCounter}
 use Rattle.bq_bpf.specs.Memory.{stack_size}
 use Rattle.bq_bpf.specs.Instructions.{destination_of}
-use Rattle.bq_states.specs.Certainty.{Scalar, Pointer, StandsAt, IsSetAt, IsPlainAt, Has, IsScalarOperand}
+use Rattle.bq_states.specs.Certainty.{Scalar, Pointer, CertaintyHoldsAt, IsSetAt, IsPlainAt, Has, IsScalarOperand}
 use Rattle.bq_states.specs.AbstractStates.{bound_of, size_of_shape}
 use Rattle.bq_states.specs.declared.abstract_state.ValueKind.TheVariants.{Number, Stack, Entry, EntryOrNull, Map}
 use Rattle.bq_states.specs.declared.abstract_state.ValueKind.{ValueKind}
@@ -27,125 +27,126 @@ use Rattle.bq_states.specs.declared.abstract_state.AbstractValue.{AbstractValue}
 use Rattle.bq_states.specs.declared.abstract_state.AbstractState.{AbstractState}
 use Rattle.bq_transfer.specs.declared.access.Access.{Access}
 
--- the first operand of an arithmetic instruction, which a MOV has not
+-- the first operand of arithmetic is known to be a number; a MOV has no first operand
 abbrev pub IsLeftReady : Operation → AbstractState → ℕ → Type 0
 IsLeftReady Mov state dst = Unit {0}
-IsLeftReady _ state dst = StandsAt Scalar state dst
+IsLeftReady _ state dst = CertaintyHoldsAt Scalar state dst
 
--- an access by the register lies there, inside what the register points to
+-- an access by register `r` is at offset `at` of the region of this kind into which the register points, and inside it
 pub record IsPlaced (shapes : List MapShape) (context : ℕ) (state : AbstractState) (size : Size) (r : ℕ) (off : ℤ) (kind : ValueKind) (at : ℕ) : Type 0 where
   pub base : ℕ
-  pub stands : StandsAt (Pointer kind base) state r
+  pub stands : CertaintyHoldsAt (Pointer kind base) state r
   pub at_is : pos at ≡ (pos base +ℤ off)
   pub bound : ℕ
   pub bound_is : bound_of shapes context kind ≡ Some bound
   pub inside : at + byte_count size ≤ bound
 
--- the access lies there
+-- the access is at offset `at` of a region of this kind, and inside it
 abbrev pub IsPlacedAt : List MapShape → ℕ → AbstractState → Access → ValueKind → ℕ → Type 0
 IsPlacedAt shapes context state access kind at = IsPlaced shapes context state access.size access.base access.off kind at
 
--- a load of what may be read: on the stack, of bytes that are set, and no pointer is kept there
-pub record IsReadable (shapes : List MapShape) (context : ℕ) (state : AbstractState) (size : Size) (r : ℕ) (off : ℤ) : Type 0 where
+-- the load may read its bytes: if they are on the stack, they are set; and no slot of the stack keeps a pointer
+pub record IsLoadReady (shapes : List MapShape) (context : ℕ) (state : AbstractState) (size : Size) (r : ℕ) (off : ℤ) : Type 0 where
   pub kind : ValueKind
   pub at : ℕ
   pub placed : IsPlaced shapes context state size r off kind at
   pub set : kind ≡ Stack → (i : ℕ) → at ≤ i → i < at + byte_count size → Has (IsSetAt i) state
   pub plain : (j : ℕ) → Has (IsPlainAt j) state
 
--- a store on the stack
+-- the store is to the stack, at its distance from the end of the stack
 pub record IsOnFrame (shapes : List MapShape) (context : ℕ) (state : AbstractState) (size : Size) (r : ℕ) (off : ℤ) : Type 0 where
   pub at : ℕ
   pub at_is : pos at ≡ (pos stack_size +ℤ off)
   pub placed : IsPlaced shapes context state size r off Stack at
 
--- a store into an entry
+-- the store is into an entry of a map, and not by register 10
 pub record IsIntoEntry (shapes : List MapShape) (context : ℕ) (state : AbstractState) (size : Size) (r : ℕ) (off : ℤ) : Type 0 where
   pub map : ℕ
   pub at : ℕ
   pub placed : IsPlaced shapes context state size r off (Entry map) at
   pub other : r ≢ 10
 
--- a copy of register 10
+-- the instruction is a 64-bit move of register 10, which points into the stack
 pub record IsCopyOfFrame (state : AbstractState) (w : Width) (op : Operation) (src : Source) : Type 0 where
   pub is_copy : op ≡ Mov
   pub whole : w ≡ W64
   pub of_frame : src ≡ Reg 10
   pub base : ℕ
-  pub stands : StandsAt (Pointer Stack base) state 10
+  pub stands : CertaintyHoldsAt (Pointer Stack base) state 10
 
--- a sum of a pointer into the stack and a number
+-- the instruction adds an immediate to a pointer into the stack, and the sum still points into the stack or to its end
 pub record IsMoveOfPointer (state : AbstractState) (w : Width) (op : Operation) (dst : ℕ) (src : Source) : Type 0 where
   pub is_sum : op ≡ Add
   pub whole : w ≡ W64
   pub distance : ℤ
   pub by_distance : src ≡ Imm distance
   pub base : ℕ
-  pub stands : StandsAt (Pointer Stack base) state dst
+  pub stands : CertaintyHoldsAt (Pointer Stack base) state dst
   pub at : ℕ
   pub at_is : pos at ≡ (pos base +ℤ distance)
   pub below : base ≤ stack_size
   pub small : at ≤ stack_size
 
--- a look-up: register 1 names a map, and register 2 points to four bytes of the stack that are set
+-- what a look-up needs: register 1 names a map, and register 2 points to four bytes of the stack that are set
 pub record IsNamingEntry (state : AbstractState) (map : ℕ) : Type 0 where
-  pub names : StandsAt (Pointer (Map map) 0) state 1
+  pub names : CertaintyHoldsAt (Pointer (Map map) 0) state 1
   pub at : ℕ
-  pub points : StandsAt (Pointer Stack at) state 2
+  pub points : CertaintyHoldsAt (Pointer Stack at) state 2
   pub inside : at + 4 ≤ stack_size
   pub set : (i : ℕ) → at ≤ i → i < at + 4 → Has (IsSetAt i) state
 
--- a number of at most so much
+-- something is known of the word: it is a number of at most `most`
 abbrev pub IsAtMost : ℕ → Option AbstractValue → Type 0
 IsAtMost most None = ⊥
 IsAtMost most (Some k) = (k.kind ≡ Number) × (k.offset.hi ≤ most)
 
--- an update: as a look-up, and register 3 points to bytes of the stack that are set, as many as a value has, and register 4 is 0
+-- what an update needs: all that a look-up needs; register 3 points to as many bytes of the stack as a value has, and
+-- they are set; and register 4 is 0
 pub record IsUpdating (shapes : List MapShape) (state : AbstractState) (map : ℕ) : Type 0 where
   pub names : IsNamingEntry state map
   pub size : ℕ
   pub size_is : size_of_shape (slice_get shapes map) ≡ Some size
   pub at : ℕ
-  pub points : StandsAt (Pointer Stack at) state 3
+  pub points : CertaintyHoldsAt (Pointer Stack at) state 3
   pub inside : at + size ≤ stack_size
   pub set : (i : ℕ) → at ≤ i → i < at + size → Has (IsSetAt i) state
   pub flags : IsAtMost 0 (slice_index_or state.registers 4 None)
 
--- a test with 0 for equality
+-- the condition is a test for equality or inequality
 abbrev pub IsNullTest : Condition → Type 0
 IsNullTest Equal = Unit {0}
 IsNullTest NotEqual = Unit {0}
 IsNullTest _ = ⊥
 
--- of a look-up's answer
+-- the branch tests the answer of a look-up: a 64-bit test for equality with the immediate 0
 pub record IsNullCheck (w : Width) (c : Condition) (src : Source) : Type 0 where
   pub whole : w ≡ W64
   pub of_null : IsNullTest c
   pub with_zero : src ≡ Imm (pos 0)
 
--- the number in a call is that of the helper
+-- the number in a call is the number of this helper
 abbrev pub IsHelper : Helper → ℤ → Type 0
 IsHelper helper number = number ≡ number_of_helper helper
 
--- what an instruction needs, by the abstract state before it
+-- what an instruction needs from the abstract state before it
 abbrev pub IsReady : List MapShape → ℕ → AbstractState → Insn → Type 0
 IsReady shapes context state (Alu w op dst src) =
     (dst < 10) × ((IsLeftReady op state dst × IsScalarOperand state src) ⊎ (IsCopyOfFrame state w op src ⊎ IsMoveOfPointer state w op dst src))
-IsReady shapes context state (MovSx w bits dst src) = (dst < 10) × StandsAt Scalar state src
-IsReady shapes context state (Neg w dst) = (dst < 10) × StandsAt Scalar state dst
-IsReady shapes context state (End order bits dst) = (dst < 10) × StandsAt Scalar state dst
-IsReady shapes context state (Load size signed dst src off) = (dst < 10) × IsReadable shapes context state size src off
+IsReady shapes context state (MovSx w bits dst src) = (dst < 10) × CertaintyHoldsAt Scalar state src
+IsReady shapes context state (Neg w dst) = (dst < 10) × CertaintyHoldsAt Scalar state dst
+IsReady shapes context state (End order bits dst) = (dst < 10) × CertaintyHoldsAt Scalar state dst
+IsReady shapes context state (Load size signed dst src off) = (dst < 10) × IsLoadReady shapes context state size src off
 IsReady shapes context state (StoreImm size dst off imm) = IsOnFrame shapes context state size dst off ⊎ IsIntoEntry shapes context state size dst off
-IsReady shapes context state (StoreReg size dst off src) = StandsAt Scalar state src × (IsOnFrame shapes context state size dst off ⊎ IsIntoEntry shapes context state size dst off)
+IsReady shapes context state (StoreReg size dst off src) = CertaintyHoldsAt Scalar state src × (IsOnFrame shapes context state size dst off ⊎ IsIntoEntry shapes context state size dst off)
 IsReady shapes context state (Imm64 dst value) = dst < 10
 IsReady shapes context state (MapRef dst index) = (dst < 10) × (m : ℕ) × (index ≡ pos m) × (m < length shapes)
 IsReady shapes context state (Goto off) = Unit {0}
 IsReady shapes context state (Goto32 imm) = Unit {0}
 IsReady shapes context state (Branch w c dst src off) =
-    (dst < 10) × ((StandsAt Scalar state dst × IsScalarOperand state src) ⊎ (IsNullCheck w c src × (m : ℕ) × StandsAt (Pointer (EntryOrNull m) 0) state dst))
+    (dst < 10) × ((CertaintyHoldsAt Scalar state dst × IsScalarOperand state src) ⊎ (IsNullCheck w c src × (m : ℕ) × CertaintyHoldsAt (Pointer (EntryOrNull m) 0) state dst))
 IsReady shapes context state (Call helper) =
     (IsHelper Now helper ⊎ IsHelper Processor helper) ⊎ (IsHelper Lookup helper × (m : ℕ) × IsNamingEntry state m) ⊎ (IsHelper Update helper × (m : ℕ) × IsUpdating shapes state m)
-IsReady shapes context state Exit = StandsAt Scalar state 0
+IsReady shapes context state Exit = CertaintyHoldsAt Scalar state 0
 
 -- neither a jump nor an EXIT
 abbrev pub IsTransferred : Insn → Type 0
@@ -159,11 +160,11 @@ IsTransferred insn = Unit {0}
 abbrev pub WritesBelowFrame : Insn → Type 0
 WritesBelowFrame insn = (r : ℕ) → destination_of insn ≡ Some r → r < 10
 
--- a call of a counter: register 1 is its number, and of an add register 2 is the amount
+-- what a call of a counter needs: register 1 is the number of a counter, and for an add register 2 is a number, the amount
 abbrev pub IsAsking : AbstractState → ℤ → Type 0
-IsAsking state helper = IsAtMost (COUNTERS - 1) (slice_index_or state.registers 1 None) × (IsHelper AddCounter helper → StandsAt Scalar state 2)
+IsAsking state helper = IsAtMost (COUNTERS - 1) (slice_index_or state.registers 1 None) × (IsHelper AddCounter helper → CertaintyHoldsAt Scalar state 2)
 
--- what a call of a counter needs
+-- the instruction is a call of a counter and has what it needs
 abbrev pub IsReadyToAsk : AbstractState → Insn → Type 0
 IsReadyToAsk state (Call helper) = (IsHelper AddCounter helper ⊎ IsHelper ReadCounter helper) × IsAsking state helper
 IsReadyToAsk state insn = ⊥

@@ -1,4 +1,4 @@
-//! Where an access by a register goes.
+//! To which place an access by a register goes.
 
 ghost use Rattle.std.specs.Prelude.{Some, ◌↔◌, ◌≡◌, ◌^◌, ◌<◌, ℕ, IsOk, IfErr, IfOk};
 ghost use Rattle.bq_bpf.specs.Meaning.{word_of};
@@ -16,7 +16,8 @@ use bq_states::abstract_state::{AbstractState, ValueKind};
 use bq_states::places::{bound, stays};
 use bq_states::registers::known;
 
-/// What an instruction loads or stores: this many bytes, at that distance from where a register points.
+/// An access of a load or a store: how many bytes, by which register, and at which distance from where the register
+/// points.
 #[derive(Clone, Copy)]
 pub struct Access {
     pub size: Size,
@@ -24,14 +25,15 @@ pub struct Access {
     pub off: i16,
 }
 
-/// Where an access goes: what the pointer counts from, and the offsets from there.
+/// The place of an access: from what the pointer counts, and the possible offsets from there.
 #[derive(Clone, Copy)]
 pub struct Location {
     pub kind: ValueKind,
     pub at: Range,
 }
 
-/// Where an access goes, if it stays inside. Fails with `Unset` if nothing is known of the register, else with `Access`.
+/// The place of an access, if it stays inside its region. The error is `Unset` if nothing is known of the register,
+/// else `Access`.
 pub fn locate(
     state: &AbstractState,
     shapes: &[MapShape],
@@ -69,7 +71,7 @@ pub fn locate(
     })
 }
 
-/// The word of a distance.
+/// The 64-bit word of a distance.
 fn word_of_distance(off: i16) -> u64
     ensures { result ≡ word_of off }
 {

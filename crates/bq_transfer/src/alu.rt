@@ -5,7 +5,8 @@ ghost use Rattle.bq_bpf.specs.declared.shape.MapShape.{MapShape};
 ghost use Rattle.bq_bpf.specs.Meaning.{alu_result, word_of};
 ghost use Rattle.bq_insn.specs.declared.Insn.TheVariants.{Alu};
 ghost use Rattle.bq_transfer.specs.Obligations.{MayBeUnproven};
-ghost use Rattle.bq_states.specs.Certainty.{Scalar, Exact, Pointer, Stands, StandsAt, IsScalarOperand, IsGiven, IsMade};
+ghost use Rattle.bq_states.specs.declared.abstract_state.TheConstants.{PLACES};
+ghost use Rattle.bq_states.specs.Certainty.{Scalar, Exact, Pointer, CertaintyHolds, CertaintyHoldsAt, IsScalarOperand, IsGiven, IsMade};
 ghost use Rattle.bq_transfer.specs.After.{CarriesFacts};
 ghost use Rattle.bq_transfer.specs.Ready.{IsReady, IsCopyOfFrame, IsMoveOfPointer};
 ghost use Rattle.bq_bpf.specs.Memory.{State};
@@ -17,14 +18,14 @@ ghost use Rattle.bq_states.specs.declared.relations.Relation.TheVariants.{Sum};
 ghost use Rattle.bq_ranges.specs.Within.{Within};
 
 use crate::obligation::Obligation;
-use bq_insn::{Insn, Operation, Source, Width};
+use bq_insn::{Insn, Operation, REGISTERS, Source, Width};
 use bq_ranges::{Range, arithmetic};
 use bq_states::abstract_state::{AbstractState, AbstractValue, ValueKind};
 use bq_states::copies::{class_of, link};
-use bq_states::registers::{known, learn, operand};
+use bq_states::registers::{known, operand, set_register};
 use bq_states::relations::{RELATIONS, Related, Relation, relate};
 
-/// What is known of the result, where the instruction may work on such words.
+/// What is known of the result; `None` if the instruction may not work on these words.
 pub fn combine(
     width: Width,
     op: Operation,
@@ -32,7 +33,7 @@ pub fn combine(
     b: AbstractValue,
 ) -> Option<AbstractValue>
     ensures describes { IfSome result (λ k. (shapes : List MapShape) (x y : ℕ) → Describes shapes a x → Describes shapes b y → Describes shapes k (alu_result width op x y)) }
-    ensures scalar { a.kind ≡ ValueKind.Number → b.kind ≡ ValueKind.Number → Stands Scalar result }
+    ensures scalar { a.kind ≡ ValueKind.Number → b.kind ≡ ValueKind.Number → CertaintyHolds Scalar result }
     ensures moves { MovesPointer width op (Some a) (Some b) result }
 {
     match (a.kind, b.kind) {
@@ -47,7 +48,7 @@ pub fn combine(
     }
 }
 
-/// A pointer and a number.
+/// What is known of the result if the operands are a pointer and a number.
 fn moved(width: Width, op: Operation, a: AbstractValue, b: AbstractValue) -> Option<AbstractValue>
     requires { b.kind ≡ ValueKind.Number }
     ensures moves { MovesPointer width op (Some a) (Some b) result }
@@ -66,7 +67,7 @@ fn moved(width: Width, op: Operation, a: AbstractValue, b: AbstractValue) -> Opt
     }
 }
 
-/// A number to which a pointer is added: the pointer moved.
+/// What is known of the result if a pointer is added to a number: the pointer, moved.
 fn added(width: Width, op: Operation, a: AbstractValue, b: AbstractValue) -> Option<AbstractValue>
     requires { a.kind ≡ ValueKind.Number }
     ensures { IfSome result (λ k. (shapes : List MapShape) (x y : ℕ) → Describes shapes a x → Describes shapes b y → Describes shapes k (alu_result width op x y)) }
@@ -81,7 +82,7 @@ fn added(width: Width, op: Operation, a: AbstractValue, b: AbstractValue) -> Opt
     }
 }
 
-/// An arithmetic instruction.
+/// The abstract state after an arithmetic instruction.
 pub fn alu(
     state: &mut AbstractState,
     width: Width,
@@ -100,7 +101,7 @@ pub fn alu(
     operate(state, width, op, dst, src)
 }
 
-/// Arithmetic on what the register holds.
+/// Arithmetic that works on the word of the destination register.
 fn operate(
     state: &mut AbstractState,
     width: Width,
@@ -112,7 +113,7 @@ fn operate(
     requires below { dst < 10 }
     ensures transfers { OnOk result ((shapes : List MapShape) (context_length : ℕ) → Transfers shapes context_length (Alu width op dst src) state.old state.new) }
     ensures obligations { IfErr result (λ obligation. MayBeUnproven obligation (Alu width op dst src)) }
-    ensures accepts { StandsAt Scalar state.old dst → IsScalarOperand state.old src → IsOk result × IsGiven state.old state.new dst }
+    ensures accepts { CertaintyHoldsAt Scalar state.old dst → IsScalarOperand state.old src → IsOk result × IsGiven state.old state.new dst }
     ensures moves { (m : IsMoveOfPointer state.old width op dst src) → IsOk result × IsMade (Pointer ValueKind.Stack m.at) state.old state.new dst }
 {
     let Some(right) = operand(state, src) else {
@@ -125,22 +126,22 @@ fn operate(
         return Err(Obligation::PointerUse);
     };
     let class = class_at(state, dst);
-    learn(state, dst, word);
+    set_register(state, dst, word);
     if let Some(more) = constant_added(width, op, left, right) {
         relate_sum(&mut state.classes, &mut state.related, dst, class, more);
     }
     Ok(())
 }
 
-/// The class of a register, and 0 if it is of none.
+/// The class of a register, or 0 if it has none.
 fn class_at(state: &AbstractState, register: u8) -> u8
-    requires { register < 11 }
+    requires { register < REGISTERS }
     ensures { result ≡ slice_index state.now.classes register }
 {
     state.classes[usize::from(register)]
 }
 
-/// By how much the instruction makes a word greater, modulo 2 to the 64, if that is a constant.
+/// The constant that the instruction adds to a word, modulo 2^64; `None` if it adds no constant.
 fn constant_added(
     width: Width,
     op: Operation,
@@ -161,7 +162,7 @@ fn constant_added(
     }
 }
 
-/// The constant, if no such sum has more than 32 bits.
+/// The constant, if no sum with it has more than 32 bits.
 fn small_constant(left: Range, right: Range) -> Option<u64>
     requires { right.lo ≡ right.hi }
     ensures { IfSome result (λ more. (x y : ℕ) → Within left x → Within right y → alu_result Width.W32 Operation.Add x y ≡ (x + more) % 2 ^ 64) }
@@ -172,7 +173,7 @@ fn small_constant(left: Range, right: Range) -> Option<u64>
     Some(right.lo)
 }
 
-/// The register is that much more than the word of the class that it was of.
+/// Learns that the register is now its old word plus a constant, so it is related to the other places of its old class.
 fn relate_sum(
     classes: &mut [u8],
     related: &mut [Option<Related>],
@@ -180,8 +181,8 @@ fn relate_sum(
     class: u8,
     more: u64,
 )
-    requires register { register < 11 }
-    requires room { length classes.old ≡ 75 }
+    requires register { register < REGISTERS }
+    requires room { length classes.old ≡ PLACES }
     requires few { length related.old ≡ RELATIONS }
     ensures { (s : State) (a : ℕ) (was : AreCopies classes.old related.old s) → s.register register ≡ Some a → (class ≢ 0 → Relates (Sum more) a (was.0 class)) → AreCopies classes.new related.new s }
 {
@@ -200,7 +201,7 @@ fn relate_sum(
     );
 }
 
-/// A copy.
+/// The abstract state after a move.
 fn copy(state: &mut AbstractState, width: Width, dst: u8, src: Source) -> Result<(), Obligation>
     requires { dst < 10 }
     ensures transfers { OnOk result ((shapes : List MapShape) (context_length : ℕ) → Transfers shapes context_length (Alu width Operation.Mov dst src) state.old state.new) }
@@ -218,7 +219,7 @@ fn copy(state: &mut AbstractState, width: Width, dst: u8, src: Source) -> Result
     let Some(word) = copied(width, right) else {
         return Err(Obligation::PointerUse);
     };
-    learn(state, dst, word);
+    set_register(state, dst, word);
     link_copy(
         &mut state.classes,
         &mut state.related,
@@ -230,7 +231,7 @@ fn copy(state: &mut AbstractState, width: Width, dst: u8, src: Source) -> Result
     Ok(())
 }
 
-/// The register is a copy of another one, if it got the whole word.
+/// Makes the register a copy of another one, if it got the whole word.
 fn link_copy(
     classes: &mut [u8],
     related: &mut [Option<Related>],
@@ -240,19 +241,19 @@ fn link_copy(
     word: AbstractValue,
 )
     requires dst { dst < 10 }
-    requires room { length classes.old ≡ 75 }
+    requires room { length classes.old ≡ PLACES }
     ensures { (s : State) → AreCopies classes.old related.old s → ((r : ℕ) → src ≡ Source.Reg r → r ≢ dst → IsCopied s dst r width word) → AreCopies classes.new related.new s }
 {
     let Source::Reg(from) = src else {
         return;
     };
-    if from == dst || from >= 11 || !is_whole(width, word) {
+    if from == dst || from >= REGISTERS as u8 || !is_whole(width, word) {
         return;
     }
     link(classes, related, usize::from(dst), usize::from(from));
 }
 
-/// Whether a copy of that width has the whole word.
+/// Whether a copy of this width has the whole word.
 fn is_whole(width: Width, word: AbstractValue) -> bool
     ensures { IsTrue result → (shapes : List MapShape) (n : ℕ) → Describes shapes word n → alu_result width Operation.Mov 0 n ≡ n }
 {
@@ -268,10 +269,10 @@ fn is_whole(width: Width, word: AbstractValue) -> bool
     }
 }
 
-/// What is known of a copy.
+/// What is known of a copy of this width.
 fn copied(width: Width, word: AbstractValue) -> Option<AbstractValue>
     ensures describes { IfSome result (λ k. (shapes : List MapShape) (x y : ℕ) → Describes shapes word y → Describes shapes k (alu_result width Operation.Mov x y)) }
-    ensures scalar { word.kind ≡ ValueKind.Number → Stands Scalar result }
+    ensures scalar { word.kind ≡ ValueKind.Number → CertaintyHolds Scalar result }
     ensures same { width ≡ Width.W64 → result ≡ Some word }
 {
     match (width, word.kind) {

@@ -7,7 +7,7 @@ ghost use Rattle.bq_bpf.specs.declared.shape.MapShape.{MapShape};
 ghost use Rattle.bq_ranges.specs.Within.{Within};
 ghost use Rattle.bq_transfer.specs.Obligations.{MayBeUnproven};
 ghost use Rattle.bq_transfer.specs.After.{CarriesFacts};
-ghost use Rattle.bq_states.specs.Certainty.{IsAnswered, IsCalled, IsMade, Pointer, Scalar, StandsAt};
+ghost use Rattle.bq_states.specs.Certainty.{IsAnswered, IsCalled, IsMade, Pointer, Scalar, CertaintyHoldsAt};
 ghost use Rattle.bq_transfer.specs.Ready.{IsAtMost, IsReady, IsUpdating, IsNamingEntry};
 ghost use Rattle.bq_transfer.specs.Transfers.{Transfers, IsBelow};
 ghost use Rattle.bq_states.specs.AbstractStates.{AreAlike, Contains};
@@ -19,11 +19,11 @@ use bq_bpf::shape::MAPS;
 use bq_insn::{Insn, Size, Width};
 use bq_ranges::Range;
 use bq_states::abstract_state::{AbstractState, AbstractValue, ValueKind};
-use bq_states::copies::part_first;
+use bq_states::copies::forget_first_classes;
 use bq_states::places::{reads, reads_value, shape_of};
-use bq_states::registers::{clear, known, learn};
+use bq_states::registers::{clear, known, set_register};
 
-/// The reference of a map.
+/// The abstract state after a map reference.
 pub fn map_ref(
     state: &mut AbstractState,
     shapes: &[MapShape],
@@ -39,7 +39,7 @@ pub fn map_ref(
     let Some(map) = map_number(shapes, index) else {
         return Err(Obligation::Argument);
     };
-    learn(
+    set_register(
         state,
         dst,
         AbstractValue {
@@ -50,7 +50,7 @@ pub fn map_ref(
     Ok(())
 }
 
-/// The number of a map, if there is one of that index.
+/// The number of the map with this index; `None` if there is no such map.
 fn map_number(shapes: &[MapShape], index: i32) -> Option<u8>
     requires { length shapes.now ≤ 8 }
     ensures index { IfSome result (λ m. index ≡ pos m) }
@@ -68,9 +68,9 @@ fn map_number(shapes: &[MapShape], index: i32) -> Option<u8>
     }
 }
 
-/// The map that register 1 names.
+/// The map that register 1 names; `None` if it names none.
 fn map_of(state: &AbstractState) -> Option<u8>
-    ensures found { (m : ℕ) → StandsAt (Pointer (ValueKind.Map m) 0) state.now 1 → result ≡ Some m }
+    ensures found { (m : ℕ) → CertaintyHoldsAt (Pointer (ValueKind.Map m) 0) state.now 1 → result ≡ Some m }
     ensures names { IfSome result (λ m. (f : Setting) (s : State) → Contains f state.now s → (n : ℕ) × (s.register 1 ≡ Some (reference n)) × AreAlike f.shapes m n) }
 {
     let Some(word) = known(state, 1) else {
@@ -85,7 +85,8 @@ fn map_of(state: &AbstractState) -> Option<u8>
     }
 }
 
-/// A call of a helper that is no counter's: a look-up, an update, the time, or the number of the processor.
+/// The abstract state after a call of a helper that asks no counter: a look-up, an update, the time, or the number of
+/// the processor.
 pub fn call(
     state: &mut AbstractState,
     shapes: &[MapShape],
@@ -128,8 +129,8 @@ fn look_up(state: &mut AbstractState, shapes: &[MapShape], context: usize) -> Re
         return Err(Obligation::Argument);
     }
     clear(&mut state.registers);
-    part_first(&mut state.classes);
-    learn(
+    forget_first_classes(&mut state.classes);
+    set_register(
         state,
         0,
         AbstractValue {
@@ -140,7 +141,7 @@ fn look_up(state: &mut AbstractState, shapes: &[MapShape], context: usize) -> Re
     Ok(())
 }
 
-/// An update: as a look-up, and register 3 points to a value, and register 4 is 0.
+/// An update: registers 1 and 2 are as for a look-up, register 3 points to a value, and register 4 is 0.
 fn update(state: &mut AbstractState, shapes: &[MapShape], context: usize) -> Result<(), Obligation>
     requires context { context < 2 ^ 16 }
     ensures transfers { OnOk result (Transfers shapes.now context (Insn.Call UPDATE) state.old state.new) }
@@ -170,7 +171,7 @@ fn update(state: &mut AbstractState, shapes: &[MapShape], context: usize) -> Res
 pub fn is_at_most(state: &AbstractState, register: u8, most: u64) -> bool
     ensures below { IsTrue result → (bound : ℕ) → most < bound → IsBelow state.now register bound }
     ensures found { IsAtMost most (slice_index_or state.now.registers register None) → IsTrue result }
-    ensures any { most ≡ 2 ^ 64 - 1 → StandsAt Scalar state.now register → IsTrue result }
+    ensures any { most ≡ 2 ^ 64 - 1 → CertaintyHoldsAt Scalar state.now register → IsTrue result }
 {
     let Some(word) = known(state, register) else {
         return false;
@@ -181,14 +182,14 @@ pub fn is_at_most(state: &AbstractState, register: u8, most: u64) -> bool
     word.offset.hi <= most
 }
 
-/// After a call registers 1 to 5 are unset, and register 0 is a number of that range.
+/// The abstract state after a call: registers 1 to 5 are unset, and register 0 is a number of this range.
 pub fn answer(state: &mut AbstractState, offset: Range)
     ensures contains { (f : Setting) (s : State) (x : ℕ) → Contains f state.old s → Within offset x → Contains f state.new (called s x) }
     ensures answered { IsAnswered state.old state.new }
 {
     clear(&mut state.registers);
-    part_first(&mut state.classes);
-    learn(
+    forget_first_classes(&mut state.classes);
+    set_register(
         state,
         0,
         AbstractValue {
@@ -198,7 +199,7 @@ pub fn answer(state: &mut AbstractState, offset: Range)
     );
 }
 
-/// The time.
+/// The abstract state after a call for the time.
 fn now(state: &mut AbstractState)
     ensures transfers { (shapes : List MapShape) (context_length : ℕ) → Transfers shapes context_length (Insn.Call NOW) state.old state.new }
     ensures answered { IsAnswered state.old state.new }
@@ -206,7 +207,7 @@ fn now(state: &mut AbstractState)
     answer(state, Range::full(Width::W64));
 }
 
-/// The number of the processor.
+/// The abstract state after a call for the number of the processor.
 fn processor(state: &mut AbstractState)
     ensures transfers { (shapes : List MapShape) (context_length : ℕ) → Transfers shapes context_length (Insn.Call PROCESSOR) state.old state.new }
     ensures answered { IsAnswered state.old state.new }

@@ -8,7 +8,7 @@ ghost use Rattle.bq_insn.specs.declared.Insn.{Insn};
 ghost use Rattle.bq_states.specs.Parts.{ReadsWithin};
 ghost use Rattle.bq_transfer.specs.Obligations.{MayBeUnproven};
 ghost use Rattle.bq_states.specs.Certainty.{IsGiven};
-ghost use Rattle.bq_transfer.specs.Ready.{IsReadable};
+ghost use Rattle.bq_transfer.specs.Ready.{IsLoadReady};
 ghost use Rattle.bq_transfer.specs.Transfers.{LoadsKept, Transfers};
 
 use crate::access::{Access, Location, locate};
@@ -16,15 +16,16 @@ use crate::obligation::Obligation;
 use bq_bpf::MapShape;
 use bq_bpf::addresses::STACK_SIZE;
 use bq_bpf::words::bits_of;
-use bq_insn::{Insn, Size, Width};
+use bq_insn::{Insn, REGISTERS, Size, Width};
 use bq_ranges::{Range, moves};
 use bq_states::abstract_state::{AbstractState, AbstractValue, ValueKind};
 use bq_states::copies::link;
 use bq_states::parts::{numbers, numbers_at};
 use bq_states::places::is_readable;
-use bq_states::registers::learn;
+use bq_states::registers::set_register;
 
-/// A load; of a slot of the stack whose word is known the register is a copy then.
+/// The abstract state after a load. If the load reads a whole slot of the stack whose word is known, the register
+/// becomes a copy of the slot.
 pub fn load(
     state: &mut AbstractState,
     shapes: &[MapShape],
@@ -37,24 +38,24 @@ pub fn load(
     requires below { dst < 10 }
     ensures transfers { OnOk result (Transfers shapes.now context (Insn.Load access.size signed dst access.base access.off) state.old state.new) }
     ensures obligations { IfErr result (λ obligation. MayBeUnproven obligation (Insn.Load access.size signed dst access.base access.off)) }
-    ensures accepts { IsReadable shapes.now context state.old access.size access.base access.off → IsOk result × IsGiven state.old state.new dst }
+    ensures accepts { IsLoadReady shapes.now context state.old access.size access.base access.off → IsOk result × IsGiven state.old state.new dst }
 {
     let found = locate(state, shapes, context, access)?;
     if let Some(word) = kept_at(state, found, access.size, signed) {
-        learn(state, dst, word);
+        set_register(state, dst, word);
         let slot = found.at.lo as usize / 8;
         link(
             &mut state.classes,
             &mut state.related,
             usize::from(dst),
-            11 + slot,
+            REGISTERS + slot,
         );
         return Ok(());
     }
     if !is_readable(state, found.kind, found.at, access.size) {
         return Err(Obligation::Access);
     }
-    learn(
+    set_register(
         state,
         dst,
         AbstractValue {
@@ -65,7 +66,7 @@ pub fn load(
     Ok(())
 }
 
-/// The word that is kept where a load of eight bytes reads, if one is.
+/// What is kept of the word that a load of eight bytes reads, if anything is.
 fn kept_at(
     state: &AbstractState,
     place: Location,
@@ -83,7 +84,7 @@ fn kept_at(
     kept_in(state, place.at.lo as usize / 8)
 }
 
-/// The word that is kept in a slot of eight bytes, if one is.
+/// What is kept of the word in a slot of eight bytes, if anything is.
 fn kept_in(state: &AbstractState, slot: usize) -> Option<AbstractValue>
     requires { slot < 64 }
     ensures { result ≡ slice_index_or state.now.kept slot None }
@@ -91,7 +92,7 @@ fn kept_in(state: &AbstractState, slot: usize) -> Option<AbstractValue>
     state.kept[slot]
 }
 
-/// The numbers that a read of this many bytes gives there.
+/// A range of the numbers that a read of this size gives at the place.
 fn reads_at(state: &AbstractState, place: Location, size: Size) -> Range
     ensures any { (x : ℕ) → place.kind ≢ ValueKind.Stack → x < 256 ^ byte_count size → Within result x }
     ensures stack { place.kind ≡ ValueKind.Stack → ReadsWithin state.now.parts place.at (byte_count size) result }
@@ -102,7 +103,7 @@ fn reads_at(state: &AbstractState, place: Location, size: Size) -> Range
     numbers_at(&state.parts, place.at, size)
 }
 
-/// What a load makes of such numbers.
+/// A range of what a load makes of numbers of this range.
 fn loads(numbers: Range, size: Size, signed: bool) -> Range
     ensures { (x : ℕ) → Within numbers x → Within result (loaded size signed x) }
 {

@@ -1,7 +1,8 @@
-//! Moves that change a number on the way, and numbers from the instruction.
+//! Moves that change a number on the way, and moves of immediates.
 
+ghost use Rattle.bq_insn.specs.declared.TheConstants.{REGISTERS};
 ghost use Rattle.std.specs.Prelude.{◌↔◌, ◌≡◌, ◌<◌, ℕ, List, IsOk, OnOk, IfOk, IfErr, length};
-ghost use Rattle.bq_states.specs.Certainty.{IsGiven, Scalar, StandsAt};
+ghost use Rattle.bq_states.specs.Certainty.{IsGiven, Scalar, CertaintyHoldsAt};
 ghost use Rattle.bq_insn.specs.declared.Insn.{Insn};
 ghost use Rattle.bq_bpf.specs.declared.shape.MapShape.{MapShape};
 ghost use Rattle.bq_transfer.specs.Obligations.{IsNoNumberAt, IsUnknownAt, MayBeUnproven, ReadsOperand, UsesWord};
@@ -13,15 +14,16 @@ use crate::obligation::Obligation;
 use bq_insn::{Bits, Order, Width};
 use bq_ranges::{Range, moves};
 use bq_states::abstract_state::{AbstractState, AbstractValue, ValueKind};
-use bq_states::registers::{known, learn};
+use bq_states::registers::{known, set_register};
 
-/// The range of a register that is a number. Unproven is that it is set where nothing is known of it, and else how a pointer is used.
+/// The range of a register that is a number. The error is `Unset` if nothing is known of the register, and `PointerUse`
+/// if it is a pointer.
 pub fn number(state: &AbstractState, register: u8) -> Result<Range, Obligation>
     ensures holds { IfOk result (HoldsNumber state.now register) }
     ensures obligations { IfErr result (λ obligation. (insn : Insn) → ReadsOperand insn → UsesWord insn → MayBeUnproven obligation insn) }
     ensures unset { IfErr result (λ obligation. obligation ≡ Obligation.Unset ↔ IsUnknownAt state.now register) }
     ensures pointer { IfErr result (λ obligation. obligation ≡ Obligation.PointerUse ↔ IsNoNumberAt state.now register) }
-    ensures accepts { StandsAt Scalar state.now register → IsOk result }
+    ensures accepts { CertaintyHoldsAt Scalar state.now register → IsOk result }
 {
     let Some(word) = known(state, register) else {
         return Err(Obligation::Unset);
@@ -32,14 +34,14 @@ pub fn number(state: &AbstractState, register: u8) -> Result<Range, Obligation>
     Ok(word.offset)
 }
 
-/// A register becomes a number of that range.
+/// Learns that a register is a number of this range now.
 fn learn_number(state: &mut AbstractState, register: u8, offset: Range)
     requires { register < 10 }
     ensures is { state.new ≡ knowing state.old register (record { kind = Number; offset = offset }) }
     ensures given { IsGiven state.old state.new register }
-    ensures long { length state.old.registers ≡ 11 }
+    ensures long { length state.old.registers ≡ REGISTERS }
 {
-    learn(
+    set_register(
         state,
         register,
         AbstractValue {
@@ -49,7 +51,7 @@ fn learn_number(state: &mut AbstractState, register: u8, offset: Range)
     );
 }
 
-/// The low bits of a register with their sign extended.
+/// The abstract state after a move that extends the sign.
 pub fn extend(
     state: &mut AbstractState,
     width: Width,
@@ -60,26 +62,26 @@ pub fn extend(
     requires { dst < 10 }
     ensures transfers { OnOk result ((shapes : List MapShape) (context_length : ℕ) → Transfers shapes context_length (Insn.MovSx width bits dst src) state.old state.new) }
     ensures obligations { IfErr result (λ obligation. MayBeUnproven obligation (Insn.MovSx width bits dst src)) }
-    ensures accepts { StandsAt Scalar state.old src → IsOk result × IsGiven state.old state.new dst }
+    ensures accepts { CertaintyHoldsAt Scalar state.old src → IsOk result × IsGiven state.old state.new dst }
 {
     let word = number(state, src)?;
     learn_number(state, dst, moves::extend(width, bits, word));
     Ok(())
 }
 
-/// A negation.
+/// The abstract state after a negation.
 pub fn negate(state: &mut AbstractState, width: Width, dst: u8) -> Result<(), Obligation>
     requires { dst < 10 }
     ensures transfers { OnOk result ((shapes : List MapShape) (context_length : ℕ) → Transfers shapes context_length (Insn.Neg width dst) state.old state.new) }
     ensures obligations { IfErr result (λ obligation. MayBeUnproven obligation (Insn.Neg width dst)) }
-    ensures accepts { StandsAt Scalar state.old dst → IsOk result × IsGiven state.old state.new dst }
+    ensures accepts { CertaintyHoldsAt Scalar state.old dst → IsOk result × IsGiven state.old state.new dst }
 {
     let word = number(state, dst)?;
     learn_number(state, dst, moves::neg(width, word));
     Ok(())
 }
 
-/// The low bits of a register in a byte order.
+/// The abstract state after a byte order.
 pub fn reorder(
     state: &mut AbstractState,
     kind: Order,
@@ -89,14 +91,14 @@ pub fn reorder(
     requires { dst < 10 }
     ensures transfers { OnOk result ((shapes : List MapShape) (context_length : ℕ) → Transfers shapes context_length (Insn.End kind bits dst) state.old state.new) }
     ensures obligations { IfErr result (λ obligation. MayBeUnproven obligation (Insn.End kind bits dst)) }
-    ensures accepts { StandsAt Scalar state.old dst → IsOk result × IsGiven state.old state.new dst }
+    ensures accepts { CertaintyHoldsAt Scalar state.old dst → IsOk result × IsGiven state.old state.new dst }
 {
     let word = number(state, dst)?;
     learn_number(state, dst, moves::reorder(kind, bits, word));
     Ok(())
 }
 
-/// A number of 64 bits from the instruction.
+/// The abstract state after a 64-bit immediate.
 pub fn immediate(state: &mut AbstractState, dst: u8, value: u64)
     requires { dst < 10 }
     ensures transfers { (shapes : List MapShape) (context_length : ℕ) → Transfers shapes context_length (Insn.Imm64 dst value) state.old state.new }

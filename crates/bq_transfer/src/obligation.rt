@@ -3,23 +3,23 @@
 ghost use Rattle.std.specs.Prelude.{◌≡◌};
 ghost use Rattle.bq_transfer.specs.Obligations.{obligation_number};
 
-/// An obligation of an instruction that the state before it does not prove.
+/// An obligation of an instruction that the abstract state before it does not prove. Texts name it by its number (`V4`).
 #[derive(Clone, Copy, Debug, PartialEq, Eq)]
 pub enum Obligation {
-    /// That an operand is set.
+    /// V4: an operand may be unset.
     Unset,
-    /// That an access is good.
+    /// V5: an access may be bad.
     Access,
-    /// That a pointer is used as pointers may be.
+    /// V6: a pointer may be used as only numbers are.
     PointerUse,
-    /// That a helper's argument is good, or that there is a map of that number.
+    /// V8: an argument of a helper may be bad, or the map of a map reference does not exist.
     Argument,
-    /// That register 0 is a number at an EXIT.
+    /// V9: register 0 may be no number at an EXIT.
     Answer,
 }
 
 impl Obligation {
-    /// The number by which it is named, after the letter V.
+    /// The number of the obligation, as texts name it after the letter V.
     pub fn number(self) -> u8
         ensures { result ≡ obligation_number self }
     {

@@ -1,13 +1,13 @@
-//! What a branch tells of its left operand, on each side.
+//! What a branch shows about its operands on each side.
 
 ghost use Rattle.std.specs.Prelude.{◌≡◌, ◌<◌, ℕ, ℤ, IfOk, IfSome, IfErr, IsOk, OnOk, List, Some, true, false};
 ghost use Rattle.bq_insn.specs.declared.Insn.{Insn};
 ghost use Rattle.bq_bpf.specs.Meaning.{taken, word_of};
 ghost use Rattle.bq_bpf.specs.declared.shape.MapShape.{MapShape};
 ghost use Rattle.bq_transfer.specs.Obligations.{MayBeUnproven, UsesWord};
-ghost use Rattle.bq_states.specs.Certainty.{IsWord, Pointer, Stands};
+ghost use Rattle.bq_states.specs.Certainty.{IsWord, Pointer, CertaintyHolds};
 ghost use Rattle.bq_transfer.specs.Ready.{IsNullCheck, IsNullTest};
-ghost use Rattle.bq_transfer.specs.Sides.{IsCompared, IsNumberIfAny, IsSide, IsTested, IsTestedIfAny, is_found, Fits};
+ghost use Rattle.bq_transfer.specs.Sides.{IsCompared, IsNumberIfAny, IsNeverOrNumber, IsTested, IsComparableAndTested, is_found, KnownDescribes};
 ghost use Rattle.bq_states.specs.AbstractStates.{Describes};
 
 use crate::obligation::Obligation;
@@ -15,7 +15,7 @@ use bq_insn::{Condition, Source, Width};
 use bq_ranges::narrowing::{narrow, narrow_right};
 use bq_states::abstract_state::{AbstractValue, ValueKind};
 
-/// What the left operand is on one side of a branch; `None` where control never goes there.
+/// What the left operand is on one side of a branch; `None` if control never goes there.
 pub fn side(
     width: Width,
     cond: Condition,
@@ -25,13 +25,13 @@ pub fn side(
     goes: bool,
 ) -> Result<Option<AbstractValue>, Obligation>
     requires { (i : ℤ) → src ≡ Source.Imm i → IsWord (word_of i) (Some right) }
-    ensures fits { IfOk result (λ side. (shapes : List MapShape) (a b : ℕ) → Describes shapes left a → Describes shapes right b → taken width cond a b ≡ goes → Fits shapes side a) }
+    ensures fits { IfOk result (λ side. (shapes : List MapShape) (a b : ℕ) → Describes shapes left a → Describes shapes right b → taken width cond a b ≡ goes → KnownDescribes shapes side a) }
     ensures obligations { IfErr result (λ obligation. (insn : Insn) → UsesWord insn → MayBeUnproven obligation insn) }
     ensures compared { OnOk result (IsCompared width cond left src right) }
     ensures accepts { left.kind ≡ ValueKind.Number → right.kind ≡ ValueKind.Number → IsOk result }
     ensures number { left.kind ≡ ValueKind.Number → right.kind ≡ ValueKind.Number → IfOk result IsNumberIfAny }
-    ensures checks { (map : ℕ) → IsNullCheck width cond src → Stands (Pointer (ValueKind.EntryOrNull map) 0) (Some left) → IsOk result }
-    ensures tested { (map : ℕ) → IsNullCheck width cond src → Stands (Pointer (ValueKind.EntryOrNull map) 0) (Some left) → IfOk result (IsTested map (is_found cond goes)) }
+    ensures checks { (map : ℕ) → IsNullCheck width cond src → CertaintyHolds (Pointer (ValueKind.EntryOrNull map) 0) (Some left) → IsOk result }
+    ensures tested { (map : ℕ) → IsNullCheck width cond src → CertaintyHolds (Pointer (ValueKind.EntryOrNull map) 0) (Some left) → IfOk result (IsTested map (is_found cond goes)) }
 {
     match outcome(width, cond, left, src, right, goes) {
         Some(side) => Ok(side),
@@ -39,7 +39,7 @@ pub fn side(
     }
 }
 
-/// What the right operand is on one side of a branch, where control goes there.
+/// What the right operand is on one side of a branch, if control goes there.
 pub fn right_side(
     width: Width,
     cond: Condition,
@@ -58,7 +58,8 @@ pub fn right_side(
     }
 }
 
-/// What the left operand is on one side of a branch, where such words may be compared; the inner `None` where control never goes there.
+/// What the left operand is on one side of a branch. The outer `None` means that the two words may not be compared, the
+/// inner `None` that control never goes there.
 fn outcome(
     width: Width,
     cond: Condition,
@@ -69,9 +70,9 @@ fn outcome(
 ) -> Option<Option<AbstractValue>>
     requires { (i : ℤ) → src ≡ Source.Imm i → IsWord (word_of i) (Some right) }
     ensures compared { IfSome result (λ _. IsCompared width cond left src right) }
-    ensures fits { IfSome result (λ side. (shapes : List MapShape) (a b : ℕ) → Describes shapes left a → Describes shapes right b → taken width cond a b ≡ goes → Fits shapes side a) }
-    ensures numbers { left.kind ≡ ValueKind.Number → right.kind ≡ ValueKind.Number → IsSide result }
-    ensures tested { (map : ℕ) → IsNullCheck width cond src → Stands (Pointer (ValueKind.EntryOrNull map) 0) (Some left) → IsTestedIfAny map (is_found cond goes) result }
+    ensures fits { IfSome result (λ side. (shapes : List MapShape) (a b : ℕ) → Describes shapes left a → Describes shapes right b → taken width cond a b ≡ goes → KnownDescribes shapes side a) }
+    ensures numbers { left.kind ≡ ValueKind.Number → right.kind ≡ ValueKind.Number → IsNeverOrNumber result }
+    ensures tested { (map : ℕ) → IsNullCheck width cond src → CertaintyHolds (Pointer (ValueKind.EntryOrNull map) 0) (Some left) → IsComparableAndTested map (is_found cond goes) result }
 {
     match (left.kind, right.kind) {
         (ValueKind::Number, ValueKind::Number) => match narrow(
@@ -98,7 +99,7 @@ fn outcome(
     }
 }
 
-/// An answer of a look-up that was found, on a side of one more test: it stays what it is.
+/// The answer of a look-up that was already found, on one side of another test: it stays what it is.
 fn found_check(
     width: Width,
     cond: Condition,
@@ -117,7 +118,7 @@ fn found_check(
     }
 }
 
-/// A look-up's result on one side of its test.
+/// The answer of a look-up on one side of its test.
 fn null_check(
     map: u8,
     width: Width,
@@ -131,8 +132,8 @@ fn null_check(
     requires whole { left.offset.hi ≡ 0 }
     requires null { right.offset.hi ≡ 0 }
     ensures compared { IfSome result (λ _. (width ≡ Width.W64) × IsNullTest cond) }
-    ensures tested { width ≡ Width.W64 → IsNullTest cond → left.offset.lo ≡ 0 → IsTestedIfAny map (is_found cond goes) result }
-    ensures fits { IfSome result (λ side. (shapes : List MapShape) (a b : ℕ) → Describes shapes left a → Describes shapes right b → taken width cond a b ≡ goes → Fits shapes side a) }
+    ensures tested { width ≡ Width.W64 → IsNullTest cond → left.offset.lo ≡ 0 → IsComparableAndTested map (is_found cond goes) result }
+    ensures fits { IfSome result (λ side. (shapes : List MapShape) (a b : ℕ) → Describes shapes left a → Describes shapes right b → taken width cond a b ≡ goes → KnownDescribes shapes side a) }
 {
     let null = AbstractValue {
         kind: ValueKind::Number,

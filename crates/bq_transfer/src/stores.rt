@@ -1,14 +1,15 @@
-//! Stores, and what they leave known.
+//! Stores, and what is known after them.
 
 ghost use Rattle.std.specs.Prelude.{◌≡◌, ◌≢◌, ◌+◌, ◌<◌, ◌≤◌, ◌^◌, ℕ, None, Some, length, IsOk, OnOk, IfOk, IfSome, IfErr};
 ghost use Rattle.bq_insn.specs.declared.Insn.{Insn};
 ghost use Rattle.bq_insn.specs.Slots.{byte_count};
 ghost use Rattle.bq_bpf.specs.Meaning.{word_of};
 ghost use Rattle.bq_bpf.specs.Memory.{State};
+ghost use Rattle.bq_states.specs.declared.abstract_state.TheConstants.{PLACES, STACK_SLOTS};
 ghost use Rattle.bq_states.specs.Copies.{AreCopies};
 ghost use Rattle.bq_transfer.specs.Obligations.{IsAccess, MayBeUnproven, ReadsOperand, UsesWord};
 ghost use Rattle.bq_transfer.specs.Ready.{IsPlacedAt};
-ghost use Rattle.bq_states.specs.Certainty.{Scalar, StandsAt};
+ghost use Rattle.bq_states.specs.Certainty.{Scalar, CertaintyHoldsAt};
 ghost use Rattle.bq_transfer.specs.Transfers.{IsStored, IsWholeSlot, SlotHolds, Stores, Transfers, WritesStack};
 ghost use Rattle.bq_states.specs.declared.abstract_state.ValueKind.TheVariants.{Entry, Number, Stack};
 
@@ -16,7 +17,7 @@ use crate::access::{Access, locate};
 use crate::obligation::Obligation;
 use bq_bpf::MapShape;
 use bq_bpf::addresses::STACK_SIZE;
-use bq_insn::{Insn, Size};
+use bq_insn::{Insn, REGISTERS, Size};
 use bq_ranges::Range;
 use bq_states::abstract_state::{AbstractState, AbstractValue, ValueKind};
 use bq_states::copies::link;
@@ -26,7 +27,7 @@ use bq_states::registers::known;
 use bq_states::relations::Related;
 use bq_states::stack::{keep, overwrite};
 
-/// A store of a number from the instruction.
+/// The abstract state after a store of an immediate.
 pub fn store_imm(
     state: &mut AbstractState,
     shapes: &[MapShape],
@@ -48,14 +49,15 @@ pub fn store_imm(
     Ok(())
 }
 
-/// The word of a number in the instruction.
+/// The 64-bit word of an immediate.
 fn word_of_imm(imm: i32) -> u64
     ensures { result ≡ word_of imm }
 {
     i64::from(imm).cast_unsigned()
 }
 
-/// A store of a register, of which a slot of the stack is a copy then if it got the whole word.
+/// The abstract state after a store of a register. A slot of the stack that got the whole word becomes a copy of the
+/// register.
 pub fn store_reg(
     state: &mut AbstractState,
     shapes: &[MapShape],
@@ -66,8 +68,8 @@ pub fn store_reg(
     requires context { context < 2 ^ 16 }
     ensures transfers { OnOk result (Transfers shapes.now context (Insn.StoreReg access.size access.base access.off src) state.old state.new) }
     ensures obligations { IfErr result (λ obligation. MayBeUnproven obligation (Insn.StoreReg access.size access.base access.off src)) }
-    ensures accepts { StandsAt Scalar state.old src → (at : ℕ) → IsPlacedAt shapes.now context state.old access Stack at → IsOk result × IsStored state.old state.new access.size at }
-    ensures entry { StandsAt Scalar state.old src → (m at : ℕ) → IsPlacedAt shapes.now context state.old access (Entry m) at → IsOk result × (state.new ≡ state.old) }
+    ensures accepts { CertaintyHoldsAt Scalar state.old src → (at : ℕ) → IsPlacedAt shapes.now context state.old access Stack at → IsOk result × IsStored state.old state.new access.size at }
+    ensures entry { CertaintyHoldsAt Scalar state.old src → (m at : ℕ) → IsPlacedAt shapes.now context state.old access (Entry m) at → IsOk result × (state.new ≡ state.old) }
 {
     let Some(word) = known(state, src) else {
         return Err(Obligation::Unset);
@@ -77,10 +79,10 @@ pub fn store_reg(
     Ok(())
 }
 
-/// The slot of the stack, if there is one, is a copy of the register.
+/// Makes the slot of the stack, if there is one, a copy of the register.
 fn link_slot(classes: &mut [u8], related: &mut [Option<Related>], slot: Option<usize>, register: u8)
-    requires room { length classes.old ≡ 75 }
-    requires inside { IfSome slot (λ n. n < 64) }
+    requires room { length classes.old ≡ PLACES }
+    requires inside { IfSome slot (λ n. n < STACK_SLOTS) }
     ensures copies { (s : State) (word : ℕ) → AreCopies classes.old related.old s → s.register register ≡ Some word → SlotHolds s slot word → AreCopies classes.new related.new s }
     ensures none { slot ≡ None → classes.new ≡ classes.old }
     ensures unrelated { slot ≡ None → related.new ≡ related.old }
@@ -88,13 +90,14 @@ fn link_slot(classes: &mut [u8], related: &mut [Option<Related>], slot: Option<u
     let Some(slot) = slot else {
         return;
     };
-    if register >= 11 {
+    if register >= REGISTERS as u8 {
         return;
     }
-    link(classes, related, 11 + slot, usize::from(register));
+    link(classes, related, REGISTERS + slot, usize::from(register));
 }
 
-/// A store of a word: on the stack, or into an entry. The answer is the slot of eight bytes in which the word is kept whole.
+/// A store of a word to the stack or into an entry. Answers the slot of eight bytes that keeps the whole word, if one
+/// does.
 fn store(
     state: &mut AbstractState,
     shapes: &[MapShape],
@@ -104,7 +107,7 @@ fn store(
 ) -> Result<Option<usize>, Obligation>
     requires context { context < 2 ^ 16 }
     ensures stores { IfOk result (Stores shapes.now context access.base access.off access.size word state.old state.new) }
-    ensures inside { IfOk result (λ slot. IfSome slot (λ n. n < 64)) }
+    ensures inside { IfOk result (λ slot. IfSome slot (λ n. n < STACK_SLOTS)) }
     ensures obligations { IfErr result (λ obligation. (insn : Insn) → IsAccess insn → ReadsOperand insn → (word.kind ≢ Number → UsesWord insn) → MayBeUnproven obligation insn) }
     ensures accepts { word.kind ≡ Number → (at : ℕ) → IsPlacedAt shapes.now context state.old access Stack at → IsOk result × IsStored state.old state.new access.size at }
     ensures entry { word.kind ≡ Number → (m at : ℕ) → IsPlacedAt shapes.now context state.old access (Entry m) at → IsOk result × (state.new ≡ state.old) × IfOk result (λ n. n ≡ None) }
@@ -122,8 +125,8 @@ fn store(
     }
 }
 
-/// A store on the stack; a word of eight bytes at a multiple of eight is kept whole, in the slot that is answered, and of
-/// another number the bytes that are stored.
+/// A store to the stack. A word of eight bytes at a multiple of eight is kept whole, and its slot is answered. Of any
+/// other number the stored bytes are kept.
 fn store_on_stack(
     state: &mut AbstractState,
     at: Range,

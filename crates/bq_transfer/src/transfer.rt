@@ -1,4 +1,4 @@
-//! Instructions after which the next one runs.
+//! Instructions from which control goes on to the next one.
 
 ghost use Rattle.std.specs.Prelude.{IsOk, ◌<◌, ◌≤◌, ◌^◌, OnOk, length, IfErr};
 ghost use Rattle.bq_transfer.specs.Obligations.{MayBeUnproven};

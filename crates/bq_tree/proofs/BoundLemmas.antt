@@ -48,8 +48,10 @@ bounded_behind (Some b) h = bounds_of (in_order b.value) (all_node b.value h)
 pub bounded_node : (n : Node) → IsTree knows_sums n → HasBounds (out-Node n).totals
 unfolding out-Node denote.Hole.Carrier.out
 bounded_node (Node' entity left right due totals height) h =
-    subst HasBounds (sym h.5.1) (bounds_of (in_order_held left ++ entity ∷ in_order_held right) (all_node (Node' entity left right due totals height) h))
+    subst HasBounds (sym h.5.1)
+    (bounds_of (in_order_held left ++ entity ∷ in_order_held right) (all_node (Node' entity left right due totals height) h))
 
 -- the totals that a root knows keep their bounds
-pub bounded_root : (o : Option (Box Node Global)) (b : Box Node Global) → o ≡ Some b → IsTreeBehind knows_sums o → HasBounds (out-Node b.value).totals
+pub bounded_root : (o : Option (Box Node Global)) (b : Box Node Global)
+    → o ≡ Some b → IsTreeBehind knows_sums o → HasBounds (out-Node b.value).totals
 bounded_root o b e h = bounded_node b.value (subst (IsTreeBehind knows_sums) e h)

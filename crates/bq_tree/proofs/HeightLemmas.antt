@@ -25,7 +25,9 @@ mono (suc k) a b e =
     let f : b ≡ suc (k + a) = omega arith in
     rw f (omega (arith, mono k a (k + a) refl, rises (k + a)))
 
-fork_by_tests : (a b k l : ℕ) (p q : Bool) → nat_lt a b ≡ p → nat_lt b a ≡ q → DifferByAtMost 1 a b → fewest a ≤ k → fewest b ≤ l → fewest (max a b + 1) ≤ k + l + 1
+fork_by_tests : (a b k l : ℕ) (p q : Bool) → nat_lt a b ≡ p → nat_lt b a ≡ q → DifferByAtMost 1 a b
+    → fewest a ≤ k → fewest b ≤ l
+    → fewest (max a b + 1) ≤ k + l + 1
 fork_by_tests a b k l true q e f d h i =
     let b_is : b ≡ suc a = grind (arith, nat_tests) in
     let top : max a b + 1 ≡ suc (suc a) = omega arith in
@@ -48,7 +50,9 @@ mutual
   fewest_node knows (Node' entity left right due totals height) h =
       let a = fewest_held knows left h.0 in
       let b = fewest_held knows right h.1 in
-      let both = fork_by_tests (height_held left) (height_held right) (length (in_order_held left)) (length (in_order_held right)) (nat_lt (height_held left) (height_held right)) (nat_lt (height_held right) (height_held left)) refl refl h.2 a b in
+      let both =
+      fork_by_tests (height_held left) (height_held right) (length (in_order_held left)) (length (in_order_held right))
+      (nat_lt (height_held left) (height_held right)) (nat_lt (height_held right) (height_held left)) refl refl h.2 a b in
       let count = length-append (in_order_held left) (entity ∷ in_order_held right) in
       rw h.3 (omega (arith, both, count))
 
@@ -57,7 +61,8 @@ mutual
   fewest_held knows (Some' p n) h = fewest_node knows n h
 
 -- a tree has at least the fewest nodes that one of its height may have
-pub fewest_behind : (knows : Knowledge) (o : Option (Box Node Global)) → IsTreeBehind knows o → fewest (height_behind o) ≤ length (in_order_behind o)
+pub fewest_behind : (knows : Knowledge) (o : Option (Box Node Global))
+    → IsTreeBehind knows o → fewest (height_behind o) ≤ length (in_order_behind o)
 fewest_behind knows None h = omega arith
 fewest_behind knows (Some b) h = fewest_node knows b.value h
 
@@ -68,16 +73,20 @@ low_by_test m h n false e f l =
     absurd (omega (arith, mono (h - (m + 1)) (m + 1) h (omega arith)))
 
 -- at most 1,024 nodes have height at most 14
-pub low_of_few : (knows : Knowledge) (o : Option (Box Node Global)) → IsTreeBehind knows o → length (in_order_behind o) ≤ 1024 → height_behind o ≤ 14
+pub low_of_few : (knows : Knowledge) (o : Option (Box Node Global))
+    → IsTreeBehind knows o → length (in_order_behind o) ≤ 1024 → height_behind o ≤ 14
 low_of_few knows o h l =
     let top : fewest 15 ≡ 1596 = refl in
-    low_by_test 14 (height_behind o) (length (in_order_behind o)) (nat_le (height_behind o) 14) refl (fewest_behind knows o h) (omega (arith, top))
+    low_by_test 14 (height_behind o) (length (in_order_behind o)) (nat_le (height_behind o) 14) refl
+    (fewest_behind knows o h) (omega (arith, top))
 
 -- at most 65,536 nodes have height at most 22
-pub low_of_many : (knows : Knowledge) (o : Option (Box Node Global)) → IsTreeBehind knows o → length (in_order_behind o) ≤ 2 ^ 16 → height_behind o ≤ 22
+pub low_of_many : (knows : Knowledge) (o : Option (Box Node Global))
+    → IsTreeBehind knows o → length (in_order_behind o) ≤ 2 ^ 16 → height_behind o ≤ 22
 low_of_many knows o h l =
     let top : fewest 23 ≡ 75024 = refl in
-    low_by_test 22 (height_behind o) (length (in_order_behind o)) (nat_le (height_behind o) 22) refl (fewest_behind knows o h) (omega (arith, top))
+    low_by_test 22 (height_behind o) (length (in_order_behind o)) (nat_le (height_behind o) 22) refl
+    (fewest_behind knows o h) (omega (arith, top))
 
 full_by : (a b m k l : ℕ) → a ≤ m → b ≤ m → k < 2 ^ a → l < 2 ^ b → k + l + 1 < 2 ^ (m + 1)
 full_by a b m k l p q h i =
@@ -92,7 +101,9 @@ mutual
   full_node knows (Node' entity left right due totals height) h =
       let a = full_held knows left h.0 in
       let b = full_held knows right h.1 in
-      let both = full_by (height_held left) (height_held right) (max (height_held left) (height_held right)) (length (in_order_held left)) (length (in_order_held right)) (omega arith) (omega arith) a b in
+      let both =
+      full_by (height_held left) (height_held right) (max (height_held left) (height_held right))
+      (length (in_order_held left)) (length (in_order_held right)) (omega arith) (omega arith) a b in
       let count = length-append (in_order_held left) (entity ∷ in_order_held right) in
       rw h.3 (omega (arith, both, count))
 
@@ -101,6 +112,7 @@ mutual
   full_held knows (Some' p n) h = full_node knows n h
 
 -- a tree of some height has no more nodes than levels allow
-pub full_behind : (knows : Knowledge) (o : Option (Box Node Global)) → IsTreeBehind knows o → length (in_order_behind o) < 2 ^ height_behind o
+pub full_behind : (knows : Knowledge) (o : Option (Box Node Global))
+    → IsTreeBehind knows o → length (in_order_behind o) < 2 ^ height_behind o
 full_behind knows None h = omega arith
 full_behind knows (Some b) h = full_node knows b.value h

@@ -21,7 +21,9 @@ pub set_apart : (xs : List ℕ) (i id k v : ℕ) → i ≡ id → eqb k id ≡ f
 set_apart xs i id k v same e = let ne = apart_by i id k same e in rw get_or-set_other refl
 
 -- with one more task there is room for it
-pub room_for_one_more : (t : Task) (xs : List Task) → HasDistinctIds xs → HasSmallIds xs → with_id t.id xs ≡ None → t.id < 2 ^ 16 → length xs < 2 ^ 16
+pub room_for_one_more : (t : Task) (xs : List Task) → HasDistinctIds xs → HasSmallIds xs
+    → with_id t.id xs ≡ None → t.id < 2 ^ 16
+    → length xs < 2 ^ 16
 room_for_one_more t xs d s n l =
     let few = length-few (place t xs) (HasDistinctIds-place t xs n d) (HasSmallIds-place t xs l s) in
     omega (arith, length-place t xs, few)
@@ -35,7 +37,13 @@ first_placed t (x ∷ xs) =
     ]
 
 -- with a task of a new id in its place a tree is sound again, if its first key and its table were renewed for that task
-pub sound_inserted : (knows : Knowledge) (len : ℕ) (old new : Option (Box Node Global)) (least : Option (ℕ × ℕ)) (key : ℕ × ℕ) (times later : List ℕ) (t : Task) → IsSound knows old len least times → key ≡ lesser_of (key_of t) least → key.0 ≤ 2 ^ 62 → IsTreeBehind knows new → in_order_behind new ≡ place t (in_order_behind old) → with_id t.id (in_order_behind old) ≡ None → t.id < 2 ^ 16 → ((xs : List Task) → with_id t.id xs ≡ None → Knows times xs → Knows later xs) → (t.id < 1024 → slice_index later t.id ≡ t.v) → IsSound knows new (len + 1) (Some key) later
+pub sound_inserted : (knows : Knowledge) (len : ℕ) (old new : Option (Box Node Global)) (least : Option (ℕ × ℕ))
+    (key : ℕ × ℕ) (times later : List ℕ) (t : Task)
+    → IsSound knows old len least times → key ≡ lesser_of (key_of t) least → key.0 ≤ 2 ^ 62 → IsTreeBehind knows new
+    → in_order_behind new ≡ place t (in_order_behind old) → with_id t.id (in_order_behind old) ≡ None
+    → t.id < 2 ^ 16 → ((xs : List Task) → with_id t.id xs ≡ None → Knows times xs → Knows later xs)
+    → (t.id < 1024 → slice_index later t.id ≡ t.v)
+    → IsSound knows new (len + 1) (Some key) later
 sound_inserted knows len old new least key times later t s lesser high tree e n l others here =
     let xs = in_order_behind old in
     record {
@@ -49,7 +57,9 @@ sound_inserted knows len old new least key times later t s lesser high tree e n 
       knows = rw e (Knows-place later t xs here (others xs n s.knows));
     }
 
-first_by_test : (xs : List Task) (t : Task) (ys : List Task) (least : Option (ℕ × ℕ)) → least ≡ first_key (xs ++ t ∷ ys) → option_map_or (λ (k : ℕ × ℕ). eqb k.1 t.id) least false ≡ false → least ≡ first_key (xs ++ ys)
+first_by_test : (xs : List Task) (t : Task) (ys : List Task) (least : Option (ℕ × ℕ))
+    → least ≡ first_key (xs ++ t ∷ ys) → option_map_or (λ (k : ℕ × ℕ). eqb k.1 t.id) least false ≡ false
+    → least ≡ first_key (xs ++ ys)
 first_by_test [] t ys least e n =
     let here = ap (λ o. option_map_or (λ (k : ℕ × ℕ). eqb k.1 t.id) o false) e in
     let same : eqb t.id t.id ≡ true = grind (arith, nat_tests) in
@@ -57,7 +67,12 @@ first_by_test [] t ys least e n =
 first_by_test (x ∷ xs) t ys least e n = e
 
 -- the tree stays sound when a task goes, with the key of the task that is now the first
-pub sound_taken : (knows : Knowledge) (len left : ℕ) (old new : Option (Box Node Global)) (was least : Option (ℕ × ℕ)) (times : List ℕ) (v id : ℕ) (t : Task) → IsSound knows old len was times → len ≡ left + 1 → IsTreeBehind knows new → Takes v id (in_order_behind old) (Some t) (in_order_behind new) → least ≡ first_key (in_order_behind new) → IfSome least (λ key. key.0 ≤ 2 ^ 62) → IsSound knows new left least times
+pub sound_taken : (knows : Knowledge) (len left : ℕ) (old new : Option (Box Node Global)) (was least : Option (ℕ × ℕ))
+    (times : List ℕ) (v id : ℕ) (t : Task)
+    → IsSound knows old len was times → len ≡ left + 1 → IsTreeBehind knows new
+    → Takes v id (in_order_behind old) (Some t) (in_order_behind new) → least ≡ first_key (in_order_behind new)
+    → IfSome least (λ key. key.0 ≤ 2 ^ 62)
+    → IsSound knows new left least times
 sound_taken knows len left old new was least times v id x s one tree t leads high =
     let distinct = rw t.4 at s.distinct in
     let out = without-amid t.0 x t.1 distinct in
@@ -73,6 +88,8 @@ sound_taken knows len left old new was least times v id x s one tree t leads hig
     }
 
 -- the first task stays the first when another goes
-pub leads_on : (all : List Task) (rest : List Task) (least : Option (ℕ × ℕ)) (v id : ℕ) (t : Task) → least ≡ first_key all → Takes v id all (Some t) rest → option_map_or (λ (k : ℕ × ℕ). eqb k.1 id) least false ≡ false → least ≡ first_key rest
+pub leads_on : (all : List Task) (rest : List Task) (least : Option (ℕ × ℕ)) (v id : ℕ) (t : Task)
+    → least ≡ first_key all → Takes v id all (Some t) rest → option_map_or (λ (k : ℕ × ℕ). eqb k.1 id) least false ≡ false
+    → least ≡ first_key rest
 leads_on all rest least v id x e t n =
     first_by_test t.0 x t.1 least (e ∙ ap first_key t.4) (rw t.3 n) ∙ ap first_key (sym t.5)

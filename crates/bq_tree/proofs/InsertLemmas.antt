@@ -14,7 +14,9 @@ use Rattle.bq_tree.proofs.TotalsLemmas.{first_due-place, sums_of-place}
 use Rattle.bq_tree.proofs.NodeLemmas.{on_left, on_right, root_of, in_order-made, left_height-made, right_height-made, height-made, height_of-field, IsFork-made, IsTree-fork, IsRootBehind}
 
 -- a root whose sums count one more task
-pub counts_one_more : (n k : Node) (t : Task) → IsTree knows_sums n → KeepsSides n k → (out-Node k).due ≡ earlier_of (due_of t) (out-Node n).due → (out-Node k).totals ≡ added (out-Node n).totals t → CountsIn knows_sums n k t
+pub counts_one_more : (n k : Node) (t : Task) → IsTree knows_sums n → KeepsSides n k
+    → (out-Node k).due ≡ earlier_of (due_of t) (out-Node n).due → (out-Node k).totals ≡ added (out-Node n).totals t
+    → CountsIn knows_sums n k t
 counts_one_more n k t tree keeps due totals =
     let r = root_of knows_sums n tree in
     let known = ap first_due r.order ∙ r.known.0 in
@@ -30,7 +32,10 @@ counts_one_more n k t tree keeps due totals =
       );
     }
 
-left_side : (knows : Knowledge) (n k : Node) (t : Task) (new : List Task) → IsTree knows n → CountsIn knows n k t → new ≡ place t (in_order_behind (out-Node k).left) → runs_before t (out-Node k).entity ≡ true → new ++ (out-Node k).entity ∷ in_order_behind (out-Node k).right ≡ place t (in_order n)
+left_side : (knows : Knowledge) (n k : Node) (t : Task) (new : List Task)
+    → IsTree knows n → CountsIn knows n k t → new ≡ place t (in_order_behind (out-Node k).left)
+    → runs_before t (out-Node k).entity ≡ true
+    → new ++ (out-Node k).entity ∷ in_order_behind (out-Node k).right ≡ place t (in_order n)
 left_side knows n k t new tree c e b =
     let r = root_of knows n tree in
     let l = in_order_behind (out-Node n).left in
@@ -42,7 +47,10 @@ left_side knows n k t new tree c e b =
     ∙ sym (place-left t l x (in_order_behind (out-Node n).right) here)
     ∙ ap (λ xs. place t xs) (sym r.order)
 
-right_side : (knows : Knowledge) (n k : Node) (t : Task) (new : List Task) → IsTree knows n → IsRising (in_order n) → CountsIn knows n k t → new ≡ place t (in_order_behind (out-Node k).right) → runs_before t (out-Node k).entity ≡ false → in_order_behind (out-Node k).left ++ (out-Node k).entity ∷ new ≡ place t (in_order n)
+right_side : (knows : Knowledge) (n k : Node) (t : Task) (new : List Task)
+    → IsTree knows n → IsRising (in_order n) → CountsIn knows n k t → new ≡ place t (in_order_behind (out-Node k).right)
+    → runs_before t (out-Node k).entity ≡ false
+    → in_order_behind (out-Node k).left ++ (out-Node k).entity ∷ new ≡ place t (in_order n)
 right_side knows n k t new tree rising c e b =
     let r = root_of knows n tree in
     let l = in_order_behind (out-Node n).left in
@@ -60,9 +68,12 @@ right_side knows n k t new tree rising c e b =
 record Heights (l r h side : ℕ) : Type 0 where
   pub near : DifferByAtMost 2 side r
   pub low : max side r ≤ h
-  pub rises : (new : ℕ) → max side r ≤ new → new ≤ max side r + 1 → (DifferByAtMost 1 side r → new ≡ max side r + 1) → (h ≤ new) × (new ≤ h + 1)
+  pub rises : (new : ℕ) → max side r ≤ new → new ≤ max side r + 1 → (DifferByAtMost 1 side r → new ≡ max side r + 1)
+      → (h ≤ new) × (new ≤ h + 1)
 
-rises_by_test : (l r side new : ℕ) (b : Bool) → nat_le side (r + 1) ≡ b → DifferByAtMost 1 l r → l ≤ side → side ≤ l + 1 → max side r ≤ new → new ≤ max side r + 1 → (DifferByAtMost 1 side r → new ≡ max side r + 1) → (max l r + 1 ≤ new) × (new ≤ max l r + 2)
+rises_by_test : (l r side new : ℕ) (b : Bool) → nat_le side (r + 1) ≡ b → DifferByAtMost 1 l r → l ≤ side → side ≤ l + 1
+    → max side r ≤ new → new ≤ max side r + 1 → (DifferByAtMost 1 side r → new ≡ max side r + 1)
+    → (max l r + 1 ≤ new) × (new ≤ max l r + 2)
 rises_by_test l r side new true e d low high more less same =
     let test : side ≤ r + 1 = grind (arith, nat_tests) in
     let is = same (test, omega (arith, d.1)) in
@@ -86,7 +97,8 @@ pub record Grows (knows : Knowledge) (link : Option (Box Node Global)) (m : Node
   pub order : in_order m ≡ place t (in_order_behind link)
   pub few : length (in_order m) ≡ length (in_order_behind link) + 1
 
-grown : (knows : Knowledge) (link : Option (Box Node Global)) (n m : Node) (t : Task) → IsRootBehind knows link n → IsFork knows m → in_order m ≡ place t (in_order n) → Grows knows link m t
+grown : (knows : Knowledge) (link : Option (Box Node Global)) (n m : Node) (t : Task)
+    → IsRootBehind knows link n → IsFork knows m → in_order m ≡ place t (in_order n) → Grows knows link m t
 grown knows link n m t r fork order =
     let all = order ∙ ap (λ xs. place t xs) (sym r.order) in
     record { fork = fork; order = all; few = ap length all ∙ length-place t (in_order_behind link) }
@@ -95,37 +107,61 @@ grown knows link n m t r fork order =
 pub record Rises (link : Option (Box Node Global)) (m : Node) : Type 0 where
   pub near : DifferByAtMost 2 (left_height m) (right_height m)
   pub low : max (left_height m) (right_height m) ≤ height_behind link
-  pub rises : (new : ℕ) → max (left_height m) (right_height m) ≤ new → new ≤ max (left_height m) (right_height m) + 1 → (DifferByAtMost 1 (left_height m) (right_height m) → new ≡ max (left_height m) (right_height m) + 1) → (height_behind link ≤ new) × (new ≤ height_behind link + 1)
+  pub rises : (new : ℕ) → max (left_height m) (right_height m) ≤ new → new ≤ max (left_height m) (right_height m) + 1
+      → (DifferByAtMost 1 (left_height m) (right_height m) → new ≡ max (left_height m) (right_height m) + 1)
+      → (height_behind link ≤ new) × (new ≤ height_behind link + 1)
 
 max-comm : (a b : ℕ) → max a b ≡ max b a
 max-comm a b = omega arith
 
 -- where a task that runs before the root's came to the left side, the root with that side has all tasks and this one
-pub grows_left : (knows : Knowledge) (link : Option (Box Node Global)) (n k : Node) (t : Task) (new : Option (Box Node Global)) → IsRootBehind knows link n → CountsIn knows n k t → IsTreeBehind knows new → in_order_behind new ≡ place t (in_order_behind (out-Node k).left) → runs_before t (out-Node k).entity ≡ true → Grows knows link (on_left k new) t
+pub grows_left : (knows : Knowledge) (link : Option (Box Node Global)) (n k : Node) (t : Task)
+    (new : Option (Box Node Global))
+    → IsRootBehind knows link n → CountsIn knows n k t → IsTreeBehind knows new
+    → in_order_behind new ≡ place t (in_order_behind (out-Node k).left) → runs_before t (out-Node k).entity ≡ true
+    → Grows knows link (on_left k new) t
 grows_left knows link n k t new behind c side e b =
     let r = root_of knows n behind.tree in
     let all = left_side knows n k t (in_order_behind new) behind.tree c e b in
     let known = subst (λ xs. knows xs (out-Node k).due (out-Node k).totals) (sym all) c.counts in
-    let fork = IsFork-made knows (out-Node k).entity new (out-Node k).right (out-Node k).due (out-Node k).totals (out-Node k).height side (subst (IsTreeBehind knows) (sym c.right) r.right) (subst IsBounded (sym c.task) r.bounded) known in
-    grown knows link n (on_left k new) t behind fork (in_order-made (out-Node k).entity new (out-Node k).right (out-Node k).due (out-Node k).totals (out-Node k).height ∙ all)
+    let fork =
+    IsFork-made knows (out-Node k).entity new (out-Node k).right (out-Node k).due (out-Node k).totals (out-Node k).height side
+    (subst (IsTreeBehind knows) (sym c.right) r.right) (subst IsBounded (sym c.task) r.bounded) known in
+    grown knows link n (on_left k new) t behind fork
+    (in_order-made (out-Node k).entity new (out-Node k).right (out-Node k).due (out-Node k).totals (out-Node k).height ∙ all)
 
 -- where a task that does not run before the root's came to the right side, the root with that side has all and this one
-pub grows_right : (knows : Knowledge) (link : Option (Box Node Global)) (n k : Node) (t : Task) (new : Option (Box Node Global)) → IsRootBehind knows link n → IsRising (in_order_behind link) → CountsIn knows n k t → IsTreeBehind knows new → in_order_behind new ≡ place t (in_order_behind (out-Node k).right) → runs_before t (out-Node k).entity ≡ false → Grows knows link (on_right k new) t
+pub grows_right : (knows : Knowledge) (link : Option (Box Node Global)) (n k : Node) (t : Task)
+    (new : Option (Box Node Global))
+    → IsRootBehind knows link n → IsRising (in_order_behind link) → CountsIn knows n k t → IsTreeBehind knows new
+    → in_order_behind new ≡ place t (in_order_behind (out-Node k).right) → runs_before t (out-Node k).entity ≡ false
+    → Grows knows link (on_right k new) t
 grows_right knows link n k t new behind rising c side e b =
     let r = root_of knows n behind.tree in
     let all = right_side knows n k t (in_order_behind new) behind.tree (subst IsRising behind.order rising) c e b in
     let known = subst (λ xs. knows xs (out-Node k).due (out-Node k).totals) (sym all) c.counts in
-    let fork = IsFork-made knows (out-Node k).entity (out-Node k).left new (out-Node k).due (out-Node k).totals (out-Node k).height (subst (IsTreeBehind knows) (sym c.left) r.left) side (subst IsBounded (sym c.task) r.bounded) known in
-    grown knows link n (on_right k new) t behind fork (in_order-made (out-Node k).entity (out-Node k).left new (out-Node k).due (out-Node k).totals (out-Node k).height ∙ all)
+    let fork =
+    IsFork-made knows (out-Node k).entity (out-Node k).left new (out-Node k).due (out-Node k).totals (out-Node k).height
+    (subst (IsTreeBehind knows) (sym c.left) r.left) side (subst IsBounded (sym c.task) r.bounded) known in
+    grown knows link n (on_right k new) t behind fork
+    (in_order-made (out-Node k).entity (out-Node k).left new (out-Node k).due (out-Node k).totals (out-Node k).height ∙ all)
 
 -- where the left side rose by one level at most, so does the root, once it is balanced
-pub rises_left : (knows : Knowledge) (link : Option (Box Node Global)) (n k : Node) (t : Task) (new : Option (Box Node Global)) → IsRootBehind knows link n → CountsIn knows n k t → height_behind (out-Node k).left ≤ height_behind new → height_behind new ≤ height_behind (out-Node k).left + 1 → Rises link (on_left k new)
+pub rises_left : (knows : Knowledge) (link : Option (Box Node Global)) (n k : Node) (t : Task)
+    (new : Option (Box Node Global))
+    → IsRootBehind knows link n → CountsIn knows n k t → height_behind (out-Node k).left ≤ height_behind new
+    → height_behind new ≤ height_behind (out-Node k).left + 1
+    → Rises link (on_left k new)
 rises_left knows link n k t new behind c low high =
     let r = root_of knows n behind.tree in
     let a = ap height_behind c.left in
-    let h = heights (height_behind (out-Node n).left) (height_behind (out-Node n).right) (height_behind link) (height_behind new) r.balanced (behind.height ∙ r.height) (omega (arith, a)) (omega (arith, a)) in
+    let h =
+    heights (height_behind (out-Node n).left) (height_behind (out-Node n).right) (height_behind link)
+    (height_behind new) r.balanced (behind.height ∙ r.height) (omega (arith, a)) (omega (arith, a)) in
     let left = left_height-made (out-Node k).entity new (out-Node k).right (out-Node k).due (out-Node k).totals (out-Node k).height in
-    let right = right_height-made (out-Node k).entity new (out-Node k).right (out-Node k).due (out-Node k).totals (out-Node k).height ∙ ap height_behind c.right in
+    let right =
+    right_height-made (out-Node k).entity new (out-Node k).right (out-Node k).due (out-Node k).totals (out-Node k).height
+    ∙ ap height_behind c.right in
     record {
       near = rw (left, right) h.near;
       low = rw (left, right) h.low;
@@ -133,13 +169,22 @@ rises_left knows link n k t new behind c low high =
     }
 
 -- where the right side rose by one level at most, so does the root, once it is balanced
-pub rises_right : (knows : Knowledge) (link : Option (Box Node Global)) (n k : Node) (t : Task) (new : Option (Box Node Global)) → IsRootBehind knows link n → CountsIn knows n k t → height_behind (out-Node k).right ≤ height_behind new → height_behind new ≤ height_behind (out-Node k).right + 1 → Rises link (on_right k new)
+pub rises_right : (knows : Knowledge) (link : Option (Box Node Global)) (n k : Node) (t : Task)
+    (new : Option (Box Node Global))
+    → IsRootBehind knows link n → CountsIn knows n k t → height_behind (out-Node k).right ≤ height_behind new
+    → height_behind new ≤ height_behind (out-Node k).right + 1
+    → Rises link (on_right k new)
 rises_right knows link n k t new behind c low high =
     let r = root_of knows n behind.tree in
     let a = ap height_behind c.right in
     let x = height_behind (out-Node n).left in
-    let h = heights (height_behind (out-Node n).right) x (height_behind link) (height_behind new) (r.balanced.1, r.balanced.0) (behind.height ∙ r.height ∙ ap (λ m. m + 1) (max-comm x (height_behind (out-Node n).right))) (omega (arith, a)) (omega (arith, a)) in
-    let left = left_height-made (out-Node k).entity (out-Node k).left new (out-Node k).due (out-Node k).totals (out-Node k).height ∙ ap height_behind c.left in
+    let h =
+    heights (height_behind (out-Node n).right) x (height_behind link) (height_behind new) (r.balanced.1, r.balanced.0)
+    (behind.height ∙ r.height ∙ ap (λ m. m + 1) (max-comm x (height_behind (out-Node n).right)))
+    (omega (arith, a)) (omega (arith, a)) in
+    let left =
+    left_height-made (out-Node k).entity (out-Node k).left new (out-Node k).due (out-Node k).totals (out-Node k).height
+    ∙ ap height_behind c.left in
     let right = right_height-made (out-Node k).entity (out-Node k).left new (out-Node k).due (out-Node k).totals (out-Node k).height in
     let turn = max-comm x (height_behind new) in
     record {
@@ -161,25 +206,46 @@ pub record Stays (knows : Knowledge) (link : Option (Box Node Global)) (m : Node
   pub height : height_of m ≡ height_behind link
 
 -- where the left side did not rise, the root with it is a tree as high as before
-pub stays_left : (knows : Knowledge) (link : Option (Box Node Global)) (n k : Node) (t : Task) (new : Option (Box Node Global)) → IsRootBehind knows link n → CountsIn knows n k t → IsFork knows (on_left k new) → height_behind (out-Node k).left ≤ height_behind new → nat_lt (height_behind (out-Node k).left) (height_behind new) ≡ false → Stays knows link (on_left k new)
+pub stays_left : (knows : Knowledge) (link : Option (Box Node Global)) (n k : Node) (t : Task)
+    (new : Option (Box Node Global))
+    → IsRootBehind knows link n → CountsIn knows n k t → IsFork knows (on_left k new)
+    → height_behind (out-Node k).left ≤ height_behind new
+    → nat_lt (height_behind (out-Node k).left) (height_behind new) ≡ false
+    → Stays knows link (on_left k new)
 stays_left knows link n k t new behind c fork low test =
     let r = root_of knows n behind.tree in
     let same = not_grown (height_behind (out-Node k).left) (height_behind new) low test in
     let left = ap height_behind c.left in
     let right = ap height_behind c.right in
     record {
-      tree = IsTree-fork knows (out-Node k).entity new (out-Node k).right (out-Node k).due (out-Node k).totals (out-Node k).height fork (omega (arith, r.balanced.0), omega (arith, r.balanced.1)) (omega (arith, r.height, c.height));
-      height = height_of-field (on_left k new) ∙ height-made (out-Node k).entity new (out-Node k).right (out-Node k).due (out-Node k).totals (out-Node k).height ∙ c.height ∙ sym behind.height;
+      tree =
+          IsTree-fork knows (out-Node k).entity new (out-Node k).right (out-Node k).due (out-Node k).totals
+          (out-Node k).height fork (omega (arith, r.balanced.0), omega (arith, r.balanced.1))
+          (omega (arith, r.height, c.height));
+      height =
+          height_of-field (on_left k new)
+          ∙ height-made (out-Node k).entity new (out-Node k).right (out-Node k).due (out-Node k).totals (out-Node k).height
+          ∙ c.height ∙ sym behind.height;
     }
 
 -- where the right side did not rise, the root with it is a tree as high as before
-pub stays_right : (knows : Knowledge) (link : Option (Box Node Global)) (n k : Node) (t : Task) (new : Option (Box Node Global)) → IsRootBehind knows link n → CountsIn knows n k t → IsFork knows (on_right k new) → height_behind (out-Node k).right ≤ height_behind new → nat_lt (height_behind (out-Node k).right) (height_behind new) ≡ false → Stays knows link (on_right k new)
+pub stays_right : (knows : Knowledge) (link : Option (Box Node Global)) (n k : Node) (t : Task)
+    (new : Option (Box Node Global))
+    → IsRootBehind knows link n → CountsIn knows n k t → IsFork knows (on_right k new)
+    → height_behind (out-Node k).right ≤ height_behind new
+    → nat_lt (height_behind (out-Node k).right) (height_behind new) ≡ false
+    → Stays knows link (on_right k new)
 stays_right knows link n k t new behind c fork low test =
     let r = root_of knows n behind.tree in
     let same = not_grown (height_behind (out-Node k).right) (height_behind new) low test in
     let left = ap height_behind c.left in
     let right = ap height_behind c.right in
     record {
-      tree = IsTree-fork knows (out-Node k).entity (out-Node k).left new (out-Node k).due (out-Node k).totals (out-Node k).height fork (omega (arith, r.balanced.0), omega (arith, r.balanced.1)) (omega (arith, r.height, c.height));
-      height = height_of-field (on_right k new) ∙ height-made (out-Node k).entity (out-Node k).left new (out-Node k).due (out-Node k).totals (out-Node k).height ∙ c.height ∙ sym behind.height;
+      tree =
+          IsTree-fork knows (out-Node k).entity (out-Node k).left new (out-Node k).due (out-Node k).totals (out-Node k).height
+          fork (omega (arith, r.balanced.0), omega (arith, r.balanced.1)) (omega (arith, r.height, c.height));
+      height =
+          height_of-field (on_right k new)
+          ∙ height-made (out-Node k).entity (out-Node k).left new (out-Node k).due (out-Node k).totals (out-Node k).height
+          ∙ c.height ∙ sym behind.height;
     }

@@ -50,16 +50,19 @@ IsRising-drop (y ∷ xs) x ys h =
     (none_join y xs ys (none_front y xs (x ∷ ys) h.0) (none_back y xs (x ∷ ys) h.0).1, IsRising-drop xs x ys h.1)
 
 -- a task that runs before x has its place before it
-pub place-left : (t : Task) (xs : List Task) (x : Task) (ys : List Task) → runs_before t x ≡ true → place t (xs ++ x ∷ ys) ≡ place t xs ++ x ∷ ys
+pub place-left : (t : Task) (xs : List Task) (x : Task) (ys : List Task)
+    → runs_before t x ≡ true → place t (xs ++ x ∷ ys) ≡ place t xs ++ x ∷ ys
 place-left t [] x ys e = rw e refl
 place-left t (y ∷ xs) x ys e =
-    elim (runs_before t y) as (λ b. cond b (t ∷ y ∷ (xs ++ x ∷ ys)) (y ∷ place t (xs ++ x ∷ ys)) ≡ cond b (t ∷ y ∷ xs) (y ∷ place t xs) ++ x ∷ ys) [
+    elim (runs_before t y)
+    as (λ b. cond b (t ∷ y ∷ (xs ++ x ∷ ys)) (y ∷ place t (xs ++ x ∷ ys)) ≡ cond b (t ∷ y ∷ xs) (y ∷ place t xs) ++ x ∷ ys) [
       | true ↦ refl
       | false ↦ ap (λ l. y ∷ l) (place-left t xs x ys e)
     ]
 
 -- a task that does not run before x has its place after it
-pub place-right : (t : Task) (xs : List Task) (x : Task) (ys : List Task) → runs_before t x ≡ false → RunsBeforeNone x xs → place t (xs ++ x ∷ ys) ≡ xs ++ x ∷ place t ys
+pub place-right : (t : Task) (xs : List Task) (x : Task) (ys : List Task)
+    → runs_before t x ≡ false → RunsBeforeNone x xs → place t (xs ++ x ∷ ys) ≡ xs ++ x ∷ place t ys
 place-right t [] x ys e h = rw e refl
 place-right t (y ∷ xs) x ys e h =
     let n = not_before t x y e h.0 in
@@ -80,7 +83,9 @@ not_at-before : (v id : ℕ) (x y : Task) → comes_after v id x ≡ false → i
 not_at-before v id x y p q r = grind (arith, nat_tests)
 
 -- (v, id) lies after x, and so it is not among the earlier ones
-absent_earlier : (v id : ℕ) (x : Task) (xs : List Task) → comes_after v id x ≡ false → is_at v id x ≡ false → RunsBeforeNone x xs → IsAbsent v id xs
+absent_earlier : (v id : ℕ) (x : Task) (xs : List Task) → comes_after v id x ≡ false → is_at v id x ≡ false
+    → RunsBeforeNone x xs
+    → IsAbsent v id xs
 absent_earlier v id x [] a n h = tt
 absent_earlier v id x (y ∷ xs) a n h = (not_at-before v id x y a n h.0, absent_earlier v id x xs a n h.1)
 
@@ -89,30 +94,49 @@ absent_join v id [] ys h k = k
 absent_join v id (x ∷ xs) ys h k = (h.0, absent_join v id xs ys h.1 k)
 
 -- what is taken from the left side is taken from the whole
-pub Takes-left : (v id : ℕ) (xs : List Task) (x : Task) (ys : List Task) (o : Option Task) (rest : List Task) → IsRising (xs ++ x ∷ ys) → comes_after v id x ≡ true → Takes v id xs o rest → Takes v id (xs ++ x ∷ ys) o (rest ++ x ∷ ys)
+pub Takes-left : (v id : ℕ) (xs : List Task) (x : Task) (ys : List Task) (o : Option Task) (rest : List Task)
+    → IsRising (xs ++ x ∷ ys) → comes_after v id x ≡ true → Takes v id xs o rest
+    → Takes v id (xs ++ x ∷ ys) o (rest ++ x ∷ ys)
 Takes-left v id xs x ys None rest h a t =
     let later = absent_later v id x ys a (IsRising-after xs x ys h) in
     (absent_join v id xs (x ∷ ys) t.0 (is_at-after v id x a, later), ap (λ l. l ++ x ∷ ys) t.1)
-Takes-left v id xs x ys (Some y) rest h a t =
-    (t.0, t.1 ++ x ∷ ys, t.2, t.3, ap (λ l. l ++ x ∷ ys) t.4 ∙ append_assoc t.0 (y ∷ t.1) (x ∷ ys), ap (λ l. l ++ x ∷ ys) t.5 ∙ append_assoc t.0 t.1 (x ∷ ys))
+Takes-left v id xs x ys (Some y) rest h a t = (
+  t.0,
+  t.1 ++ x ∷ ys,
+  t.2,
+  t.3,
+  ap (λ l. l ++ x ∷ ys) t.4 ∙ append_assoc t.0 (y ∷ t.1) (x ∷ ys),
+  ap (λ l. l ++ x ∷ ys) t.5 ∙ append_assoc t.0 t.1 (x ∷ ys),
+)
 
 -- what is taken from the right side is taken from the whole
-pub Takes-right : (v id : ℕ) (xs : List Task) (x : Task) (ys : List Task) (o : Option Task) (rest : List Task) → IsRising (xs ++ x ∷ ys) → comes_after v id x ≡ false → is_at v id x ≡ false → Takes v id ys o rest → Takes v id (xs ++ x ∷ ys) o (xs ++ x ∷ rest)
+pub Takes-right : (v id : ℕ) (xs : List Task) (x : Task) (ys : List Task) (o : Option Task) (rest : List Task)
+    → IsRising (xs ++ x ∷ ys) → comes_after v id x ≡ false → is_at v id x ≡ false → Takes v id ys o rest
+    → Takes v id (xs ++ x ∷ ys) o (xs ++ x ∷ rest)
 Takes-right v id xs x ys None rest h a n t =
     let earlier = absent_earlier v id x xs a n (IsRising-before xs x ys h) in
     (absent_join v id xs (x ∷ ys) earlier (n, t.0), ap (λ l. xs ++ x ∷ l) t.1)
-Takes-right v id xs x ys (Some y) rest h a n t =
-    (xs ++ x ∷ t.0, t.1, t.2, t.3, ap (λ l. xs ++ x ∷ l) t.4 ∙ sym (append_assoc xs (x ∷ t.0) (y ∷ t.1)), ap (λ l. xs ++ x ∷ l) t.5 ∙ sym (append_assoc xs (x ∷ t.0) t.1))
+Takes-right v id xs x ys (Some y) rest h a n t = (
+  xs ++ x ∷ t.0,
+  t.1,
+  t.2,
+  t.3,
+  ap (λ l. xs ++ x ∷ l) t.4 ∙ sym (append_assoc xs (x ∷ t.0) (y ∷ t.1)),
+  ap (λ l. xs ++ x ∷ l) t.5 ∙ sym (append_assoc xs (x ∷ t.0) t.1),
+)
 
 -- what is found on the left side is found in the whole
-pub Finds-left : (v id : ℕ) (xs : List Task) (x : Task) (ys : List Task) (o : Option Task) → IsRising (xs ++ x ∷ ys) → comes_after v id x ≡ true → Finds v id xs o → Finds v id (xs ++ x ∷ ys) o
+pub Finds-left : (v id : ℕ) (xs : List Task) (x : Task) (ys : List Task) (o : Option Task)
+    → IsRising (xs ++ x ∷ ys) → comes_after v id x ≡ true → Finds v id xs o → Finds v id (xs ++ x ∷ ys) o
 Finds-left v id xs x ys None h a t =
     absent_join v id xs (x ∷ ys) t (is_at-after v id x a, absent_later v id x ys a (IsRising-after xs x ys h))
 Finds-left v id xs x ys (Some y) h a t =
     (t.0, t.1 ++ x ∷ ys, t.2, t.3, ap (λ l. l ++ x ∷ ys) t.4 ∙ append_assoc t.0 (y ∷ t.1) (x ∷ ys))
 
 -- what is found on the right side is found in the whole
-pub Finds-right : (v id : ℕ) (xs : List Task) (x : Task) (ys : List Task) (o : Option Task) → IsRising (xs ++ x ∷ ys) → comes_after v id x ≡ false → is_at v id x ≡ false → Finds v id ys o → Finds v id (xs ++ x ∷ ys) o
+pub Finds-right : (v id : ℕ) (xs : List Task) (x : Task) (ys : List Task) (o : Option Task)
+    → IsRising (xs ++ x ∷ ys) → comes_after v id x ≡ false → is_at v id x ≡ false → Finds v id ys o
+    → Finds v id (xs ++ x ∷ ys) o
 Finds-right v id xs x ys None h a n t =
     absent_join v id xs (x ∷ ys) (absent_earlier v id x xs a n (IsRising-before xs x ys h)) (n, t)
 Finds-right v id xs x ys (Some y) h a n t =

@@ -33,7 +33,8 @@ is_earlier-trans x y z p q = grind (arith, nat_tests)
 is_earlier-trans_not : (x y z : Deadline) → is_earlier y x ≡ false → is_earlier z y ≡ false → is_earlier z x ≡ false
 is_earlier-trans_not x y z p q = grind (arith, nat_tests)
 
-assoc_by_tests : (x y z : Deadline) (b c d : Bool) → is_earlier y x ≡ b → is_earlier z y ≡ c → is_earlier z x ≡ d → earlier_of (earlier_of x y) z ≡ earlier_of x (earlier_of y z)
+assoc_by_tests : (x y z : Deadline) (b c d : Bool) → is_earlier y x ≡ b → is_earlier z y ≡ c → is_earlier z x ≡ d
+    → earlier_of (earlier_of x y) z ≡ earlier_of x (earlier_of y z)
 assoc_by_tests x y z true true true p q r = rw (p, q, r) refl
 assoc_by_tests x y z true true false p q r = let t = is_earlier-trans x y z p q in cc
 assoc_by_tests x y z true false d p q r = rw (p, q, p) refl
@@ -52,7 +53,8 @@ same_due : (x y : Deadline) → is_earlier x y ≡ false → is_earlier y x ≡ 
 same_due x y p q =
     let d : x.deadline ≡ y.deadline = grind (arith, nat_tests) in
     let i : x.id ≡ y.id = grind (arith, nat_tests) in
-    ap (λ n. let r : Deadline = record { deadline = n; id = x.id } in r) d ∙ ap (λ n. let r : Deadline = record { deadline = y.deadline; id = n } in r) i
+    ap (λ n. let r : Deadline = record { deadline = n; id = x.id } in r) d
+    ∙ ap (λ n. let r : Deadline = record { deadline = y.deadline; id = n } in r) i
 
 not_both : (x y : Deadline) → is_earlier x y ≡ true → is_earlier y x ≡ true → ⊥
 not_both x y p q = grind (arith, nat_tests)
@@ -88,9 +90,11 @@ sooner_of-fork d (Some x) None = ap (λ e. Some e) (earlier_of-comm x d)
 sooner_of-fork d (Some x) (Some y) = ap (λ e. Some e) (sym (earlier_of-assoc x d y) ∙ ap (λ e. earlier_of e y) (earlier_of-comm x d))
 
 -- when the first is due of a task and of those on its two sides
-pub first_due-fork : (xs : List Task) (x : Task) (ys : List Task) → first_due (xs ++ x ∷ ys) ≡ Some (earliest_of (earliest_of (due_of x) (first_due xs)) (first_due ys))
+pub first_due-fork : (xs : List Task) (x : Task) (ys : List Task)
+    → first_due (xs ++ x ∷ ys) ≡ Some (earliest_of (earliest_of (due_of x) (first_due xs)) (first_due ys))
 first_due-fork xs x ys =
-    first_due-append xs (x ∷ ys) ∙ ap (λ o. sooner_of (first_due xs) o) (first_due-cons x ys) ∙ sooner_of-fork (due_of x) (first_due xs) (first_due ys)
+    first_due-append xs (x ∷ ys) ∙ ap (λ o. sooner_of (first_due xs) o) (first_due-cons x ys)
+    ∙ sooner_of-fork (due_of x) (first_due xs) (first_due ys)
 
 earliest_of-earlier : (x y : Deadline) (o : Option Deadline) → earlier_of x (earliest_of y o) ≡ earlier_of y (earliest_of x o)
 earliest_of-earlier x y None = earlier_of-comm x y
@@ -108,7 +112,9 @@ first_due-place t (x ∷ xs) =
           ∙ ap (λ o. Some (earliest_of (due_of t) o)) (sym (first_due-cons x xs))
     ]
 
-same_sums : (a b c d : ℕ) (m n : ℕ) → a ≡ b → c ≡ d → m ≡ n → (let x : Totals = record { moment = a; weight = c; count = m } in x) ≡ (let y : Totals = record { moment = b; weight = d; count = n } in y)
+same_sums : (a b c d : ℕ) (m n : ℕ) → a ≡ b → c ≡ d → m ≡ n
+    → (let x : Totals = record { moment = a; weight = c; count = m } in x)
+    ≡ (let y : Totals = record { moment = b; weight = d; count = n } in y)
 same_sums a b c d m n p q r = cc
 
 added_to : (x t : Task) (xs ys : List Task) → sums_of ys ≡ added (sums_of xs) t → sums_of (x ∷ ys) ≡ added (sums_of (x ∷ xs)) t
@@ -141,7 +147,8 @@ added-cancel s r t e =
     same_sums _ _ _ _ _ _ (omega arith) (omega arith) (omega arith)
 
 -- the first due of a list is the earlier of one of its tasks and the first of all others
-pub first_due-cut : (xs : List Task) (t : Task) (ys : List Task) → first_due (xs ++ t ∷ ys) ≡ Some (earliest_of (due_of t) (first_due (xs ++ ys)))
+pub first_due-cut : (xs : List Task) (t : Task) (ys : List Task)
+    → first_due (xs ++ t ∷ ys) ≡ Some (earliest_of (due_of t) (first_due (xs ++ ys)))
 first_due-cut xs t ys =
     first_due-fork xs t ys
     ∙ ap (λ d. Some d) (sym (earliest_of-sooner (due_of t) (first_due xs) (first_due ys)))

@@ -8,7 +8,8 @@ use Rattle.bq_disc.specs.Totals.{is_at_most_mean}
 use Rattle.bq_disc.specs.Rising.{IsRising, NoneRunsBefore}
 use Rattle.bq_tree.proofs.OrderLemmas.{RunsBeforeNone, IsRising-before, IsRising-after}
 
-front_by_test : (b : Bool) (x y : Task) (o p : Option Task) → cond b (Some x) o ≡ Some y → (o ≡ Some y → p ≡ Some y) → cond b (Some x) p ≡ Some y
+front_by_test : (b : Bool) (x y : Task) (o p : Option Task) → cond b (Some x) o ≡ Some y → (o ≡ Some y → p ≡ Some y)
+    → cond b (Some x) p ≡ Some y
 front_by_test true x y o p h k = h
 front_by_test false x y o p h k = k h
 
@@ -27,31 +28,36 @@ find-back p [] ys h = refl
 find-back p (x ∷ xs) ys h = back_by_test (p x) x (find p xs) (find p (xs ++ ys)) (find p ys) h (find-back p xs ys)
 
 -- where none of the front passes the test, the task behind it that does is found
-pub find-here : (p : Task → Bool) (xs : List Task) (x : Task) (ys : List Task) → find p xs ≡ None → p x ≡ true → find p (xs ++ x ∷ ys) ≡ Some x
+pub find-here : (p : Task → Bool) (xs : List Task) (x : Task) (ys : List Task)
+    → find p xs ≡ None → p x ≡ true → find p (xs ++ x ∷ ys) ≡ Some x
 find-here p xs x ys h e = find-back p xs (x ∷ ys) h ∙ rw e refl
 
 -- where none of the front nor the task behind it passes the test, what is found is found in the rest
-pub find-later : (p : Task → Bool) (xs : List Task) (x : Task) (ys : List Task) → find p xs ≡ None → p x ≡ false → find p (xs ++ x ∷ ys) ≡ find p ys
+pub find-later : (p : Task → Bool) (xs : List Task) (x : Task) (ys : List Task)
+    → find p xs ≡ None → p x ≡ false → find p (xs ++ x ∷ ys) ≡ find p ys
 find-later p xs x ys h e = find-back p xs (x ∷ ys) h ∙ rw e refl
 
 earlier_too : (v id : ℕ) (x y : Task) → comes_after v id x ≡ false → runs_before x y ≡ false → comes_after v id y ≡ false
 earlier_too v id x y p q = grind (arith, nat_tests)
 
 -- where a task does not come after (v, id), none before it does
-pub none_after : (v id : ℕ) (x : Task) (xs : List Task) → comes_after v id x ≡ false → RunsBeforeNone x xs → find (comes_after v id) xs ≡ None
+pub none_after : (v id : ℕ) (x : Task) (xs : List Task) → comes_after v id x ≡ false → RunsBeforeNone x xs
+    → find (comes_after v id) xs ≡ None
 none_after v id x [] a h = refl
 none_after v id x (y ∷ xs) a h = let e = earlier_too v id x y a h.0 in rw e (none_after v id x xs a h.1)
 
 -- Tasks at most a mean
 
--- those of some tasks that are at most a mean
+-- the tasks among some that are at most a mean
 abbrev pub passing : ℕ → ℕ → List Task → List Task
 passing w m xs = filter (is_at_most_mean w m) xs
 
 passing-append : (w m : ℕ) (xs ys : List Task) → passing w m (xs ++ ys) ≡ passing w m xs ++ passing w m ys
 passing-append w m [] ys = refl
 passing-append w m (x ∷ xs) ys =
-    elim (is_at_most_mean w m x) as (λ b. cond b (x ∷ passing w m (xs ++ ys)) (passing w m (xs ++ ys)) ≡ cond b (x ∷ passing w m xs) (passing w m xs) ++ passing w m ys) [
+    elim (is_at_most_mean w m x) as (λ b.
+    cond b (x ∷ passing w m (xs ++ ys)) (passing w m (xs ++ ys))
+    ≡ cond b (x ∷ passing w m xs) (passing w m xs) ++ passing w m ys) [
       | true ↦ ap (λ l. x ∷ l) (passing-append w m xs ys)
       | false ↦ passing-append w m xs ys
     ]
@@ -77,8 +83,9 @@ all_pass : (w m : ℕ) (x : Task) (xs : List Task) → is_at_most_mean w m x ≡
 all_pass w m x [] p h = refl
 all_pass w m x (y ∷ xs) p h = let e = passes_too w m x y p h.0 in rw e (ap (λ zs. y ∷ zs) (all_pass w m x xs p h.1))
 
--- so all those pass that stand before one that does
-pub all_pass-before : (w m : ℕ) (xs : List Task) (x : Task) (ys : List Task) → IsRising (xs ++ x ∷ ys) → is_at_most_mean w m x ≡ true → passing w m xs ≡ xs
+-- all tasks pass that stand before one that does
+pub all_pass-before : (w m : ℕ) (xs : List Task) (x : Task) (ys : List Task)
+    → IsRising (xs ++ x ∷ ys) → is_at_most_mean w m x ≡ true → passing w m xs ≡ xs
 all_pass-before w m xs x ys h e = all_pass w m x xs e (IsRising-before xs x ys h)
 
 none_passes : (w m : ℕ) (x : Task) (xs : List Task) → is_at_most_mean w m x ≡ false → NoneRunsBefore x xs → passing w m xs ≡ []
@@ -90,13 +97,17 @@ append_nothing [] = refl
 append_nothing (x ∷ xs) = ap (λ l. x ∷ l) (append_nothing xs)
 
 -- where a task is above the mean, those that are not stand before it
-pub passing-left : (w m : ℕ) (xs : List Task) (x : Task) (ys : List Task) → IsRising (xs ++ x ∷ ys) → is_at_most_mean w m x ≡ false → passing w m (xs ++ x ∷ ys) ≡ passing w m xs
+pub passing-left : (w m : ℕ) (xs : List Task) (x : Task) (ys : List Task)
+    → IsRising (xs ++ x ∷ ys) → is_at_most_mean w m x ≡ false → passing w m (xs ++ x ∷ ys) ≡ passing w m xs
 passing-left w m xs x ys h e =
     let rest : passing w m (x ∷ ys) ≡ [] = rw e (none_passes w m x ys e (IsRising-after xs x ys h)) in
     passing-append w m xs (x ∷ ys) ∙ ap (λ zs. passing w m xs ++ zs) rest ∙ append_nothing (passing w m xs)
 
 -- where a task is at most the mean, so are those before it
-pub passing-right : (w m : ℕ) (xs : List Task) (x : Task) (ys : List Task) → IsRising (xs ++ x ∷ ys) → is_at_most_mean w m x ≡ true → passing w m (xs ++ x ∷ ys) ≡ xs ++ x ∷ passing w m ys
+pub passing-right : (w m : ℕ) (xs : List Task) (x : Task) (ys : List Task)
+    → IsRising (xs ++ x ∷ ys) → is_at_most_mean w m x ≡ true
+    → passing w m (xs ++ x ∷ ys) ≡ xs ++ x ∷ passing w m ys
 passing-right w m xs x ys h e =
     let rest : passing w m (x ∷ ys) ≡ x ∷ passing w m ys = rw e refl in
-    passing-append w m xs (x ∷ ys) ∙ ap (λ zs. zs ++ passing w m (x ∷ ys)) (all_pass w m x xs e (IsRising-before xs x ys h)) ∙ ap (λ zs. xs ++ zs) rest
+    passing-append w m xs (x ∷ ys) ∙ ap (λ zs. zs ++ passing w m (x ∷ ys)) (all_pass w m x xs e (IsRising-before xs x ys h))
+    ∙ ap (λ zs. xs ++ zs) rest

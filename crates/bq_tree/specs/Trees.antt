@@ -13,28 +13,31 @@ abbrev mutual
   pub in_order : Node → List Task
   in_order (Node' entity left right due totals height) = in_order_held left ++ entity ∷ in_order_held right
 
+  -- the tasks of what a link holds, from left to right
   pub in_order_held : Held-Node-left → List Task
   in_order_held None' = []
   in_order_held (Some' p n) = in_order n
 
+-- the height that a node keeps
 abbrev pub height_of : Node → ℕ
 height_of (Node' entity left right due totals height) = height
 
+-- the height of what a link holds: 0 if it holds nothing
 abbrev pub height_held : Held-Node-left → ℕ
 height_held None' = 0
 height_held (Some' p n) = height_of n
 
--- neither height is more than this above the other
+-- neither height exceeds the other by more than this
 abbrev pub DifferByAtMost : ℕ → ℕ → ℕ → Type 0
 DifferByAtMost by l r = (l ≤ r + by) × (r ≤ l + by)
 
--- what a node is to know of the tasks that hang from it, by the due task and the totals that it keeps
+-- what a node knows of the tasks that hang from it, given the deadline and the totals that it keeps
 abbrev pub Knowledge : Type 1
 Knowledge = List Task → Deadline → Totals → Type 0
 
 abbrev mutual
-  -- every node knows its height, and what it is to know of all that hang from it; and its sides differ by at most one in
-  -- height
+  -- a tree: every node knows its height and what it must know of all that hang from it; the sides of each differ in height
+  -- by at most one
   pub IsTree : Knowledge → Node → Type 0
   IsTree knows (Node' entity left right due totals height) =
       IsTreeHeld knows left × IsTreeHeld knows right
@@ -42,52 +45,58 @@ abbrev mutual
       × IsBounded entity
       × knows (in_order_held left ++ entity ∷ in_order_held right) due totals
 
+  -- what a link holds is a tree, or nothing
   pub IsTreeHeld : Knowledge → Held-Node-left → Type 0
   IsTreeHeld knows None' = Unit {0}
   IsTreeHeld knows (Some' p n) = IsTree knows n
 
--- the tasks and the height of what hangs from a link, if anything does, and that it is a tree
+-- the tasks of the tree that a link leads to, from left to right; none if it leads to none
 abbrev pub in_order_behind : Option (Box Node Global) → List Task
 in_order_behind None = []
 in_order_behind (Some b) = in_order b.value
 
+-- the height of the tree that a link leads to; 0 if it leads to none
 abbrev pub height_behind : Option (Box Node Global) → ℕ
 height_behind None = 0
 height_behind (Some b) = height_of b.value
 
+-- a link leads to a tree, or to none
 abbrev pub IsTreeBehind : Knowledge → Option (Box Node Global) → Type 0
 IsTreeBehind knows None = Unit {0}
 IsTreeBehind knows (Some b) = IsTree knows b.value
 
--- a node whose sides are trees and that knows what it is to know; its height may be out of date, and its sides may differ
--- by more than one
+-- a fork: a node whose sides are trees and that knows what it must know; its height may be out of date, and its sides may
+-- differ by more than one
 abbrev pub IsFork : Knowledge → Node → Type 0
 IsFork knows (Node' entity left right due totals height) =
     IsTreeHeld knows left × IsTreeHeld knows right
     × IsBounded entity
     × knows (in_order_held left ++ entity ∷ in_order_held right) due totals
 
--- the heights of the two sides
+-- the height of the left side
 abbrev pub left_height : Node → ℕ
 left_height (Node' entity left right due totals height) = height_held left
 
+-- the height of the right side
 abbrev pub right_height : Node → ℕ
 right_height (Node' entity left right due totals height) = height_held right
 
--- what hangs from a link, if anything does, is a fork; and the heights of its sides
+-- a link leads to a fork, or to none
 abbrev pub IsForkBehind : Knowledge → Option (Box Node Global) → Type 0
 IsForkBehind knows None = Unit {0}
 IsForkBehind knows (Some b) = IsFork knows b.value
 
+-- the height of the left side of the root that a link leads to
 abbrev pub left_height_behind : Option (Box Node Global) → ℕ
 left_height_behind None = 0
 left_height_behind (Some b) = left_height b.value
 
+-- the height of the right side of the root that a link leads to
 abbrev pub right_height_behind : Option (Box Node Global) → ℕ
 right_height_behind None = 0
 right_height_behind (Some b) = right_height b.value
 
--- a root that counts one more task in what it knows, and is else as it was
+-- a root counts one more task in what it knows, and does not change otherwise
 pub record CountsIn (knows : Knowledge) (old new : Node) (t : Task) : Type 0 where
   pub task : (out-Node new).entity ≡ (out-Node old).entity
   pub left : (out-Node new).left ≡ (out-Node old).left
@@ -95,21 +104,22 @@ pub record CountsIn (knows : Knowledge) (old new : Node) (t : Task) : Type 0 whe
   pub height : (out-Node new).height ≡ (out-Node old).height
   pub counts : knows (place t (in_order old)) (out-Node new).due (out-Node new).totals
 
--- the sides of the root behind a link
+-- the left side of the root that a link leads to
 abbrev pub left_behind : Option (Box Node Global) → Option (Box Node Global)
 left_behind None = None
 left_behind (Some b) = (out-Node b.value).left
 
+-- the right side of the root that a link leads to
 abbrev pub right_behind : Option (Box Node Global) → Option (Box Node Global)
 right_behind None = None
 right_behind (Some b) = (out-Node b.value).right
 
--- nothing hangs from the root's left side
+-- the root that a link leads to has no left side
 abbrev pub HasNoLeft : Option (Box Node Global) → Type 0
 HasNoLeft None = Unit {0}
 HasNoLeft (Some b) = (out-Node b.value).left ≡ None
 
--- a root that is else as it was
+-- a root keeps its task, its sides and its height
 pub record KeepsSides (old new : Node) : Type 0 where
   pub task : (out-Node new).entity ≡ (out-Node old).entity
   pub left : (out-Node new).left ≡ (out-Node old).left
@@ -120,7 +130,7 @@ pub record KeepsSides (old new : Node) : Type 0 where
 abbrev pub hanging : Node → List Task
 hanging n = in_order_behind (out-Node n).left ++ (out-Node n).entity ∷ in_order_behind (out-Node n).right
 
--- a root that still counts a task that has left one of its sides
+-- a root still counts a task that has left one of its sides
 abbrev pub StillCounts : Knowledge → Node → Task → Type 0
 StillCounts knows n t =
     (before : List Task) × (after : List Task) × (hanging n ≡ before ++ after)

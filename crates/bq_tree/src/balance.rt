@@ -19,7 +19,7 @@ pub(crate) fn height(link: &Link) -> u8
     }
 }
 
-/// The root of a tree and its two sides.
+/// Takes a tree apart: its left side, its root and its right side.
 pub(crate) fn opened<S: Summary>(mut node: Box<Node>) -> (Link, Box<Node>, Link)
     requires { IsTree S.knows node.value }
     ensures lone { IsLone result.1.value }
@@ -37,7 +37,7 @@ pub(crate) fn opened<S: Summary>(mut node: Box<Node>) -> (Link, Box<Node>, Link)
     (left, node, right)
 }
 
-/// A root and its two sides, which may differ in height.
+/// Takes a fork apart: its left side, its root and its right side. The sides may differ in height by more than one.
 fn parted<S: Summary>(mut node: Box<Node>) -> (Link, Box<Node>, Link)
     requires { IsFork S.knows node.value }
     ensures lone { IsLone result.1.value }
@@ -54,7 +54,7 @@ fn parted<S: Summary>(mut node: Box<Node>) -> (Link, Box<Node>, Link)
     (left, node, right)
 }
 
-/// Each task's weight and v are in their ranges.
+/// Brings into the proof that the task's weight and v are in their ranges.
 fn ranges(entity: &Entity)
     ensures { IsBounded entity.now }
 {
@@ -76,7 +76,7 @@ pub(crate) fn leaf<S: Summary>(mut node: Box<Node>) -> Box<Node>
     node
 }
 
-/// A node with two trees at its sides.
+/// A node with two trees as its sides.
 #[inline(always)]
 fn fork<S: Summary>(node: Box<Node>, left: Link, right: Link) -> Box<Node>
     requires lone { IsLone node.value }
@@ -92,7 +92,7 @@ fn fork<S: Summary>(node: Box<Node>, left: Link, right: Link) -> Box<Node>
     gathered::<S>(node, left, right)
 }
 
-/// A node with two trees at its sides, which may differ in height.
+/// A node with two trees as its sides, which may differ in height by more than one.
 #[inline(always)]
 pub(crate) fn gathered<S: Summary>(mut node: Box<Node>, left: Link, right: Link) -> Box<Node>
     requires lone { IsLone node.value }
@@ -115,7 +115,7 @@ pub(crate) fn gathered<S: Summary>(mut node: Box<Node>, left: Link, right: Link)
     node
 }
 
-/// A node that has taken the place of another root: it knows all that is to hang from it.
+/// A node that takes the place of another root. It already knows all that is to hang from it.
 #[inline(always)]
 fn crown<S: Summary>(mut node: Box<Node>, left: Link, right: Link) -> Box<Node>
     requires lone { IsLone node.value }
@@ -135,7 +135,7 @@ fn crown<S: Summary>(mut node: Box<Node>, left: Link, right: Link) -> Box<Node>
     node
 }
 
-/// A root whose left side is two levels higher than its right one makes way for a node of that side.
+/// Turns right a root whose left side is two levels higher than the right one: a node of the left side takes its place.
 fn turned_right<S: Summary>(root: Box<Node>) -> Box<Node>
     requires fork { IsFork S.knows root.value }
     requires higher { left_height root.value ≡ right_height root.value + 2 }
@@ -161,7 +161,7 @@ fn turned_right<S: Summary>(root: Box<Node>) -> Box<Node>
     crown::<S>(middle, Some(before), Some(after))
 }
 
-/// A root whose right side is two levels higher than its left one makes way for a node of that side.
+/// Turns left a root whose right side is two levels higher than the left one: a node of the right side takes its place.
 fn turned_left<S: Summary>(root: Box<Node>) -> Box<Node>
     requires fork { IsFork S.knows root.value }
     requires higher { right_height root.value ≡ left_height root.value + 2 }
@@ -187,7 +187,7 @@ fn turned_left<S: Summary>(root: Box<Node>) -> Box<Node>
     crown::<S>(middle, Some(before), Some(after))
 }
 
-/// A root whose sides differ in height by at most two, made a tree.
+/// Makes a tree of a root whose sides differ in height by at most two.
 pub(crate) fn rebalanced<S: Summary>(mut root: Box<Node>) -> Box<Node>
     requires fork { IsFork S.knows root.value }
     requires near { DifferByAtMost 2 (left_height root.value) (right_height root.value) }
@@ -218,7 +218,7 @@ fn heights(root: &Node) -> (u8, u8)
     (height(&root.left), height(&root.right))
 }
 
-/// Makes a tree of what is behind a link.
+/// Makes a tree of the fork that a link leads to.
 pub(crate) fn rebalance<S: Summary>(link: &mut Link)
     requires fork { IsForkBehind S.knows link.old }
     requires near { DifferByAtMost 2 (left_height_behind link.old) (right_height_behind link.old) }

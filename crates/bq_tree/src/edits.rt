@@ -13,7 +13,7 @@ use crate::summary::Summary;
 use bq_disc::node::Link;
 use bq_disc::{Entity, Node};
 
-/// Puts a node into a tree; whether the tree has grown in height.
+/// Puts a node into a tree. Answers whether the tree has grown in height.
 pub(crate) fn insert_into<S: Summary>(link: &mut Link, node: Box<Node>) -> bool
     requires lone { IsLone node.value }
     requires tree { IsTreeBehind S.knows link.old }
@@ -132,14 +132,14 @@ fn pop<S: Summary>(link: &mut Link) -> Link
     Some(root)
 }
 
-/// Whether it is the task at (v, id).
+/// Whether the task is the one at (v, id).
 pub(crate) fn is_at(entity: &Entity, v: u64, id: u16) -> bool
     ensures { result ≡ is_at v id entity.now }
 {
     entity.v() == v && entity.id() == id
 }
 
-/// Whether it comes after (v, id).
+/// Whether the task comes after (v, id).
 pub(crate) fn is_after(entity: &Entity, v: u64, id: u16) -> bool
     ensures { result ≡ comes_after v id entity.now }
 {

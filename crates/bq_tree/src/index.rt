@@ -1,4 +1,4 @@
-//! The tree with what finds a task at once: the key of its first task, and a table from ids to times.
+//! The tree with what finds a task at once: the key of its first task, and a table of each id's v.
 ghost use Rattle.std.specs.Prelude.{◌≡◌, ◌<◌, ◌≤◌, ◌^◌, ◌++◌, ℕ, ◌==◌, false, List, [], length, None, IfSome, IfNone, slice_index};
 ghost use Rattle.std.specs.Option.{option_map, option_map_or, option_to_list};
 ghost use Rattle.bq_disc.specs.Tasks.{Task, with_id};
@@ -14,10 +14,10 @@ use bq_disc::node::Link;
 use bq_disc::{Deadline, Movable, Node, Timeline, Totals};
 use std::marker::{Model, PhantomData};
 
-/// The ids whose times stand in the table: all.
+/// The number of ids that the table has room for: all ids.
 const IDS: usize = TASKS as usize;
 
-/// Tasks with distinct ids, by rising (v, id), as a balanced tree of their own nodes, each of which knows what `S` says.
+/// Tasks with distinct ids, by rising (v, id), as a balanced tree of their own nodes. Each node knows what `S` says.
 #[derive(Drop)]
 pub struct Tree<S: Summary> {
     root: Link,
@@ -45,7 +45,7 @@ impl<S: Summary> Model for Tree<S> {
 }
 
 impl<S: Summary> Tree<S> {
-    /// How many levels the tree has.
+    /// Answers how many levels the tree has.
     pub fn height(&self) -> u8
         ensures low { length self.now ≤ TASKS → result ≤ 14 }
         ensures high { length self.now < 2 ^ result }
@@ -138,7 +138,7 @@ fn zeros<const N: usize>() -> [u64; N] {
     [0; N]
 }
 
-/// The lesser of a key and of one that may be there.
+/// The lesser of a key and `least`; the key if there is no `least`.
 fn lesser(key: (u64, u16), least: Option<(u64, u16)>) -> (u64, u16)
     ensures value { result ≡ lesser_of key least }
     ensures high { key.0 ≤ 2 ^ 62 → IfSome least (λ k. k.0 ≤ 2 ^ 62) → result.0 ≤ 2 ^ 62 }
@@ -150,7 +150,7 @@ fn lesser(key: (u64, u16), least: Option<(u64, u16)>) -> (u64, u16)
     least
 }
 
-/// Whether a key is that of an id.
+/// Whether there is a key and it has this id.
 fn has_id(key: Option<(u64, u16)>, id: u16) -> bool
     ensures { result ≡ option_map_or (λ (k : ℕ × ℕ). k.1 == id) key false }
 {
@@ -171,7 +171,7 @@ fn first_key(root: &Link) -> Option<(u64, u16)>
     }
 }
 
-/// Writes down when a task stands.
+/// Records the v of the task with this id, if the table has room for the id.
 fn remember(times: &mut [u64; IDS], id: u16, v: u64)
     ensures others { (xs : List Task) → with_id id xs ≡ None → Knows times.old xs → Knows times.new xs }
     ensures here { id < TASKS → slice_index times.new id ≡ v }
@@ -182,7 +182,7 @@ fn remember(times: &mut [u64; IDS], id: u16, v: u64)
     }
 }
 
-/// The v of the task of that id, if there is one.
+/// The v of the task with this id, if there is one; else the number means nothing.
 fn time_of(times: &[u64; IDS], root: &Link, id: u16) -> u64
     requires knows { Knows times.now (in_order_behind root.now) }
     ensures { IfSome (with_id id (in_order_behind root.now)) (λ t. t.v ≡ result) }

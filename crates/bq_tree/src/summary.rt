@@ -15,12 +15,12 @@ use crate::walks;
 use bq_disc::node::Link;
 use bq_disc::{Deadline, Entity, Node, Totals};
 
-/// What each node of a tree is to know of all the tasks that hang from it, and how that changes with them.
+/// What each node of a tree knows of all the tasks that hang from it, and how that changes with them.
 pub trait Summary {
-    /// What a node knows of some tasks by the due task and the totals that it keeps.
+    /// What a node knows of some tasks, given the deadline and the totals that it keeps.
     ghost knows: { List Task → Deadline → Totals → Type 0 };
 
-    /// A lone node learns of its own task and of two trees that are to be its sides.
+    /// A lone node learns about its own task and the two trees that are to be its sides.
     fn gather(node: &mut Node, left: &Link, right: &Link)
         requires lone { IsLone node.old }
         requires left { IsTreeBehind knows left.now }
@@ -30,20 +30,20 @@ pub trait Summary {
         ensures lone { IsLone node.new }
         ensures knows { knows (in_order_behind left.now ++ task_of node.old ∷ in_order_behind right.now) (out-Node node.new).due (out-Node node.new).totals };
 
-    /// A lone node that is to take the place of another root learns what that one knows.
+    /// A lone node that is to take another root's place learns what that root knows.
     fn take_over(node: &mut Node, root: &Node)
         requires lone { IsLone node.old }
         ensures task { task_of node.new ≡ task_of node.old }
         ensures lone { IsLone node.new }
         ensures knows { (xs : List Task) → knows xs (out-Node root.now).due (out-Node root.now).totals → knows xs (out-Node node.new).due (out-Node node.new).totals };
 
-    /// A root counts one more task in what it knows.
+    /// A root counts one more task.
     fn count_in(root: &mut Node, entity: &Entity)
         requires tree { IsTree knows root.old }
         requires few { length (in_order root.old) < 2 ^ 16 }
         ensures { CountsIn knows root.old root.new entity.now };
 
-    /// A root no longer counts a task that has left one of its sides.
+    /// A root stops counting a task that has left one of its sides.
     fn count_out(root: &mut Node, gone: &Entity)
         requires left { IsTreeBehind knows (out-Node root.old).left }
         requires right { IsTreeBehind knows (out-Node root.old).right }
@@ -52,25 +52,25 @@ pub trait Summary {
         ensures sides { KeepsSides root.old root.new }
         ensures knows { knows (hanging root.old) (out-Node root.new).due (out-Node root.new).totals };
 
-    /// What the tasks of a tree have together.
+    /// The totals of a tree's tasks.
     fn totals(link: &Link) -> Totals
         requires tree { IsTreeBehind knows link.now }
         requires few { length (in_order_behind link.now) ≤ 2 ^ 16 }
         ensures sums { result ≡ sums_of (in_order_behind link.now) }
         ensures bounds { HasBounds result };
 
-    /// When the first is due of a tree's tasks that are at most a mean.
+    /// The earliest virtual deadline of the tree's tasks with `weight * v <= moment`.
     fn earliest_at_most_mean(link: &Link, weight: u64, moment: u128) -> Option<Deadline>
         requires tree { IsTreeBehind knows link.now }
         requires rising { IsRising (in_order_behind link.now) }
         ensures { result ≡ first_due (filter (is_at_most_mean weight moment) (in_order_behind link.now)) };
 }
 
-/// Each node knows when the first is due of the tasks that hang from it, and what they have together.
+/// Each node knows the earliest deadline and the totals of the tasks that hang from it.
 #[derive(Clone, Copy)]
 pub struct Sums;
 
-/// No node knows anything of the others: what is asked of all tasks is answered by a walk over them.
+/// No node knows anything about the others: a question about all tasks is answered by a walk over them.
 #[derive(Clone, Copy)]
 pub struct NoSums;
 
@@ -124,7 +124,7 @@ impl Summary for NoSums {
     }
 }
 
-/// When the first task of a tree is due.
+/// The earliest deadline of a tree's tasks.
 pub(crate) fn due(link: &Link) -> Option<Deadline>
     requires { IsTreeBehind knows_sums link.now }
     ensures { result ≡ first_due (in_order_behind link.now) }
@@ -135,7 +135,7 @@ pub(crate) fn due(link: &Link) -> Option<Deadline>
     }
 }
 
-/// What the tasks of a tree have together.
+/// The totals of a tree's tasks.
 #[tactic(auto, using(crate::proofs::BoundLemmas::bounded_behind))]
 fn totals(link: &Link) -> Totals
     requires { IsTreeBehind knows_sums link.now }
@@ -148,7 +148,7 @@ fn totals(link: &Link) -> Totals
     }
 }
 
-/// When the first is due of a node's task and of two trees.
+/// The earliest deadline of a node's task and two trees.
 #[tactic(auto, using(crate::proofs::TotalsLemmas::totals_facts))]
 fn first_of(node: &Node, left: &Link, right: &Link) -> Deadline
     requires left { IsTreeBehind knows_sums left.now }
@@ -158,7 +158,7 @@ fn first_of(node: &Node, left: &Link, right: &Link) -> Deadline
     node.entity.due().earliest(due(left)).earliest(due(right))
 }
 
-/// What a node's task and two trees have together.
+/// The totals of a node's task and two trees.
 #[tactic(auto, using(crate::proofs::TotalsLemmas::totals_facts))]
 fn totals_of(node: &Node, left: &Link, right: &Link) -> Totals
     requires left { IsTreeBehind knows_sums left.now }
@@ -171,7 +171,7 @@ fn totals_of(node: &Node, left: &Link, right: &Link) -> Totals
     totals(left).join(&rest)
 }
 
-/// Whether it is the entity that is due then.
+/// Whether a deadline is that of this task.
 fn is_due(due: &Deadline, entity: &Entity) -> bool
     ensures { result ≡ (due.now.deadline == entity.now.deadline && due.now.id == entity.now.id) }
 {
@@ -193,7 +193,7 @@ fn add(root: &mut Node, entity: &Entity)
     }
 }
 
-/// Takes a task that has left one of a root's sides away from what the root knows.
+/// Takes a task that has left one of a root's sides out of what the root knows.
 fn remove(root: &mut Node, gone: &Entity)
     requires left { IsTreeBehind knows_sums (out-Node root.old).left }
     requires right { IsTreeBehind knows_sums (out-Node root.old).right }

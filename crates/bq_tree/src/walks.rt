@@ -44,7 +44,7 @@ pub(crate) fn get_at(link: &Link, v: u64, id: u16) -> Option<&Node>
     get_at(right, v, id)
 }
 
-/// The node of that id, wherever it stands.
+/// The node with this id, wherever it is in the tree.
 pub(crate) fn find_id(link: &Link, id: u16) -> Option<&Node>
     ensures { option_map (λ n. task_of n.now) result ≡ with_id id (in_order_behind link.now) }
 {
@@ -80,7 +80,7 @@ pub(crate) fn after(link: &Link, v: u64, id: u16) -> Option<&Node>
     }
 }
 
-/// The first node.
+/// The first node of a tree.
 pub(crate) fn least(link: &Link) -> Option<&Node>
     ensures { option_map (λ n. task_of n.now) result ≡ find (follows None) (in_order_behind link.now) }
 {
@@ -90,7 +90,7 @@ pub(crate) fn least(link: &Link) -> Option<&Node>
     }
 }
 
-/// The first of a node and of those below it.
+/// The first node of a tree, given its root.
 fn least_of(node: &Node) -> &Node
     ensures { find (follows None) (in_order node.now) ≡ Some (task_of result.now) }
 {
@@ -101,7 +101,7 @@ fn least_of(node: &Node) -> &Node
     }
 }
 
-/// When the first is due of those found before and of a tree's tasks that are at most a mean.
+/// The earliest of `found` and the deadlines of the tree's tasks with `weight * v <= moment`.
 pub(crate) fn earliest_from(
     link: &Link,
     weight: u64,
@@ -140,7 +140,7 @@ pub(crate) fn movable_into(link: &Link, processor: u8, found: &mut Movable)
     movable_into(left, processor, found);
 }
 
-/// What the tasks of a tree have together, where no node knows.
+/// The totals of a tree's tasks, by a walk over all of them.
 pub(crate) fn totals_of_all(link: &Link) -> Totals
     requires { length (in_order_behind link.now) ≤ 2 ^ 16 }
     ensures sums { result ≡ sums_of (in_order_behind link.now) }
@@ -155,7 +155,7 @@ pub(crate) fn totals_of_all(link: &Link) -> Totals
     totals_of_all(left).join(&rest)
 }
 
-/// When the first is due of a tree's tasks that are at most a mean, where no node knows.
+/// The earliest virtual deadline of the tree's tasks with `weight * v <= moment`, by a walk over all of them.
 pub(crate) fn earliest_of_all(link: &Link, weight: u64, moment: u128) -> Option<Deadline>
     requires { IsRising (in_order_behind link.now) }
     ensures { result ≡ first_due (filter (is_at_most_mean weight moment) (in_order_behind link.now)) }

@@ -17,7 +17,7 @@ pub(crate) type Answer = [Part; 3];
 const NOTHING: Part = [0; 5];
 
 /// What tells a task from others, and where it stands.
-fn told_of(entity: &Entity) -> Part {
+fn part_of_task(entity: &Entity) -> Part {
     [
         1,
         i128::from(entity.id()),
@@ -31,14 +31,14 @@ fn told_of(entity: &Entity) -> Part {
 fn shown(entity: Option<Entity>) -> Part {
     match entity {
         None => NOTHING,
-        Some(entity) => told_of(&entity),
+        Some(entity) => part_of_task(&entity),
     }
 }
 
 fn node_shown(node: Option<&Node>) -> Part {
     match node {
         None => NOTHING,
-        Some(node) => told_of(&node.entity),
+        Some(node) => part_of_task(&node.entity),
     }
 }
 
@@ -183,7 +183,7 @@ fn entered<Q: RunQueue>(queue: &Q, entity: &Entity, pulled: bool) -> Entity {
 }
 
 /// The task that a newcomer is.
-fn task_told(newcomer: &Newcomer) -> Entity {
+fn admitted_task(newcomer: &Newcomer) -> Entity {
     let mut entity = Entity::new(
         newcomer.id,
         newcomer.weight.clamp(15, 88761),
@@ -205,9 +205,9 @@ fn enter<Q: RunQueue>(
     if runs(current, newcomer.id) {
         return NOTHING;
     }
-    let entity = entered(queue, &task_told(newcomer), newcomer.pulled);
+    let entity = entered(queue, &admitted_task(newcomer), newcomer.pulled);
     if put(rt, alloc, queue, entity) {
-        told_of(&entity)
+        part_of_task(&entity)
     } else {
         NOTHING
     }

@@ -58,7 +58,7 @@ const SECOND_TASK: &str = "42515049 01 02 0000 02000000  b700000002000000 950000
 
 /// An event that is told without a policy of its own, so that rows of events own nothing. Admitted tasks are of nice 0.
 #[derive(Clone, Copy)]
-enum Told {
+enum EventRow {
     /// A task, its mask and its slice.
     Admit(u16, u64, u64),
     Draw,
@@ -86,33 +86,33 @@ fn policy(rt: &impl Abort, alloc: Global, image: &str) -> Policy {
 }
 
 /// The policy of an image, if there is an image.
-fn policy_told(rt: &impl Abort, alloc: Global, image: Option<&str>) -> Option<Policy> {
+fn policy_of(rt: &impl Abort, alloc: Global, image: Option<&str>) -> Option<Policy> {
     Some(policy(rt, alloc, image?))
 }
 
 /// The event that a row tells.
-fn event(rt: &impl Abort, alloc: Global, told: Told) -> Event {
+fn event(rt: &impl Abort, alloc: Global, row: EventRow) -> Event {
     let processor = 0;
-    match told {
-        Told::Admit(task, mask, slice) => Event::Admit {
+    match row {
+        EventRow::Admit(task, mask, slice) => Event::Admit {
             task,
             nice: 0,
             mask,
             slice,
         },
-        Told::Draw => Event::Draw,
-        Told::Install(processor, hook, generation, image) => Event::Install {
+        EventRow::Draw => Event::Draw,
+        EventRow::Install(processor, hook, generation, image) => Event::Install {
             processor,
             hook,
             generation,
-            policy: policy_told(rt, alloc, image),
+            policy: policy_of(rt, alloc, image),
         },
-        Told::BeginWake(task) => Event::BeginWake { processor, task },
-        Told::EndWake(now) => Event::EndWake { processor, now },
-        Told::Drain(now) => Event::Drain { processor, now },
-        Told::Tick(now) => Event::Tick { processor, now },
-        Told::Block(now) => Event::Block { processor, now },
-        Told::Pull(from) => Event::Pull {
+        EventRow::BeginWake(task) => Event::BeginWake { processor, task },
+        EventRow::EndWake(now) => Event::EndWake { processor, now },
+        EventRow::Drain(now) => Event::Drain { processor, now },
+        EventRow::Tick(now) => Event::Tick { processor, now },
+        EventRow::Block(now) => Event::Block { processor, now },
+        EventRow::Pull(from) => Event::Pull {
             processor: 1,
             from,
             now: 0,
@@ -121,10 +121,10 @@ fn event(rt: &impl Abort, alloc: Global, told: Told) -> Event {
 }
 
 /// The events that some rows tell, in their order.
-fn events(rt: &impl Abort, alloc: Global, rows: &[Told]) -> Vec<Event> {
+fn events(rt: &impl Abort, alloc: Global, rows: &[EventRow]) -> Vec<Event> {
     let mut events = Vec::new(alloc);
-    for told in rows {
-        events.push(event(rt, alloc, *told)).expect(rt, "memory");
+    for row in rows {
+        events.push(event(rt, alloc, *row)).expect(rt, "memory");
     }
     events
 }
@@ -155,7 +155,7 @@ fn lines(rt: &impl Abort, alloc: Global, answers: &[Answer]) -> String {
 fn is_answered<Q: RunQueue + Drop, const P: usize>(
     rt: &impl Abort,
     alloc: Global,
-    rows: &[Told],
+    rows: &[EventRow],
     board: &mut Plain,
     expected: &str,
 )
@@ -166,20 +166,20 @@ fn is_answered<Q: RunQueue + Drop, const P: usize>(
 }
 
 /// A policy that counts in its map stands at a hook for three ticks.
-static MAP_ROWS: [Told; 13] = [
-    Told::Admit(1, 1, 3_000_000),
-    Told::Admit(2, 1, 3_000_000),
-    Told::Draw,
-    Told::Install(0, Hook::Preempt, 1, Some(COUNTING)),
-    Told::BeginWake(1),
-    Told::EndWake(0),
-    Told::BeginWake(2),
-    Told::EndWake(0),
-    Told::Drain(0),
-    Told::Tick(0),
-    Told::Tick(0),
-    Told::Tick(0),
-    Told::Install(0, Hook::Preempt, 1, None),
+static MAP_ROWS: [EventRow; 13] = [
+    EventRow::Admit(1, 1, 3_000_000),
+    EventRow::Admit(2, 1, 3_000_000),
+    EventRow::Draw,
+    EventRow::Install(0, Hook::Preempt, 1, Some(COUNTING)),
+    EventRow::BeginWake(1),
+    EventRow::EndWake(0),
+    EventRow::BeginWake(2),
+    EventRow::EndWake(0),
+    EventRow::Drain(0),
+    EventRow::Tick(0),
+    EventRow::Tick(0),
+    EventRow::Tick(0),
+    EventRow::Install(0, Hook::Preempt, 1, None),
 ];
 
 static MAP_LINES: &str = "\
@@ -193,19 +193,19 @@ fn a_map_is_written_and_read_back(rt: HostRuntime) {
 }
 
 /// The task of the earliest deadline has had more than its share.
-static DEADLINE_ROWS: [Told; 12] = [
-    Told::Admit(1, 1, 3_000_000),
-    Told::Admit(2, 1, 100_000),
-    Told::BeginWake(1),
-    Told::EndWake(0),
-    Told::BeginWake(2),
-    Told::EndWake(0),
-    Told::Drain(0),
-    Told::Tick(100_000),
-    Told::Block(100_000),
-    Told::Tick(200_000),
-    Told::BeginWake(1),
-    Told::EndWake(200_000),
+static DEADLINE_ROWS: [EventRow; 12] = [
+    EventRow::Admit(1, 1, 3_000_000),
+    EventRow::Admit(2, 1, 100_000),
+    EventRow::BeginWake(1),
+    EventRow::EndWake(0),
+    EventRow::BeginWake(2),
+    EventRow::EndWake(0),
+    EventRow::Drain(0),
+    EventRow::Tick(100_000),
+    EventRow::Block(100_000),
+    EventRow::Tick(200_000),
+    EventRow::BeginWake(1),
+    EventRow::EndWake(200_000),
 ];
 
 static DEADLINE_LINES: &str = "\
@@ -225,28 +225,28 @@ fn the_earliest_deadline_is_not_eligible(rt: HostRuntime) {
 }
 
 /// Processor 1 pulls, by the rule and by policies.
-static PULL_ROWS: [Told; 21] = [
-    Told::Admit(1, 1, 3_000_000),
-    Told::Admit(2, 3, 3_000_000),
-    Told::Admit(3, 3, 3_000_000),
-    Told::Draw,
-    Told::Install(0, Hook::Place, 1, Some(FIRST_PROCESSOR)),
-    Told::BeginWake(1),
-    Told::EndWake(0),
-    Told::BeginWake(2),
-    Told::EndWake(0),
-    Told::BeginWake(3),
-    Told::EndWake(0),
-    Told::Drain(0),
-    Told::Pull(0),
-    Told::Pull(0),
-    Told::Draw,
-    Told::Install(1, Hook::Pull, 2, Some(FIRST_TASK)),
-    Told::Pull(0),
-    Told::Draw,
-    Told::Install(1, Hook::Pull, 3, Some(SECOND_TASK)),
-    Told::Pull(0),
-    Told::Pull(1),
+static PULL_ROWS: [EventRow; 21] = [
+    EventRow::Admit(1, 1, 3_000_000),
+    EventRow::Admit(2, 3, 3_000_000),
+    EventRow::Admit(3, 3, 3_000_000),
+    EventRow::Draw,
+    EventRow::Install(0, Hook::Place, 1, Some(FIRST_PROCESSOR)),
+    EventRow::BeginWake(1),
+    EventRow::EndWake(0),
+    EventRow::BeginWake(2),
+    EventRow::EndWake(0),
+    EventRow::BeginWake(3),
+    EventRow::EndWake(0),
+    EventRow::Drain(0),
+    EventRow::Pull(0),
+    EventRow::Pull(0),
+    EventRow::Draw,
+    EventRow::Install(1, Hook::Pull, 2, Some(FIRST_TASK)),
+    EventRow::Pull(0),
+    EventRow::Draw,
+    EventRow::Install(1, Hook::Pull, 3, Some(SECOND_TASK)),
+    EventRow::Pull(0),
+    EventRow::Pull(1),
 ];
 
 static PULL_LINES: &str = "\
@@ -261,15 +261,15 @@ fn an_emptier_processor_pulls(rt: HostRuntime) {
 }
 
 /// A policy adds to a counter at each tick.
-static BOARD_ROWS: [Told; 8] = [
-    Told::Admit(1, 1, 3_000_000),
-    Told::Draw,
-    Told::Install(0, Hook::Preempt, 1, Some(ADDING)),
-    Told::BeginWake(1),
-    Told::EndWake(0),
-    Told::Drain(0),
-    Told::Tick(0),
-    Told::Tick(0),
+static BOARD_ROWS: [EventRow; 8] = [
+    EventRow::Admit(1, 1, 3_000_000),
+    EventRow::Draw,
+    EventRow::Install(0, Hook::Preempt, 1, Some(ADDING)),
+    EventRow::BeginWake(1),
+    EventRow::EndWake(0),
+    EventRow::Drain(0),
+    EventRow::Tick(0),
+    EventRow::Tick(0),
 ];
 
 static BOARD_LINES: &str = "\
@@ -289,15 +289,15 @@ const TICKS: u64 = 19_996;
 /// A task comes to a processor, which then ticks.
 fn long_events(rt: &impl Abort, alloc: Global) -> Vec<Event> {
     let first = [
-        Told::Admit(1, 1, 3_000_000),
-        Told::BeginWake(1),
-        Told::EndWake(0),
-        Told::Drain(0),
+        EventRow::Admit(1, 1, 3_000_000),
+        EventRow::BeginWake(1),
+        EventRow::EndWake(0),
+        EventRow::Drain(0),
     ];
     let mut events = events(rt, alloc, &first);
     for _ in 0..TICKS {
         events
-            .push(event(rt, alloc, Told::Tick(0)))
+            .push(event(rt, alloc, EventRow::Tick(0)))
             .expect(rt, "memory");
     }
     events

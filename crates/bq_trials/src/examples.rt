@@ -209,7 +209,7 @@ fn answer_and_snapshots_of(
 }
 
 #[test]
-fn a_run_tells_its_calls_and_its_steps(rt: HostRuntime) -> Result<(), Fail> {
+fn a_run_reports_its_calls_and_its_steps(rt: HostRuntime) -> Result<(), Fail> {
     let alloc = rt.alloc();
     let program = Program {
         insns: assemble(alloc, "mov64 r1, 3\ncall 101\nexit\n")?,

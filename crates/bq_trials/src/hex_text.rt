@@ -4,16 +4,16 @@ use std::alloc::Global;
 use std::process::Abort;
 
 /// What stands in a line before a `;`.
-fn said_in(line: &str) -> &str {
+fn written_in(line: &str) -> &str {
     match line.split_once(';') {
-        Some((said, _)) => said,
+        Some((written, _)) => written,
         None => line,
     }
 }
 
 /// Adds a text without its blanks.
-fn add_words(rt: &impl Abort, digits: &mut String, said: &str) {
-    for word in said.split_ascii_whitespace() {
+fn add_words(rt: &impl Abort, digits: &mut String, written: &str) {
+    for word in written.split_ascii_whitespace() {
         digits.push_str(word).expect(rt, "memory");
     }
 }
@@ -21,7 +21,7 @@ fn add_words(rt: &impl Abort, digits: &mut String, said: &str) {
 /// Adds the digits of a text's lines.
 fn add_lines(rt: &impl Abort, digits: &mut String, text: &str) {
     for line in text.lines() {
-        add_words(rt, digits, said_in(line));
+        add_words(rt, digits, written_in(line));
     }
 }
 

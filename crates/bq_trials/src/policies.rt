@@ -2,7 +2,7 @@
 
 use crate::asserting::{is_number, is_true};
 use bq_asm::assemble;
-use bq_bpf::{Call, MapShape, Plain};
+use bq_bpf::{CounterCall, MapShape, Plain};
 use bq_hooks::{Hook, Version, context_length};
 use bq_installed::{Hooks, Installed, Policy, Scratch};
 use bq_interp::Env;
@@ -119,8 +119,8 @@ fn maps_of_their_own(rt: HostRuntime) {
 }
 
 /// A run added 5 to counter 3.
-fn added_five(rt: &impl Abort, calls: &[Call]) {
-    let second = Call::Add {
+fn added_five(rt: &impl Abort, calls: &[CounterCall]) {
+    let second = CounterCall::Add {
         counter: 3,
         amount: 5,
         answer: 5,

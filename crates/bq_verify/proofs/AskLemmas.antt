@@ -20,7 +20,8 @@ other_one helper (inl e) one = omega (arith, ints, e, one)
 other_one helper (inr e) one = omega (arith, ints, e, one)
 
 -- the needs of other calls are none of a counter's
-other_needs : (shapes : List MapShape) (context : ℕ) (state : AbstractState) (helper : ℤ) → (helper ≡ pos 100) ⊎ (helper ≡ pos 101) → IsReady shapes context state (Call helper) → ⊥
+other_needs : (shapes : List MapShape) (context : ℕ) (state : AbstractState) (helper : ℤ)
+    → (helper ≡ pos 100) ⊎ (helper ≡ pos 101) → IsReady shapes context state (Call helper) → ⊥
 other_needs shapes context state helper (inl e) (inl (inl five)) = omega (arith, ints, e, five)
 other_needs shapes context state helper (inl e) (inl (inr eight)) = omega (arith, ints, e, eight)
 other_needs shapes context state helper (inl e) (inr (inl n)) = let one = n.0 in omega (arith, ints, e, one)
@@ -31,13 +32,17 @@ other_needs shapes context state helper (inr e) (inr (inl n)) = let one = n.0 in
 other_needs shapes context state helper (inr e) (inr (inr n)) = let two = n.0 in omega (arith, ints, e, two)
 
 -- a call of a counter that is ready has what a counter's call needs, and is no look-up
-pub ready_is_asked : (shapes : List MapShape) (context : ℕ) (state : AbstractState) (insn : Insn) → IsCounterCall insn → IsReady shapes context state insn ⊎ IsReadyToAsk state insn → Asked state insn
+pub ready_is_asked : (shapes : List MapShape) (context : ℕ) (state : AbstractState) (insn : Insn)
+    → IsCounterCall insn → IsReady shapes context state insn ⊎ IsReadyToAsk state insn → Asked state insn
 ready_is_asked shapes context state (Call helper) call (inl ready) = absurd (other_needs shapes context state helper call ready)
-ready_is_asked shapes context state (Call helper) call (inr ready) = record { helper = helper; is = refl; needs = ready.1; other = other_one helper call }
+ready_is_asked shapes context state (Call helper) call (inr ready) =
+    record { helper = helper; is = refl; needs = ready.1; other = other_one helper call }
 ready_is_asked shapes context state insn call ready = absurd call
 
 -- an instruction that calls no counter and may go on is ready as all others are
-pub not_asked : (shapes : List MapShape) (context : ℕ) (state : AbstractState) (insn : Insn) → (IsCounterCall insn → ⊥) → IsReady shapes context state insn ⊎ IsReadyToAsk state insn → IsReady shapes context state insn
+pub not_asked : (shapes : List MapShape) (context : ℕ) (state : AbstractState) (insn : Insn)
+    → (IsCounterCall insn → ⊥) → IsReady shapes context state insn ⊎ IsReadyToAsk state insn
+    → IsReady shapes context state insn
 not_asked shapes context state insn other (inl ready) = ready
 not_asked shapes context state (Call helper) other (inr ready) = absurd (other ready.0)
 not_asked shapes context state _ other (inr ready) = absurd ready

@@ -23,7 +23,7 @@ use Rattle.bq_verify.proofs.CountLemmas.{one_call}
 use Rattle.bq_states.specs.declared.abstract_state.ValueKind.TheVariants.{Map, Stack}
 use Rattle.bq_verify.specs.Straight.{leaves, loads, stores, untouched, writes, HasOneWay, IsByteStored, IsCounting, IsGiving, IsLoaded, IsMoveOnStack, IsNaming, IsPointerFrom, IsWritten, Needs, OnEachPath}
 use Rattle.bq_verify.specs.Worked.{calling, CallingIsStraight}
-use Rattle.bq_verify.proofs.EachSlotLemmas.{each_slot, holds_along_path, made_before, made_first, goes_next, goes_nowhere, edge_on, path_on, no_jump, not_frame}
+use Rattle.bq_verify.proofs.EachSlotLemmas.{each_slot, ◌then◌, holds_along_path, made_before, made_first, goes_next, goes_nowhere, edge_on, path_on, no_jump, not_frame}
 
 abbrev program : List (Option Insn)
 program = spread calling
@@ -35,8 +35,21 @@ before k = slice_index (0 ∷ 0 ∷ 0 ∷ 1 ∷ 3 ∷ 4 ∷ 5 ∷ 6 ∷ 7 ∷ 8 
 only_before : (from to : ℕ) → IsEdge program from to → from ≡ before to
 only_before from to edge =
     each_slot program (λ from insn. (to : ℕ) → Leaves insn from to → from ≡ before to)
-    (goes_next program before 0 _ refl refl refl, (goes_next program before 1 _ refl refl refl, (goes_next program before 3 _ refl refl refl, (goes_next program before 4 _ refl refl refl, (goes_next program before 5 _ refl refl refl, (goes_next program before 6 _ refl refl refl, (goes_next program before 7 _ refl refl refl, (goes_next program before 8 _ refl refl refl, (goes_next program before 9 _ refl refl refl, (goes_next program before 10 _ refl refl refl, (goes_next program before 11 _ refl refl refl, (goes_next program before 12 _ refl refl refl, (goes_next program before 13 _ refl refl refl, (goes_nowhere program before 14 refl, tt))))))))))))))
-    from edge.insn edge.here to edge.leaves
+    (goes_next program before 0 _ refl refl refl
+    then goes_next program before 1 _ refl refl refl
+    then goes_next program before 3 _ refl refl refl
+    then goes_next program before 4 _ refl refl refl
+    then goes_next program before 5 _ refl refl refl
+    then goes_next program before 6 _ refl refl refl
+    then goes_next program before 7 _ refl refl refl
+    then goes_next program before 8 _ refl refl refl
+    then goes_next program before 9 _ refl refl refl
+    then goes_next program before 10 _ refl refl refl
+    then goes_next program before 11 _ refl refl refl
+    then goes_next program before 12 _ refl refl refl
+    then goes_next program before 13 _ refl refl refl
+    then goes_nowhere program before 14 refl
+    then tt) from edge.insn edge.here to edge.leaves
 
 one_way : (slot : ℕ) → HasOneWay program slot
 one_way slot a b p q = only_before a slot p ∙ sym (only_before b slot q)
@@ -85,13 +98,16 @@ to_14 : Path program 0 14
 to_14 = path_on program 13 _ refl refl to_13
 
 a_helper : (a h : ℤ) → is_helper a ≡ true → Call a ≡ Call h → is_helper h ≡ false → ⊥
-a_helper a h known is unknown = let same : a ≡ h = cc in let there : is_helper a ≡ false = subst (λ (n : ℤ). is_helper n ≡ false) (sym same) unknown in cc
+a_helper a h known is unknown =
+    let same : a ≡ h = cc in let there : is_helper a ≡ false = subst (λ (n : ℤ). is_helper n ≡ false) (sym same) unknown in cc
 
 inside : (n : ℕ) → n < 15 → 15 ≤ n → ⊥
 inside n lt le = omega arith
 
 -- control goes forward over each edge
-goes_forward : (n : ℕ) (insn : Insn) → instruction_at program n ≡ Some insn → distance_of insn ≡ None → 1 ≤ slots_of insn → (to : ℕ) → Leaves insn n to → n < to
+goes_forward : (n : ℕ) (insn : Insn) → instruction_at program n ≡ Some insn → distance_of insn ≡ None
+    → 1 ≤ slots_of insn → (to : ℕ) → Leaves insn n to
+    → n < to
 goes_forward n insn here none some to (inl on) = let is = on.1 in omega (arith, is, some)
 goes_forward n insn here none some to (inr jump) = absurd (none-some jump.0 (sym none ∙ jump.1))
 
@@ -101,8 +117,21 @@ exits to leaves = absurd (exit_is_last program 14 to refl (record { insn = Exit;
 forward : (from to : ℕ) → IsEdge program from to → from < to
 forward from to edge =
     each_slot program (λ from insn. (to : ℕ) → Leaves insn from to → from < to)
-    (goes_forward 0 _ refl refl some, (goes_forward 1 _ refl refl two, (goes_forward 3 _ refl refl some, (goes_forward 4 _ refl refl some, (goes_forward 5 _ refl refl some, (goes_forward 6 _ refl refl some, (goes_forward 7 _ refl refl some, (goes_forward 8 _ refl refl some, (goes_forward 9 _ refl refl some, (goes_forward 10 _ refl refl some, (goes_forward 11 _ refl refl some, (goes_forward 12 _ refl refl some, (goes_forward 13 _ refl refl some, (exits, tt))))))))))))))
-    from edge.insn edge.here to edge.leaves
+    (goes_forward 0 _ refl refl some
+    then goes_forward 1 _ refl refl two
+    then goes_forward 3 _ refl refl some
+    then goes_forward 4 _ refl refl some
+    then goes_forward 5 _ refl refl some
+    then goes_forward 6 _ refl refl some
+    then goes_forward 7 _ refl refl some
+    then goes_forward 8 _ refl refl some
+    then goes_forward 9 _ refl refl some
+    then goes_forward 10 _ refl refl some
+    then goes_forward 11 _ refl refl some
+    then goes_forward 12 _ refl refl some
+    then goes_forward 13 _ refl refl some
+    then exits
+    then tt) from edge.insn edge.here to edge.leaves
   where
     some : 1 ≤ 1
     some = omega arith
@@ -120,7 +149,11 @@ few_calls (next ∷ rest) from path =
     omega (arith, step, more, one)
 
 low : (k : ℕ) (insn : Insn) → instruction_at program k ≡ Some insn → k < 15
-low = each_slot program (λ k insn. k < 15) (omega arith, (omega arith, (omega arith, (omega arith, (omega arith, (omega arith, (omega arith, (omega arith, (omega arith, (omega arith, (omega arith, (omega arith, (omega arith, (omega arith, tt))))))))))))))
+low =
+    each_slot program (λ k insn. k < 15)
+    (omega arith then omega arith then omega arith then omega arith then omega arith then omega arith
+    then omega arith then omega arith then omega arith then omega arith then omega arith then omega arith
+    then omega arith then omega arith then tt)
 
 never_late : (slot count : ℕ) (insn : Insn) → instruction_at program slot ≡ Some insn → CallsOnWay program slot count → 16 ≤ count → ⊥
 never_late slot count insn here way many =
@@ -132,22 +165,56 @@ never_late slot count insn here way many =
 
 faultless : IsFaultless program
 faultless Jump slot fault =
-    each_slot program (λ slot insn. (d : ℤ) → distance_of insn ≡ Some d → ((to : ℕ) → LeadsTo slot d to → slot < to → IsStart program to → ⊥) → ⊥)
-    (no_jump program 0, (no_jump program 1, (no_jump program 3, (no_jump program 4, (no_jump program 5, (no_jump program 6, (no_jump program 7, (no_jump program 8, (no_jump program 9, (no_jump program 10, (no_jump program 11, (no_jump program 12, (no_jump program 13, (no_jump program 14, tt))))))))))))))
+    each_slot program
+    (λ slot insn. (d : ℤ) → distance_of insn ≡ Some d → ((to : ℕ) → LeadsTo slot d to → slot < to → IsStart program to → ⊥) → ⊥)
+    (no_jump program 0 then no_jump program 1 then no_jump program 3 then no_jump program 4 then no_jump program 5
+    then no_jump program 6 then no_jump program 7 then no_jump program 8 then no_jump program 9 then no_jump program 10
+    then no_jump program 11 then no_jump program 12 then no_jump program 13 then no_jump program 14 then tt)
     slot fault.insn fault.here fault.distance fault.jumps fault.nowhere
 faultless NoExit slot fault =
     each_slot program (λ slot insn. goes_on insn ≡ true → 15 ≤ slot + slots_of insn → ⊥)
-    (λ on. inside 1 (omega arith), (λ on. inside 3 (omega arith), (λ on. inside 4 (omega arith), (λ on. inside 5 (omega arith), (λ on. inside 6 (omega arith), (λ on. inside 7 (omega arith), (λ on. inside 8 (omega arith), (λ on. inside 9 (omega arith), (λ on. inside 10 (omega arith), (λ on. inside 11 (omega arith), (λ on. inside 12 (omega arith), (λ on. inside 13 (omega arith), (λ on. inside 14 (omega arith), (λ on past. false≢true on, tt))))))))))))))
-    slot fault.insn fault.here fault.on fault.past
-faultless Unreached slot fault = fault.none (each_slot program (λ slot insn. Path program 0 slot) (to_0, (to_1, (to_3, (to_4, (to_5, (to_6, (to_7, (to_8, (to_9, (to_10, (to_11, (to_12, (to_13, (to_14, tt)))))))))))))) slot fault.start.insn fault.start.here)
+    ((λ on. inside 1 (omega arith))
+    then (λ on. inside 3 (omega arith))
+    then (λ on. inside 4 (omega arith))
+    then (λ on. inside 5 (omega arith))
+    then (λ on. inside 6 (omega arith))
+    then (λ on. inside 7 (omega arith))
+    then (λ on. inside 8 (omega arith))
+    then (λ on. inside 9 (omega arith))
+    then (λ on. inside 10 (omega arith))
+    then (λ on. inside 11 (omega arith))
+    then (λ on. inside 12 (omega arith))
+    then (λ on. inside 13 (omega arith))
+    then (λ on. inside 14 (omega arith))
+    then (λ on past. false≢true on)
+    then tt) slot fault.insn fault.here fault.on fault.past
+faultless Unreached slot fault =
+    fault.none (each_slot program (λ slot insn. Path program 0 slot)
+    (to_0 then to_1 then to_3 then to_4 then to_5 then to_6 then to_7 then to_8 then to_9 then to_10 then to_11
+    then to_12 then to_13 then to_14 then tt) slot fault.start.insn fault.start.here)
 faultless Frame slot fault =
     each_slot program (λ slot insn. destination_of insn ≡ Some 10 → ⊥)
-    (none-some 10, (not_frame 1 (omega arith), (not_frame 2 (omega arith), (not_frame 2 (omega arith), (not_frame 3 (omega arith), (not_frame 3 (omega arith), (not_frame 4 (omega arith), (none-some 10, (not_frame 2 (omega arith), (not_frame 1 (omega arith), (none-some 10, (not_frame 1 (omega arith), (none-some 10, (none-some 10, tt))))))))))))))
-    slot fault.insn fault.here fault.writes
+    (none-some 10 then not_frame 1 (omega arith) then not_frame 2 (omega arith) then not_frame 2 (omega arith)
+    then not_frame 3 (omega arith) then not_frame 3 (omega arith) then not_frame 4 (omega arith) then none-some 10
+    then not_frame 2 (omega arith) then not_frame 1 (omega arith) then none-some 10 then not_frame 1 (omega arith)
+    then none-some 10 then none-some 10 then tt) slot fault.insn fault.here fault.writes
 faultless Helper slot fault =
     each_slot program (λ slot insn. (h : ℤ) → insn ≡ Call h → is_helper h ≡ false → ⊥)
-    (λ h is unknown. cc, (λ h is unknown. cc, (λ h is unknown. cc, (λ h is unknown. cc, (λ h is unknown. cc, (λ h is unknown. cc, (λ h is unknown. cc, (λ h. a_helper (pos 2) h refl, (λ h is unknown. cc, (λ h is unknown. cc, (λ h. a_helper (pos 100) h refl, (λ h is unknown. cc, (λ h. a_helper (pos 101) h refl, (λ h is unknown. cc, tt))))))))))))))
-    slot (Call fault.helper) fault.here fault.helper refl fault.unknown
+    ((λ h is unknown. cc)
+    then (λ h is unknown. cc)
+    then (λ h is unknown. cc)
+    then (λ h is unknown. cc)
+    then (λ h is unknown. cc)
+    then (λ h is unknown. cc)
+    then (λ h is unknown. cc)
+    then (λ h. a_helper (pos 2) h refl)
+    then (λ h is unknown. cc)
+    then (λ h is unknown. cc)
+    then (λ h. a_helper (pos 100) h refl)
+    then (λ h is unknown. cc)
+    then (λ h. a_helper (pos 101) h refl)
+    then (λ h is unknown. cc)
+    then tt) slot (Call fault.helper) fault.here fault.helper refl fault.unknown
 faultless Counters slot fault = never_late slot fault.count fault.insn fault.here fault.way fault.many
 
 -- register 1 names the map up to the first call
@@ -222,7 +289,10 @@ giving shape small = record {
 }
 
 -- what each instruction before a slot makes so, the one at that slot leaves so
-made_then_left : (slots : List (Option Insn)) (makes leaves : Option Insn → Bool) (first : Bool) (j k : ℕ) → 0 < j → 0 < k → ((from : ℕ) → IsEdge slots from j → makes (instruction_at slots from) ≡ true) → ((from : ℕ) → IsEdge slots from k → from ≡ j) → leaves (instruction_at slots j) ≡ true → OnEachPath slots makes leaves first k
+made_then_left : (slots : List (Option Insn)) (makes leaves : Option Insn → Bool) (first : Bool) (j k : ℕ)
+    → 0 < j → 0 < k → ((from : ℕ) → IsEdge slots from j → makes (instruction_at slots from) ≡ true)
+    → ((from : ℕ) → IsEdge slots from k → from ≡ j) → leaves (instruction_at slots j) ≡ true
+    → OnEachPath slots makes leaves first k
 made_then_left slots makes leaves first j k later past made only left rest path ends =
     (holds_along_path slots makes leaves (λ n held. (n ≡ j → held ≡ true) × (n ≡ k → held ≡ true))
     (λ from to held edge p. (
@@ -237,13 +307,21 @@ made_then_left slots makes leaves first j k later past made only left rest path 
     ends
 
 written_11 : IsWritten program 11 2
-written_11 = made_then_left program (writes 2) (leaves 2) false 10 11 (omega arith) (omega arith) (λ from edge. rw (only_before from 10 edge) refl) (λ from edge. only_before from 11 edge) refl
+written_11 =
+    made_then_left program (writes 2) (leaves 2) false 10 11 (omega arith) (omega arith)
+    (λ from edge. rw (only_before from 10 edge) refl) (λ from edge. only_before from 11 edge) refl
 
 written_14 : IsWritten program 14 0
 written_14 = made_before program (writes 0) (leaves 0) false 14 (omega arith) (λ from edge. rw (only_before from 14 edge) refl)
 
 counting_11 : IsCounting program 11 (pos 100)
-counting_11 = record { counter = 5; loaded = made_before program (loads 1 5) (untouched 1) false 11 (omega arith) (λ from edge. rw (only_before from 11 edge) refl); few = omega arith; amount = λ is. written_11 }
+counting_11 = record {
+  counter = 5;
+  loaded =
+      made_before program (loads 1 5) (untouched 1) false 11 (omega arith) (λ from edge. rw (only_before from 11 edge) refl);
+  few = omega arith;
+  amount = λ is. written_11;
+}
 
 counting_13 : IsCounting program 13 (pos 101)
 counting_13 = record {
@@ -260,7 +338,18 @@ first_below : 0 < 1
 first_below = omega arith
 
 sum_of : (r at : ℕ) (back : List ℕ) → IsPointerFrom program Stack 512 r at back → IsMoveOnStack program at W64 Add r (Imm (neg_ℤ (pos 8)))
-sum_of r at back from = record { whole = refl; is_sum = refl; distance = neg_ℤ (pos 8); by_distance = refl; base = 512; from = (back, from); at = 504; at_is = refl; below = omega arith; small = omega arith }
+sum_of r at back from = record {
+  whole = refl;
+  is_sum = refl;
+  distance = neg_ℤ (pos 8);
+  by_distance = refl;
+  base = 512;
+  from = (back, from);
+  at = 504;
+  at_is = refl;
+  below = omega arith;
+  small = omega arith;
+}
 
 -- the program that updates an entry, adds to a counter and reads it is straight
 pub calling_is_straight : CallingIsStraight
@@ -268,7 +357,22 @@ calling_is_straight = (
   refl,
   λ shape context small. record {
     faultless = faultless;
-    each = each_slot program (λ slot insn. Needs program (shape ∷ []) context slot insn)
-        (inl (refl, (504, refl, omega arith)), ((below_10 1 (omega arith), 0, refl, first_below), ((below_10 2 (omega arith), inr (inl (refl, refl, refl))), ((below_10 2 (omega arith), inr (inr (sum_of 2 4 (3 ∷ []) entry_4))), ((below_10 3 (omega arith), inr (inl (refl, refl, refl))), ((below_10 3 (omega arith), inr (inr (sum_of 3 6 (5 ∷ []) value_6))), ((below_10 4 (omega arith), inl (tt, tt)), (inr (inr (inl (refl, 0, giving shape small))), ((below_10 2 (omega arith), inl (tt, tt)), ((below_10 1 (omega arith), inl (tt, tt)), (inr (inr (inr (inl refl, counting_11))), ((below_10 1 (omega arith), inl (tt, tt)), (inr (inr (inr (inr refl, counting_13))), (written_14, tt))))))))))))));
+    each =
+        each_slot program (λ slot insn. Needs program (shape ∷ []) context slot insn)
+        (inl (refl, (504, refl, omega arith))
+        then (below_10 1 (omega arith), 0, refl, first_below)
+        then (below_10 2 (omega arith), inr (inl (refl, refl, refl)))
+        then (below_10 2 (omega arith), inr (inr (sum_of 2 4 (3 ∷ []) entry_4)))
+        then (below_10 3 (omega arith), inr (inl (refl, refl, refl)))
+        then (below_10 3 (omega arith), inr (inr (sum_of 3 6 (5 ∷ []) value_6)))
+        then (below_10 4 (omega arith), inl (tt, tt))
+        then inr (inr (inl (refl, 0, giving shape small)))
+        then (below_10 2 (omega arith), inl (tt, tt))
+        then (below_10 1 (omega arith), inl (tt, tt))
+        then inr (inr (inr (inl refl, counting_11)))
+        then (below_10 1 (omega arith), inl (tt, tt))
+        then inr (inr (inr (inr refl, counting_13)))
+        then written_14
+        then tt);
   },
 )

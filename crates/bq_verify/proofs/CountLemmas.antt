@@ -8,19 +8,24 @@ use Rattle.bq_bpf.specs.Steps.{instruction_at}
 use Rattle.bq_verify.specs.Edges.{IsEdge}
 use Rattle.bq_verify.specs.Paths.{IsPath, end_of, CallsOnWay, calls_of, calls_before_end, IsMostCalls}
 use Rattle.bq_bpf.specs.Instructions.{asks_counter}
-use Rattle.bq_verify.specs.Passes.{IsSound, IsOf, LeadsOut, Raises, CountsFollowed}
+use Rattle.bq_verify.specs.Passes.{IsSound, IsAmongTargets, LeadsOut, Raises, CountsFollowed}
 use Rattle.bq_verify.specs.declared.edges.Targets.{Targets}
 use Rattle.bq_insn.proofs.OptionLemmas.{some_same, some_none}
 use Rattle.bq_verify.proofs.EdgeLemmas.{edge_inside, end_of-push, IsPath-push}
 
-raised_at : (old : List (Option ℕ)) (t g k a : ℕ) (b : Bool) → t < length old → IfSome (get_or old t None) (λ n. n ≤ g) → get_or old k None ≡ Some a → ((b ≡ true) × (k ≡ t)) ⊎ ((b ≡ false) × (k ≢ t)) → (n : ℕ) × (get_or (set old t (Some g)) k None ≡ Some n) × (a ≤ n)
+raised_at : (old : List (Option ℕ)) (t g k a : ℕ) (b : Bool) → t < length old → IfSome (get_or old t None) (λ n. n ≤ g)
+    → get_or old k None ≡ Some a → ((b ≡ true) × (k ≡ t)) ⊎ ((b ≡ false) × (k ≢ t))
+    → (n : ℕ) × (get_or (set old t (Some g)) k None ≡ Some n) × (a ≤ n)
 raised_at old t g k a b lt bound e (inl (_, same)) =
     let there : get_or old t None ≡ Some a = subst (λ (i : ℕ). get_or old i None ≡ Some a) same e in
     let le : a ≤ g = subst (λ (v : Option ℕ). IfSome v (λ n. n ≤ g)) there bound in
     (g, rw (same, get_or-set_same old t (Some g) None lt) refl, le)
 raised_at old t g k a b lt bound e (inr (_, other)) = (a, rw (get_or-set_other old t k (Some g) None other) e, omega arith)
 
-only_at : (old : List (Option ℕ)) (t g count k v : ℕ) (b : Bool) → t < length old → (g ≡ count) ⊎ (get_or old t None ≡ Some g) → get_or (set old t (Some g)) k None ≡ Some v → ((b ≡ true) × (k ≡ t)) ⊎ ((b ≡ false) × (k ≢ t)) → (get_or old k None ≡ Some v) ⊎ ((Some t ≡ Some k) × (v ≡ count))
+only_at : (old : List (Option ℕ)) (t g count k v : ℕ) (b : Bool)
+    → t < length old → (g ≡ count) ⊎ (get_or old t None ≡ Some g) → get_or (set old t (Some g)) k None ≡ Some v
+    → ((b ≡ true) × (k ≡ t)) ⊎ ((b ≡ false) × (k ≢ t))
+    → (get_or old k None ≡ Some v) ⊎ ((Some t ≡ Some k) × (v ≡ count))
 only_at old t g count k v b lt one e (inr (_, other)) = inl (sym (get_or-set_other old t k (Some g) None other) ∙ e)
 only_at old t g count k v b lt one e (inl (_, same)) =
     let there : get_or (set old t (Some g)) t None ≡ Some v = subst (λ (i : ℕ). get_or (set old t (Some g)) i None ≡ Some v) same e in
@@ -32,7 +37,9 @@ only_at old t g count k v b lt one e (inl (_, same)) =
     chosen (inr e') is = inl (subst (λ (i : ℕ). get_or old i None ≡ Some v) (sym same) (e' ∙ ap (λ (n : ℕ). Some n) (sym is)))
 
 -- a number set to the greater of itself and the count is raised to it
-pub raises_set : (old : List (Option ℕ)) (t g count : ℕ) → t < length old → count ≤ g → IfSome (slice_index_or old t None) (λ n. n ≤ g) → (g ≡ count) ⊎ (slice_index_or old t None ≡ Some g) → Raises old (Some t) count (slice_set old t (Some g))
+pub raises_set : (old : List (Option ℕ)) (t g count : ℕ) → t < length old → count ≤ g
+    → IfSome (slice_index_or old t None) (λ n. n ≤ g) → (g ≡ count) ⊎ (slice_index_or old t None ≡ Some g)
+    → Raises old (Some t) count (slice_set old t (Some g))
 raises_set old t g count lt le bound one = record {
   kept = λ k a e. raised_at old t g k a _ lt bound e (eqb_tells k t);
   raised = λ k e.
@@ -52,24 +59,32 @@ one_call (Some insn) = if_one (asks_counter insn)
 
 module _ (slots : List (Option Insn)) where
   -- a path that goes on has the calls of its end too
-  calls-push : (from : ℕ) (rest : List ℕ) (t : ℕ) → calls_before_end slots from (rest ++ t ∷ []) ≡ calls_before_end slots from rest + calls_of (instruction_at slots (end_of from rest))
+  calls-push : (from : ℕ) (rest : List ℕ) (t : ℕ)
+      → calls_before_end slots from (rest ++ t ∷ [])
+      ≡ calls_before_end slots from rest + calls_of (instruction_at slots (end_of from rest))
   calls-push from [] t = omega arith
   calls-push from (n ∷ rest) t = let more = calls-push n rest t in omega arith
 
   -- a way that goes on by an edge, with its calls
-  pub extend : (slot to n : ℕ) → CallsOnWay slots slot n → IsEdge slots slot to → CallsOnWay slots to (n + calls_of (instruction_at slots slot))
+  pub extend : (slot to n : ℕ) → CallsOnWay slots slot n → IsEdge slots slot to
+      → CallsOnWay slots to (n + calls_of (instruction_at slots slot))
   extend slot to n way edge = record {
     rest = way.rest ++ to ∷ [];
     is_path = IsPath-push slots 0 way.rest to way.is_path (subst (λ (s : ℕ). IsEdge slots s to) (sym way.ends) edge);
     ends = end_of-push 0 way.rest to;
     count_is =
         let pushed = calls-push 0 way.rest to in
-        subst (λ (s : ℕ). calls_before_end slots 0 (way.rest ++ to ∷ []) ≡ calls_before_end slots 0 way.rest + calls_of (instruction_at slots s)) way.ends pushed
+        subst (λ (s : ℕ).
+        calls_before_end slots 0 (way.rest ++ to ∷ [])
+        ≡ calls_before_end slots 0 way.rest + calls_of (instruction_at slots s)) way.ends pushed
         ∙ ap (λ (m : ℕ). m + calls_of (instruction_at slots slot)) way.count_is;
   }
 
   -- the edges from one more slot
-  pub counted_same : (slot : ℕ) (most : List (Option ℕ)) → CountsFollowed slots slot most → ((to n : ℕ) → IsEdge slots slot to → slice_index_or most slot None ≡ Some n → (m : ℕ) × (slice_index_or most to None ≡ Some m) × (n + calls_of (instruction_at slots slot) ≤ m)) → CountsFollowed slots (slot + 1) most
+  pub counted_same : (slot : ℕ) (most : List (Option ℕ)) → CountsFollowed slots slot most
+      → ((to n : ℕ) → IsEdge slots slot to → slice_index_or most slot None ≡ Some n →
+      (m : ℕ) × (slice_index_or most to None ≡ Some m) × (n + calls_of (instruction_at slots slot) ≤ m))
+      → CountsFollowed slots (slot + 1) most
   counted_same slot most old here = record {
     begins = old.begins;
     way = old.way;
@@ -77,32 +92,42 @@ module _ (slots : List (Option Insn)) where
     closed = λ from to n lt edge e. by from to n lt edge e (cases_lt from slot);
   }
     where
-      by : (from to n : ℕ) → from < slot + 1 → IsEdge slots from to → slice_index_or most from None ≡ Some n → (from < slot) ⊎ (slot ≤ from) → (m : ℕ) × (slice_index_or most to None ≡ Some m) × (n + calls_of (instruction_at slots from) ≤ m)
+      by : (from to n : ℕ) → from < slot + 1 → IsEdge slots from to → slice_index_or most from None ≡ Some n
+          → (from < slot) ⊎ (slot ≤ from)
+          → (m : ℕ) × (slice_index_or most to None ≡ Some m) × (n + calls_of (instruction_at slots from) ≤ m)
       by from to n lt edge e (inl less) = old.closed from to n less edge e
       by from to n lt edge e (inr more) =
           let same : slot ≡ from = omega arith in
-          subst (λ (s : ℕ). IsEdge slots s to → slice_index_or most s None ≡ Some n → (m : ℕ) × (slice_index_or most to None ≡ Some m) × (n + calls_of (instruction_at slots s) ≤ m)) same (here to n) edge e
+          subst (λ (s : ℕ).
+          IsEdge slots s to → slice_index_or most s None ≡ Some n →
+          (m : ℕ) × (slice_index_or most to None ≡ Some m) × (n + calls_of (instruction_at slots s) ≤ m))
+          same (here to n) edge e
 
-  module _ (sound : IsSound slots) (slot : ℕ) (targets : Targets) (out : LeadsOut slots slot targets) (n count : ℕ) (count_is : count ≡ n + calls_of (instruction_at slots slot)) (old mid new : List (Option ℕ)) (first : Raises old targets.next count mid) (second : Raises mid targets.jump count new) where
-    later : (to : ℕ) → IsOf targets to → slot < to
+  module _ (sound : IsSound slots) (slot : ℕ) (targets : Targets) (out : LeadsOut slots slot targets)
+      (n count : ℕ) (count_is : count ≡ n + calls_of (instruction_at slots slot)) (old mid new : List (Option ℕ))
+      (first : Raises old targets.next count mid) (second : Raises mid targets.jump count new) where
+    later : (to : ℕ) → IsAmongTargets targets to → slot < to
     later to of = (sound.forward slot to (out.only to of)).0
 
     -- what a number comes from
-    origin : (k b : ℕ) → slice_index_or new k None ≡ Some b → (slice_index_or old k None ≡ Some b) ⊎ (IsOf targets k × (b ≡ count))
+    origin : (k b : ℕ) → slice_index_or new k None ≡ Some b
+        → (slice_index_or old k None ≡ Some b) ⊎ (IsAmongTargets targets k × (b ≡ count))
     origin k b e = by_second (second.only k b e)
       where
-        by_first : (slice_index_or old k None ≡ Some b) ⊎ ((targets.next ≡ Some k) × (b ≡ count)) → (slice_index_or old k None ≡ Some b) ⊎ (IsOf targets k × (b ≡ count))
+        by_first : (slice_index_or old k None ≡ Some b) ⊎ ((targets.next ≡ Some k) × (b ≡ count))
+            → (slice_index_or old k None ≡ Some b) ⊎ (IsAmongTargets targets k × (b ≡ count))
         by_first (inl e') = inl e'
         by_first (inr (t, e')) = inr (inl t, e')
 
-        by_second : (slice_index_or mid k None ≡ Some b) ⊎ ((targets.jump ≡ Some k) × (b ≡ count)) → (slice_index_or old k None ≡ Some b) ⊎ (IsOf targets k × (b ≡ count))
+        by_second : (slice_index_or mid k None ≡ Some b) ⊎ ((targets.jump ≡ Some k) × (b ≡ count))
+            → (slice_index_or old k None ≡ Some b) ⊎ (IsAmongTargets targets k × (b ≡ count))
         by_second (inl e') = by_first (first.only k b e')
         by_second (inr (t, e')) = inr (inr t, e')
 
     low : (k b : ℕ) → k ≤ slot → slice_index_or new k None ≡ Some b → slice_index_or old k None ≡ Some b
     low k b le e = by (origin k b e)
       where
-        by : (slice_index_or old k None ≡ Some b) ⊎ (IsOf targets k × (b ≡ count)) → slice_index_or old k None ≡ Some b
+        by : (slice_index_or old k None ≡ Some b) ⊎ (IsAmongTargets targets k × (b ≡ count)) → slice_index_or old k None ≡ Some b
         by (inl e') = e'
         by (inr (of, e')) = let lt = later k of in absurd (omega arith)
 
@@ -112,7 +137,7 @@ module _ (slots : List (Option Insn)) where
         let two = second.kept k one.0 one.1 in
         (two.0, two.1, omega (arith, one.2, two.2))
 
-    reached : (to : ℕ) → IsOf targets to → (b : ℕ) × (slice_index_or new to None ≡ Some b) × (count ≤ b)
+    reached : (to : ℕ) → IsAmongTargets targets to → (b : ℕ) × (slice_index_or new to None ≡ Some b) × (count ≤ b)
     reached to (inr e) = second.raised to e
     reached to (inl e) =
         let one = first.raised to e in
@@ -137,11 +162,11 @@ module _ (slots : List (Option Insn)) where
         let one = reached to (out.each to edge) in
         (one.0, one.1, rw (same, ← count_is) one.2))
       where
-        way_by : (k b : ℕ) → (slice_index_or old k None ≡ Some b) ⊎ (IsOf targets k × (b ≡ count)) → CallsOnWay slots k b
+        way_by : (k b : ℕ) → (slice_index_or old k None ≡ Some b) ⊎ (IsAmongTargets targets k × (b ≡ count)) → CallsOnWay slots k b
         way_by k b (inl e) = before.way k b e
         way_by k b (inr (of, e)) = rw (e, count_is) (extend slot k n (before.way slot n here) (out.only k of))
 
-        small_by : (k b : ℕ) → (slice_index_or old k None ≡ Some b) ⊎ (IsOf targets k × (b ≡ count)) → b ≤ k
+        small_by : (k b : ℕ) → (slice_index_or old k None ≡ Some b) ⊎ (IsAmongTargets targets k × (b ≡ count)) → b ≤ k
         small_by k b (inl e) = before.small k b e
         small_by k b (inr (of, e)) =
             let lt = later k of in
@@ -151,7 +176,8 @@ module _ (slots : List (Option Insn)) where
 
   module _ (most : List (Option ℕ)) (counted : CountsFollowed slots (length slots) most) where
     -- the number at the end of a path is no less than the calls on it
-    along : (from : ℕ) (rest : List ℕ) (n : ℕ) → IsPath slots from rest → slice_index_or most from None ≡ Some n → (m : ℕ) × (slice_index_or most (end_of from rest) None ≡ Some m) × (n + calls_before_end slots from rest ≤ m)
+    along : (from : ℕ) (rest : List ℕ) (n : ℕ) → IsPath slots from rest → slice_index_or most from None ≡ Some n
+        → (m : ℕ) × (slice_index_or most (end_of from rest) None ≡ Some m) × (n + calls_before_end slots from rest ≤ m)
     along from [] n p e = (n, e, omega arith)
     along from (next ∷ rest) n p e =
         let one = counted.closed from next n (edge_inside slots from next p.0) p.0 e in

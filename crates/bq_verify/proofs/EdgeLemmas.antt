@@ -12,11 +12,12 @@ use Rattle.bq_verify.specs.Edges.{IsEdge, IsStart, IsForward}
 use Rattle.bq_bpf.specs.Instructions.{Leaves, distance_of, goes_on}
 use Rattle.bq_verify.specs.Paths.{IsPath, end_of}
 use Rattle.bq_verify.specs.Faults.{IsBadJump}
-use Rattle.bq_verify.specs.Passes.{IsSound, IsOf, LeadsOut}
+use Rattle.bq_verify.specs.Passes.{IsSound, IsAmongTargets, LeadsOut}
 use Rattle.bq_verify.specs.declared.edges.Targets.{Targets}
 
 -- an instruction stands inside the program
-inside_by : (slots : List (Option Insn)) (k : ℕ) (insn : Insn) → instruction_at slots k ≡ Some insn → (k < length slots) ⊎ (length slots ≤ k) → k < length slots
+inside_by : (slots : List (Option Insn)) (k : ℕ) (insn : Insn)
+    → instruction_at slots k ≡ Some insn → (k < length slots) ⊎ (length slots ≤ k) → k < length slots
 inside_by slots k insn here (inl lt) = lt
 inside_by slots k insn here (inr le) = absurd (some_none _ insn here (get_or_past slots k None le))
 
@@ -29,8 +30,12 @@ pub edge_inside : (slots : List (Option Insn)) (from to : ℕ) → IsEdge slots 
 edge_inside slots from to edge = inside_by slots from edge.insn edge.here (cases_lt from (length slots))
 
 -- a jump that leads to no later instruction is bad
-pub bad_jump : (slots : List (Option Insn)) (slot : ℕ) (insn : Insn) (distance : ℤ) → instruction_at slots slot ≡ Some insn → Some distance ≡ distance_of insn → ((to : ℕ) → LeadsTo slot distance to → slot < to → IsStart slots to → ⊥) → IsBadJump slots slot
-bad_jump slots slot insn distance here jumps nowhere = record { insn = insn; here = here; distance = distance; jumps = sym jumps; nowhere = nowhere }
+pub bad_jump : (slots : List (Option Insn)) (slot : ℕ) (insn : Insn) (distance : ℤ)
+    → instruction_at slots slot ≡ Some insn → Some distance ≡ distance_of insn
+    → ((to : ℕ) → LeadsTo slot distance to → slot < to → IsStart slots to → ⊥)
+    → IsBadJump slots slot
+bad_jump slots slot insn distance here jumps nowhere =
+    record { insn = insn; here = here; distance = distance; jumps = sym jumps; nowhere = nowhere }
 
 -- a path that goes on to a slot ends there
 pub end_of-push : (from : ℕ) (rest : List ℕ) (t : ℕ) → end_of from (rest ++ t ∷ []) ≡ t
@@ -38,12 +43,15 @@ end_of-push from [] t = refl
 end_of-push from (n ∷ rest) t = end_of-push n rest t
 
 -- a path goes on by an edge from its end
-pub IsPath-push : (slots : List (Option Insn)) (from : ℕ) (rest : List ℕ) (t : ℕ) → IsPath slots from rest → IsEdge slots (end_of from rest) t → IsPath slots from (rest ++ t ∷ [])
+pub IsPath-push : (slots : List (Option Insn)) (from : ℕ) (rest : List ℕ) (t : ℕ)
+    → IsPath slots from rest → IsEdge slots (end_of from rest) t → IsPath slots from (rest ++ t ∷ [])
 IsPath-push slots from [] t p e = (e, tt)
 IsPath-push slots from (n ∷ rest) t p e = (p.0, IsPath-push slots n rest t p.1 e)
 
 -- a path goes up
-pub path_rises : (slots : List (Option Insn)) → IsForward slots → (from : ℕ) (rest : List ℕ) → IsPath slots from rest → IsStart slots (end_of from rest) → from + length rest < length slots
+pub path_rises : (slots : List (Option Insn)) → IsForward slots → (from : ℕ) (rest : List ℕ) → IsPath slots from rest
+    → IsStart slots (end_of from rest)
+    → from + length rest < length slots
 path_rises slots forward from [] p start = let lt = start_inside slots from start in omega arith
 path_rises slots forward from (next ∷ rest) p start =
     let lt = (forward from next p.0).0 in
@@ -74,7 +82,9 @@ exit_is_last slots slot to exits edge =
     exit_leaves slot to (subst (λ (i : Insn). Leaves i slot to) same edge.leaves)
 
 module _ (slots : List (Option Insn)) (slot : ℕ) (insn : Insn) (here : instruction_at slots slot ≡ Some insn) (targets : Targets) where
-  next_of : (b : Bool) → goes_on insn ≡ b → targets.next ≡ (if goes_on insn then Some (slot + slots_of insn) else None) → (to : ℕ) → targets.next ≡ Some to → (goes_on insn ≡ true) × (to ≡ slot + slots_of insn)
+  next_of : (b : Bool) → goes_on insn ≡ b → targets.next ≡ (if goes_on insn then Some (slot + slots_of insn) else None)
+      → (to : ℕ) → targets.next ≡ Some to
+      → (goes_on insn ≡ true) × (to ≡ slot + slots_of insn)
   next_of true g e to f =
       let there : targets.next ≡ Some (slot + slots_of insn) = rw g at e in
       (g, some_same _ _ _ f there)
@@ -82,31 +92,49 @@ module _ (slots : List (Option Insn)) (slot : ℕ) (insn : Insn) (here : instruc
       let there : targets.next ≡ None = rw g at e in
       absurd (some_none _ _ f there)
 
-  next_from : targets.next ≡ (if goes_on insn then Some (slot + slots_of insn) else None) → (to : ℕ) → goes_on insn ≡ true → to ≡ slot + slots_of insn → targets.next ≡ Some to
+  next_from : targets.next ≡ (if goes_on insn then Some (slot + slots_of insn) else None) → (to : ℕ) → goes_on insn ≡ true
+      → to ≡ slot + slots_of insn
+      → targets.next ≡ Some to
   next_from e to g same = rw same (let there : targets.next ≡ Some (slot + slots_of insn) = rw g at e in there)
 
-  jump_from : (v : Option ℕ) → targets.jump ≡ v → IfSome v (λ to. (distance : ℤ) × (distance_of insn ≡ Some distance) × LeadsTo slot distance to) → IfNone v (distance_of insn ≡ None) → (to : ℕ) (distance : ℤ) → distance_of insn ≡ Some distance → LeadsTo slot distance to → targets.jump ≡ Some to
+  jump_from : (v : Option ℕ) → targets.jump ≡ v
+      → IfSome v (λ to. (distance : ℤ) × (distance_of insn ≡ Some distance) × LeadsTo slot distance to)
+      → IfNone v (distance_of insn ≡ None) → (to : ℕ) (distance : ℤ) → distance_of insn ≡ Some distance
+      → LeadsTo slot distance to
+      → targets.jump ≡ Some to
   jump_from None e some none to distance jumps leads = absurd (some_none _ _ jumps none)
   jump_from (Some t) e some none to distance jumps leads =
       let same : some.0 ≡ distance = some_same _ _ _ some.1 jumps in
       let leads' : LeadsTo slot distance t = subst (λ (d : ℤ). LeadsTo slot d t) same some.2 in
       e ∙ ap (λ (n : ℕ). Some n) (leads_same slot t to distance leads' leads)
 
-  jump_of : (v : Option ℕ) → targets.jump ≡ v → IfSome v (λ to. (distance : ℤ) × (distance_of insn ≡ Some distance) × LeadsTo slot distance to) → (to : ℕ) → v ≡ Some to → (distance : ℤ) × (distance_of insn ≡ Some distance) × LeadsTo slot distance to
+  jump_of : (v : Option ℕ) → targets.jump ≡ v
+      → IfSome v (λ to. (distance : ℤ) × (distance_of insn ≡ Some distance) × LeadsTo slot distance to)
+      → (to : ℕ) → v ≡ Some to
+      → (distance : ℤ) × (distance_of insn ≡ Some distance) × LeadsTo slot distance to
   jump_of None e some to f = absurd (some_none _ _ f refl)
   jump_of (Some t) e some to f =
       let same : t ≡ to = some_same _ _ _ refl f in
       (some.0, some.1, subst (λ (n : ℕ). LeadsTo slot some.0 n) same some.2)
 
-  each_by : targets.next ≡ (if goes_on insn then Some (slot + slots_of insn) else None) → IfSome targets.jump (λ to. (distance : ℤ) × (distance_of insn ≡ Some distance) × LeadsTo slot distance to) → IfNone targets.jump (distance_of insn ≡ None) → (to : ℕ) → Leaves insn slot to → IsOf targets to
+  each_by : targets.next ≡ (if goes_on insn then Some (slot + slots_of insn) else None)
+      → IfSome targets.jump (λ to. (distance : ℤ) × (distance_of insn ≡ Some distance) × LeadsTo slot distance to)
+      → IfNone targets.jump (distance_of insn ≡ None) → (to : ℕ) → Leaves insn slot to
+      → IsAmongTargets targets to
   each_by next some none to (inl l) = inl (next_from next to l.0 l.1)
   each_by next some none to (inr l) = inr (jump_from targets.jump refl some none to l.0 l.1 l.2)
 
-  only_by : targets.next ≡ (if goes_on insn then Some (slot + slots_of insn) else None) → IfSome targets.jump (λ to. (distance : ℤ) × (distance_of insn ≡ Some distance) × LeadsTo slot distance to) → (to : ℕ) → IsOf targets to → Leaves insn slot to
+  only_by : targets.next ≡ (if goes_on insn then Some (slot + slots_of insn) else None)
+      → IfSome targets.jump (λ to. (distance : ℤ) × (distance_of insn ≡ Some distance) × LeadsTo slot distance to)
+      → (to : ℕ) → IsAmongTargets targets to
+      → Leaves insn slot to
   only_by next some to (inl e) = inl (next_of (goes_on insn) refl next to e)
   only_by next some to (inr e) = inr (jump_of targets.jump refl some to e)
 
-  none_by : (b : Bool) → goes_on insn ≡ b → (v : Option ℕ) → targets.jump ≡ v → targets.next ≡ (if goes_on insn then Some (slot + slots_of insn) else None) → IfNone v (distance_of insn ≡ None) → targets.next ≡ None → v ≡ None → insn ≡ Exit
+  none_by : (b : Bool) → goes_on insn ≡ b → (v : Option ℕ) → targets.jump ≡ v
+      → targets.next ≡ (if goes_on insn then Some (slot + slots_of insn) else None) → IfNone v (distance_of insn ≡ None)
+      → targets.next ≡ None → v ≡ None
+      → insn ≡ Exit
   none_by true g v j next none e f =
       let there : targets.next ≡ Some (slot + slots_of insn) = rw g at next in
       absurd (some_none _ _ there e)
@@ -114,7 +142,10 @@ module _ (slots : List (Option Insn)) (slot : ℕ) (insn : Insn) (here : instruc
   none_by false g (Some t) j next none e f = absurd (some_none _ t refl f)
 
   -- the next slot and the target of the jump are the targets of the edges
-  pub leads_out : targets.next ≡ (if goes_on insn then Some (slot + slots_of insn) else None) → IfSome targets.jump (λ to. (distance : ℤ) × (distance_of insn ≡ Some distance) × LeadsTo slot distance to) → IfNone targets.jump (distance_of insn ≡ None) → LeadsOut slots slot targets
+  pub leads_out : targets.next ≡ (if goes_on insn then Some (slot + slots_of insn) else None)
+      → IfSome targets.jump (λ to. (distance : ℤ) × (distance_of insn ≡ Some distance) × LeadsTo slot distance to)
+      → IfNone targets.jump (distance_of insn ≡ None)
+      → LeadsOut slots slot targets
   leads_out next some none = record {
     each = λ to edge.
         let same : edge.insn ≡ insn = some_same _ _ _ edge.here here in
@@ -126,9 +157,12 @@ module _ (slots : List (Option Insn)) (slot : ℕ) (insn : Insn) (here : instruc
   }
 
 -- a target is the slot of a later instruction
-pub target_later : (slots : List (Option Insn)) (slot : ℕ) (targets : Targets) → IsSound slots → LeadsOut slots slot targets → (to : ℕ) → IsOf targets to → (slot < to) × IsStart slots to
+pub target_later : (slots : List (Option Insn)) (slot : ℕ) (targets : Targets)
+    → IsSound slots → LeadsOut slots slot targets → (to : ℕ) → IsAmongTargets targets to
+    → (slot < to) × IsStart slots to
 target_later slots slot targets sound out to of = sound.forward slot to (out.only to of)
 
 -- a target is a slot of the program
-pub target_inside : (slots : List (Option Insn)) (slot : ℕ) (targets : Targets) → IsSound slots → LeadsOut slots slot targets → (to : ℕ) → IsOf targets to → to < length slots
+pub target_inside : (slots : List (Option Insn)) (slot : ℕ) (targets : Targets)
+    → IsSound slots → LeadsOut slots slot targets → (to : ℕ) → IsAmongTargets targets to → to < length slots
 target_inside slots slot targets sound out to of = start_inside slots to (target_later slots slot targets sound out to of).1

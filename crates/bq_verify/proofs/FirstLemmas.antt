@@ -26,15 +26,20 @@ at_place slots Helper j h = refl
 at_place slots Counters j h = refl
 
 -- no later check names a fault where an earlier one has one
-not_before : (slots : List (Option Insn)) (a b : GraphCause) (j k : ℕ) → IsFirstFault slots a j → IsFirstFault slots b k → place_of a < place_of b → ⊥
+not_before : (slots : List (Option Insn)) (a b : GraphCause) (j k : ℕ)
+    → IsFirstFault slots a j → IsFirstFault slots b k → place_of a < place_of b → ⊥
 not_before slots a b j k first second lt = second.0 a lt j first.1.0
 
-same_slot : (slots : List (Option Insn)) (a : GraphCause) (j k : ℕ) → IsFirstFault slots a j → IsFirstFault slots a k → (j < k) ⊎ (k ≤ j) → (k < j) ⊎ (j ≤ k) → j ≡ k
+same_slot : (slots : List (Option Insn)) (a : GraphCause) (j k : ℕ)
+    → IsFirstFault slots a j → IsFirstFault slots a k → (j < k) ⊎ (k ≤ j) → (k < j) ⊎ (j ≤ k) → j ≡ k
 same_slot slots a j k first second (inl lt) back = absurd (second.1.1 j lt first.1.0)
 same_slot slots a j k first second (inr le) (inl lt) = absurd (first.1.1 k lt second.1.0)
 same_slot slots a j k first second (inr le) (inr ge) = omega arith
 
-same_place : (slots : List (Option Insn)) (a b : GraphCause) (j k : ℕ) → IsFirstFault slots a j → IsFirstFault slots b k → (place_of a < place_of b) ⊎ (place_of b ≤ place_of a) → (place_of b < place_of a) ⊎ (place_of a ≤ place_of b) → place_of a ≡ place_of b
+same_place : (slots : List (Option Insn)) (a b : GraphCause) (j k : ℕ)
+    → IsFirstFault slots a j → IsFirstFault slots b k → (place_of a < place_of b) ⊎ (place_of b ≤ place_of a)
+    → (place_of b < place_of a) ⊎ (place_of a ≤ place_of b)
+    → place_of a ≡ place_of b
 same_place slots a b j k first second (inl lt) back = absurd (not_before slots a b j k first second lt)
 same_place slots a b j k first second (inr le) (inl lt) = absurd (not_before slots b a k j second first lt)
 same_place slots a b j k first second (inr le) (inr ge) = omega arith
@@ -43,8 +48,11 @@ same_place slots a b j k first second (inr le) (inr ge) = omega arith
 pub one_first_fault : OneFirstFault
 one_first_fault slots a b j k first second =
     let places = same_place slots a b j k first second (cases_lt (place_of a) (place_of b)) (cases_lt (place_of b) (place_of a)) in
-    let causes : a ≡ b = sym (at_place slots a j first.1.0) ∙ ap cause_at places ∙ at_place slots b k second.1.0 in
-    (causes, same_slot slots a j k first (subst (λ (c : GraphCause). IsFirstFault slots c k) (sym causes) second) (cases_lt j k) (cases_lt k j))
+    let causes : a ≡ b = sym (at_place slots a j first.1.0) ∙ ap cause_at places ∙ at_place slots b k second.1.0 in (
+      causes,
+      same_slot slots a j k first (subst (λ (c : GraphCause). IsFirstFault slots c k) (sym causes) second)
+          (cases_lt j k) (cases_lt k j),
+    )
 
 -- a program without faults has no first one
 pub faultless_has_none : FaultlessHasNone

@@ -31,13 +31,16 @@ behind_some : (first : Insn) (slots : List (Option Insn)) → is_insn first ≡ 
 behind_some first slots good rest zero insn here = subst (λ (i : Insn). is_insn i ≡ true) (some_same _ _ _ refl here) good
 behind_some first slots good rest (suc k) insn here = rest k insn here
 
-behind : (first : Insn) (slots : List (Option Insn)) → is_insn first ≡ true → AreInsns slots → (slots_of first ≡ 1) ⊎ (slots_of first ≡ 2) → AreInsns ((Some first ∷ replicate (slots_of first - 1) None) ++ slots)
+behind : (first : Insn) (slots : List (Option Insn)) → is_insn first ≡ true → AreInsns slots
+    → (slots_of first ≡ 1) ⊎ (slots_of first ≡ 2)
+    → AreInsns ((Some first ∷ replicate (slots_of first - 1) None) ++ slots)
 behind first slots good rest (inl one) =
     let none : 0 ≡ slots_of first - 1 = omega (arith, one) in
     subst (λ (n : ℕ). AreInsns ((Some first ∷ replicate n None) ++ slots)) none (behind_some first slots good rest)
 behind first slots good rest (inr two) =
     let single : 1 ≡ slots_of first - 1 = omega (arith, two) in
-    subst (λ (n : ℕ). AreInsns ((Some first ∷ replicate n None) ++ slots)) single (behind_some first (None ∷ slots) good (behind_none slots rest))
+    subst (λ (n : ℕ). AreInsns ((Some first ∷ replicate n None) ++ slots)) single
+    (behind_some first (None ∷ slots) good (behind_none slots rest))
 
 spread_insns : (insns : List Insn) → list_all is_insn insns ≡ true → AreInsns (spread insns)
 spread_insns [] all = λ k insn here. absurd (some_none _ _ here refl)
@@ -72,14 +75,17 @@ destination_small (Imm64 d v) r good same = small d r good same
 destination_small (MapRef d i) r good same = small d r good same
 destination_small _ r good same = absurd (some_none _ _ same refl)
 
-below : (slots : List (Option Insn)) (slot r : ℕ) (insn : Insn) → IsFaultless slots → instruction_at slots slot ≡ Some insn → destination_of insn ≡ Some r → r ≤ 10 → (r < 10) ⊎ (10 ≤ r) → r < 10
+below : (slots : List (Option Insn)) (slot r : ℕ) (insn : Insn)
+    → IsFaultless slots → instruction_at slots slot ≡ Some insn → destination_of insn ≡ Some r → r ≤ 10 → (r < 10) ⊎ (10 ≤ r)
+    → r < 10
 below slots slot r insn faultless here writes le (inl lt) = lt
 below slots slot r insn faultless here writes le (inr ge) =
     let ten : r ≡ 10 = omega arith in
     absurd (faultless Frame slot (record { insn = insn; here = here; writes = subst (λ (n : ℕ). destination_of insn ≡ Some n) ten writes }))
 
 -- instructions in range, without a fault of the graph, write only registers below 10
-pub spares_frame : (insns : List Insn) (slots : List (Option Insn)) → slots ≡ spread insns → list_all is_insn insns ≡ true → IsFaultless slots → SparesFrame slots
+pub spares_frame : (insns : List Insn) (slots : List (Option Insn))
+    → slots ≡ spread insns → list_all is_insn insns ≡ true → IsFaultless slots → SparesFrame slots
 spares_frame insns slots same all faultless slot insn here r writes =
     let good = subst (λ (s : List (Option Insn)). AreInsns s) (sym same) (spread_insns insns all) slot insn here in
     below slots slot r insn faultless here writes (destination_small insn r good writes) (cases_lt r 10)

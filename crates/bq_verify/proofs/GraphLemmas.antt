@@ -16,7 +16,7 @@ use Rattle.bq_verify.specs.Passes.{IsSound, Measured}
 use Rattle.bq_verify.specs.declared.graph_cause.GraphCause.TheVariants.{Jump, NoExit, Unreached, Counters}
 use Rattle.bq_verify.proofs.SpreadLemmas.{spread_begins}
 use Rattle.bq_verify.proofs.HeightLemmas.{heights_fall, heights_positive}
-use Rattle.bq_verify.specs.Control.{AreHeights, AreMade}
+use Rattle.bq_verify.specs.Control.{AreHeights, BoundsCalls}
 
 -- in the slots of a program the next instruction begins where the one before it ends
 pub spread_whole : (insns : List Insn) (slots : List (Option Insn)) → slots ≡ spread insns → IsWhole slots
@@ -38,7 +38,9 @@ heights_are slots heights sound measured = record {
 }
 
 -- the number measured at the first slot is the length of the longest path out of the program
-pub first_height_is_longest : (insns : List Insn) (slots : List (Option Insn)) (heights : List ℕ) → slots ≡ spread insns → 0 < length slots → Measured slots 0 heights → IsGreatest (PathOut slots 0) (slice_index heights 0)
+pub first_height_is_longest : (insns : List Insn) (slots : List (Option Insn)) (heights : List ℕ)
+    → slots ≡ spread insns → 0 < length slots → Measured slots 0 heights
+    → IsGreatest (PathOut slots 0) (slice_index heights 0)
 first_height_is_longest insns slots heights same some measured = measured 0 zero-le (spread_first insns slots same some)
 
 -- the number that a pass forwards left, 0 if it left none
@@ -55,30 +57,40 @@ asks_of (Call h) (inl e) = rw e refl
 asks_of (Call h) (inr e) = rw e refl
 asks_of _ counter = absurd counter
 
-module _ (slots : List (Option Insn)) (most : List (Option ℕ)) (faultless : IsFaultless slots) (counted : (k : ℕ) → IsMostCalls slots k (slice_index_or most k None)) where
+module _ (slots : List (Option Insn)) (most : List (Option ℕ)) (faultless : IsFaultless slots)
+    (counted : (k : ℕ) → IsMostCalls slots k (slice_index_or most k None)) where
   -- each instruction has the greatest number of calls on the way to it
   at_start : (k : ℕ) → IsStart slots k → IsGreatest (CallsOnWay slots k) (most_calls_at most k)
   at_start k begins = by (slice_index_or most k None) refl
     where
       by : (v : Option ℕ) → slice_index_or most k None ≡ v → IsGreatest (CallsOnWay slots k) (most_calls_at most k)
-      by None e = absurd (faultless Unreached k (record { start = begins; none = subst (λ (o : Option ℕ). IsMostCalls slots k o) e (counted k) }))
-      by (Some n) e = subst (λ (m : ℕ). IsGreatest (CallsOnWay slots k) m) (sym (ap count_in e)) (subst (λ (o : Option ℕ). IsMostCalls slots k o) e (counted k))
+      by None e =
+          absurd (faultless Unreached k (record { start = begins; none = subst (λ (o : Option ℕ). IsMostCalls slots k o) e (counted k) }))
+      by (Some n) e =
+          subst (λ (m : ℕ). IsGreatest (CallsOnWay slots k) m) (sym (ap count_in e))
+          (subst (λ (o : Option ℕ). IsMostCalls slots k o) e (counted k))
 
   module _ (sound : IsSound slots) where
     along : (from to : ℕ) → IsEdge slots from to → most_calls_at most from + calls_of (instruction_at slots from) ≤ most_calls_at most to
     along from to edge =
         let before = at_start from (record { insn = edge.insn; here = edge.here }) in
-        (at_start to (sound.forward from to edge).1).bounds (most_calls_at most from + calls_of (instruction_at slots from)) (extend slots from to (most_calls_at most from) before.holds edge)
+        (at_start to (sound.forward from to edge).1).bounds (most_calls_at most from + calls_of (instruction_at slots from))
+        (extend slots from to (most_calls_at most from) before.holds edge)
 
-    not_late : (from : ℕ) (insn : Insn) → instruction_at slots from ≡ Some insn → IsCounterCall insn → (most_calls_at most from < 16) ⊎ (16 ≤ most_calls_at most from) → most_calls_at most from < 16
+    not_late : (from : ℕ) (insn : Insn) → instruction_at slots from ≡ Some insn → IsCounterCall insn
+        → (most_calls_at most from < 16) ⊎ (16 ≤ most_calls_at most from)
+        → most_calls_at most from < 16
     not_late from insn here counter (inl few) = few
     not_late from insn here counter (inr many) =
-        absurd (faultless Counters from (late_by slots from (most_calls_at most from) insn here (asks_of insn counter) (at_start from (record { insn = insn; here = here })) many))
+        absurd (faultless Counters from
+        (late_by slots from (most_calls_at most from) insn here (asks_of insn counter)
+        (at_start from (record { insn = insn; here = here })) many))
 
-    one_more : (from : ℕ) (insn : Insn) → instruction_at slots from ≡ Some insn → IsCounterCall insn → calls_of (instruction_at slots from) ≡ 1
+    one_more : (from : ℕ) (insn : Insn) → instruction_at slots from ≡ Some insn → IsCounterCall insn
+        → calls_of (instruction_at slots from) ≡ 1
     one_more from insn here counter = rw (here, asks_of insn counter) refl
 
-    pub made_by : AreMade slots (most_calls_at most)
+    pub made_by : BoundsCalls slots (most_calls_at most)
     made_by = record {
       kept = λ from to edge. let more = along from to edge in omega arith;
       risen = λ from to edge.
@@ -88,5 +100,7 @@ module _ (slots : List (Option Insn)) (most : List (Option ℕ)) (faultless : Is
     }
 
 -- in a program without faults the most calls on the way to a slot grow along the edges, and stay few enough
-pub most_calls_are_made : (slots : List (Option Insn)) (most : List (Option ℕ)) → IsSound slots → IsFaultless slots → ((k : ℕ) → IsMostCalls slots k (slice_index_or most k None)) → AreMade slots (most_calls_at most)
+pub most_calls_are_made : (slots : List (Option Insn)) (most : List (Option ℕ))
+    → IsSound slots → IsFaultless slots → ((k : ℕ) → IsMostCalls slots k (slice_index_or most k None))
+    → BoundsCalls slots (most_calls_at most)
 most_calls_are_made slots most sound faultless counted = made_by slots most faultless counted sound

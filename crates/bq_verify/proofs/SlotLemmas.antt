@@ -36,7 +36,12 @@ spread_long (i ∷ rest) =
     let more = spread_long rest in
     let one = one_long i in
     let gap = length-replicate {A = Option Insn} (slots_of i - 1) None in
-    omega (arith, length-append (Some i ∷ replicate (slots_of i - 1) None) (spread rest), length-append (spelled i) (flat_map spelled rest), gap)
+    omega (
+      arith,
+      length-append (Some i ∷ replicate (slots_of i - 1) None) (spread rest),
+      length-append (spelled i) (flat_map spelled rest),
+      gap,
+    )
 
 limits : (b : Bool) (n : ℕ) → (b && (nat_le 1 n && nat_le n 4096)) ≡ true → (1 ≤ n) × (n ≤ 4096)
 limits true n h = (grind (arith, nat_tests), grind (arith, nat_tests))

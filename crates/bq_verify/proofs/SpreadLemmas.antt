@@ -30,7 +30,9 @@ behind : (v : Option Insn) (slots : List (Option Insn)) (k : ℕ) → IsStart sl
 behind v slots k start = record { insn = start.insn; here = start.here }
 
 -- of the instructions behind the first slot
-later_whole : (v : Option Insn) (slots : List (Option Insn)) → IsWhole slots → (k : ℕ) (insn : Insn) → instruction_at slots k ≡ Some insn → suc k + slots_of insn < length (v ∷ slots) → IsStart (v ∷ slots) (suc k + slots_of insn)
+later_whole : (v : Option Insn) (slots : List (Option Insn)) → IsWhole slots
+    → (k : ℕ) (insn : Insn) → instruction_at slots k ≡ Some insn → suc k + slots_of insn < length (v ∷ slots)
+    → IsStart (v ∷ slots) (suc k + slots_of insn)
 later_whole v slots whole k insn here lt =
     let same : suc (k + slots_of insn) ≡ suc k + slots_of insn = omega arith in
     subst (λ (n : ℕ). IsStart (v ∷ slots) n) same (behind v slots _ (whole k insn here (omega arith)))
@@ -39,28 +41,34 @@ whole_none : (slots : List (Option Insn)) → IsWhole slots → IsWhole (None �
 whole_none slots whole zero insn here lt = absurd (some_none _ _ here refl)
 whole_none slots whole (suc k) insn here lt = later_whole None slots whole k insn here lt
 
-whole_some : (first : Insn) (slots : List (Option Insn)) → IsWhole slots → (slots_of first < length (Some first ∷ slots) → IsStart (Some first ∷ slots) (slots_of first)) → IsWhole (Some first ∷ slots)
+whole_some : (first : Insn) (slots : List (Option Insn)) → IsWhole slots
+    → (slots_of first < length (Some first ∷ slots) → IsStart (Some first ∷ slots) (slots_of first))
+    → IsWhole (Some first ∷ slots)
 whole_some first slots whole next zero insn here lt =
     let same : first ≡ insn = some_same _ _ _ refl here in
     let e : slots_of first ≡ 0 + slots_of insn = subst (λ (i : Insn). slots_of first ≡ 0 + slots_of i) same (omega arith) in
     subst (λ (n : ℕ). IsStart (Some first ∷ slots) n) e (next (omega arith))
 whole_some first slots whole next (suc k) insn here lt = later_whole (Some first) slots whole k insn here lt
 
-begins_some : (first : Insn) (slots : List (Option Insn)) → Begins slots → (slots_of first ≡ 1) ⊎ (slots_of first ≡ 2) → Begins ((Some first ∷ replicate (slots_of first - 1) None) ++ slots)
+begins_some : (first : Insn) (slots : List (Option Insn)) → Begins slots → (slots_of first ≡ 1) ⊎ (slots_of first ≡ 2)
+    → Begins ((Some first ∷ replicate (slots_of first - 1) None) ++ slots)
 begins_some first slots rest (inl one) =
-    subst (λ (n : ℕ). Begins ((Some first ∷ replicate n None) ++ slots)) zero_is
-    (record {
-      whole = whole_some first slots rest.whole (λ lt. subst (λ (n : ℕ). IsStart (Some first ∷ slots) n) (sym one) (behind (Some first) slots 0 (rest.first (omega (arith, one)))));
+    subst (λ (n : ℕ). Begins ((Some first ∷ replicate n None) ++ slots)) zero_is (record {
+      whole =
+          whole_some first slots rest.whole (λ lt.
+          subst (λ (n : ℕ). IsStart (Some first ∷ slots) n) (sym one)
+          (behind (Some first) slots 0 (rest.first (omega (arith, one)))));
       first = λ _. record { insn = first; here = refl };
     })
   where
     zero_is : 0 ≡ slots_of first - 1
     zero_is = omega (arith, one)
 begins_some first slots rest (inr two) =
-    subst (λ (n : ℕ). Begins ((Some first ∷ replicate n None) ++ slots)) one_is
-    (record {
-      whole = whole_some first (None ∷ slots) (whole_none slots rest.whole)
-          (λ lt. subst (λ (n : ℕ). IsStart (Some first ∷ None ∷ slots) n) (sym two) (behind (Some first) (None ∷ slots) 1 (behind None slots 0 (rest.first (omega (arith, two))))));
+    subst (λ (n : ℕ). Begins ((Some first ∷ replicate n None) ++ slots)) one_is (record {
+      whole =
+          whole_some first (None ∷ slots) (whole_none slots rest.whole) (λ lt.
+          subst (λ (n : ℕ). IsStart (Some first ∷ None ∷ slots) n) (sym two)
+          (behind (Some first) (None ∷ slots) 1 (behind None slots 0 (rest.first (omega (arith, two))))));
       first = λ _. record { insn = first; here = refl };
     })
   where
@@ -73,7 +81,10 @@ spread_begins [] = record { whole = λ k insn here lt. absurd (omega arith); fir
 spread_begins (first ∷ rest) = begins_some first (spread rest) (spread_begins rest) (one_or_two first)
 
 -- one more instruction
-pub spread_more : (insns : List Insn) (i : ℕ) (past : Insn) (old new : List (Option Insn)) → i < length insns → old ≡ spread (take i insns) → new ≡ old ++ (Some (get_or insns i past) ∷ replicate (slots_of (get_or insns i past) - 1) None) → new ≡ spread (take (i + 1) insns)
+pub spread_more : (insns : List Insn) (i : ℕ) (past : Insn) (old new : List (Option Insn))
+    → i < length insns → old ≡ spread (take i insns)
+    → new ≡ old ++ (Some (get_or insns i past) ∷ replicate (slots_of (get_or insns i past) - 1) None)
+    → new ≡ spread (take (i + 1) insns)
 spread_more insns i past old new lt same added =
     added
     ∙ ap (λ (front : List (Option Insn)). front ++ (Some (get_or insns i past) ∷ replicate (slots_of (get_or insns i past) - 1) None)) same

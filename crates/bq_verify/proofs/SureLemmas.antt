@@ -26,13 +26,13 @@ use Rattle.bq_verify.proofs.EdgeLemmas.{end_of-push, IsPath-push}
 use Rattle.bq_states.specs.declared.abstract_state.ValueKind.{ValueKind}
 use Rattle.bq_states.specs.declared.abstract_state.ValueKind.TheVariants.{Context, Stack, Entry, EntryOrNull, Map}
 use Rattle.bq_states.specs.declared.abstract_state.AbstractState.{AbstractState}
-use Rattle.bq_states.specs.Certainty.{Scalar, Exact, Pointer, NoPointer, StandsAt, Fact, Never, AtRegister, IsSetAt, IsPlainAt, Has, IsScalarOperand}
+use Rattle.bq_states.specs.Certainty.{Scalar, Exact, Pointer, NoPointer, CertaintyHoldsAt, Fact, Never, AtRegister, IsSetAt, IsPlainAt, Has, IsScalarOperand}
 use Rattle.bq_verify.specs.Ways.{HasWaiting, GoesOnSure, IsReadyFor, IsSureOf}
 use Rattle.bq_verify.specs.Subjects.{Subject}
-use Rattle.bq_transfer.specs.Ready.{IsAsking, IsAtMost, IsCopyOfFrame, IsLeftReady, IsMoveOfPointer, IsNamingEntry, IsPlaced, IsReadable, IsOnFrame, IsIntoEntry, IsUpdating}
+use Rattle.bq_transfer.specs.Ready.{IsAsking, IsAtMost, IsCopyOfFrame, IsLeftReady, IsMoveOfPointer, IsNamingEntry, IsPlaced, IsLoadReady, IsOnFrame, IsIntoEntry, IsUpdating}
 use Rattle.bq_states.specs.AbstractStates.{size_of_shape}
 use Rattle.bq_transfer.specs.After.{GivesExact, GivesNumber, GivesPointer, IsNoTestOf, LeavesNumber, LeavesPointer, Spares, IsStackByte, StoresByte, After}
-use Rattle.bq_states.specs.Told.{IsCertain}
+use Rattle.bq_states.specs.Learnt.{IsCertain}
 use Rattle.bq_transfer.proofs.CertaintyLemmas.{exact_at_most}
 use Rattle.bq_verify.specs.Straight.{held_along, OnEachPath, is_register, writes, leaves, spares, loads, untouched, stores, always, never, IsWritten, IsStored, IsLoaded, IsContextLeft, IsWrittenOperand, IsWrittenLeft, IsOnStack, MakesPointer, LeavesPointerIn, IsPointerFrom, IsPointerAt, IsInEntry, IsGoodLoad, IsGoodStore, IsCopyOfEnd, IsMoveOnStack, IsNaming, IsGiving, IsCounting, Needs, IsStraightBefore, IsStraightProgram}
 use Rattle.bq_verify.specs.Sure.{IsDue, IsSure}
@@ -60,7 +60,9 @@ not_equal : (a b : ℕ) → not (a == b) ≡ true → a ≢ b
 not_equal a b h e = register_other (Some a) b h (ap (λ (n : ℕ). Some n) e)
 
 not_int : (a b : ℤ) → not (int_eq a b) ≡ true → a ≢ b
-not_int a b h e = let yes' : int_eq a b ≡ true = (Decides-int_eq a b).1 e in let off : int_eq a b ≡ false = not-true (int_eq a b) h in let no : ⊥ = cc in no
+not_int a b h e =
+    let yes' : int_eq a b ≡ true = (Decides-int_eq a b).1 e in
+    let off : int_eq a b ≡ false = not-true (int_eq a b) h in let no : ⊥ = cc in no
 
 writes_gives : (insn : Insn) (r : ℕ) → writes r (Some insn) ≡ true → GivesNumber insn r
 writes_gives (Alu w Mov dst (Imm i)) r h = eqb-true dst r h
@@ -96,7 +98,8 @@ untouched_tests : (insn : Insn) (r : ℕ) → untouched r (Some insn) ≡ true �
 untouched_tests (Branch w c dst src off) r h = λ same. not_equal dst r h (sym same)
 untouched_tests _ r h = tt
 
-stores_byte : (insn : Insn) (size : Size) (off : ℤ) (i : ℕ) → stores size off (Some insn) ≡ true → IsStackByte size off i → StoresByte insn i
+stores_byte : (insn : Insn) (size : Size) (off : ℤ) (i : ℕ) → stores size off (Some insn) ≡ true → IsStackByte size off i
+    → StoresByte insn i
 stores_byte (StoreImm s dst o imm) size off i h byte =
     let a = and_parts _ _ h in
     let b = and_parts _ _ a.1 in
@@ -112,39 +115,70 @@ stores_byte (StoreReg s dst o src) size off i h byte =
 stores_byte _ size off i h byte = absurd (let no : ⊥ = cc in no)
 
 module _ (slots : List (Option Insn)) (makes leaves : Option Insn → Bool) where
-  held-push : (before : Bool) (from : ℕ) (rest : List ℕ) (t : ℕ) → held_along slots makes leaves before from (rest ++ t ∷ []) ≡ (makes (instruction_at slots (end_of from rest)) || (leaves (instruction_at slots (end_of from rest)) && held_along slots makes leaves before from rest))
+  held-push : (before : Bool) (from : ℕ) (rest : List ℕ) (t : ℕ)
+      → held_along slots makes leaves before from (rest ++ t ∷ [])
+      ≡ (makes (instruction_at slots (end_of from rest))
+      || (leaves (instruction_at slots (end_of from rest)) && held_along slots makes leaves before from rest))
   held-push before from [] t = refl
-  held-push before from (n ∷ rest) t = held-push (makes (instruction_at slots from) || (leaves (instruction_at slots from) && before)) n rest t
+  held-push before from (n ∷ rest) t =
+      held-push (makes (instruction_at slots from) || (leaves (instruction_at slots from) && before)) n rest t
 
-  each_back : (first : Bool) (slot k : ℕ) → IsEdge slots slot k → OnEachPath slots makes leaves first k → (rest : List ℕ) → IsPath slots 0 rest → end_of 0 rest ≡ slot → (makes (instruction_at slots slot) || (leaves (instruction_at slots slot) && held_along slots makes leaves first 0 rest)) ≡ true
+  each_back : (first : Bool) (slot k : ℕ) → IsEdge slots slot k → OnEachPath slots makes leaves first k
+      → (rest : List ℕ) → IsPath slots 0 rest → end_of 0 rest ≡ slot
+      → (makes (instruction_at slots slot) || (leaves (instruction_at slots slot) && held_along slots makes leaves first 0 rest)) ≡ true
   each_back first slot k edge all rest path ends =
       let edge' : IsEdge slots (end_of 0 rest) k = subst (λ (s : ℕ). IsEdge slots s k) (sym ends) edge in
       let held = sym (held-push first 0 rest k) ∙ all (rest ++ k ∷ []) (IsPath-push slots 0 rest k path edge') (end_of-push 0 rest k) in
-      subst (λ (s : ℕ). (makes (instruction_at slots s) || (leaves (instruction_at slots s) && held_along slots makes leaves first 0 rest)) ≡ true) ends held
+      subst (λ (s : ℕ).
+      (makes (instruction_at slots s) || (leaves (instruction_at slots s) && held_along slots makes leaves first 0 rest))
+      ≡ true) ends held
 
   -- what holds on each path after an edge was made by the instruction before it, or held there already
-  pub made_or_left : (first : Bool) (slot k : ℕ) (insn : Insn) → instruction_at slots slot ≡ Some insn → IsEdge slots slot k → OnEachPath slots makes leaves first k → ((Path slots 0 slot → ⊥) → ⊥) → (makes (Some insn) ≡ true) ⊎ ((leaves (Some insn) ≡ true) × OnEachPath slots makes leaves first slot)
+  pub made_or_left : (first : Bool) (slot k : ℕ) (insn : Insn)
+      → instruction_at slots slot ≡ Some insn → IsEdge slots slot k → OnEachPath slots makes leaves first k
+      → ((Path slots 0 slot → ⊥) → ⊥)
+      → (makes (Some insn) ≡ true) ⊎ ((leaves (Some insn) ≡ true) × OnEachPath slots makes leaves first slot)
   made_or_left first slot k insn here edge all reached = by (makes (Some insn)) (leaves (Some insn)) refl refl
     where
-      held : (rest : List ℕ) → IsPath slots 0 rest → end_of 0 rest ≡ slot → (makes (Some insn) || (leaves (Some insn) && held_along slots makes leaves first 0 rest)) ≡ true
-      held rest path ends = subst (λ (v : Option Insn). (makes v || (leaves v && held_along slots makes leaves first 0 rest)) ≡ true) here (each_back first slot k edge all rest path ends)
+      held : (rest : List ℕ) → IsPath slots 0 rest → end_of 0 rest ≡ slot
+          → (makes (Some insn) || (leaves (Some insn) && held_along slots makes leaves first 0 rest)) ≡ true
+      held rest path ends =
+          subst (λ (v : Option Insn). (makes v || (leaves v && held_along slots makes leaves first 0 rest)) ≡ true) here
+          (each_back first slot k edge all rest path ends)
 
-      by : (m l : Bool) → makes (Some insn) ≡ m → leaves (Some insn) ≡ l → (makes (Some insn) ≡ true) ⊎ ((leaves (Some insn) ≡ true) × OnEachPath slots makes leaves first slot)
+      by : (m l : Bool) → makes (Some insn) ≡ m → leaves (Some insn) ≡ l
+          → (makes (Some insn) ≡ true) ⊎ ((leaves (Some insn) ≡ true) × OnEachPath slots makes leaves first slot)
       by true l e f = inl e
       by false true e f = inr (f, λ rest path ends. (left_on _ _ _ e (held rest path ends)).1)
-      by false false e f = absurd (reached (λ p. let on : leaves (Some insn) ≡ true = (left_on _ _ _ e (held p.rest p.is_path p.ends)).0 in let no : ⊥ = cc in no))
+      by false false e f =
+          absurd (reached
+          (λ p. let on : leaves (Some insn) ≡ true = (left_on _ _ _ e (held p.rest p.is_path p.ends)).0 in let no : ⊥ = cc in no))
 
 -- what a chain of instructions makes of a register, the abstract state knows, if it knows what was before
-gives_pointer : (kind : ValueKind) (o r slot k : ℕ) (insn : Insn) (state : AbstractState) (Was : ValueKind → ℕ → ℕ → Type 0) → StandsAt (Pointer Stack 512) state 10 → ((kind : ValueKind) (o r : ℕ) → Was kind o r → StandsAt (Pointer kind o) state r) → MakesPointer kind o r slot k (Some insn) Was → GivesPointer kind o slot k insn r state
+gives_pointer : (kind : ValueKind) (o r slot k : ℕ) (insn : Insn) (state : AbstractState) (Was : ValueKind → ℕ → ℕ → Type 0)
+    → CertaintyHoldsAt (Pointer Stack 512) state 10
+    → ((kind : ValueKind) (o r : ℕ) → Was kind o r → CertaintyHoldsAt (Pointer kind o) state r)
+    → MakesPointer kind o r slot k (Some insn) Was
+    → GivesPointer kind o slot k insn r state
 gives_pointer kind o r slot k (MapRef dst index) state Was frame known made = made
 gives_pointer kind o r slot k (Alu w Mov dst (Reg src)) state Was frame known (same, ten, is, top) = (same, ten, rw (is, top) frame)
-gives_pointer kind o r slot k (Alu w Add dst (Imm i)) state Was frame known (same, base, was, o_is) = (same, base, subst (λ (n : ℕ). StandsAt (Pointer kind base) state n) (sym same) (known kind base r was), o_is)
-gives_pointer kind o r slot k (Call helper) state Was frame known (none, one, m, is, zero, was) = (none, one, m, is, zero, known (Map m) 0 1 was)
-gives_pointer kind o r slot k (Branch w c dst src off) state Was frame known (same, m, is, zero, was, side) = (same, m, is, zero, subst (λ (n : ℕ). StandsAt (Pointer (EntryOrNull m) 0) state n) (sym same) (known (EntryOrNull m) 0 r was), side)
+gives_pointer kind o r slot k (Alu w Add dst (Imm i)) state Was frame known (same, base, was, o_is) =
+    (same, base, subst (λ (n : ℕ). CertaintyHoldsAt (Pointer kind base) state n) (sym same) (known kind base r was), o_is)
+gives_pointer kind o r slot k (Call helper) state Was frame known (none, one, m, is, zero, was) =
+    (none, one, m, is, zero, known (Map m) 0 1 was)
+gives_pointer kind o r slot k (Branch w c dst src off) state Was frame known (same, m, is, zero, was, side) = (
+  same,
+  m,
+  is,
+  zero,
+  subst (λ (n : ℕ). CertaintyHoldsAt (Pointer (EntryOrNull m) 0) state n) (sym same) (known (EntryOrNull m) 0 r was),
+  side,
+)
 gives_pointer kind o r slot k _ state Was frame known made = absurd made
 
 -- one slot of a program that is straight up to it
-module _ (p : Subject) (slot : ℕ) (insn : Insn) (state : AbstractState) (here : instruction_at p.slots slot ≡ Some insn) (straight : IsStraightBefore p (slot + 1)) (has : (x : Fact) → IsDue p.slots x slot → Has x state) where
+module _ (p : Subject) (slot : ℕ) (insn : Insn) (state : AbstractState) (here : instruction_at p.slots slot ≡ Some insn)
+    (straight : IsStraightBefore p (slot + 1)) (has : (x : Fact) → IsDue p.slots x slot → Has x state) where
   reached : (Path p.slots 0 slot → ⊥) → ⊥
   reached none = has Never none
 
@@ -152,67 +186,94 @@ module _ (p : Subject) (slot : ℕ) (insn : Insn) (state : AbstractState) (here 
   frame_spared (Call helper) other = let le : 6 ≤ 10 = omega arith in le
   frame_spared _ other = other
 
-  frame : StandsAt (Pointer Stack 512) state 10
+  frame : CertaintyHoldsAt (Pointer Stack 512) state 10
   frame = has (AtRegister (Pointer Stack 512) 10) (inr (inl (refl, refl, refl)))
 
-  pointer : (kind : ValueKind) (o r : ℕ) → IsPointerAt p.slots kind o r slot → StandsAt (Pointer kind o) state r
+  pointer : (kind : ValueKind) (o r : ℕ) → IsPointerAt p.slots kind o r slot → CertaintyHoldsAt (Pointer kind o) state r
   pointer kind o r at = has (AtRegister (Pointer kind o) r) (inr (inr at))
 
   -- what the step before says, of this slot and its instruction
-  here_made : (k : ℕ) (kind : ValueKind) (o r before : ℕ) (back : List ℕ) → before ≡ slot → MakesPointer kind o r before k (instruction_at p.slots before) (λ kind o r. IsPointerFrom p.slots kind o r before back) → MakesPointer kind o r slot k (Some insn) (λ kind o r. IsPointerFrom p.slots kind o r slot back)
+  here_made : (k : ℕ) (kind : ValueKind) (o r before : ℕ) (back : List ℕ)
+      → before ≡ slot
+      → MakesPointer kind o r before k (instruction_at p.slots before) (λ kind o r. IsPointerFrom p.slots kind o r before back)
+      → MakesPointer kind o r slot k (Some insn) (λ kind o r. IsPointerFrom p.slots kind o r slot back)
   here_made k kind o r before back same made =
       subst (λ (v : Option Insn). MakesPointer kind o r slot k v (λ kind o r. IsPointerFrom p.slots kind o r slot back)) here
-      (subst (λ (n : ℕ). MakesPointer kind o r n k (instruction_at p.slots n) (λ kind o r. IsPointerFrom p.slots kind o r n back)) same made)
+      (subst (λ (n : ℕ). MakesPointer kind o r n k (instruction_at p.slots n) (λ kind o r. IsPointerFrom p.slots kind o r n back))
+      same made)
 
-  here_left : (kind : ValueKind) (r before : ℕ) → before ≡ slot → LeavesPointerIn kind r (instruction_at p.slots before) → LeavesPointerIn kind r (Some insn)
-  here_left kind r before same left = subst (λ (v : Option Insn). LeavesPointerIn kind r v) (ap (λ (n : ℕ). instruction_at p.slots n) same ∙ here) left
+  here_left : (kind : ValueKind) (r before : ℕ) → before ≡ slot → LeavesPointerIn kind r (instruction_at p.slots before)
+      → LeavesPointerIn kind r (Some insn)
+  here_left kind r before same left =
+      subst (λ (v : Option Insn). LeavesPointerIn kind r v) (ap (λ (n : ℕ). instruction_at p.slots n) same ∙ here) left
 
   -- a pointer that was made
-  due_pointer : (k : ℕ) → IsEdge p.slots slot k → (kind : ValueKind) (o r : ℕ) (back : List ℕ) → IsPointerFrom p.slots kind o r k back → After (AtRegister (Pointer kind o) r) slot k insn state
+  due_pointer : (k : ℕ) → IsEdge p.slots slot k → (kind : ValueKind) (o r : ℕ) (back : List ℕ)
+      → IsPointerFrom p.slots kind o r k back
+      → After (AtRegister (Pointer kind o) r) slot k insn state
   due_pointer k edge kind o r [] chain = absurd chain
   due_pointer k edge kind o r (before ∷ back) (one_way, way, inl made) =
-      inl (gives_pointer kind o r slot k insn state (λ kind o r. IsPointerFrom p.slots kind o r slot back) frame (λ kind o r was. pointer kind o r (back, was)) (here_made k kind o r before back (one_way before slot way edge) made))
+      inl (gives_pointer kind o r slot k insn state (λ kind o r. IsPointerFrom p.slots kind o r slot back) frame
+      (λ kind o r was. pointer kind o r (back, was)) (here_made k kind o r before back (one_way before slot way edge) made))
   due_pointer k edge kind o r (before ∷ back) (one_way, way, inr (left, was)) =
       let same = one_way before slot way edge in
       let leaves' = here_left kind r before same left in
-      inr (spares_is insn r leaves'.0, leaves'.1, pointer kind o r (back, subst (λ (n : ℕ). IsPointerFrom p.slots kind o r n back) same was))
+      inr (
+        spares_is insn r leaves'.0,
+        leaves'.1,
+        pointer kind o r (back, subst (λ (n : ℕ). IsPointerFrom p.slots kind o r n back) same was),
+      )
 
   -- what is due after an edge is sure after the instruction
   due_on : (k : ℕ) → IsEdge p.slots slot k → (x : Fact) → IsDue p.slots x k → After x slot k insn state
   due_on k edge Never due =
-      has Never
-      (λ path.
+      has Never (λ path.
       let edge' : IsEdge p.slots (end_of 0 path.rest) k = subst (λ (s : ℕ). IsEdge p.slots s k) (sym path.ends) edge in
-      due (record { rest = path.rest ++ k ∷ []; is_path = IsPath-push p.slots 0 path.rest k path.is_path edge'; ends = end_of-push 0 path.rest k }))
+      due (record {
+        rest = path.rest ++ k ∷ [];
+        is_path = IsPath-push p.slots 0 path.rest k path.is_path edge';
+        ends = end_of-push 0 path.rest k;
+      }))
   due_on k edge (AtRegister Scalar r) due = by (made_or_left p.slots (writes r) (leaves r) false slot k insn here edge due reached)
     where
-      by : (writes r (Some insn) ≡ true) ⊎ ((leaves r (Some insn) ≡ true) × IsWritten p.slots slot r) → After (AtRegister Scalar r) slot k insn state
+      by : (writes r (Some insn) ≡ true) ⊎ ((leaves r (Some insn) ≡ true) × IsWritten p.slots slot r)
+          → After (AtRegister Scalar r) slot k insn state
       by (inl made) = inl (writes_gives insn r made)
       by (inr (left, written)) = inr (leaves_is insn r left, has (AtRegister Scalar r) written)
   due_on k edge (AtRegister (Exact n) r) due = by (made_or_left p.slots (loads r n) (untouched r) false slot k insn here edge due reached)
     where
-      by : (loads r n (Some insn) ≡ true) ⊎ ((untouched r (Some insn) ≡ true) × IsLoaded p.slots slot r n) → After (AtRegister (Exact n) r) slot k insn state
+      by : (loads r n (Some insn) ≡ true) ⊎ ((untouched r (Some insn) ≡ true) × IsLoaded p.slots slot r n)
+          → After (AtRegister (Exact n) r) slot k insn state
       by (inl made) = inl (loads_gives insn r n made)
       by (inr (left, loaded)) = inr (untouched_spares insn r left, untouched_tests insn r left, has (AtRegister (Exact n) r) loaded)
-  due_on k edge (AtRegister (Pointer kind o) r) (inl (is, zero, one, kept)) = by (made_or_left p.slots never (spares 1) true slot k insn here edge kept reached)
+  due_on k edge (AtRegister (Pointer kind o) r) (inl (is, zero, one, kept)) =
+      by (made_or_left p.slots never (spares 1) true slot k insn here edge kept reached)
     where
-      by : (never (Some insn) ≡ true) ⊎ ((spares 1 (Some insn) ≡ true) × IsContextLeft p.slots slot) → After (AtRegister (Pointer kind o) r) slot k insn state
+      by : (never (Some insn) ≡ true) ⊎ ((spares 1 (Some insn) ≡ true) × IsContextLeft p.slots slot)
+          → After (AtRegister (Pointer kind o) r) slot k insn state
       by (inl made) = absurd (let no : ⊥ = cc in no)
       by (inr (left, before)) =
           let certain : IsCertain kind = rw is tt in
-          inr (subst (λ (n : ℕ). Spares insn n) (sym one) (spares_is insn 1 left), leaves_pointer kind insn certain, has (AtRegister (Pointer kind o) r) (inl (is, zero, one, before)))
+          inr (
+            subst (λ (n : ℕ). Spares insn n) (sym one) (spares_is insn 1 left),
+            leaves_pointer kind insn certain,
+            has (AtRegister (Pointer kind o) r) (inl (is, zero, one, before)),
+          )
   due_on k edge (AtRegister (Pointer kind o) r) (inr (inl (is, top, ten))) =
       let certain : IsCertain kind = rw is tt in
       inr (
-        subst (λ (n : ℕ). Spares insn n) (sym ten) (frame_spared insn (λ writes. straight.faultless Frame slot (record { insn = insn; here = here; writes = writes }))),
+        subst (λ (n : ℕ). Spares insn n) (sym ten)
+            (frame_spared insn (λ writes. straight.faultless Frame slot (record { insn = insn; here = here; writes = writes }))),
         leaves_pointer kind insn certain,
         has (AtRegister (Pointer kind o) r) (inr (inl (is, top, ten))),
       )
   due_on k edge (AtRegister (Pointer kind o) r) (inr (inr (back, chain))) = due_pointer k edge kind o r back chain
   due_on k edge (AtRegister NoPointer r) due = absurd due
-  due_on k edge (IsSetAt i) (size, off, stored, byte) = by (made_or_left p.slots (stores size off) always false slot k insn here edge stored reached)
+  due_on k edge (IsSetAt i) (size, off, stored, byte) =
+      by (made_or_left p.slots (stores size off) always false slot k insn here edge stored reached)
     where
-      by : (stores size off (Some insn) ≡ true) ⊎ ((always (Some insn) ≡ true) × IsStored p.slots slot size off) → After (IsSetAt i) slot k insn state
+      by : (stores size off (Some insn) ≡ true) ⊎ ((always (Some insn) ≡ true) × IsStored p.slots slot size off)
+          → After (IsSetAt i) slot k insn state
       by (inl made) = inl (stores_byte insn size off i made byte)
       by (inr (left, before)) = inr (has (IsSetAt i) (size, off, before, byte))
   due_on k edge (IsPlainAt j) due = has (IsPlainAt j) tt
@@ -225,13 +286,23 @@ module _ (p : Subject) (slot : ℕ) (insn : Insn) (state : AbstractState) (here 
   left_ready Mov dst w = tt
   left_ready _ dst w = has (AtRegister Scalar dst) w
 
-  frame_placed : (size : Size) (dst : ℕ) (off : ℤ) (at : ℕ) → dst ≡ 10 → pos at ≡ (pos 512 +ℤ off) → at + byte_count size ≤ 512 → IsPlaced p.shapes p.context state size dst off Stack at
-  frame_placed size dst off at ten at_is inside = record { base = 512; stands = subst (λ (n : ℕ). StandsAt (Pointer Stack 512) state n) (sym ten) frame; at_is = at_is; bound = 512; bound_is = refl; inside = inside }
+  frame_placed : (size : Size) (dst : ℕ) (off : ℤ) (at : ℕ) → dst ≡ 10 → pos at ≡ (pos 512 +ℤ off)
+      → at + byte_count size ≤ 512
+      → IsPlaced p.shapes p.context state size dst off Stack at
+  frame_placed size dst off at ten at_is inside = record {
+    base = 512;
+    stands = subst (λ (n : ℕ). CertaintyHoldsAt (Pointer Stack 512) state n) (sym ten) frame;
+    at_is = at_is;
+    bound = 512;
+    bound_is = refl;
+    inside = inside;
+  }
 
   on_frame : (size : Size) (dst : ℕ) (off : ℤ) → dst ≡ 10 → IsOnStack size off → IsOnFrame p.shapes p.context state size dst off
   on_frame size dst off ten (at, at_is, inside) = record { at = at; at_is = at_is; placed = frame_placed size dst off at ten at_is inside }
 
-  entry_placed : (size : Size) (r : ℕ) (off : ℤ) → (entry : IsInEntry p.slots p.shapes slot r size off) → IsPlaced p.shapes p.context state size r off (Entry entry.map) entry.at
+  entry_placed : (size : Size) (r : ℕ) (off : ℤ) → (entry : IsInEntry p.slots p.shapes slot r size off)
+      → IsPlaced p.shapes p.context state size r off (Entry entry.map) entry.at
   entry_placed size r off entry = record {
     base = 0;
     stands = pointer (Entry entry.map) 0 r entry.entry;
@@ -241,13 +312,16 @@ module _ (p : Subject) (slot : ℕ) (insn : Insn) (state : AbstractState) (here 
     inside = entry.inside;
   }
 
-  readable : (size : Size) (src : ℕ) (off : ℤ) → IsGoodLoad p.slots p.shapes p.context slot size src off → IsReadable p.shapes p.context state size src off
+  readable : (size : Size) (src : ℕ) (off : ℤ) → IsGoodLoad p.slots p.shapes p.context slot size src off
+      → IsLoadReady p.shapes p.context state size src off
   readable size src off (inl (one, left, at, off_is, inside)) = record {
     kind = Context;
     at = at;
     placed = record {
       base = 0;
-      stands = subst (λ (n : ℕ). StandsAt (Pointer Context 0) state n) (sym one) (has (AtRegister (Pointer Context 0) 1) (inl (refl, refl, refl, left)));
+      stands =
+          subst (λ (n : ℕ). CertaintyHoldsAt (Pointer Context 0) state n) (sym one)
+          (has (AtRegister (Pointer Context 0) 1) (inl (refl, refl, refl, left)));
       at_is = omega (arith, ints, off_is);
       bound = p.context;
       bound_is = refl;
@@ -271,9 +345,11 @@ module _ (p : Subject) (slot : ℕ) (insn : Insn) (state : AbstractState) (here 
     plain = λ j. has (IsPlainAt j) tt;
   }
 
-  storable : (size : Size) (dst : ℕ) (off : ℤ) → IsGoodStore p.slots p.shapes slot size dst off → IsOnFrame p.shapes p.context state size dst off ⊎ IsIntoEntry p.shapes p.context state size dst off
+  storable : (size : Size) (dst : ℕ) (off : ℤ) → IsGoodStore p.slots p.shapes slot size dst off
+      → IsOnFrame p.shapes p.context state size dst off ⊎ IsIntoEntry p.shapes p.context state size dst off
   storable size dst off (inl (ten, on)) = inl (on_frame size dst off ten on)
-  storable size dst off (inr (other, entry)) = inr (record { map = entry.map; at = entry.at; placed = entry_placed size dst off entry; other = other })
+  storable size dst off (inr (other, entry)) =
+      inr (record { map = entry.map; at = entry.at; placed = entry_placed size dst off entry; other = other })
 
   naming : (map : ℕ) → IsNaming p.slots slot map → IsNamingEntry state map
   naming map n = record {
@@ -303,11 +379,26 @@ module _ (p : Subject) (slot : ℕ) (insn : Insn) (state : AbstractState) (here 
   asking : (helper : ℤ) → IsCounting p.slots slot helper → IsAsking state helper
   asking helper c = (bounded 1 c.counter 63 (let few = c.few in omega (arith, few)) c.loaded, λ is. has (AtRegister Scalar 2) (c.amount is))
 
-  operands : (w : Width) (op : Operation) (dst : ℕ) (src : Source) → (IsWrittenLeft op p.slots slot dst × IsWrittenOperand p.slots slot src) ⊎ (IsCopyOfEnd w op src ⊎ IsMoveOnStack p.slots slot w op dst src) → (IsLeftReady op state dst × IsScalarOperand state src) ⊎ (IsCopyOfFrame state w op src ⊎ IsMoveOfPointer state w op dst src)
+  operands : (w : Width) (op : Operation) (dst : ℕ) (src : Source)
+      → (IsWrittenLeft op p.slots slot dst × IsWrittenOperand p.slots slot src)
+      ⊎ (IsCopyOfEnd w op src ⊎ IsMoveOnStack p.slots slot w op dst src)
+      → (IsLeftReady op state dst × IsScalarOperand state src) ⊎ (IsCopyOfFrame state w op src ⊎ IsMoveOfPointer state w op dst src)
   operands w op dst src (inl numbers) = inl (left_ready op dst numbers.0, operand_ready src numbers.1)
-  operands w op dst src (inr (inl copy)) = inr (inl (record { is_copy = copy.1; whole = copy.0; of_frame = copy.2; base = 512; stands = frame }))
+  operands w op dst src (inr (inl copy)) =
+      inr (inl (record { is_copy = copy.1; whole = copy.0; of_frame = copy.2; base = 512; stands = frame }))
   operands w op dst src (inr (inr m)) =
-      inr (inr (record { is_sum = m.is_sum; whole = m.whole; distance = m.distance; by_distance = m.by_distance; base = m.base; stands = pointer Stack m.base dst m.from; at = m.at; at_is = m.at_is; below = m.below; small = m.small }))
+      inr (inr (record {
+        is_sum = m.is_sum;
+        whole = m.whole;
+        distance = m.distance;
+        by_distance = m.by_distance;
+        base = m.base;
+        stands = pointer Stack m.base dst m.from;
+        at = m.at;
+        at_is = m.at_is;
+        below = m.below;
+        small = m.small;
+      }))
 
   -- the instruction has what it needs: for a call of a counter it is the abstract state that is asked from
   ready_of : (i : Insn) → Needs p.slots p.shapes p.context slot i → IsReadyFor p state i
@@ -334,7 +425,10 @@ module _ (p : Subject) (slot : ℕ) (insn : Insn) (state : AbstractState) (here 
   ready_at = ready_of insn (straight.before slot insn (omega arith) here)
 
   -- one slot further the pass is as sure
-  pub sure_on : (pending new : List (Option (Box AbstractState Global))) (after : AbstractState) (on : Bool) → ((x : Fact) (k : ℕ) → IsDue p.slots x k → HasWaiting x pending k) → GoesOnSure p.slots slot insn state pending new after on → IsSure p.slots new after on (slot + 1)
+  pub sure_on : (pending new : List (Option (Box AbstractState Global))) (after : AbstractState) (on : Bool)
+      → ((x : Fact) (k : ℕ) → IsDue p.slots x k → HasWaiting x pending k)
+      → GoesOnSure p.slots slot insn state pending new after on
+      → IsSure p.slots new after on (slot + 1)
   sure_on pending new after on waits goes x k due = goes x k (waits x k due) (λ edge. due_on k edge x due)
 
 -- a straight program is straight before each slot
@@ -343,24 +437,34 @@ straight_before p slot straight = record { faultless = straight.faultless; befor
 
 -- what is straight before a slot is so before each that comes earlier
 pub straight_earlier : (p : Subject) (slot later : ℕ) → slot ≤ later → IsStraightBefore p later → IsStraightBefore p slot
-straight_earlier p slot later order straight = record { faultless = straight.faultless; before = λ k insn below here. straight.before k insn (omega arith) here }
+straight_earlier p slot later order straight =
+    record { faultless = straight.faultless; before = λ k insn below here. straight.before k insn (omega arith) here }
 
 -- once what waits has arrived, what was sure is so still
-pub sure_arrived : (slots : List (Option Insn)) (pending after : List (Option (Box AbstractState Global))) (state seen : AbstractState) (live arrived : Bool) (slot : ℕ)
-    → ((x : Fact) (k : ℕ) → HasWaiting x pending k → HasWaiting x after k) → ((x : Fact) → IsSureOf x pending state live slot slot → arrived ≡ true → Has x seen)
-    → IsSure slots pending state live slot → IsSure slots after seen arrived slot
+pub sure_arrived : (slots : List (Option Insn)) (pending after : List (Option (Box AbstractState Global)))
+    (state seen : AbstractState) (live arrived : Bool) (slot : ℕ)
+    → ((x : Fact) (k : ℕ) → HasWaiting x pending k → HasWaiting x after k)
+    → ((x : Fact) → IsSureOf x pending state live slot slot → arrived ≡ true → Has x seen)
+    → IsSure slots pending state live slot
+    → IsSure slots after seen arrived slot
 sure_arrived slots pending after state seen live arrived slot waits has sure x k due = record {
   waiting = waits x k (sure x k due).waiting;
   transferred = λ on same. has x (subst (λ (n : ℕ). IsSureOf x pending state live slot n) same (sure x k due)) on;
 }
 
 -- where no abstract state is transferred on
-pub sure_over : (slots : List (Option Insn)) (pending : List (Option (Box AbstractState Global))) (state : AbstractState) (slot : ℕ) → ((x : Fact) (k : ℕ) → IsDue slots x k → HasWaiting x pending k) → IsSure slots pending state false slot
+pub sure_over : (slots : List (Option Insn)) (pending : List (Option (Box AbstractState Global)))
+    (state : AbstractState) (slot : ℕ)
+    → ((x : Fact) (k : ℕ) → IsDue slots x k → HasWaiting x pending k) → IsSure slots pending state false slot
 sure_over slots pending state slot waits x k due = record { waiting = waits x k due; transferred = λ live. absurd (let no : ⊥ = cc in no) }
 
 -- at the start
-pub sure_start : (slots : List (Option Insn)) (pending : List (Option (Box AbstractState Global))) (state : AbstractState) → IsSound slots → ((k : ℕ) → slice_index_or pending k None ≡ None) → StandsAt (Pointer Context 0) state 1 → StandsAt (Pointer Stack 512) state 10 → ((j : ℕ) → Has (IsPlainAt j) state) → IsSure slots pending state true 0
-sure_start slots pending state sound blank context frame plain x k due = record { waiting = rw (blank k) tt; transferred = λ live same. at x (subst (λ (n : ℕ). IsDue slots x n) same due) }
+pub sure_start : (slots : List (Option Insn)) (pending : List (Option (Box AbstractState Global))) (state : AbstractState)
+    → IsSound slots → ((k : ℕ) → slice_index_or pending k None ≡ None) → CertaintyHoldsAt (Pointer Context 0) state 1
+    → CertaintyHoldsAt (Pointer Stack 512) state 10 → ((j : ℕ) → Has (IsPlainAt j) state)
+    → IsSure slots pending state true 0
+sure_start slots pending state sound blank context frame plain x k due =
+    record { waiting = rw (blank k) tt; transferred = λ live same. at x (subst (λ (n : ℕ). IsDue slots x n) same due) }
   where
     not_made : (kind : ValueKind) (o r : ℕ) (back : List ℕ) → IsPointerFrom slots kind o r 0 back → ⊥
     not_made kind o r [] chain = chain

@@ -19,7 +19,7 @@ use Rattle.bq_verify.specs.Accepted.{IsAccepted}
 use Rattle.bq_verify.specs.Control.{CanBePassed}
 use Rattle.bq_verify.specs.Faults.{IsFaultless}
 use Rattle.bq_verify.specs.Refusals.{IsGraphVerdict, IsVerdictOn, StopsNowhere}
-use Rattle.bq_verify.specs.Subjects.{Subject, in_form}
+use Rattle.bq_verify.specs.Subjects.{Subject, subject_of_slots}
 use Rattle.bq_verify.proofs.FrameLemmas.{spares_frame}
 use Rattle.bq_verify.proofs.GraphLemmas.{faultless_sound, spread_first}
 
@@ -31,8 +31,10 @@ context_small Preempt version = omega arith
 context_small Pull version = omega arith
 
 -- the pass may go over a program whose control graph has no fault
-pub passable_program : (insns : List Insn) (slots : List (Option Insn)) (form : PolicyForm) → slots ≡ spread insns → list_all is_insn insns ≡ true → 0 < length (spread insns)
-    → length (spread insns) ≤ SLOTS → IsFaultless slots → CanBePassed (in_form slots form)
+pub passable_program : (insns : List Insn) (slots : List (Option Insn)) (form : PolicyForm)
+    → slots ≡ spread insns → list_all is_insn insns ≡ true → 0 < length (spread insns)
+    → length (spread insns) ≤ SLOTS → IsFaultless slots
+    → CanBePassed (subject_of_slots slots form)
 passable_program insns slots form same registers some short faultless = record {
   sound = faultless_sound insns slots same faultless;
   first = spread_first insns slots same (rw same some);
@@ -43,7 +45,8 @@ passable_program insns slots form same registers some short faultless = record {
 }
 
 -- a program over which the pass may go, and in which it stops nowhere, is accepted with the budget within which it is safe
-pub accepted_program : (p : Subject) (budget : ℕ) → CanBePassed p → StopsNowhere p → Safe p.slots p.shapes p.context budget → IsAccepted p.slots p.shapes p.context budget
+pub accepted_program : (p : Subject) (budget : ℕ) → CanBePassed p → StopsNowhere p → Safe p.slots p.shapes p.context budget
+    → IsAccepted p.slots p.shapes p.context budget
 accepted_program p budget passable passed safe = record { short = passable.short; few = passable.few; passed = passed; safe = safe }
 
 -- the verdict of the checks of the control graph is one on the program

@@ -23,7 +23,7 @@ use Rattle.bq_transfer.specs.Ready.{IsNullCheck}
 use Rattle.bq_states.specs.declared.abstract_state.ValueKind.TheVariants.{Entry, EntryOrNull, Map, Stack}
 use Rattle.bq_verify.specs.Straight.{stores, writes, leaves, HasOneWay, IsByteStored, IsInEntry, IsMoveOnStack, IsNaming, IsPointerFrom, IsWritten, Needs}
 use Rattle.bq_verify.specs.Worked.{worked, WorkedIsStraight}
-use Rattle.bq_verify.proofs.EachSlotLemmas.{each_slot, made_before, made_first, goes_next, goes_nowhere, edge_on, path_on, no_jump, not_frame}
+use Rattle.bq_verify.proofs.EachSlotLemmas.{each_slot, ◌then◌, made_before, made_first, goes_next, goes_nowhere, edge_on, path_on, no_jump, not_frame}
 
 abbrev program : List (Option Insn)
 program = spread worked
@@ -42,8 +42,17 @@ goes_apart to (inr jump) =
 only_before : (from to : ℕ) → IsEdge program from to → from ≡ before to
 only_before from to edge =
     each_slot program (λ from insn. (to : ℕ) → Leaves insn from to → from ≡ before to)
-    (goes_next program before 0 _ refl refl refl, (goes_next program before 1 _ refl refl refl, (goes_next program before 3 _ refl refl refl, (goes_next program before 4 _ refl refl refl, (goes_next program before 5 _ refl refl refl, (goes_apart, (goes_next program before 7 _ refl refl refl, (goes_nowhere program before 8 refl, (goes_next program before 9 _ refl refl refl, (goes_nowhere program before 10 refl, tt))))))))))
-    from edge.insn edge.here to edge.leaves
+    (goes_next program before 0 _ refl refl refl
+    then goes_next program before 1 _ refl refl refl
+    then goes_next program before 3 _ refl refl refl
+    then goes_next program before 4 _ refl refl refl
+    then goes_next program before 5 _ refl refl refl
+    then goes_apart
+    then goes_next program before 7 _ refl refl refl
+    then goes_nowhere program before 8 refl
+    then goes_next program before 9 _ refl refl refl
+    then goes_nowhere program before 10 refl
+    then tt) from edge.insn edge.here to edge.leaves
 
 -- a path to each slot
 to_0 : Path program 0 0
@@ -73,7 +82,10 @@ to_8 = path_on program 7 _ refl refl to_7
 to_9 : Path program 0 9
 to_9 = record {
   rest = to_6.rest ++ 9 ∷ [];
-  is_path = IsPath-push program 0 to_6.rest 9 to_6.is_path (subst (λ (k : ℕ). IsEdge program k 9) (sym to_6.ends) (record { insn = Branch W64 Equal 0 (Imm (pos 0)) (pos 2); here = refl; leaves = inr (pos 2, refl, refl) }));
+  is_path =
+      IsPath-push program 0 to_6.rest 9 to_6.is_path
+      (subst (λ (k : ℕ). IsEdge program k 9) (sym to_6.ends)
+      (record { insn = Branch W64 Equal 0 (Imm (pos 0)) (pos 2); here = refl; leaves = inr (pos 2, refl, refl) }));
   ends = end_of-push 0 to_6.rest 9;
 }
 
@@ -85,33 +97,50 @@ a_helper h is unknown = let one : pos 1 ≡ h = cc in let no : true ≡ false = 
 
 good_jump : (d : ℤ) → Some (pos 2) ≡ Some d → ((to : ℕ) → LeadsTo 6 d to → 6 < to → IsStart program to → ⊥) → ⊥
 good_jump d jumps nowhere =
-    nowhere 9 (subst (λ (e : ℤ). LeadsTo 6 e 9) (same_Some (pos 2) d jumps) refl) (omega arith) (record { insn = Alu W64 Mov 0 (Imm (pos 0)); here = refl })
+    nowhere 9 (subst (λ (e : ℤ). LeadsTo 6 e 9) (same_Some (pos 2) d jumps) refl) (omega arith)
+    (record { insn = Alu W64 Mov 0 (Imm (pos 0)); here = refl })
 
 inside : (n : ℕ) → n < 11 → 11 ≤ n → ⊥
 inside n lt le = omega arith
 
 faultless : IsFaultless program
 faultless Jump slot fault =
-    each_slot program (λ slot insn. (d : ℤ) → distance_of insn ≡ Some d → ((to : ℕ) → LeadsTo slot d to → slot < to → IsStart program to → ⊥) → ⊥)
-    (no_jump program 0, (no_jump program 1, (no_jump program 3, (no_jump program 4, (no_jump program 5, (good_jump, (no_jump program 7, (no_jump program 8, (no_jump program 9, (no_jump program 10, tt))))))))))
-    slot fault.insn fault.here fault.distance fault.jumps fault.nowhere
+    each_slot program
+    (λ slot insn. (d : ℤ) → distance_of insn ≡ Some d → ((to : ℕ) → LeadsTo slot d to → slot < to → IsStart program to → ⊥) → ⊥)
+    (no_jump program 0 then no_jump program 1 then no_jump program 3 then no_jump program 4 then no_jump program 5
+    then good_jump then no_jump program 7 then no_jump program 8 then no_jump program 9 then no_jump program 10 then tt) slot
+    fault.insn fault.here fault.distance fault.jumps fault.nowhere
 faultless NoExit slot fault =
     each_slot program (λ slot insn. goes_on insn ≡ true → 11 ≤ slot + slots_of insn → ⊥)
-    (λ on. inside 1 (omega arith), (λ on. inside 3 (omega arith), (λ on. inside 4 (omega arith), (λ on. inside 5 (omega arith), (λ on. inside 6 (omega arith), (λ on. inside 7 (omega arith), (λ on. inside 8 (omega arith), (λ on past. false≢true on, (λ on. inside 10 (omega arith), (λ on past. false≢true on, tt))))))))))
-    slot fault.insn fault.here fault.on fault.past
-faultless Unreached slot fault = fault.none (each_slot program (λ slot insn. Path program 0 slot) (to_0, (to_1, (to_3, (to_4, (to_5, (to_6, (to_7, (to_8, (to_9, (to_10, tt)))))))))) slot fault.start.insn fault.start.here)
+    ((λ on. inside 1 (omega arith))
+    then (λ on. inside 3 (omega arith))
+    then (λ on. inside 4 (omega arith))
+    then (λ on. inside 5 (omega arith))
+    then (λ on. inside 6 (omega arith))
+    then (λ on. inside 7 (omega arith))
+    then (λ on. inside 8 (omega arith))
+    then (λ on past. false≢true on)
+    then (λ on. inside 10 (omega arith))
+    then (λ on past. false≢true on)
+    then tt) slot fault.insn fault.here fault.on fault.past
+faultless Unreached slot fault =
+    fault.none (each_slot program (λ slot insn. Path program 0 slot)
+    (to_0 then to_1 then to_3 then to_4 then to_5 then to_6 then to_7 then to_8 then to_9 then to_10 then tt) slot
+    fault.start.insn fault.start.here)
 faultless Frame slot fault =
     each_slot program (λ slot insn. destination_of insn ≡ Some 10 → ⊥)
-    (none-some 10, (not_frame 1 (omega arith), (not_frame 2 (omega arith), (not_frame 2 (omega arith), (none-some 10, (none-some 10, (not_frame 0 (omega arith), (none-some 10, (not_frame 0 (omega arith), (none-some 10, tt))))))))))
-    slot fault.insn fault.here fault.writes
+    (none-some 10 then not_frame 1 (omega arith) then not_frame 2 (omega arith) then not_frame 2 (omega arith)
+    then none-some 10 then none-some 10 then not_frame 0 (omega arith) then none-some 10 then not_frame 0 (omega arith)
+    then none-some 10 then tt) slot fault.insn fault.here fault.writes
 faultless Helper slot fault =
     each_slot program (λ slot insn. (h : ℤ) → insn ≡ Call h → is_helper h ≡ false → ⊥)
-    (λ h is unknown. cc, (λ h is unknown. cc, (λ h is unknown. cc, (λ h is unknown. cc, (a_helper, (λ h is unknown. cc, (λ h is unknown. cc, (λ h is unknown. cc, (λ h is unknown. cc, (λ h is unknown. cc, tt))))))))))
-    slot (Call fault.helper) fault.here fault.helper refl fault.unknown
+    ((λ h is unknown. cc) then (λ h is unknown. cc) then (λ h is unknown. cc) then (λ h is unknown. cc) then a_helper
+    then (λ h is unknown. cc) then (λ h is unknown. cc) then (λ h is unknown. cc) then (λ h is unknown. cc)
+    then (λ h is unknown. cc) then tt) slot (Call fault.helper) fault.here fault.helper refl fault.unknown
 faultless Counters slot fault =
     each_slot program (λ slot insn. asks_counter insn ≡ true → ⊥)
-    (false≢true, (false≢true, (false≢true, (false≢true, (false≢true, (false≢true, (false≢true, (false≢true, (false≢true, (false≢true, tt))))))))))
-    slot fault.insn fault.here fault.asks
+    (false≢true then false≢true then false≢true then false≢true then false≢true then false≢true then false≢true
+    then false≢true then false≢true then false≢true then tt) slot fault.insn fault.here fault.asks
 
 written_8 : IsWritten program 8 0
 written_8 = made_before program (writes 0) (leaves 0) false 8 (omega arith) (λ from edge. rw (only_before from 8 edge) refl)
@@ -147,7 +176,11 @@ answer_6 : IsPointerFrom program (EntryOrNull 0) 0 0 6 (5 ∷ 4 ∷ 3 ∷ 1 ∷ 
 answer_6 = (one_way 6, edge_on program 5 _ refl refl, inl (refl, refl, 0, refl, refl, names_5))
 
 entry_7 : IsPointerFrom program (Entry 0) 0 0 7 (6 ∷ 5 ∷ 4 ∷ 3 ∷ 1 ∷ [])
-entry_7 = (one_way 7, edge_on program 6 _ refl refl, inl (refl, 0, refl, refl, answer_6, (refl, λ leads. apart_slots 7 9 (omega arith) (leads_same 6 7 9 (pos 2) leads refl))))
+entry_7 = (
+  one_way 7,
+  edge_on program 6 _ refl refl,
+  inl (refl, 0, refl, refl, answer_6, (refl, λ leads. apart_slots 7 9 (omega arith) (leads_same 6 7 9 (pos 2) leads refl))),
+)
 
 stored_5 : (i : ℕ) → 508 ≤ i → i < 508 + 4 → IsByteStored program 5 i
 stored_5 i le lt = (Word, neg_ℤ (pos 4), made_first program (stores Word (neg_ℤ (pos 4))) refl 5 (omega arith), (508, refl, le, lt))
@@ -166,7 +199,15 @@ two_low = omega arith
 
 module _ (shape : MapShape) where
   in_entry : IsInEntry program (shape ∷ []) 7 0 Double (pos 0)
-  in_entry = record { map = 0; shape = shape; known = refl; entry = (6 ∷ 5 ∷ 4 ∷ 3 ∷ 1 ∷ [], entry_7); at = 0; off_is = refl; inside = shape.least_size }
+  in_entry = record {
+    map = 0;
+    shape = shape;
+    known = refl;
+    entry = (6 ∷ 5 ∷ 4 ∷ 3 ∷ 1 ∷ [], entry_7);
+    at = 0;
+    off_is = refl;
+    inside = shape.least_size;
+  }
 
 -- the program that looks an entry up, tests the answer and loads from it is straight
 pub worked_is_straight : WorkedIsStraight
@@ -174,8 +215,19 @@ worked_is_straight = (
   refl,
   λ shape context. record {
     faultless = faultless;
-    each = each_slot program (λ slot insn. Needs program (shape ∷ []) context slot insn)
-        (inl (refl, (508, refl, omega arith)), ((one_low, 0, refl, zero_below), ((two_low, inr (inl (refl, refl, refl))), ((two_low, inr (inr on_stack)), (inr (inl (refl, 0, naming)), ((zero_low, inr (test, 0, (5 ∷ 4 ∷ 3 ∷ 1 ∷ [], answer_6))), ((zero_low, inr (inr (in_entry shape))), (written_8, ((zero_low, inl (tt, tt)), (written_10, tt))))))))));
+    each =
+        each_slot program (λ slot insn. Needs program (shape ∷ []) context slot insn)
+        (inl (refl, (508, refl, omega arith))
+        then (one_low, 0, refl, zero_below)
+        then (two_low, inr (inl (refl, refl, refl)))
+        then (two_low, inr (inr on_stack))
+        then inr (inl (refl, 0, naming))
+        then (zero_low, inr (test, 0, (5 ∷ 4 ∷ 3 ∷ 1 ∷ [], answer_6)))
+        then (zero_low, inr (inr (in_entry shape)))
+        then written_8
+        then (zero_low, inl (tt, tt))
+        then written_10
+        then tt);
   },
 )
   where
@@ -183,7 +235,18 @@ worked_is_straight = (
     zero_below = omega arith
 
     on_stack : IsMoveOnStack program 4 W64 Add 2 (Imm (neg_ℤ (pos 4)))
-    on_stack = record { whole = refl; is_sum = refl; distance = neg_ℤ (pos 4); by_distance = refl; base = 512; from = (3 ∷ [], points_4); at = 508; at_is = refl; below = omega arith; small = omega arith }
+    on_stack = record {
+      whole = refl;
+      is_sum = refl;
+      distance = neg_ℤ (pos 4);
+      by_distance = refl;
+      base = 512;
+      from = (3 ∷ [], points_4);
+      at = 508;
+      at_is = refl;
+      below = omega arith;
+      small = omega arith;
+    }
 
     test : IsNullCheck W64 Equal (Imm (pos 0))
     test = record { whole = refl; of_null = tt; with_zero = refl }

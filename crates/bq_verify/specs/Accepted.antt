@@ -1,4 +1,4 @@
--- What callers see of an accepted program, and what is reported to them of another.
+-- What callers see of an accepted program.
 use Rattle.std.specs.Prelude.{ℕ, ◌≤◌, List, Option, length}
 use Rattle.bq_bpf.specs.Safe.{Safe}
 use Rattle.bq_insn.specs.declared.Insn.{Insn}
@@ -7,7 +7,7 @@ use Rattle.bq_verify.specs.Refusals.{StopsNowhere}
 use Rattle.bq_hooks.specs.declared.hook.Hook.{Hook}
 use Rattle.bq_hooks.specs.declared.hook.Version.{Version}
 
--- a program that the verifier accepted, with what it was accepted for
+-- a program that the verifier accepted, with the hook, version and map shapes for which it was accepted, and its budget
 pub record Accepted : Type 0 where
   pub slots : List (Option Insn)
   pub shapes : List MapShape

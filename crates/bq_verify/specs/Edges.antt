@@ -5,7 +5,7 @@ use Rattle.bq_insn.specs.Slots.{slots_of}
 use Rattle.bq_bpf.specs.Instructions.{Leaves}
 use Rattle.bq_bpf.specs.Steps.{instruction_at}
 
--- an edge of the control graph
+-- the control graph has an edge from the one slot to the other
 pub record IsEdge (slots : List (Option Insn)) (from to : ℕ) : Type 0 where
   pub insn : Insn
   pub here : instruction_at slots from ≡ Some insn
@@ -16,7 +16,7 @@ pub record IsStart (slots : List (Option Insn)) (slot : ℕ) : Type 0 where
   pub insn : Insn
   pub here : instruction_at slots slot ≡ Some insn
 
--- instructions stand one after another: the next one begins where each ends, up to the end
+-- the instructions follow one after another without a gap: where one ends before the end of the program, the next one begins
 abbrev pub IsWhole : List (Option Insn) → Type 0
 IsWhole slots =
     (slot : ℕ) (insn : Insn) → instruction_at slots slot ≡ Some insn → slot + slots_of insn < length slots → IsStart slots (slot + slots_of insn)

@@ -1,4 +1,4 @@
--- The faults that a program has by its control graph and by its single instructions, and which one is named.
+-- The faults of the control graph and of single instructions, and which fault the verifier names.
 use Rattle.std.specs.Prelude.{Bool, true, false, ◌≡◌, ℕ, ◌+◌, ◌<◌, ◌≤◌, ℤ, List, Option, Some, None, length, ◌||◌}
 use Rattle.std.specs.Ordering.{int_eq}
 use Rattle.bq_insn.specs.declared.Insn.{Insn}
@@ -14,7 +14,7 @@ use Rattle.bq_verify.specs.Paths.{Path, CallsOnWay}
 use Rattle.bq_verify.specs.declared.graph_cause.GraphCause.{GraphCause}
 use Rattle.bq_verify.specs.declared.graph_cause.GraphCause.TheVariants.{Jump, NoExit, Unreached, Frame, Helper, Counters}
 
--- a jump that leads to no later instruction
+-- the instruction at the slot is a jump that leads to no later instruction
 pub record IsBadJump (slots : List (Option Insn)) (slot : ℕ) : Type 0 where
   pub insn : Insn
   pub here : instruction_at slots slot ≡ Some insn
@@ -22,14 +22,14 @@ pub record IsBadJump (slots : List (Option Insn)) (slot : ℕ) : Type 0 where
   pub jumps : distance_of insn ≡ Some distance
   pub nowhere : (to : ℕ) → LeadsTo slot distance to → slot < to → IsStart slots to → ⊥
 
--- an instruction from which control goes on past the end
+-- from the instruction at the slot control goes on past the end
 pub record RunsOut (slots : List (Option Insn)) (slot : ℕ) : Type 0 where
   pub insn : Insn
   pub here : instruction_at slots slot ≡ Some insn
   pub on : goes_on insn ≡ true
   pub past : length slots ≤ slot + slots_of insn
 
--- an instruction that writes register 10, the address of the stack's end
+-- the instruction at the slot writes register 10, the address of the stack's end
 pub record WritesFrame (slots : List (Option Insn)) (slot : ℕ) : Type 0 where
   pub insn : Insn
   pub here : instruction_at slots slot ≡ Some insn
@@ -41,13 +41,13 @@ is_helper n =
     int_eq n (number_of_helper Lookup) || int_eq n (number_of_helper Update) || int_eq n (number_of_helper Now) || int_eq n (number_of_helper Processor)
     || int_eq n (number_of_helper AddCounter) || int_eq n (number_of_helper ReadCounter)
 
--- a call of a helper that is not in the table
+-- the instruction at the slot calls a helper that does not exist
 pub record CallsUnknown (slots : List (Option Insn)) (slot : ℕ) : Type 0 where
   pub helper : ℤ
   pub here : instruction_at slots slot ≡ Some (Call helper)
   pub unknown : is_helper helper ≡ false
 
--- a counter call before which as many come on some path as a run may make, or more
+-- the instruction at the slot is a counter call, and on some path at least as many counter calls come before it as a run may make
 pub record IsLateCall (slots : List (Option Insn)) (slot : ℕ) : Type 0 where
   pub insn : Insn
   pub here : instruction_at slots slot ≡ Some insn
@@ -56,7 +56,7 @@ pub record IsLateCall (slots : List (Option Insn)) (slot : ℕ) : Type 0 where
   pub way : CallsOnWay slots slot count
   pub many : most_calls ≤ count
 
--- an instruction to which no path leads
+-- an instruction begins at the slot, and no path leads to it
 pub record IsUnreached (slots : List (Option Insn)) (slot : ℕ) : Type 0 where
   pub start : IsStart slots slot
   pub none : Path slots 0 slot → ⊥
@@ -70,12 +70,12 @@ HasFault slots Frame slot = WritesFrame slots slot
 HasFault slots Helper slot = CallsUnknown slots slot
 HasFault slots Counters slot = IsLateCall slots slot
 
--- the least number of which the fact holds, or None where it holds of none
+-- the least number with the property, or None if no number has it
 abbrev pub IsLeast : (ℕ → Type 0) → Option ℕ → Type 0
 IsLeast P None = (k : ℕ) → P k → ⊥
 IsLeast P (Some k) = P k × ((j : ℕ) → j < k → P j → ⊥)
 
--- the order of the checks
+-- the place of a cause in the order of the checks
 abbrev pub place_of : GraphCause → ℕ
 place_of Jump = 1
 place_of NoExit = 2
@@ -84,11 +84,11 @@ place_of Frame = 4
 place_of Helper = 5
 place_of Counters = 6
 
--- no check that comes before that of the cause finds a fault
+-- no check before the check for this cause finds a fault
 abbrev pub EarlierPass : List (Option Insn) → GraphCause → Type 0
 EarlierPass slots cause = (other : GraphCause) → place_of other < place_of cause → IsLeast (HasFault slots other) None
 
--- the fault that is named: the first check that finds one, at the least slot
+-- the fault that the verifier names: the first check that finds one, and its least slot
 abbrev pub IsFirstFault : List (Option Insn) → GraphCause → ℕ → Type 0
 IsFirstFault slots cause slot = EarlierPass slots cause × IsLeast (HasFault slots cause) (Some slot)
 
@@ -96,7 +96,7 @@ IsFirstFault slots cause slot = EarlierPass slots cause × IsLeast (HasFault slo
 abbrev pub IsFaultless : List (Option Insn) → Type 0
 IsFaultless slots = (cause : GraphCause) → IsLeast (HasFault slots cause) None
 
--- the fault depends on the paths to a slot
+-- whether a slot has the fault depends on the paths to the slot
 abbrev pub IsOnWay : GraphCause → Type 0
 IsOnWay Unreached = Unit {0}
 IsOnWay Counters = Unit {0}

@@ -1,4 +1,4 @@
--- What the two passes over the slots keep.
+-- What the passes for the counter calls and the heights keep.
 use Rattle.std.specs.Prelude.{◌≡◌, ℕ, ◌+◌, ◌<◌, ◌≤◌, List, Option, Some, None, slice_index, slice_index_or, ◌⊎◌}
 use Rattle.bq_insn.specs.declared.Insn.{Insn}
 use Rattle.bq_insn.specs.declared.Insn.TheVariants.{Exit}
@@ -8,39 +8,39 @@ use Rattle.bq_verify.specs.Paths.{PathOut, CallsOnWay, IsGreatest, calls_of}
 use Rattle.bq_verify.specs.Faults.{IsBadJump}
 use Rattle.bq_verify.specs.declared.edges.Targets.{Targets}
 
--- the graph may be walked: each edge leads to a later instruction, and each jump is an edge
+-- the control graph is sound: each edge leads to a later instruction, and each jump is an edge
 pub record IsSound (slots : List (Option Insn)) : Type 0 where
   pub forward : IsForward slots
   pub lands : (slot : ℕ) → IsBadJump slots slot → ⊥
 
 -- the slot is one of the targets
-abbrev pub IsOf : Targets → ℕ → Type 0
-IsOf targets to = (targets.next ≡ Some to) ⊎ (targets.jump ≡ Some to)
+abbrev pub IsAmongTargets : Targets → ℕ → Type 0
+IsAmongTargets targets to = (targets.next ≡ Some to) ⊎ (targets.jump ≡ Some to)
 
--- the targets are those of the edges that leave the slot; only an EXIT has none
+-- the targets are the slots to which edges lead from this slot; only an EXIT has no target
 pub record LeadsOut (slots : List (Option Insn)) (slot : ℕ) (targets : Targets) : Type 0 where
-  pub each : (to : ℕ) → IsEdge slots slot to → IsOf targets to
-  pub only : (to : ℕ) → IsOf targets to → IsEdge slots slot to
+  pub each : (to : ℕ) → IsEdge slots slot to → IsAmongTargets targets to
+  pub only : (to : ℕ) → IsAmongTargets targets to → IsEdge slots slot to
   pub none : targets.next ≡ None → targets.jump ≡ None → instruction_at slots slot ≡ Some Exit
 
--- the slot has a number that is at least so much
+-- the list has a number of at least `n` at the slot
 abbrev pub HasAtLeast : List (Option ℕ) → ℕ → ℕ → Type 0
 HasAtLeast most slot n = (m : ℕ) × (slice_index_or most slot None ≡ Some m) × (n ≤ m)
 
--- the number at that slot, if there is one, is raised to the count, and no other changes
+-- the number at the slot `to`, if a slot is given, is raised to at least the count, and no other number changes
 pub record Raises (old : List (Option ℕ)) (to : Option ℕ) (count : ℕ) (new : List (Option ℕ)) : Type 0 where
   pub kept : (k a : ℕ) → slice_index_or old k None ≡ Some a → HasAtLeast new k a
   pub raised : (k : ℕ) → to ≡ Some k → HasAtLeast new k count
   pub only : (k b : ℕ) → slice_index_or new k None ≡ Some b → (slice_index_or old k None ≡ Some b) ⊎ ((to ≡ Some k) × (b ≡ count))
 
--- each number is of a path, and the edges from the slots below have been followed
+-- each number is the counter calls of some path, and all edges from slots below `below` have been followed
 pub record CountsFollowed (slots : List (Option Insn)) (below : ℕ) (most : List (Option ℕ)) : Type 0 where
   pub begins : (n : ℕ) × (slice_index_or most 0 None ≡ Some n)
   pub way : (k n : ℕ) → slice_index_or most k None ≡ Some n → CallsOnWay slots k n
   pub small : (k n : ℕ) → slice_index_or most k None ≡ Some n → n ≤ k
   pub closed : (from to n : ℕ) → from < below → IsEdge slots from to → slice_index_or most from None ≡ Some n → HasAtLeast most to (n + calls_of (instruction_at slots from))
 
--- from that slot on each instruction has the number of the longest path out
+-- from slot `from` on, the height of each instruction is the number of instructions on the longest path from it to an EXIT
 abbrev pub Measured : List (Option Insn) → ℕ → List ℕ → Type 0
 Measured slots from heights = (k : ℕ) → from ≤ k → IsStart slots k → IsGreatest (PathOut slots k) (slice_index heights k)
 

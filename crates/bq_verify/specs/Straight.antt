@@ -1,4 +1,4 @@
--- Straight programs: what each instruction needs stands ready on every path to it, so that nothing is left to be shown.
+-- Straight programs: every path to an instruction provides what the instruction needs, so that no obligation is left unproven.
 use Rattle.std.specs.Prelude.{Bool, true, false, not, nat_lt, ◌≡◌, ◌≢◌, ℕ, ◌+◌, ◌<◌, ◌≤◌, ◌==◌, ◌&&◌, ◌||◌, ℤ, pos, ◌+ℤ◌, List, [], ◌∷◌, Option, Some, None, length, slice_get, ◌⊎◌}
 use Rattle.std.specs.Ordering.{int_eq}
 use Rattle.bq_insn.specs.declared.Insn.{Insn}
@@ -28,21 +28,25 @@ use Rattle.bq_transfer.specs.After.{IsFoundSide, IsStackByte, LeavesPointer}
 use Rattle.bq_states.specs.declared.abstract_state.ValueKind.{ValueKind}
 use Rattle.bq_states.specs.declared.abstract_state.ValueKind.TheVariants.{Entry, EntryOrNull, Map, Stack}
 
--- whether something holds at the end of a path: the last instruction before the end made it so, or it was so and that one left it so
+-- whether something holds at the end of a path: the last instruction before the end made it true, or it was true before
+-- that instruction, which left it true
 abbrev pub held_along : List (Option Insn) → (Option Insn → Bool) → (Option Insn → Bool) → Bool → ℕ → List ℕ → Bool
 held_along slots makes leaves before from [] = before
 held_along slots makes leaves before from (next ∷ rest) =
     held_along slots makes leaves (makes (instruction_at slots from) || (leaves (instruction_at slots from) && before)) next rest
 
--- it holds at the slot on each path from the start
+-- something holds at the slot on each path from the start
 abbrev pub OnEachPath : List (Option Insn) → (Option Insn → Bool) → (Option Insn → Bool) → Bool → ℕ → Type 0
 OnEachPath slots makes leaves first slot = (rest : List ℕ) → IsPath slots 0 rest → end_of 0 rest ≡ slot → held_along slots makes leaves first 0 rest ≡ true
 
+-- whether the instruction writes this register
 abbrev pub is_register : Option ℕ → ℕ → Bool
 is_register None r = false
 is_register (Some dst) r = dst == r
 
--- the instruction writes a number into the register: of moves those that do not copy register 10, and of calls those that look nothing up
+-- in a straight program the instruction makes the register a number. A move does unless it copies register 10: by `Needs`, any other
+-- register that it copies has a number. A call makes register 0 one unless it is a look-up. Each other instruction that writes the register
+-- makes it one, except a map reference, and except the rest of `Alu`, which only keeps a number (`leaves`)
 abbrev pub writes : ℕ → Option Insn → Bool
 writes r None = false
 writes r (Some (Alu w Mov dst (Imm i))) = dst == r
@@ -52,7 +56,7 @@ writes r (Some (MapRef dst index)) = false
 writes r (Some (Call helper)) = (r == 0) && not (int_eq helper (number_of_helper Lookup))
 writes r (Some insn) = is_register (destination_of insn) r
 
--- the instruction leaves a written register written: what arithmetic works on stays a number
+-- a register that holds a number still holds one after the instruction
 abbrev pub leaves : ℕ → Option Insn → Bool
 leaves r None = true
 leaves r (Some (Alu w Mov dst src)) = not (dst == r)
@@ -66,41 +70,44 @@ spares r None = true
 spares r (Some (Call helper)) = nat_lt 5 r
 spares r (Some insn) = not (is_register (destination_of insn) r)
 
--- the instruction moves that number into the register
+-- the instruction moves exactly this number into the register
 abbrev pub loads : ℕ → ℕ → Option Insn → Bool
 loads r n (Some (Alu W64 Mov dst (Imm i))) = (dst == r) && (word_of i == n)
 loads r n _ = false
 
--- the instruction leaves the register as it is, and does not test it
+-- the instruction leaves the register as it is, and is no branch with the register as its first operand
 abbrev pub untouched : ℕ → Option Insn → Bool
 untouched r (Some (Branch w c dst src off)) = not (dst == r)
 untouched r insn = spares r insn
 
--- the instruction stores this many bytes at that offset from register 10
+-- the instruction stores this many bytes at this offset from register 10
 abbrev pub stores : Size → ℤ → Option Insn → Bool
 stores size off (Some (StoreImm s dst o imm)) = (byte_count s == byte_count size) && ((dst == 10) && int_eq o off)
 stores size off (Some (StoreReg s dst o src)) = (byte_count s == byte_count size) && ((dst == 10) && int_eq o off)
 stores size off _ = false
 
+-- every instruction: nothing that was true is lost
 abbrev pub always : Option Insn → Bool
 always insn = true
 
+-- no instruction: nothing becomes true
 abbrev pub never : Option Insn → Bool
 never insn = false
 
--- on each path to the slot the register was written, and not unset since
+-- on each path to the slot a number was written into the register, and the register has been a number since
 abbrev pub IsWritten : List (Option Insn) → ℕ → ℕ → Type 0
 IsWritten slots slot r = OnEachPath slots (writes r) (leaves r) false slot
 
--- on each path to the slot this many bytes were stored at that offset
+-- on each path to the slot this many bytes were stored at this offset from register 10
 abbrev pub IsStored : List (Option Insn) → ℕ → Size → ℤ → Type 0
 IsStored slots slot size off = OnEachPath slots (stores size off) always false slot
 
--- one of the bytes that were so stored on each path
+-- byte `i` of the stack was stored on each path to the slot
 abbrev pub IsByteStored : List (Option Insn) → ℕ → ℕ → Type 0
 IsByteStored slots slot i = (size : Size) × (off : ℤ) × IsStored slots slot size off × IsStackByte size off i
 
--- on each path to the slot the register was loaded with that number, and not touched since
+-- on each path to the slot this number was moved into the register; since then no instruction has written the register, and no branch
+-- has had it as its first operand
 abbrev pub IsLoaded : List (Option Insn) → ℕ → ℕ → ℕ → Type 0
 IsLoaded slots slot r n = OnEachPath slots (loads r n) (untouched r) false slot
 
@@ -108,25 +115,27 @@ IsLoaded slots slot r n = OnEachPath slots (loads r n) (untouched r) false slot
 abbrev pub IsContextLeft : List (Option Insn) → ℕ → Type 0
 IsContextLeft slots slot = OnEachPath slots never (spares 1) true slot
 
+-- the second operand is an immediate, or a register that was written on each path
 abbrev pub IsWrittenOperand : List (Option Insn) → ℕ → Source → Type 0
 IsWrittenOperand slots slot (Imm i) = Unit {0}
 IsWrittenOperand slots slot (Reg r) = IsWritten slots slot r
 
--- the first operand, which a MOV has not
+-- the first operand was written on each path; a MOV has no first operand
 abbrev pub IsWrittenLeft : Operation → List (Option Insn) → ℕ → ℕ → Type 0
 IsWrittenLeft Mov slots slot dst = Unit {0}
 IsWrittenLeft _ slots slot dst = IsWritten slots slot dst
 
--- all bytes of an access at that offset from register 10 lie on the stack
+-- all bytes of an access at this offset from register 10 are on the stack
 abbrev pub IsOnStack : Size → ℤ → Type 0
 IsOnStack size off = (at : ℕ) × (pos at ≡ (pos stack_size +ℤ off)) × (at + byte_count size ≤ stack_size)
 
--- only one edge leads to the slot
+-- at most one edge leads to the slot
 abbrev pub HasOneWay : List (Option Insn) → ℕ → Type 0
 HasOneWay slots slot = (a b : ℕ) → IsEdge slots a slot → IsEdge slots b slot → a ≡ b
 
--- on the way to a slot the instruction makes the register such a pointer, by what registers were before: the name of a map, a
--- copy of register 10, a sum with a number, the answer of a look-up, and on the side of its test where it is not 0 an entry
+-- on the way from `slot` to the slot `to` the instruction makes the register this pointer, given what registers were
+-- before: the reference of a map, a copy of register 10, a sum with a number, the answer of a look-up, or an entry on
+-- the side of its test where the answer is not 0
 abbrev pub MakesPointer : ValueKind → ℕ → ℕ → ℕ → ℕ → Option Insn → (ValueKind → ℕ → ℕ → Type 0) → Type 0
 MakesPointer kind o r slot to (Some (MapRef dst index)) Was = (dst ≡ r) × (m : ℕ) × (index ≡ pos m) × (kind ≡ Map m) × (o ≡ 0)
 MakesPointer kind o r slot to (Some (Alu w Mov dst (Reg src))) Was = (dst ≡ r) × (src ≡ 10) × (kind ≡ Stack) × (o ≡ stack_size)
@@ -135,12 +144,13 @@ MakesPointer kind o r slot to (Some (Call helper)) Was = (r ≡ 0) × (helper �
 MakesPointer kind o r slot to (Some (Branch w c dst src off)) Was = (dst ≡ r) × (m : ℕ) × (kind ≡ Entry m) × (o ≡ 0) × Was (EntryOrNull m) 0 r × IsFoundSide c off slot to
 MakesPointer kind o r slot to _ Was = ⊥
 
--- the instruction leaves such a pointer in the register: a look-up's answer is distinguished by a test
+-- the instruction leaves a pointer of this kind in the register; a test does not leave an untested answer of a look-up
 abbrev pub LeavesPointerIn : ValueKind → ℕ → Option Insn → Type 0
 LeavesPointerIn kind r None = ⊥
 LeavesPointerIn kind r (Some insn) = (spares r (Some insn) ≡ true) × LeavesPointer kind insn
 
--- the register is such a pointer at the slot: the slots back to where it was made have one way to each; the list has them, backwards.
+-- the register is this pointer at the slot. The list has the slots back to the instruction that made the pointer, and
+-- only one edge leads to each slot on the way.
 -- In `0: r1 = map 0; 2: r2 = r10; 3: r2 += -4; 4: call lookup; 5: if r0 == 0 goto +1; 6: ..` register 0 is an entry of map 0 at slot 6,
 -- by 5 (the side on which it is not 0), 4 (the answer of a look-up by r1), 3 and 2 (which leave r1 as it is) and 0 (which names the map)
 abbrev pub IsPointerFrom : List (Option Insn) → ValueKind → ℕ → ℕ → ℕ → List ℕ → Type 0
@@ -150,10 +160,11 @@ IsPointerFrom slots kind o r slot (before ∷ back) =
     × (MakesPointer kind o r before slot (instruction_at slots before) (λ kind o r. IsPointerFrom slots kind o r before back)
     ⊎ (LeavesPointerIn kind r (instruction_at slots before) × IsPointerFrom slots kind o r before back))
 
+-- the register is this pointer at the slot, by some list of slots back to where it was made
 abbrev pub IsPointerAt : List (Option Insn) → ValueKind → ℕ → ℕ → ℕ → Type 0
 IsPointerAt slots kind o r slot = (back : List ℕ) × IsPointerFrom slots kind o r slot back
 
--- all bytes of an access by the register lie in an entry
+-- the register points to an entry, and all bytes of the access are in the entry
 pub record IsInEntry (slots : List (Option Insn)) (shapes : List MapShape) (slot r : ℕ) (size : Size) (off : ℤ) : Type 0 where
   pub map : ℕ
   pub shape : MapShape
@@ -163,26 +174,26 @@ pub record IsInEntry (slots : List (Option Insn)) (shapes : List MapShape) (slot
   pub off_is : off ≡ pos at
   pub inside : at + byte_count size ≤ shape.value_size
 
--- all bytes of an access at that offset from register 10 lie on the stack, and were stored on each path to the slot
+-- all bytes of an access at this offset from register 10 are on the stack, and were stored on each path to the slot
 abbrev pub IsReadBack : List (Option Insn) → ℕ → Size → ℤ → Type 0
 IsReadBack slots slot size off =
     (at : ℕ) × (pos at ≡ (pos stack_size +ℤ off)) × (at + byte_count size ≤ stack_size) × ((i : ℕ) → at ≤ i → i < at + byte_count size → IsByteStored slots slot i)
 
--- a load: of the context by register 1, of what was stored by register 10, or of an entry
+-- what a load needs: it reads the context by register 1, stored stack bytes by register 10, or an entry
 abbrev pub IsGoodLoad : List (Option Insn) → List MapShape → ℕ → ℕ → Size → ℕ → ℤ → Type 0
 IsGoodLoad slots shapes context slot size src off =
     ((src ≡ 1) × IsContextLeft slots slot × (at : ℕ) × (off ≡ pos at) × (at + byte_count size ≤ context))
     ⊎ (((src ≡ 10) × IsReadBack slots slot size off) ⊎ IsInEntry slots shapes slot src size off)
 
--- a store: on the stack by register 10, or into an entry by another
+-- what a store needs: it writes to the stack by register 10, or into an entry by another register
 abbrev pub IsGoodStore : List (Option Insn) → List MapShape → ℕ → Size → ℕ → ℤ → Type 0
 IsGoodStore slots shapes slot size dst off = ((dst ≡ 10) × IsOnStack size off) ⊎ ((dst ≢ 10) × IsInEntry slots shapes slot dst size off)
 
--- a copy of register 10
+-- the instruction is a 64-bit move of register 10
 abbrev pub IsCopyOfEnd : Width → Operation → Source → Type 0
 IsCopyOfEnd w op src = (w ≡ W64) × (op ≡ Mov) × (src ≡ Reg 10)
 
--- the sum of a pointer into the stack and a number from the instruction, into the stack too
+-- the instruction adds an immediate to a pointer into the stack, and the sum still points into the stack or to its end
 pub record IsMoveOnStack (slots : List (Option Insn)) (slot : ℕ) (w : Width) (op : Operation) (dst : ℕ) (src : Source) : Type 0 where
   pub whole : w ≡ W64
   pub is_sum : op ≡ Add
@@ -203,7 +214,7 @@ pub record IsNaming (slots : List (Option Insn)) (slot map : ℕ) : Type 0 where
   pub inside : at + 4 ≤ stack_size
   pub stored : (i : ℕ) → at ≤ i → i < at + 4 → IsByteStored slots slot i
 
--- besides, register 3 points to as many stored bytes as a value has, and register 4 is 0
+-- what an update needs: all that `IsNaming` says; register 3 points to as many stored bytes as a value has; and register 4 is 0
 pub record IsGiving (slots : List (Option Insn)) (shapes : List MapShape) (slot map : ℕ) : Type 0 where
   pub naming : IsNaming slots slot map
   pub shape : MapShape
@@ -221,7 +232,7 @@ pub record IsCounting (slots : List (Option Insn)) (slot : ℕ) (helper : ℤ) :
   pub few : counter < COUNTERS
   pub amount : helper ≡ number_of_helper AddCounter → IsWritten slots slot 2
 
--- a call: of the time or the processor's number, of a look-up, of an update, or of a counter
+-- what a call needs, by its helper: nothing for the time and the processor, else what a look-up, an update or a counter needs
 abbrev pub IsGoodCall : List (Option Insn) → List MapShape → ℕ → ℤ → Type 0
 IsGoodCall slots shapes slot helper =
     ((helper ≡ number_of_helper Now) ⊎ (helper ≡ number_of_helper Processor))

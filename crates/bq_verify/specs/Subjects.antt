@@ -6,11 +6,11 @@ use Rattle.bq_bpf.specs.declared.shape.MapShape.{MapShape}
 use Rattle.bq_hooks.specs.Hooks.{context_length_of}
 use Rattle.bq_hooks.specs.declared.hook.Hook.{Hook}
 use Rattle.bq_hooks.specs.declared.hook.Version.{Version}
-use Rattle.bq_verify.specs.declared.subject.Subject.{Subject as Judged}
+use Rattle.bq_verify.specs.declared.subject.SubjectView.{SubjectView}
 use Rattle.bq_verify.specs.declared.policy_form.PolicyForm.{PolicyForm}
 use Rattle.bq_verify.specs.declared.program.Program.{Program}
 
--- the instruction of each slot, the shapes of the maps, and how many bytes the context has
+-- what the verifier judges: the instruction of each slot, the shapes of the maps, and the number of bytes of the context
 pub record Subject : Type 0 where
   pub slots : List (Option Insn)
   pub shapes : List MapShape
@@ -20,18 +20,18 @@ pub record Subject : Type 0 where
 abbrev pub context_of : PolicyForm → ℕ
 context_of form = context_length_of form.hook form.version
 
--- those slots as a program of this form
-abbrev pub in_form : List (Option Insn) → PolicyForm → Subject
-in_form slots form = record { slots = slots; shapes = form.shapes.items; context = context_of form }
+-- these slots as a program of this form
+abbrev pub subject_of_slots : List (Option Insn) → PolicyForm → Subject
+subject_of_slots slots form = record { slots = slots; shapes = form.shapes.items; context = context_of form }
 
--- those instructions, one after another, as a program for this hook and version with maps of these shapes
-abbrev pub subject_of : List Insn → Hook → Version → List MapShape → Subject
-subject_of insns hook version shapes = record { slots = spread insns; shapes = shapes; context = context_length_of hook version }
+-- these instructions, one after another, as a program for this hook and version with maps of these shapes
+abbrev pub subject_of_insns : List Insn → Hook → Version → List MapShape → Subject
+subject_of_insns insns hook version shapes = record { slots = spread insns; shapes = shapes; context = context_length_of hook version }
 
 -- a program as it is handed to `verify`
-abbrev pub handed_in : Program → Subject
-handed_in program = in_form (spread program.insns.items) program.form
+abbrev pub subject_of_program : Program → Subject
+subject_of_program program = subject_of_slots (spread program.insns.items) program.form
 
--- what the code's record of the same name stands for
-abbrev pub judged : Judged → Subject
-judged subject = record { slots = subject.slots.now; shapes = subject.shapes.now; context = subject.context }
+-- the specification's view of a `Subject` of the code
+abbrev pub subject_of_view : SubjectView → Subject
+subject_of_view subject = record { slots = subject.slots.now; shapes = subject.shapes.now; context = subject.context }

@@ -1,4 +1,4 @@
--- What the pass is sure to know on the way through a straight program.
+-- What the pass surely knows on its way through a straight program.
 use Rattle.std.specs.Prelude.{Bool, ◌≡◌, ℕ, ◌+◌, List, Option, ◌⊎◌}
 use Rattle.bq_insn.specs.declared.Insn.{Insn}
 use Rattle.bq_bpf.specs.Memory.{stack_size}
@@ -11,9 +11,10 @@ use Rattle.bq_verify.specs.Ways.{IsSureOf}
 use Rattle.bq_verify.specs.Subjects.{Subject}
 use Rattle.bq_verify.specs.Straight.{IsStraightBefore, IsWritten, IsLoaded, IsByteStored, IsContextLeft, IsPointerAt}
 
--- what is to be known at a slot: nothing where no path leads there; of registers, that written ones are numbers, which number was
--- loaded, register 1 the context where it was left, register 10 the end of the stack, and the pointers that were made; of the
--- stack, what was stored, and that no pointer is kept
+-- the fact is due at a slot: the pass has to know it there. `Never` is due if no path leads there. Of registers: a
+-- written one is a number; a loaded one is that number; register 1 is the context if it was left; register 10 is the
+-- end of the stack; and pointers that were made. Of the stack: bytes that were stored are set, and no slot keeps a
+-- pointer
 abbrev pub IsDue : List (Option Insn) → Fact → ℕ → Type 0
 IsDue slots Never k = Path slots 0 k → ⊥
 IsDue slots (AtRegister Scalar r) k = IsWritten slots k r
@@ -24,10 +25,10 @@ IsDue slots (AtRegister NoPointer r) k = ⊥
 IsDue slots (IsSetAt i) k = IsByteStored slots k i
 IsDue slots (IsPlainAt j) k = Unit {0}
 
--- what is due at a slot is known there
+-- each fact that is due at any slot is sure there
 abbrev pub IsSure : List (Option Insn) → Waiting → AbstractState → Bool → ℕ → Type 0
 IsSure slots pending state live slot = (x : Fact) (k : ℕ) → IsDue slots x k → IsSureOf x pending state live slot k
 
--- where the program is straight as far as that slot, and what is due there is known
+-- `Then` holds if the program is straight up to this slot and each fact that is due is sure
 abbrev pub WhereSure : Subject → ℕ → Waiting → AbstractState → Bool → Type 0 → Type 0
 WhereSure p slot pending state live Then = IsStraightBefore p (slot + 1) → IsSure p.slots pending state live slot → Then

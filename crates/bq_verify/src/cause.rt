@@ -9,14 +9,14 @@ use std::fmt;
 /// Why a program is refused.
 #[derive(Clone, Copy, PartialEq, Eq)]
 pub enum Cause {
-    /// By its control graph, or by a single instruction.
+    /// A fault of the control graph or of a single instruction.
     Graph(GraphCause),
-    /// By what is known of its states: something is not shown of an instruction.
+    /// An obligation of an instruction that what is known of its states does not prove.
     State(Obligation),
 }
 
 impl Cause {
-    /// The number by which it is named, after the letter V.
+    /// The number of the cause, as texts name it after the letter V.
     pub fn number(self) -> u8
         ensures { result ≡ cause_number self }
     {
@@ -27,7 +27,7 @@ impl Cause {
     }
 }
 
-/// The name of the one cause or of the other.
+/// The name of the `GraphCause` or of the `Obligation`.
 impl fmt::Debug for Cause {
     fn fmt<W: fmt::Write>(&self, f: &mut fmt::Formatter<W>) -> fmt::Result {
         match self {

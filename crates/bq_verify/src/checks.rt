@@ -7,13 +7,13 @@ ghost use Rattle.bq_verify.specs.Faults.{HasFault, IsLateCall, IsLeast, IsFirstF
 
 use crate::edges::instruction;
 use crate::graph_cause::GraphCause;
-use crate::passes::{count_at, count_calls};
+use crate::graph_numbers::{count_at, count_calls};
 use crate::single::{calls_unknown, is_bad_jump, runs_out, writes_frame};
 use bq_bpf::board::MOST_CALLS;
 use bq_bpf::instruction::is_counter_call;
 use bq_insn::{Insn, SLOTS};
 
-/// Where a program is at fault, and why.
+/// A fault of a program: its slot and its cause.
 #[derive(Clone, Copy)]
 pub struct Fault {
     /// The slot at which the faulty instruction begins.
@@ -22,6 +22,7 @@ pub struct Fault {
     pub cause: GraphCause,
 }
 
+/// Whether no path leads to the instruction at the slot.
 fn is_unreached(slots: &[Option<Insn>], most: &[Option<u32>], slot: usize, insn: Insn) -> bool
     requires here { instruction_at slots.now slot ≡ Some insn }
     requires inside { slot < length most.now }
@@ -34,6 +35,7 @@ fn is_unreached(slots: &[Option<Insn>], most: &[Option<u32>], slot: usize, insn:
     }
 }
 
+/// Whether the instruction at the slot calls a counter after as many calls as a run may make.
 fn is_late_call(slots: &[Option<Insn>], most: &[Option<u32>], slot: usize, insn: Insn) -> bool
     requires here { instruction_at slots.now slot ≡ Some insn }
     requires inside { slot < length most.now }
@@ -46,7 +48,8 @@ fn is_late_call(slots: &[Option<Insn>], most: &[Option<u32>], slot: usize, insn:
     is_counter_call(insn) && count >= MOST_CALLS as u32
 }
 
-/// Whether the fault is at that slot. The list has the counter calls on the way to each slot, where the cause is one of the way.
+/// Whether the slot has the fault. If the fault depends on paths, `most` must have the counter calls on the way to each
+/// slot.
 fn is_faulty(slots: &[Option<Insn>], most: &[Option<u32>], slot: usize, cause: GraphCause) -> bool
     requires inside { slot < length slots.now }
     requires short { length slots.now ≤ SLOTS }
@@ -67,8 +70,8 @@ fn is_faulty(slots: &[Option<Insn>], most: &[Option<u32>], slot: usize, cause: G
     }
 }
 
-/// One check of the whole program: the least slot with the fault is named.
-fn clear(slots: &[Option<Insn>], most: &[Option<u32>], cause: GraphCause) -> Result<(), Fault>
+/// Checks every slot for this cause; the error names the first slot that has it.
+fn check_for(slots: &[Option<Insn>], most: &[Option<u32>], cause: GraphCause) -> Result<(), Fault>
     requires short { length slots.now ≤ SLOTS }
     requires room { IsOnWay cause → length most.now ≡ length slots.now }
     requires most { IsOnWay cause → (k : ℕ) → IsMostCalls slots.now k (slice_index_or most.now k None) }
@@ -84,10 +87,11 @@ fn clear(slots: &[Option<Insn>], most: &[Option<u32>], cause: GraphCause) -> Res
     Ok(())
 }
 
-/// All checks in their order: jumps, the end, unreached instructions, register 10, helpers, counter calls.
+/// Does all checks in their order: jumps, the end, unreached instructions, register 10, helpers, counter calls.
 ///
-/// `most`, blank at first, has a place for each slot. Where no fault is found, it has the greatest number of counter
-/// calls before each slot; else the answer is the first check that finds a fault, and the least slot with it.
+/// `most` has a place for each slot, and all places must be empty at first. If no check finds a fault, `most` has the
+/// greatest number of counter calls before each slot. Else the error names the first check that finds a fault, and the
+/// least slot with the fault.
 pub fn check(slots: &[Option<Insn>], most: &mut [Option<u32>]) -> Result<(), Fault>
     requires some { 0 < length slots.now }
     requires short { length slots.now ≤ SLOTS }
@@ -98,11 +102,11 @@ pub fn check(slots: &[Option<Insn>], most: &mut [Option<u32>]) -> Result<(), Fau
     ensures counted { OnOk result ((k : ℕ) → IsMostCalls slots.now k (slice_index_or most.new k None)) }
     ensures first { IfErr result (λ fault. IsFirstFault slots.now fault.cause fault.slot) }
 {
-    clear(slots, most, GraphCause::Jump)?;
-    clear(slots, most, GraphCause::NoExit)?;
+    check_for(slots, most, GraphCause::Jump)?;
+    check_for(slots, most, GraphCause::NoExit)?;
     count_calls(slots, most);
-    clear(slots, most, GraphCause::Unreached)?;
-    clear(slots, most, GraphCause::Frame)?;
-    clear(slots, most, GraphCause::Helper)?;
-    clear(slots, most, GraphCause::Counters)
+    check_for(slots, most, GraphCause::Unreached)?;
+    check_for(slots, most, GraphCause::Frame)?;
+    check_for(slots, most, GraphCause::Helper)?;
+    check_for(slots, most, GraphCause::Counters)
 }

@@ -5,7 +5,7 @@ ghost use Rattle.bq_verify.specs.Edges.{IsStart};
 
 use bq_insn::{Insn, SLOTS};
 
-/// The instruction that begins at a slot; `None` at the second slot of a wide one.
+/// The instruction that begins at a slot; `None` at the second slot of a wide instruction.
 pub fn instruction(slots: &[Option<Insn>], slot: usize) -> Option<Insn>
     requires { slot < length slots.now }
     ensures { result ≡ instruction_at slots.now slot }
@@ -13,7 +13,7 @@ pub fn instruction(slots: &[Option<Insn>], slot: usize) -> Option<Insn>
     slots[slot]
 }
 
-/// The slot that a jump leads to, where a later instruction begins there.
+/// The slot to which a jump leads, if a later instruction begins there.
 pub fn landing(slots: &[Option<Insn>], slot: usize, distance: i64) -> Option<usize>
     requires here { slot < length slots.now }
     requires short { length slots.now ≤ SLOTS }
@@ -31,11 +31,11 @@ pub fn landing(slots: &[Option<Insn>], slot: usize, distance: i64) -> Option<usi
     Some(to)
 }
 
-/// The slots that control may go to from a slot.
+/// The slots to which control may go from a slot.
 #[derive(Clone, Copy)]
 pub struct Targets {
-    /// The next instruction, where control may go on to it.
+    /// The next instruction, if control may go on to it.
     pub next: Option<usize>,
-    /// Where the instruction jumps to, if it is a jump.
+    /// The target of the instruction, if it is a jump.
     pub jump: Option<usize>,
 }

@@ -1,36 +1,37 @@
 //! Where control goes from a slot, and what is known there.
 
+ghost use Rattle.bq_insn.specs.declared.TheConstants.{REGISTERS};
 ghost use Rattle.std.specs.Prelude.{◌≡◌, ◌<◌, ◌+◌, ℕ, length, IfOk, IfErr, IsOk, OnOk, Some, true};
 ghost use Rattle.bq_insn.specs.declared.Insn.{Insn};
 ghost use Rattle.bq_bpf.specs.Memory.{Setting, State};
 ghost use Rattle.bq_bpf.specs.Steps.{instruction_at};
-ghost use Rattle.bq_verify.specs.Subjects.{judged};
+ghost use Rattle.bq_verify.specs.Subjects.{subject_of_view};
 ghost use Rattle.bq_transfer.specs.Obligations.{MayBeUnproven, ReadsOperand, UsesWord};
 ghost use Rattle.bq_verify.specs.Stops.{IsWantOfMemory, MayStop};
-ghost use Rattle.bq_verify.specs.Ways.{GoesOnSure, HasOnSide, HasWaiting, IsAnswerCheck, IsReadyFor, PartsChecked, PartsTested};
-ghost use Rattle.bq_states.specs.Certainty.{Fact, Has, IsScalarOperand, Scalar, StandsAt};
+ghost use Rattle.bq_verify.specs.Ways.{GoesOnSure, HasOnSide, HasWaiting, IsAnswerCheck, IsReadyFor, BranchesChecked, BranchesTested};
+ghost use Rattle.bq_states.specs.Certainty.{Fact, Has, IsScalarOperand, Scalar, CertaintyHoldsAt};
 ghost use Rattle.bq_transfer.specs.Ready.{IsReady};
 ghost use Rattle.bq_states.specs.AbstractStates.{Contains};
-ghost use Rattle.bq_verify.specs.Control.{AddsWaiting, CanBePassed, Goes, IsKnown, IsOnSide, KeepsWaiting, PartsFrom};
+ghost use Rattle.bq_verify.specs.Control.{AddsWaiting, CanBePassed, LeadsOnFrom, IsKnown, IsOnSide, KeepsWaiting, BranchesFrom};
 
-use crate::passes::target;
+use crate::graph_numbers::target;
 use crate::stop::PassStop;
-use crate::subject::Subject;
+use crate::subject::SubjectView;
 use crate::waiting::wait;
 use bq_bpf::MapShape;
 use bq_bpf::instruction::is_counter_call;
 use bq_insn::{Condition, Insn, SLOTS, Source, Width};
 use bq_states::abstract_state::{AbstractState, AbstractValue, ValueKind};
+use bq_states::learnt::learn_branch;
 use bq_states::registers::{known, operand};
 use bq_states::relations::Relation;
-use bq_states::told::tell;
 use bq_transfer::counters::ask;
 use bq_transfer::obligation::Obligation;
 use bq_transfer::sides::{right_side, side};
 use bq_transfer::transfer::transfer;
 use std::alloc::{AllocError, Global};
 
-/// What a branch asks: how this many bits of a register compare with an operand.
+/// The test of a branch: how the low bits of a register compare with an operand.
 #[derive(Clone, Copy)]
 struct Test {
     width: Width,
@@ -40,7 +41,7 @@ struct Test {
 }
 
 impl Test {
-    /// How the operands are related on a side of the branch.
+    /// How the operands are related on one side of the branch.
     fn relation(self, goes: bool) -> Relation
         ensures { result ≡ Relation.Compared self.width self.cond goes }
     {
@@ -52,9 +53,10 @@ impl Test {
     }
 }
 
-/// What is known of both operands on one side of a branch, of the left one `None` where control does not go there; and how they are related.
+/// What is known of both operands on one side of a branch, and how they are related. The left one is `None` if control
+/// never goes there.
 #[derive(Clone, Copy)]
-struct Told {
+struct Learnt {
     dst: u8,
     src: Source,
     left: Option<AbstractValue>,
@@ -62,10 +64,10 @@ struct Told {
     relation: Relation,
 }
 
-/// One slot where something is known: whether an abstract state is transferred on to the next slot.
+/// Visits a slot where something is known. Answers whether an abstract state is transferred on to the next slot.
 pub fn visit(
     alloc: Global,
-    subject: &Subject,
+    subject: &SubjectView,
     slot: usize,
     insn: Insn,
     state: &mut AbstractState,
@@ -73,14 +75,14 @@ pub fn visit(
 ) -> Result<bool, PassStop>
     requires here { instruction_at subject.now.slots.now slot ≡ Some insn }
     requires inside { slot < length subject.now.slots.now }
-    requires passable { CanBePassed (judged subject.now) }
+    requires passable { CanBePassed (subject_of_view subject.now) }
     requires room { length pending.old ≡ length subject.now.slots.now }
     ensures long { length pending.new ≡ length pending.old }
     ensures kept { OnOk result (KeepsWaiting subject.now.shapes.now pending.old pending.new) }
-    ensures goes { IfOk result (λ live. Goes (judged subject.now) slot state.old (IsKnown pending.new state.new live (slot + 1))) }
+    ensures goes { IfOk result (λ live. LeadsOnFrom (subject_of_view subject.now) slot state.old (IsKnown pending.new state.new live (slot + 1))) }
     ensures obligations { IfErr result (λ stop. MayStop stop insn) }
-    ensures accepts { IsReadyFor (judged subject.now) state.old insn → IfErr result IsWantOfMemory }
-    ensures sure { IsReadyFor (judged subject.now) state.old insn → IfOk result (GoesOnSure subject.now.slots.now slot insn state.old pending.old pending.new state.new) }
+    ensures accepts { IsReadyFor (subject_of_view subject.now) state.old insn → IfErr result IsWantOfMemory }
+    ensures sure { IsReadyFor (subject_of_view subject.now) state.old insn → IfOk result (GoesOnSure subject.now.slots.now slot insn state.old pending.old pending.new state.new) }
 {
     if is_counter_call(insn) {
         ask(state, insn)?;
@@ -89,10 +91,10 @@ pub fn visit(
     go_on(alloc, subject, slot, insn, state, pending)
 }
 
-/// Visits one slot, as `visit` does, where the instruction calls no counter.
+/// Visits a slot as `visit` does, if its instruction calls no counter.
 fn go_on(
     alloc: Global,
-    subject: &Subject,
+    subject: &SubjectView,
     slot: usize,
     insn: Insn,
     state: &mut AbstractState,
@@ -100,18 +102,18 @@ fn go_on(
 ) -> Result<bool, PassStop>
     requires here { instruction_at subject.now.slots.now slot ≡ Some insn }
     requires inside { slot < length subject.now.slots.now }
-    requires passable { CanBePassed (judged subject.now) }
+    requires passable { CanBePassed (subject_of_view subject.now) }
     requires room { length pending.old ≡ length subject.now.slots.now }
     ensures long { length pending.new ≡ length pending.old }
     ensures kept { OnOk result (KeepsWaiting subject.now.shapes.now pending.old pending.new) }
-    ensures goes { IfOk result (λ live. Goes (judged subject.now) slot state.old (IsKnown pending.new state.new live (slot + 1))) }
+    ensures goes { IfOk result (λ live. LeadsOnFrom (subject_of_view subject.now) slot state.old (IsKnown pending.new state.new live (slot + 1))) }
     ensures obligations { IfErr result (λ stop. MayStop stop insn) }
     ensures accepts { IsReady subject.now.shapes.now subject.now.context state.old insn → IfErr result IsWantOfMemory }
     ensures sure { IsReady subject.now.shapes.now subject.now.context state.old insn → IfOk result (GoesOnSure subject.now.slots.now slot insn state.old pending.old pending.new state.new) }
 {
     match insn {
         Insn::Exit => {
-            leave(state)?;
+            visit_exit(state)?;
             Ok(false)
         }
         Insn::Goto { off } => {
@@ -152,11 +154,11 @@ fn go_on(
     }
 }
 
-/// An EXIT, whose answer has to be a number.
-fn leave(state: &AbstractState) -> Result<(), Obligation>
+/// Visits an EXIT: its answer must be a number.
+fn visit_exit(state: &AbstractState) -> Result<(), Obligation>
     ensures answers { OnOk result ((f : Setting) (s : State) → Contains f state.now s → (answer : ℕ) × (s.register 0 ≡ Some answer)) }
     ensures obligations { IfErr result (λ obligation. MayBeUnproven obligation Insn.Exit) }
-    ensures accepts { StandsAt Scalar state.now 0 → IsOk result }
+    ensures accepts { CertaintyHoldsAt Scalar state.now 0 → IsOk result }
 {
     let Some(answer) = known(state, 0) else {
         return Err(Obligation::Answer);
@@ -167,7 +169,8 @@ fn leave(state: &AbstractState) -> Result<(), Obligation>
     Ok(())
 }
 
-/// A branch: what is known where it is taken waits there, and the other side is transferred on.
+/// Visits a branch: the abstract state of the side where it is taken waits at its target, and the other side is
+/// transferred on.
 fn branch(
     alloc: Global,
     shapes: &[MapShape],
@@ -180,12 +183,12 @@ fn branch(
     requires to { to < length pending.old }
     ensures long { length pending.new ≡ length pending.old }
     ensures kept { OnOk result (KeepsWaiting shapes.now pending.old pending.new) }
-    ensures parts { IfOk result (λ live. PartsFrom (IsKnown pending.new state.new live next) shapes.now state.old test.width test.cond test.dst test.src to next) }
+    ensures parts { IfOk result (λ live. BranchesFrom (IsKnown pending.new state.new live next) shapes.now state.old test.width test.cond test.dst test.src to next) }
     ensures obligations { IfErr result (λ stop. (insn : Insn) → ReadsOperand insn → UsesWord insn → MayStop stop insn) }
-    ensures accepts { test.dst < 10 → StandsAt Scalar state.old test.dst → IsScalarOperand state.old test.src → IfErr result IsWantOfMemory }
+    ensures accepts { test.dst < 10 → CertaintyHoldsAt Scalar state.old test.dst → IsScalarOperand state.old test.src → IfErr result IsWantOfMemory }
     ensures checks { (map : ℕ) → test.dst < 10 → IsAnswerCheck state.old map test.width test.cond test.dst test.src → IfErr result IsWantOfMemory }
-    ensures checked { IfOk result (PartsChecked state.old test.width test.cond test.dst test.src to next pending.old pending.new state.new) }
-    ensures sure { StandsAt Scalar state.old test.dst → IsScalarOperand state.old test.src → IfOk result (PartsTested state.old test.dst to next pending.old pending.new state.new) }
+    ensures checked { IfOk result (BranchesChecked state.old test.width test.cond test.dst test.src to next pending.old pending.new state.new) }
+    ensures sure { CertaintyHoldsAt Scalar state.old test.dst → IsScalarOperand state.old test.src → IfOk result (BranchesTested state.old test.dst to next pending.old pending.new state.new) }
 {
     let Some(right) = operand(state, test.src) else {
         return Err(PassStop::Unproven(Obligation::Unset));
@@ -198,7 +201,7 @@ fn branch(
     }
     let yes = side(test.width, test.cond, left, test.src, right, true)?;
     let no = side(test.width, test.cond, left, test.src, right, false)?;
-    let taken = Told {
+    let taken = Learnt {
         dst: test.dst,
         src: test.src,
         left: yes,
@@ -206,7 +209,7 @@ fn branch(
         relation: test.relation(true),
     };
     wait_on_side(alloc, shapes, pending, to, state, taken)?;
-    let other = Told {
+    let other = Learnt {
         dst: test.dst,
         src: test.src,
         left: no,
@@ -216,46 +219,53 @@ fn branch(
     Ok(carry_on(state, other))
 }
 
-/// The abstract state waits for the slot with what is known of both operands there, if control goes there.
+/// If control goes to this side, the abstract state waits at its slot, with what is known of both operands there.
 fn wait_on_side(
     alloc: Global,
     shapes: &[MapShape],
     pending: &mut [Option<Box<AbstractState>>],
     slot: usize,
     state: &AbstractState,
-    told: Told,
+    learnt: Learnt,
 ) -> Result<(), AllocError>
     requires here { slot < length pending.old }
-    requires dst { told.dst < 11 }
+    requires dst { learnt.dst < REGISTERS }
     ensures long { length pending.new ≡ length pending.old }
     ensures kept { OnOk result (KeepsWaiting shapes.now pending.old pending.new) }
-    ensures added { OnOk result (AddsWaiting shapes.now slot (λ f. IsOnSide f state.now told.dst told.src told.left told.right told.relation) pending.new) }
-    ensures has { OnOk result ((x : Fact) (k : ℕ) → HasWaiting x pending.old k → (k ≡ slot → HasOnSide x state.now told.dst told.left) → HasWaiting x pending.new k) }
+    ensures added { OnOk result (AddsWaiting shapes.now slot (λ f. IsOnSide f state.now learnt.dst learnt.src learnt.left learnt.right learnt.relation) pending.new) }
+    ensures has { OnOk result ((x : Fact) (k : ℕ) → HasWaiting x pending.old k → (k ≡ slot → HasOnSide x state.now learnt.dst learnt.left) → HasWaiting x pending.new k) }
 {
-    let Some(left) = told.left else {
+    let Some(left) = learnt.left else {
         return Ok(());
     };
     let mut there = *state;
-    tell(
+    learn_branch(
         &mut there,
-        told.dst,
-        told.src,
+        learnt.dst,
+        learnt.src,
         left,
-        told.right,
-        told.relation,
+        learnt.right,
+        learnt.relation,
     );
     wait(alloc, shapes, pending, slot, &there)
 }
 
-/// The abstract state is transferred on with what is known of both operands there, if control goes there.
-fn carry_on(state: &mut AbstractState, told: Told) -> bool
-    requires { told.dst < 11 }
-    ensures contains { (f : Setting) (s : State) → IsOnSide f state.old told.dst told.src told.left told.right told.relation s → (result ≡ true) × Contains f state.new s }
-    ensures has { (x : Fact) → HasOnSide x state.old told.dst told.left → result ≡ true → Has x state.new }
+/// If control goes to this side, the abstract state is transferred on, with what is known of both operands there.
+fn carry_on(state: &mut AbstractState, learnt: Learnt) -> bool
+    requires { learnt.dst < REGISTERS }
+    ensures contains { (f : Setting) (s : State) → IsOnSide f state.old learnt.dst learnt.src learnt.left learnt.right learnt.relation s → (result ≡ true) × Contains f state.new s }
+    ensures has { (x : Fact) → HasOnSide x state.old learnt.dst learnt.left → result ≡ true → Has x state.new }
 {
-    let Some(left) = told.left else {
+    let Some(left) = learnt.left else {
         return false;
     };
-    tell(state, told.dst, told.src, left, told.right, told.relation);
+    learn_branch(
+        state,
+        learnt.dst,
+        learnt.src,
+        left,
+        learnt.right,
+        learnt.relation,
+    );
     true
 }

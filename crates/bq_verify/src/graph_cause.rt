@@ -1,8 +1,8 @@
-//! Why a program is refused by its control graph.
+//! Why a program is refused by its control graph or by a single instruction.
 ghost use Rattle.std.specs.Prelude.{◌≡◌};
-ghost use Rattle.bq_verify.specs.GraphCauses.{cause_number};
+ghost use Rattle.bq_verify.specs.GraphCauses.{graph_cause_number};
 
-/// Why a program is refused by its control graph or by a single instruction.
+/// Why a program is refused before the pass over it: by its control graph, or by a single instruction.
 #[derive(Clone, Copy, Debug, PartialEq, Eq)]
 pub enum GraphCause {
     /// A jump that leads to no later instruction: out of the program, into a wide instruction, to itself or back.
@@ -20,9 +20,9 @@ pub enum GraphCause {
 }
 
 impl GraphCause {
-    /// The number by which it is named, after the letter V.
+    /// The number of the cause, as texts name it after the letter V.
     pub fn number(self) -> u8
-        ensures { result ≡ cause_number self }
+        ensures { result ≡ graph_cause_number self }
     {
         match self {
             GraphCause::Jump => 1,

@@ -1,4 +1,4 @@
-//! What is known where control comes to each slot, of programs that are accepted and of others.
+//! What is known when control reaches each slot, for programs that are accepted and for others.
 
 ghost use Rattle.std.specs.Prelude.{◌≡◌, ◌≤◌, ◌<◌, ℕ, length, true, None, IfOk, slice_index_or};
 ghost use Rattle.bq_insn.specs.Slots.{spread};
@@ -6,13 +6,13 @@ ghost use Rattle.bq_insn.specs.Spelling.{is_insn, is_well_formed};
 ghost use Rattle.std.specs.List.{list_all};
 ghost use Rattle.bq_verify.specs.Control.{CanBePassed};
 ghost use Rattle.bq_verify.specs.KnownAt.{AreKnown};
-ghost use Rattle.bq_verify.specs.Subjects.{handed_in, judged};
+ghost use Rattle.bq_verify.specs.Subjects.{subject_of_program, subject_of_view};
 
 use crate::layout::lay_out;
 use crate::pass::{pass_slot, start};
 use crate::program::{Program, check_graph};
 use crate::refused::Refused;
-use crate::subject::Subject;
+use crate::subject::SubjectView;
 use crate::waiting::{arrive, nothing_waits};
 use bq_insn::SLOTS;
 use bq_states::abstract_state::AbstractState;
@@ -22,7 +22,7 @@ use std::marker::Model;
 /// What is known of registers and stack before each instruction of a program, up to some slot.
 #[derive(Drop)]
 pub struct KnownStates {
-    /// By slot, as far as the pass went.
+    /// For each slot, as far as the pass went.
     states: Vec<Option<AbstractState>>,
 }
 
@@ -38,7 +38,7 @@ impl Model for KnownStates {
 impl KnownStates {
     ghost use Rattle.std.specs.Option.{option_copied};
 
-    /// What is known in every run that comes to the slot, before its instruction.
+    /// What is known in every run that reaches the slot, before its instruction; `None` if nothing is known there.
     pub fn at(&self, slot: usize) -> Option<&AbstractState>
         ensures { option_copied result ≡ slice_index_or self.now slot None }
     {
@@ -49,12 +49,13 @@ impl KnownStates {
     }
 }
 
-/// What is known of registers and stack in every run that comes to a slot, before its instruction, of each slot up to that one.
+/// Answers what is known of registers and stack in every run that reaches a slot, before its instruction, for each slot
+/// up to `until`.
 ///
-/// Of a slot nothing is known if the control graph has a fault, the verifier stops at an earlier slot, or no way leads there. So
-/// of a program that `verify` refuses at a slot for what is not shown of the states, this says what is known there and at each slot
-/// before it. If each instruction before a slot finds what it needs on every path (`IsStraightBefore`), and nothing is known
-/// there, no run comes to it.
+/// Nothing is known at a slot if the control graph has a fault, if the verifier stops at an earlier slot, or if no way
+/// leads to the slot. So if `verify` refuses a program at a slot for an obligation, this says what is known there and
+/// at each slot before it. If each instruction before a slot finds what it needs on every path (`IsStraightBefore`),
+/// and nothing is known at the slot, no run reaches it.
 ///
 /// # Example
 ///
@@ -77,7 +78,7 @@ pub fn known_states(
     until: usize,
 ) -> Result<KnownStates, AllocError>
     requires { is_well_formed program.now.insns.items ≡ true }
-    ensures { IfOk result (AreKnown (handed_in program.now) until) }
+    ensures { IfOk result (AreKnown (subject_of_program program.now) until) }
 {
     known_in_slots(alloc, program, until)
 }
@@ -87,7 +88,7 @@ fn known_in_slots(alloc: Global, program: &Program, until: usize) -> Result<Know
     requires registers { list_all is_insn program.now.insns.items ≡ true }
     requires some { 0 < length (spread program.now.insns.items) }
     requires short { length (spread program.now.insns.items) ≤ SLOTS }
-    ensures { IfOk result (AreKnown (handed_in program.now) until) }
+    ensures { IfOk result (AreKnown (subject_of_program program.now) until) }
 {
     let slots = lay_out(alloc, program.insns.as_slice())?;
     match check_graph(alloc, slots.as_slice()) {
@@ -96,7 +97,7 @@ fn known_in_slots(alloc: Global, program: &Program, until: usize) -> Result<Know
             states: Vec::new(alloc),
         }),
         Ok(()) => {
-            let subject = Subject {
+            let subject = SubjectView {
                 slots: slots.as_slice(),
                 shapes: program.form.shapes.as_slice(),
                 context: program.form.context_length(),
@@ -107,26 +108,31 @@ fn known_in_slots(alloc: Global, program: &Program, until: usize) -> Result<Know
 }
 
 /// The abstract states that `known_states` answers, for a program whose control graph has no fault.
-fn known_in_pass(alloc: Global, subject: &Subject, until: usize) -> Result<KnownStates, AllocError>
-    requires { CanBePassed (judged subject.now) }
-    ensures { IfOk result (AreKnown (judged subject.now) until) }
+fn known_in_pass(
+    alloc: Global,
+    subject: &SubjectView,
+    until: usize,
+) -> Result<KnownStates, AllocError>
+    requires { CanBePassed (subject_of_view subject.now) }
+    ensures { IfOk result (AreKnown (subject_of_view subject.now) until) }
 {
     let mut pending = nothing_waits(alloc, subject.slots.len())?;
     let states = states_in_pass(alloc, subject, until, pending.as_mut_slice())?;
     Ok(KnownStates { states })
 }
 
-/// Makes one pass, and keeps the abstract state that arrives at each slot. `pending` takes those that wait: at first no slot has one.
+/// Makes one pass, and keeps the abstract state that arrives at each slot. `pending` takes the abstract states that
+/// wait; at first no slot may have one.
 fn states_in_pass(
     alloc: Global,
-    subject: &Subject,
+    subject: &SubjectView,
     until: usize,
     pending: &mut [Option<Box<AbstractState>>],
 ) -> Result<Vec<Option<AbstractState>>, AllocError>
-    requires passable { CanBePassed (judged subject.now) }
+    requires passable { CanBePassed (subject_of_view subject.now) }
     requires room { length pending.old ≡ length subject.now.slots.now }
     requires blank { (k : ℕ) → slice_index_or pending.old k None ≡ None }
-    ensures { IfOk result (λ states. AreKnown (judged subject.now) until states.items) }
+    ensures { IfOk result (λ states. AreKnown (subject_of_view subject.now) until states.items) }
 {
     let count = count_until(subject.slots.len(), until);
     let mut states = Vec::with_capacity(alloc, count)?;
@@ -144,7 +150,7 @@ fn states_in_pass(
     Ok(states)
 }
 
-/// How many of some slots there are up to that one.
+/// How many of the slots come up to and including slot `until`.
 fn count_until(slots: usize, until: usize) -> usize
     ensures within { result ≤ slots }
     ensures covers { (slot : ℕ) → slot ≤ until → slot < slots → slot < result }

@@ -1,11 +1,11 @@
-//! Instructions over the slots of a program.
+//! Lays instructions out over the slots of a program.
 ghost use Rattle.std.specs.Prelude.{◌≡◌, ◌-◌, ◌∷◌, ◌++◌, OnOk, IfOk, Some, None, replicate};
 ghost use Rattle.bq_insn.specs.Slots.{slots_of, spread};
 
 use bq_insn::Insn;
 use std::alloc::{AllocError, Global};
 
-/// One more instruction.
+/// Appends the slots of one more instruction.
 fn place(slots: &mut Vec<Option<Insn>>, insn: Insn) -> Result<(), AllocError>
     ensures { OnOk result (slots.new.items ≡ slots.old.items ++ (Some insn ∷ replicate (slots_of insn - 1) None)) }
 {
@@ -17,7 +17,7 @@ fn place(slots: &mut Vec<Option<Insn>>, insn: Insn) -> Result<(), AllocError>
     Ok(())
 }
 
-/// Each slot with the instruction that begins there.
+/// For each slot the instruction that begins there; `None` for the second slot of a wide instruction.
 pub fn lay_out(alloc: Global, insns: &[Insn]) -> Result<Vec<Option<Insn>>, AllocError>
     ensures { IfOk result (λ slots. slots.items ≡ spread insns.now) }
 {

@@ -1,8 +1,8 @@
 //! The verifier: what it accepts is safe.
 //!
-//! `verify` checks the control graph, whose faults it finds exactly, each at its least slot; then it goes over the slots once
-//! and keeps what is known of registers and stack. A `Verified` is safe within its budget, the longest path of the graph; the
-//! interpreter rests on that and on its flat form.
+//! `verify` first checks the control graph and finds its faults exactly, each at its least slot. Then it goes over the
+//! slots once and keeps what is known of registers and stack. A `Verified` is safe within its budget, the longest path
+//! of the graph. The interpreter relies on the safety and the flat form of a `Verified`.
 #![tactic(auto)]
 
 pub mod cause;
@@ -10,11 +10,11 @@ pub mod checks;
 pub mod edges;
 mod flow;
 pub mod graph_cause;
+pub mod graph_numbers;
 mod known_at;
 pub mod laws;
 pub mod layout;
 mod pass;
-pub mod passes;
 pub mod policy_form;
 pub mod program;
 pub mod refused;

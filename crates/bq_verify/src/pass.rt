@@ -4,38 +4,40 @@ ghost use Rattle.std.specs.Prelude.{◌≡◌, ◌<◌, ◌+◌, ℕ, List, leng
 ghost use Rattle.bq_bpf.specs.Memory.{Setting, State, HaveShapes};
 ghost use Rattle.bq_bpf.specs.Safe.{Safe};
 ghost use Rattle.bq_bpf.specs.Runs.{start as beginning};
-ghost use Rattle.bq_verify.specs.Subjects.{judged};
+ghost use Rattle.bq_verify.specs.Subjects.{subject_of_view};
 ghost use Rattle.bq_verify.specs.Refusals.{IsOutOfMemory, IsStopped, StopsNowhere};
-ghost use Rattle.bq_states.specs.Certainty.{Pointer, Has, IsPlainAt, StandsAt};
+ghost use Rattle.bq_states.specs.Certainty.{Pointer, Has, IsPlainAt, CertaintyHoldsAt};
 ghost use Rattle.bq_verify.specs.Straight.{IsStraightProgram};
 ghost use Rattle.bq_verify.specs.Sure.{IsSure, WhereSure};
 ghost use Rattle.bq_states.specs.AbstractStates.{Contains};
-ghost use Rattle.bq_verify.specs.Control.{AreHeights, AreMade, CanBePassed, IsKnown, PassesOn, RestIsSafe};
+ghost use Rattle.bq_verify.specs.Control.{AreHeights, BoundsCalls, CanBePassed, IsKnown, PassesOn, RestIsSafe};
 
 use crate::edges::instruction;
 use crate::flow::visit;
 use crate::refused::{Refused, refuse};
-use crate::subject::Subject;
+use crate::subject::SubjectView;
 use crate::waiting::{arrive, nothing_waits};
 use bq_bpf::addresses::STACK_SIZE;
 use bq_insn::SLOTS;
 use bq_ranges::Range;
 use bq_states::abstract_state::{AbstractState, AbstractValue, StackPart, ValueKind};
-use bq_states::registers::learn;
+use bq_states::registers::set_register;
 use bq_states::relations::Related;
 use std::alloc::Global;
 
-/// Whether the program is safe within the height of its first slot.
+/// Makes the pass. `Ok`: each obligation is proved, so the program is safe within as many steps as the height of its first
+/// slot. `Err`: where the pass stopped, or that memory ran out.
 ///
-/// The control graph of `subject` has no fault, and `heights` are the longest paths from its slots.
-pub fn judge(alloc: Global, subject: &Subject, heights: &[u32]) -> Result<(), Refused>
-    requires passable { CanBePassed (judged subject.now) }
+/// The control graph of `subject` must have no fault. `heights` must fall along each edge and be at least 1 at each instruction
+/// (`AreHeights`), as the lengths of the longest paths do.
+pub fn judge(alloc: Global, subject: &SubjectView, heights: &[u32]) -> Result<(), Refused>
+    requires passable { CanBePassed (subject_of_view subject.now) }
     requires heights { AreHeights subject.now.slots.now heights.now }
-    requires made { (made : ℕ → ℕ) × AreMade subject.now.slots.now made }
+    requires made { (made : ℕ → ℕ) × BoundsCalls subject.now.slots.now made }
     ensures safe { OnOk result (Safe subject.now.slots.now subject.now.shapes.now subject.now.context (slice_index heights.now 0)) }
-    ensures passed { OnOk result (StopsNowhere (judged subject.now)) }
-    ensures stopped { IfErr result (IsStopped (judged subject.now)) }
-    ensures accepts { IsStraightProgram (judged subject.now) → IfErr result IsOutOfMemory }
+    ensures passed { OnOk result (StopsNowhere (subject_of_view subject.now)) }
+    ensures stopped { IfErr result (IsStopped (subject_of_view subject.now)) }
+    ensures accepts { IsStraightProgram (subject_of_view subject.now) → IfErr result IsOutOfMemory }
 {
     let mut pending = nothing_waits(alloc, subject.slots.len())?;
     let mut state = start();
@@ -43,20 +45,20 @@ pub fn judge(alloc: Global, subject: &Subject, heights: &[u32]) -> Result<(), Re
     Ok(())
 }
 
-/// All slots.
+/// Makes the pass over all slots.
 fn pass(
     alloc: Global,
-    subject: &Subject,
+    subject: &SubjectView,
     heights: &[u32],
     state: &mut AbstractState,
     pending: &mut [Option<Box<AbstractState>>],
 ) -> Result<(), Refused>
-    requires passable { CanBePassed (judged subject.now) }
+    requires passable { CanBePassed (subject_of_view subject.now) }
     requires heights { AreHeights subject.now.slots.now heights.now }
     requires room { length pending.old ≡ length subject.now.slots.now }
-    ensures safe { OnOk result ((made : ℕ → ℕ) → AreMade subject.now.slots.now made → RestIsSafe (judged subject.now) heights.now made 0 (IsKnown pending.old state.old true 0)) }
-    ensures stopped { IfErr result (IsStopped (judged subject.now)) }
-    ensures accepts { IsStraightProgram (judged subject.now) → IsSure subject.now.slots.now pending.old state.old true 0 → IfErr result IsOutOfMemory }
+    ensures safe { OnOk result ((made : ℕ → ℕ) → BoundsCalls subject.now.slots.now made → RestIsSafe (subject_of_view subject.now) heights.now made 0 (IsKnown pending.old state.old true 0)) }
+    ensures stopped { IfErr result (IsStopped (subject_of_view subject.now)) }
+    ensures accepts { IsStraightProgram (subject_of_view subject.now) → IsSure subject.now.slots.now pending.old state.old true 0 → IfErr result IsOutOfMemory }
 {
     let mut live = true;
     for slot in 0..subject.slots.len() {
@@ -65,23 +67,23 @@ fn pass(
     Ok(())
 }
 
-/// One slot: whether an abstract state is transferred on to the next.
+/// Does one slot. Answers whether an abstract state is transferred on to the next slot.
 pub(crate) fn pass_slot(
     alloc: Global,
-    subject: &Subject,
+    subject: &SubjectView,
     slot: usize,
     state: &mut AbstractState,
     live: bool,
     pending: &mut [Option<Box<AbstractState>>],
 ) -> Result<bool, Refused>
-    requires passable { CanBePassed (judged subject.now) }
+    requires passable { CanBePassed (subject_of_view subject.now) }
     requires here { slot < length subject.now.slots.now }
     requires room { length pending.old ≡ length subject.now.slots.now }
     ensures long { length pending.new ≡ length pending.old }
-    ensures passes { IfOk result (λ on. PassesOn (judged subject.now) slot (IsKnown pending.old state.old live slot) (IsKnown pending.new state.new on (slot + 1))) }
-    ensures stopped { IfErr result (IsStopped (judged subject.now)) }
-    ensures accepts { WhereSure (judged subject.now) slot pending.old state.old live (IfErr result IsOutOfMemory) }
-    ensures sure { WhereSure (judged subject.now) slot pending.old state.old live (IfOk result (λ on. IsSure subject.now.slots.now pending.new state.new on (slot + 1))) }
+    ensures passes { IfOk result (λ on. PassesOn (subject_of_view subject.now) slot (IsKnown pending.old state.old live slot) (IsKnown pending.new state.new on (slot + 1))) }
+    ensures stopped { IfErr result (IsStopped (subject_of_view subject.now)) }
+    ensures accepts { WhereSure (subject_of_view subject.now) slot pending.old state.old live (IfErr result IsOutOfMemory) }
+    ensures sure { WhereSure (subject_of_view subject.now) slot pending.old state.old live (IfOk result (λ on. IsSure subject.now.slots.now pending.new state.new on (slot + 1))) }
 {
     if !arrive(subject.shapes, state, live, pending, slot) {
         return Ok(false);
@@ -95,15 +97,15 @@ pub(crate) fn pass_slot(
     }
 }
 
-/// What is known at the start.
+/// What is known at the start of a run.
 pub(crate) fn start() -> AbstractState
     ensures contains { (f : Setting) (maps : List (List ℕ)) → HaveShapes f.shapes maps → Contains f result (beginning maps) }
-    ensures context { StandsAt (Pointer ValueKind.Context 0) result 1 }
-    ensures frame { StandsAt (Pointer ValueKind.Stack STACK_SIZE) result 10 }
+    ensures context { CertaintyHoldsAt (Pointer ValueKind.Context 0) result 1 }
+    ensures frame { CertaintyHoldsAt (Pointer ValueKind.Stack STACK_SIZE) result 10 }
     ensures plain { (j : ℕ) → Has (IsPlainAt j) result }
 {
     let mut state = blank();
-    learn(
+    set_register(
         &mut state,
         1,
         AbstractValue {
@@ -111,7 +113,7 @@ pub(crate) fn start() -> AbstractState
             offset: Range::single(0),
         },
     );
-    learn(
+    set_register(
         &mut state,
         10,
         AbstractValue {
@@ -122,7 +124,7 @@ pub(crate) fn start() -> AbstractState
     state
 }
 
-/// Nothing is known of registers and stack.
+/// The abstract state in which nothing is known of registers and stack.
 fn blank() -> AbstractState
     ensures contains { (f : Setting) (s : State) → HaveShapes f.shapes s.maps → Contains f result s }
     ensures plain { (j : ℕ) → Has (IsPlainAt j) result }

@@ -8,11 +8,11 @@ use bq_hooks::{Hook, Version, context_length};
 /// What a policy has beside its instructions: its hook, the version of its image, and the shapes of its maps.
 #[derive(Drop)]
 pub struct PolicyForm {
-    /// The choice that it makes.
+    /// The hook: which choice the policy makes.
     pub hook: Hook,
-    /// The version of its image. The length of its context depends on it.
+    /// The version of the image. The length of the context depends on the version.
     pub version: Version,
-    /// The shapes of its maps, by their numbers; at most 8.
+    /// The shapes of the maps, in the order of their numbers; at most 8.
     pub shapes: Vec<MapShape>,
     pub ghost few: { length shapes.items ≤ MAPS },
 }
@@ -21,7 +21,7 @@ impl PolicyForm {
     ghost use Rattle.std.specs.Prelude.{◌≡◌};
     ghost use Rattle.bq_verify.specs.Subjects.{context_of};
 
-    /// How many bytes its context has.
+    /// Answers how many bytes the context of the policy has.
     pub fn context_length(&self) -> usize
         ensures { result ≡ context_of self.now }
     {

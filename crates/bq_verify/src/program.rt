@@ -10,15 +10,15 @@ ghost use Rattle.bq_verify.specs.Passes.{IsSound, Measured};
 ghost use Rattle.bq_verify.specs.Paths.{IsGreatest, PathOut};
 ghost use Rattle.bq_verify.specs.Faults.{IsFaultless};
 ghost use Rattle.bq_verify.specs.Refusals.{IsGraphVerdict, IsOutOfMemory, IsVerdictOn};
-ghost use Rattle.bq_verify.specs.Control.{AreMade};
+ghost use Rattle.bq_verify.specs.Control.{BoundsCalls};
 ghost use Rattle.bq_hooks.specs.Hooks.{context_length_of};
 ghost use Rattle.bq_verify.specs.Straight.{IsStraightProgram};
-ghost use Rattle.bq_verify.specs.Subjects.{handed_in};
+ghost use Rattle.bq_verify.specs.Subjects.{subject_of_program};
 
 use crate::cause::Cause;
 use crate::checks::check;
+use crate::graph_numbers::measure;
 use crate::layout::lay_out;
-use crate::passes::measure;
 use crate::policy_form::PolicyForm;
 use crate::refused::Refused;
 use crate::verified::Verified;
@@ -28,9 +28,9 @@ use std::alloc::{AllocError, Global};
 /// A program that is to be verified.
 #[derive(Drop)]
 pub struct Program {
-    /// Its instructions, one after another.
+    /// The instructions of the program, one after another.
     pub insns: Vec<Insn>,
-    /// Its hook, version and maps.
+    /// The hook, version and maps of the program.
     pub form: PolicyForm,
 }
 
@@ -41,14 +41,14 @@ fn blank_counts(alloc: Global, count: usize) -> Result<Vec<Option<u32>>, AllocEr
     vec![in alloc; None; count]
 }
 
-/// The checks of the control graph.
+/// Checks the control graph.
 pub(crate) fn check_graph(alloc: Global, slots: &[Option<Insn>]) -> Result<(), Refused>
     requires some { 0 < length slots.now }
     requires short { length slots.now ≤ SLOTS }
     requires whole { IsWhole slots.now }
     ensures ok { OnOk result (IsFaultless slots.now) }
     ensures refused { IfErr result (IsGraphVerdict slots.now) }
-    ensures made { OnOk result ((made : ℕ → ℕ) × AreMade slots.now made) }
+    ensures made { OnOk result ((made : ℕ → ℕ) × BoundsCalls slots.now made) }
     ensures passes { IsFaultless slots.now → IfErr result IsOutOfMemory }
 {
     let mut most = blank_counts(alloc, slots.len())?;
@@ -75,12 +75,13 @@ fn heights_of(alloc: Global, slots: &[Option<Insn>]) -> Result<Vec<u32>, AllocEr
 
 /// Accepts a program if it is shown to be safe.
 ///
-/// The checks of the control graph run one after the other over the whole program, each naming its least slot:
-/// `Jump`, `NoExit`, `Unreached`, `Frame`, `Helper`, `Counters`. One pass by rising slot follows, which stops at the
-/// first slot of which something is not shown. What is accepted is safe within its budget (see `Verified`), and the
-/// budget is the number of instructions on the longest path to an EXIT. `OutOfMemory` is the answer where memory was
-/// refused. A straight program, in which each instruction finds what it needs on every path (`IsStraightProgram`),
-/// gets no other refusal. A program has one verdict (`IsVerdictOn`, `IsAccepted`), whichever way it comes here.
+/// The checks of the control graph run over the whole program in this order, and each names the least slot with its
+/// fault: `Jump`, `NoExit`, `Unreached`, `Frame`, `Helper`, `Counters`. Then one pass goes over the slots in rising
+/// order, and stops at the first slot with an obligation that is not proven. An accepted program is safe within its
+/// budget (see `Verified`), and the budget is the number of instructions on the longest path to an EXIT. `OutOfMemory`
+/// means that memory ran out. A straight program, in which each instruction finds what it needs on every path
+/// (`IsStraightProgram`), gets no other refusal. The verdict on a program comes from one place: only this call shows
+/// `IsVerdictOn` and `IsAccepted` for a program without a fault of the control graph, whichever way the program came.
 ///
 /// # Example
 ///
@@ -105,8 +106,8 @@ pub fn verify(alloc: Global, program: Program) -> Result<Verified, Refused>
     ensures faultless { IfOk result (λ v. IsFaultless v.slots) }
     ensures budget { IfOk result (λ v. IsGreatest (PathOut v.slots 0) v.budget) }
     ensures accepted { IfOk result (λ v. IsAccepted v.slots v.shapes (context_length_of v.hook v.version) v.budget) }
-    ensures refused { IfErr result (IsVerdictOn (handed_in program)) }
-    ensures accepts { IsStraightProgram (handed_in program) → IfErr result IsOutOfMemory }
+    ensures refused { IfErr result (IsVerdictOn (subject_of_program program)) }
+    ensures accepts { IsStraightProgram (subject_of_program program) → IfErr result IsOutOfMemory }
 {
     verify_slots(alloc, program)
 }
@@ -123,8 +124,8 @@ fn verify_slots(alloc: Global, program: Program) -> Result<Verified, Refused>
     ensures faultless { IfOk result (λ v. IsFaultless v.slots) }
     ensures budget { IfOk result (λ v. IsGreatest (PathOut v.slots 0) v.budget) }
     ensures accepted { IfOk result (λ v. IsAccepted v.slots v.shapes (context_length_of v.hook v.version) v.budget) }
-    ensures refused { IfErr result (IsVerdictOn (handed_in program)) }
-    ensures accepts { IsStraightProgram (handed_in program) → IfErr result IsOutOfMemory }
+    ensures refused { IfErr result (IsVerdictOn (subject_of_program program)) }
+    ensures accepts { IsStraightProgram (subject_of_program program) → IfErr result IsOutOfMemory }
 {
     let Program { insns, form } = program;
     let slots = lay_out(alloc, insns.as_slice())?;

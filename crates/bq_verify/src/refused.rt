@@ -1,4 +1,4 @@
-//! The answer to a program that is not accepted.
+//! The answer if a program is not accepted.
 
 ghost use Rattle.std.specs.Prelude.{◌≡◌, Some};
 ghost use Rattle.bq_insn.specs.declared.Insn.{Insn};
@@ -7,11 +7,11 @@ ghost use Rattle.bq_verify.specs.Stops.{IsWantOfMemory, MayStop};
 ghost use Rattle.bq_transfer.specs.declared.obligation.Obligation.{Obligation as Missing};
 ghost use Rattle.bq_verify.specs.declared.refused.Refused.TheVariants.{At};
 ghost use Rattle.bq_verify.specs.Refusals.{IsOutOfMemory, IsStopped};
-ghost use Rattle.bq_verify.specs.Subjects.{judged};
+ghost use Rattle.bq_verify.specs.Subjects.{subject_of_view};
 
 use crate::cause::Cause;
 use crate::stop::PassStop;
-use crate::subject::Subject;
+use crate::subject::SubjectView;
 use std::alloc::AllocError;
 
 /// Why a program is not accepted: a cause at a slot, or that memory ran out.
@@ -19,7 +19,7 @@ use std::alloc::AllocError;
 pub enum Refused {
     /// The cause, and the slot of the instruction that has it.
     At { slot: usize, cause: Cause },
-    /// Memory ran out, which says nothing of the program.
+    /// Memory ran out, which says nothing about the program.
     OutOfMemory,
 }
 
@@ -34,8 +34,8 @@ impl From<AllocError> for Refused {
 }
 
 /// The refusal of a program over which the pass stopped at a slot.
-pub(crate) fn refuse(subject: &Subject, slot: usize, stop: PassStop) -> Refused
-    ensures stopped { (insn : Insn) → instruction_at subject.now.slots.now slot ≡ Some insn → MayStop stop insn → IsStopped (judged subject.now) result }
+pub(crate) fn refuse(subject: &SubjectView, slot: usize, stop: PassStop) -> Refused
+    ensures stopped { (insn : Insn) → instruction_at subject.now.slots.now slot ≡ Some insn → MayStop stop insn → IsStopped (subject_of_view subject.now) result }
     ensures named { (obligation : Missing) → stop ≡ PassStop.Unproven obligation → result ≡ At slot (Cause.State obligation) }
     ensures memory { IsWantOfMemory stop → IsOutOfMemory result }
 {

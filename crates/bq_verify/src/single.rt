@@ -8,7 +8,7 @@ use bq_bpf::helper::Helper;
 use bq_bpf::instruction::{destination, distance, may_go_on};
 use bq_insn::{Insn, SLOTS};
 
-/// Whether there is such a helper.
+/// Whether a helper with this number exists.
 pub fn is_known_helper(helper: i32) -> bool
     ensures { result ≡ is_helper helper }
 {

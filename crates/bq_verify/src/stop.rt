@@ -6,7 +6,7 @@ use std::alloc::AllocError;
 /// Why the pass stops at an instruction.
 #[derive(Clone, Copy)]
 pub enum PassStop {
-    /// Something is not shown of it.
+    /// An obligation of the instruction is not proven.
     Unproven(Obligation),
     /// Memory ran out.
     OutOfMemory,

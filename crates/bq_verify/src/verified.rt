@@ -3,7 +3,7 @@
 use crate::pass::judge;
 use crate::policy_form::PolicyForm;
 use crate::refused::Refused;
-use crate::subject::Subject;
+use crate::subject::SubjectView;
 use bq_bpf::{MapShape, Packed, pack_all};
 use bq_hooks::{Hook, Version};
 use bq_insn::Insn;
@@ -36,8 +36,8 @@ impl Verified {
     ghost use Rattle.bq_bpf.specs.Packing.{Stands};
     ghost use Rattle.bq_verify.specs.Accepted.{IsAccepted};
     ghost use Rattle.bq_hooks.specs.Hooks.{context_length_of};
-    ghost use Rattle.bq_verify.specs.Control.{AreHeights, AreMade, CanBePassed};
-    ghost use Rattle.bq_verify.specs.Subjects.{in_form};
+    ghost use Rattle.bq_verify.specs.Control.{AreHeights, BoundsCalls, CanBePassed};
+    ghost use Rattle.bq_verify.specs.Subjects.{subject_of_slots};
     ghost use Rattle.bq_verify.specs.Refusals.{IsOutOfMemory, IsStopped};
     ghost use Rattle.bq_verify.specs.Straight.{IsStraightProgram};
     ghost use Rattle.bq_bpf.specs.Steps.{instruction_at};
@@ -89,23 +89,24 @@ impl Verified {
         self.form.version
     }
 
-    /// How many instructions a run takes at most.
+    /// Answers how many instructions a run executes at most: those on the longest path to an EXIT.
     pub fn budget(&self) -> u32
         ensures { result ≡ self.now.budget }
     {
         self.budget
     }
 
-    /// The program, if it is safe; the numbers are the longest paths from its slots.
+    /// The program, if it is safe. `heights` fall along each edge and are at least 1 at each instruction (`AreHeights`), as the lengths
+    /// of the longest paths do.
     pub(crate) fn new(
         alloc: Global,
         slots: Vec<Option<Insn>>,
         form: PolicyForm,
         heights: &[u32],
     ) -> Result<Verified, Refused>
-        requires passable { CanBePassed (in_form slots.items form) }
+        requires passable { CanBePassed (subject_of_slots slots.items form) }
         requires heights { AreHeights slots.items heights.now }
-        requires made { (made : ℕ → ℕ) × AreMade slots.items made }
+        requires made { (made : ℕ → ℕ) × BoundsCalls slots.items made }
         requires as_many { length heights.now ≡ length slots.items }
         requires some { 0 < length slots.items }
         ensures slots { IfOk result (λ v. v.slots ≡ slots.items) }
@@ -114,10 +115,10 @@ impl Verified {
         ensures version { IfOk result (λ v. v.version ≡ form.version) }
         ensures budget { IfOk result (λ v. v.budget ≡ slice_index heights.now 0) }
         ensures accepted { IfOk result (λ v. IsAccepted v.slots v.shapes (context_length_of v.hook v.version) v.budget) }
-        ensures stopped { IfErr result (IsStopped (in_form slots.items form)) }
-        ensures accepts { IsStraightProgram (in_form slots.items form) → IfErr result IsOutOfMemory }
+        ensures stopped { IfErr result (IsStopped (subject_of_slots slots.items form)) }
+        ensures accepts { IsStraightProgram (subject_of_slots slots.items form) → IfErr result IsOutOfMemory }
     {
-        let subject = Subject {
+        let subject = SubjectView {
             slots: slots.as_slice(),
             shapes: form.shapes.as_slice(),
             context: form.context_length(),

@@ -1,4 +1,4 @@
-//! Abstract states that wait, each in a box, for the slots that ways lead to.
+//! Abstract states that wait, each in a box, at the slots to which ways lead.
 
 ghost use Rattle.std.specs.Prelude.{◌≡◌, ◌<◌, ℕ, true, None, length, slice_index_or, IfOk, OnOk};
 ghost use Rattle.bq_bpf.specs.Memory.{Setting, State};
@@ -12,7 +12,7 @@ use bq_states::abstract_state::AbstractState;
 use bq_states::joins::join_states;
 use std::alloc::{AllocError, Global};
 
-/// No slot has an abstract state that waits.
+/// A list with a place for each slot, where no abstract state waits yet.
 pub fn nothing_waits(
     alloc: Global,
     count: usize,
@@ -27,7 +27,8 @@ pub fn nothing_waits(
     Ok(pending)
 }
 
-/// Joins what waits at the slot into the abstract state that is transferred to it; whether anything is known there.
+/// Joins the abstract state that waits at the slot into the one that is transferred to the slot. Answers whether
+/// anything is known there.
 pub fn arrive(
     shapes: &[MapShape],
     state: &mut AbstractState,
@@ -45,6 +46,8 @@ pub fn arrive(
     take_over(shapes, state, live, &mut pending[slot])
 }
 
+/// Joins the state that waits, if one does, into `state`; replaces `state` by it if nothing is known so far (`live` is false).
+/// Answers whether anything is known then.
 fn take_over(
     shapes: &[MapShape],
     state: &mut AbstractState,
@@ -67,7 +70,7 @@ fn take_over(
     true
 }
 
-/// One more abstract state that waits for a slot.
+/// Lets one more abstract state wait at a slot, joined with the one that waits there already, if one does.
 pub fn wait(
     alloc: Global,
     shapes: &[MapShape],
@@ -84,6 +87,7 @@ pub fn wait(
     join(alloc, shapes, &mut pending[slot], state)
 }
 
+/// Joins one more abstract state into the one that waits, or makes it the one that waits.
 fn join(
     alloc: Global,
     shapes: &[MapShape],

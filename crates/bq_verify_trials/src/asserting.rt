@@ -14,8 +14,8 @@ pub fn is_number(rt: &impl Abort, number: u64, expected: u64) {
 }
 
 /// What is said of something is as expected.
-pub fn is_said(rt: &impl Abort, said: &str, expected: &str, of: &str) {
-    assert_eq!(rt; said, expected, "{of}");
+pub fn is_reported(rt: &impl Abort, reported: &str, expected: &str, of: &str) {
+    assert_eq!(rt; reported, expected, "{of}");
 }
 
 /// Bytes are as expected.

@@ -308,7 +308,7 @@ static OFFSETS: [(u8, u8, u16, Answer); 9] = [
 ];
 
 #[test]
-fn the_version_says_how_long_the_context_is(rt: HostRuntime) {
+fn the_version_states_how_long_the_context_is(rt: HostRuntime) {
     for (row, (version, hook, offset, answer)) in OFFSETS.iter().enumerate() {
         let rest = context_load(*offset);
         let moves = Moves {

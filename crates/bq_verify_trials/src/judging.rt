@@ -3,7 +3,7 @@
 ghost use Rattle.std.specs.Prelude.{◌≡◌, ◌≤◌, length, true};
 ghost use Rattle.bq_insn.specs.Spelling.{is_well_formed};
 
-use crate::asserting::is_said;
+use crate::asserting::is_reported;
 use bq_asm::assemble;
 use bq_bpf::MapShape;
 use bq_hooks::{Hook, Version};
@@ -65,13 +65,13 @@ fn verdict(
 }
 
 /// A verdict in a word or two: the budget, or the cause of the refusal and its slot.
-fn told(rt: &impl Abort, alloc: Global, verdict: Result<u32, Refused>) -> String {
-    let told = match verdict {
+fn reported(rt: &impl Abort, alloc: Global, verdict: Result<u32, Refused>) -> String {
+    let reported = match verdict {
         Ok(budget) => format!(in alloc; "{budget}"),
         Err(Refused::At { slot, cause }) => format!(in alloc; "{cause:?} {slot}"),
         Err(Refused::OutOfMemory) => String::from_str(alloc, "out of memory"),
     };
-    told.expect(rt, "memory")
+    reported.expect(rt, "memory")
 }
 
 /// The program has that answer.
@@ -84,8 +84,8 @@ pub fn are_answered(
     text: &str,
 ) {
     let verdict = verdict(rt, alloc, insns, terms);
-    let told = told(rt, alloc, verdict);
-    is_said(rt, told.as_str(), answer, text);
+    let reported = reported(rt, alloc, verdict);
+    is_reported(rt, reported.as_str(), answer, text);
 }
 
 /// The program of a text has that answer.

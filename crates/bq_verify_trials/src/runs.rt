@@ -5,7 +5,7 @@ use crate::asserting::{is_number, is_true};
 use crate::judging::shape;
 use crate::verdicts::repeated;
 use bq_asm::assemble;
-use bq_bpf::{Call, Plain};
+use bq_bpf::{CounterCall, Plain};
 use bq_hooks::{Hook, Version, context_length};
 use bq_interp::env::Env;
 use bq_interp::runs::{Ran, run};
@@ -199,10 +199,10 @@ fn takes_branches(rt: &impl Abort, alloc: Global, text: &str) {
 }
 
 /// Whether these are so many adds of 5 to counter 3, from 0 on.
-fn adds_in_turn(calls: &[Call]) -> bool {
+fn adds_in_turn(calls: &[CounterCall]) -> bool {
     let mut before = 0u64;
     for made in calls {
-        let add = Call::Add {
+        let add = CounterCall::Add {
             counter: 3,
             amount: 5,
             answer: before,

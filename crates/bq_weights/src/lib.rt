@@ -7,7 +7,7 @@ ghost use Rattle.bq_weights.specs.VirtualTime.{is_nice, weights, weight_of, IsWe
 /// The greatest virtual time.
 pub const GREATEST: u64 = 1 << 62;
 
-/// How far from the mark a task that leaves is remembered to be.
+/// The greatest distance from the mark that is remembered of a task that leaves, on either side.
 pub const FARTHEST: u64 = 1 << 30;
 
 /// The weight of nice value 0, at which virtual time passes as fast as the clock.
@@ -61,7 +61,7 @@ fn weight_at(place: usize) -> u32
     WEIGHTS[place]
 }
 
-/// The virtual time that `d` takes at weight `w`.
+/// The virtual time that a task of weight `w` gains in `d` nanoseconds.
 pub fn vdelta(d: u64, w: u32) -> u64
     requires short { d < 2 ^ 48 }
     requires weight { IsWeight w }
@@ -71,15 +71,15 @@ pub fn vdelta(d: u64, w: u32) -> u64
     d * NICE_0_WEIGHT / u64::from(w)
 }
 
-/// The time that takes a virtual time at weight `w`, in nanoseconds, rounded down: so much a task of that weight is owed that is
-/// so far behind the mean.
+/// The time in which a task of weight `w` gains this virtual time: what it is owed if it is that far behind the mean. In
+/// nanoseconds, rounded down.
 pub fn time_of(virtual_time: u64, w: u32) -> u128
     ensures { result ≡ time_of virtual_time w }
 {
     u128::from(w) * u128::from(virtual_time) / u128::from(NICE_0_WEIGHT)
 }
 
-/// `v` after `d` at weight `w`.
+/// The virtual time of a task of weight `w` at `v` that has run for `d` nanoseconds: at most 2^62.
 pub fn advance(v: u64, d: u64, w: u32) -> u64
     requires short { d < 2 ^ 48 }
     requires weight { IsWeight w }
@@ -89,7 +89,7 @@ pub fn advance(v: u64, d: u64, w: u32) -> u64
     v.saturating_add(vdelta(d, w)).min(GREATEST)
 }
 
-/// The mark moved by `rel`, held within 0 and the greatest virtual time.
+/// The mark moved by `rel`, held from 0 to the greatest virtual time.
 pub fn shift(mark: u64, rel: i64) -> u64
     ensures value { result ≡ shift_of mark rel }
     ensures high { result ≤ 2 ^ 62 }
@@ -114,7 +114,7 @@ pub fn shift_within(mark: u64, rel: i64, most: u64) -> u64
     }
 }
 
-/// How far `v` is from the mark, held within the farthest distance on either side.
+/// `v` less the mark, held within the farthest distance on either side.
 pub fn distance(v: u64, mark: u64) -> i64
     ensures value { result ≡ distance_of v mark }
 {

@@ -5,7 +5,9 @@ use Rattle.bq_interp.specs.declared.runs.Done.{Done}
 use Rattle.bq_installed.specs.Standing.{HasAnswered, WasAnswered}
 
 -- what is remembered of a policy that stands is an answer which it gave, in this many steps
-pub answered_by : (p : Option Accepted) (d : Done) (steps : ℕ) → d.steps ≡ steps → WasAnswered p (Some d) → (policy : Accepted) × (p ≡ Some policy) × HasAnswered policy (record { r0 = d.r0; steps = steps })
+pub answered_by : (p : Option Accepted) (d : Done) (steps : ℕ)
+    → d.steps ≡ steps → WasAnswered p (Some d)
+    → (policy : Accepted) × (p ≡ Some policy) × HasAnswered policy (record { r0 = d.r0; steps = steps })
 answered_by None d steps e h = absurd h
 answered_by (Some policy) d steps e h =
     let P : ℕ → Type 0 = λ n. HasAnswered policy (record { r0 = d.r0; steps = n }) in

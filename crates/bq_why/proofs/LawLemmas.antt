@@ -36,10 +36,13 @@ eligible_up_to_the_mean (x ∷ xs) t mean l e =
     let q = quotient_tests (total_weight (x ∷ xs)) t.v (weighted_sum (x ∷ xs)) l in
     cc
 
-found_by_test : (b : Bool) (p : Task → Bool) (x : Task) (xs : List Task) → p x ≡ b → IfSome (find p xs) (λ u. Contains xs u × (p u ≡ true)) → IfSome (cond b (Some x) (find p xs)) (λ u. Contains (x ∷ xs) u × (p u ≡ true))
+found_by_test : (b : Bool) (p : Task → Bool) (x : Task) (xs : List Task)
+    → p x ≡ b → IfSome (find p xs) (λ u. Contains xs u × (p u ≡ true))
+    → IfSome (cond b (Some x) (find p xs)) (λ u. Contains (x ∷ xs) u × (p u ≡ true))
 found_by_test true p x xs e h = (Contains-first x xs, e)
 found_by_test false p x xs e h =
-    IfSome-weaker (find p xs) (λ u. Contains xs u × (p u ≡ true)) (λ u. Contains (x ∷ xs) u × (p u ≡ true)) (λ u k. (Contains-later x u xs k.0, k.1)) h
+    IfSome-weaker (find p xs) (λ u. Contains xs u × (p u ≡ true)) (λ u. Contains (x ∷ xs) u × (p u ≡ true))
+    (λ u k. (Contains-later x u xs k.0, k.1)) h
 
 -- what a search finds is one of the tasks, and meets the test
 find_found : (p : Task → Bool) (xs : List Task) → IfSome (find p xs) (λ u. Contains xs u × (p u ≡ true))
@@ -60,25 +63,28 @@ pub lower_id_wins : LowerIdWins
 lower_id_wins Cfs xs =
     let w = total_weight xs in
     let s = weighted_sum xs in
-    IfSome-weaker (cfs.choice xs) (λ t. Contains xs t × ((u : Task) → Contains xs u → runs_before u t ≡ false)) (λ t. IfSome (tied_with Cfs t xs) (λ u. t.id < u.id))
+    IfSome-weaker (cfs.choice xs) (λ t. Contains xs t × ((u : Task) → Contains xs u → runs_before u t ≡ false))
+    (λ t. IfSome (tied_with Cfs t xs) (λ u. t.id < u.id))
     (λ t h. IfSome-weaker (find (is_tied Cfs w s t) xs) (λ u. Contains xs u × (is_tied Cfs w s t u ≡ true)) (λ u. t.id < u.id)
-    (λ u k. lower_under_cfs w s t u k.1 (h.1 u k.0)) (find_found (is_tied Cfs w s t) xs))
-    (choice_is_least xs)
+    (λ u k. lower_under_cfs w s t u k.1 (h.1 u k.0)) (find_found (is_tied Cfs w s t) xs)) (choice_is_least xs)
 lower_id_wins Eevdf xs =
     let w = total_weight xs in
     let s = weighted_sum xs in
-    IfSome-weaker (eevdf.choice xs) (λ t. Contains xs t × (is_eligible xs t ≡ true) × ((u : Task) → Contains xs u → is_eligible xs u ≡ true → due_before u t ≡ false))
+    IfSome-weaker (eevdf.choice xs)
+    (λ t. Contains xs t × (is_eligible xs t ≡ true) × ((u : Task) → Contains xs u → is_eligible xs u ≡ true → due_before u t ≡ false))
     (λ t. IfSome (tied_with Eevdf t xs) (λ u. t.id < u.id))
     (λ t h. IfSome-weaker (find (is_tied Eevdf w s t) xs) (λ u. Contains xs u × (is_tied Eevdf w s t u ≡ true)) (λ u. t.id < u.id)
     (λ u k. lower_under_eevdf w s t u k.1 (h.2 u k.0 (tied_is_eligible w s t u k.1))) (find_found (is_tied Eevdf w s t) xs))
     (choice_is_earliest xs)
 
 -- a task is taken where the sizes allow it and one may go
-taken_where_some : (b : Bool) (xs : List Task) (n : ℕ) → n ≡ length xs → is_taken (if b then (if n == 0 then NoneMayGo else Greatest) else TooFew) ≡ is_some (if b then first_by pulled_before xs else None)
+taken_where_some : (b : Bool) (xs : List Task) (n : ℕ) → n ≡ length xs
+    → is_taken (if b then (if n == 0 then NoneMayGo else Greatest) else TooFew) ≡ is_some (if b then first_by pulled_before xs else None)
 taken_where_some false xs n e = refl
 taken_where_some true [] n e = rw e refl
 taken_where_some true (x ∷ xs) n e = let some : (n == 0) ≡ false = grind (arith, nat_tests) in rw some refl
 
 -- the discipline takes a task exactly where that is said
 pub names_the_pull : NamesThePull
-names_the_pull puller size other queue = taken_where_some (nat_le (size + 2) other) (movable puller queue) _ (length-reverse (filter (can_use puller) queue))
+names_the_pull puller size other queue =
+    taken_where_some (nat_le (size + 2) other) (movable puller queue) _ (length-reverse (filter (can_use puller) queue))

@@ -1,4 +1,4 @@
--- Laws of what is said of a choice.
+-- Laws of what the form says of a choice.
 use Rattle.std.specs.Prelude.{◌≡◌, ◌<◌, ℕ, Bool, true, false, nat_le, List, Some, IfSome, is_some, length}
 use Rattle.bq_words.specs.declared.rule.Rule.{Rule}
 use Rattle.bq_disc.specs.Tasks.{Task}
@@ -12,18 +12,19 @@ use Rattle.bq_why.specs.Pulls.{own_pull_of}
 use Rattle.bq_why.specs.declared.pulling.OwnPull.{OwnPull}
 use Rattle.bq_why.specs.declared.pulling.OwnPull.TheVariants.{Greatest}
 
--- a task is eligible exactly where its v is at most the mean of those that are there, rounded down
+-- a task is eligible exactly when its v is at most the mean of the tasks that are there, rounded down
 abbrev pub EligibleUpToTheMean : Type 0
 EligibleUpToTheMean = (xs : List Task) (t : Task) (mean : ℕ) → 0 < total_weight xs → mean_of xs ≡ Some mean → (row_of xs t).is_eligible ≡ nat_le t.v mean
 
--- of the choice and a task that only the id tells apart from it the choice has the lower id
+-- if another task differs from the choice only by its id, the choice has the lower id
 abbrev pub LowerIdWins : Type 0
 LowerIdWins = (rule : Rule) (xs : List Task) → IfSome ((discipline_of rule).choice xs) (λ t. IfSome (tied_with rule t xs) (λ u. t.id < u.id))
 
+-- whether the discipline takes a task for this reason
 abbrev pub is_taken : OwnPull → Bool
 is_taken Greatest = true
 is_taken other = false
 
--- the discipline takes a task exactly where that is said
+-- the discipline takes a task exactly when the form says so
 abbrev pub NamesThePull : Type 0
 NamesThePull = (puller size other : ℕ) (queue : List Task) → is_taken (own_pull_of size other (length (movable_to puller queue))) ≡ is_some (pull_of puller size other queue)

@@ -7,15 +7,15 @@ use Rattle.bq_why.specs.declared.pulling.PullSight.{PullSight}
 use Rattle.bq_why.specs.declared.pulling.OwnPull.{OwnPull}
 use Rattle.bq_why.specs.declared.pulling.OwnPull.TheVariants.{TooFew, NoneMayGo, Greatest}
 
--- a pull sees how many tasks run or wait at the puller and at the other processor, how many of the other's queue may go, and the
--- first eight of these by falling (v, id)
+-- a pull sees how many tasks run or wait at both processors, how many of the other processor's queue may go, and the first eight of
+-- these by falling (v, id)
 pub record Sees (puller : ℕ) (here there : Running) (sight : PullSight) : Type 0 where
   pub size : length (present_at here) ≤ TASKS → sight.size ≡ length (present_at here)
   pub other_size : length (present_at there) ≤ TASKS → sight.other_size ≡ length (present_at there)
   pub count : length there.queue ≤ TASKS → sight.movable.count ≡ length (movable_to puller there.queue)
   pub first : length there.queue ≤ TASKS → sight.movable.first.items ≡ take 8 (ids (movable_to puller there.queue))
 
--- why the discipline takes what it takes: two tasks more are there, or fewer, by the sizes of the puller and the other; and some may
--- go, or none
+-- why the discipline takes a task or none, by the sizes of both processors and by how many tasks may go: the other processor's size
+-- must be greater by at least two
 abbrev pub own_pull_of : ℕ → ℕ → ℕ → OwnPull
 own_pull_of size other count = if nat_le (size + 2) other then (if count == 0 then NoneMayGo else Greatest) else TooFew

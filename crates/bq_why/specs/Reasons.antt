@@ -1,4 +1,4 @@
--- Why the task that runs does so.
+-- Why the running task runs.
 use Rattle.std.specs.Prelude.{ℕ, ◌+◌, ◌-◌, ◌==◌, nat_lt, if◌then◌else◌, List, Option, Some, None}
 use Rattle.bq_cfs.specs.declared.discipline.TheConstants.{GRANULARITY}
 use Rattle.bq_hooks.specs.declared.settled.By.{By}
@@ -11,31 +11,32 @@ use Rattle.bq_eevdf.specs.Eevdf.{eevdf}
 use Rattle.bq_why.specs.declared.reasons.Reason.{Reason}
 use Rattle.bq_why.specs.declared.reasons.Reason.TheVariants.{Nobody, Policy, EarliestDeadline, LeastRuntime, GivesWay, Stays, Other}
 
--- under EEVDF it is the choice of all that are there
+-- under EEVDF: whether the running task is the choice
 abbrev pub eevdf_reason_of : ℕ → Option Task → Reason
 eevdf_reason_of run None = Other
 eevdf_reason_of run (Some t) = if t.id == run then EarliestDeadline else Other
 
--- the least runs: where the one that ran is more than 1,000,000 ahead of it, that gives way
+-- the task of least v runs: if the task that ran is more than 1,000,000 ahead of it, that task gives way
 abbrev pub least_reason_of : Option Task → Task → Reason
 least_reason_of None l = LeastRuntime
 least_reason_of (Some f) l = if nat_lt (l.v + GRANULARITY) f.v then GivesWay (f.v - l.v) else LeastRuntime
 
--- under CFS it is the least, or it runs on though another one is less
+-- under CFS: the running task has the least v, or it runs on although another task has less
 abbrev pub cfs_reason_of : Option Task → Option Task → Option Task → Reason
 cfs_reason_of former (Some l) (Some r) = if r.id == l.id then least_reason_of former l else Stays (r.v - l.v) l.id
 cfs_reason_of former l r = Other
 
+-- the task that ran before, if it is still there
 abbrev pub former_of : Option ℕ → List Task → Option Task
 former_of None xs = None
 former_of (Some id) xs = with_id id xs
 
--- the rule's reason, by the tasks that are there, the task that ran before and the one that runs
+-- the rule's reason, by the tasks that are there, the task that ran before and the running one
 abbrev pub rule_reason_of : Rule → Option ℕ → ℕ → List Task → Reason
 rule_reason_of Eevdf was run xs = eevdf_reason_of run (eevdf.choice xs)
 rule_reason_of Cfs was run xs = cfs_reason_of (former_of was xs) (cfs.choice xs) (with_id run xs)
 
--- by whose choice it runs: a policy is named exactly where the choice was a policy's
+-- the reason, by who chose: it names a policy exactly when a policy made the choice
 abbrev pub reason_of : Rule → By → Option ℕ → Option ℕ → List Task → Reason
 reason_of rule by was None xs = Nobody
 reason_of rule who.Policy was (Some run) xs = Policy

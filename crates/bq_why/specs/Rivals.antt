@@ -7,20 +7,21 @@ use Rattle.bq_disc.specs.Dues.{due_before}
 use Rattle.bq_disc.specs.Totals.{total_weight, weighted_sum, is_at_most_mean}
 use Rattle.bq_eevdf.specs.Eevdf.{is_eligible}
 
+-- the task, if it is not eligible
 abbrev pub if_not_eligible : List Task → Option Task → Option Task
 if_not_eligible xs None = None
 if_not_eligible xs (Some t) = if is_eligible xs t then None else Some t
 
--- the task that is due first of all, where it is not eligible
+-- the task that is due first of all, if it is not eligible
 abbrev pub passed_over : List Task → Option Task
 passed_over xs = if_not_eligible xs (first_by due_before xs)
 
--- whether u is another task than t that only the id tells apart from it: under CFS one of the same v, under EEVDF one of the same
--- deadline that is eligible, among tasks that have this weight and this weighted sum together
+-- whether u is not t and differs in nothing that the rule compares but the id. CFS compares the v. EEVDF compares the deadline, and u must
+-- be eligible among tasks that have this weight and this weighted sum together
 abbrev pub is_tied : Rule → ℕ → ℕ → Task → Task → Bool
 is_tied Cfs weight sum t u = not (u.id == t.id) && (u.v == t.v)
 is_tied Eevdf weight sum t u = not (u.id == t.id) && ((u.deadline == t.deadline) && is_at_most_mean weight sum u)
 
--- the first of some tasks that only the id tells apart from t
+-- the first task that `is_tied` with t
 abbrev pub tied_with : Rule → Task → List Task → Option Task
 tied_with rule t xs = find (is_tied rule (total_weight xs) (weighted_sum xs) t) xs

@@ -13,17 +13,17 @@ use Rattle.bq_why.specs.declared.table.TaskRow.{TaskRow}
 abbrev pub apart : ℕ → ℕ → ℕ
 apart m n = (m - n) + (n - m)
 
--- A task's row, by the weight, the sum of weight times v, and the mean v of all. What it is owed, or has had too much, is the
--- time that takes its distance from the mean
+-- A task's row, by the weight, the sum of weight times v, and the mean v of all tasks. Its lag is the time in which it would cover its
+-- distance from the mean
 abbrev pub row_by : ℕ → ℕ → ℕ → Task → TaskRow
 row_by weight sum mean t =
     record { task = t.id; weight = t.weight; v = t.v; deadline = t.deadline; is_eligible = is_at_most_mean weight sum t; lag = time_of (apart t.v mean) t.weight }
 
--- a task's row among all
+-- a task's row among these tasks
 abbrev pub row_of : List Task → Task → TaskRow
 row_of xs t = row_by (total_weight xs) (weighted_sum xs) (unwrap_or (mean_of xs) 0) t
 
--- what a rule measures some tasks from: CFS their least v, EEVDF their mean v
+-- what a rule measures some tasks from: CFS from their least v, EEVDF from their mean v
 abbrev pub measured_from : Rule → List Task → Option ℕ
 measured_from Cfs xs = option_map (λ (t : Task). t.v) (least xs)
 measured_from Eevdf xs = mean_of xs

@@ -1,4 +1,4 @@
--- What is said of a choice.
+-- What the form says of a choice.
 use Rattle.std.specs.Prelude.{◌^◌, ◌-◌, ℕ, min, nat_lt, if◌then◌else◌, Bool, true, false, List, ◌++◌, Option, Some, None, codes}
 use Rattle.bq_parts.specs.declared.event.Event.{Event}
 use Rattle.bq_parts.specs.declared.event.Event.TheVariants.{EndWake, Drain, Tick, Block, Pull}
@@ -9,7 +9,7 @@ use Rattle.bq_why.specs.declared.table.TaskRow.{TaskRow}
 use Rattle.bq_why.specs.declared.words_of.Standing.{Standing}
 use Rattle.bq_why.specs.Rows.{apart}
 
--- the processor at which an event may choose, and its time
+-- the processor at which an event may choose, and the event's time
 abbrev pub place_of : Event → Option (ℕ × ℕ)
 place_of (EndWake processor now) = Some (processor, now)
 place_of (Drain processor now) = Some (processor, now)
@@ -18,12 +18,12 @@ place_of (Block processor now) = Some (processor, now)
 place_of (Pull processor from now) = Some (processor, now)
 place_of other = None
 
--- the sign of a lag: what is eligible is owed, and what is not has had more than its share
+-- the sign of a lag: an eligible task is owed time, another one has had more than its share
 abbrev pub sign_of : Bool → List ℕ
 sign_of true = codes "+"
 sign_of false = codes "-"
 
--- a row's lag, in milliseconds, of as many nanoseconds as 64 bits hold
+-- a row's lag in milliseconds; the nanoseconds are at most the greatest number of 64 bits
 abbrev pub lag_text : TaskRow → List ℕ
 lag_text row = sign_of row.is_eligible ++ millis_text (min row.lag (2 ^ 64 - 1))
 
@@ -44,11 +44,11 @@ sign_before time = if nat_lt time (2 ^ 32) then codes "-" else codes ""
 abbrev pub virtual_text : ℕ → List ℕ
 virtual_text time = sign_before time ++ millis_text (apart time (2 ^ 32))
 
--- what a rule measures its tasks from
+-- the name of what a rule measures its tasks from
 abbrev pub origin_name : Rule → List ℕ
 origin_name Cfs = codes "least v"
 origin_name Eevdf = codes "mean"
 
--- the mark, and what the rule measures its tasks from
+-- the mark of a processor, and what the rule measures its tasks from
 abbrev pub standing_text : Standing → List ℕ
 standing_text s = codes "mark " ++ (virtual_text s.mark ++ (codes "  " ++ (origin_name s.rule ++ (codes " " ++ virtual_text s.from))))

@@ -1,21 +1,21 @@
-//! What came of asking a policy, in words.
+//! How a policy's answer is put into words.
 
 use crate::answers::answer;
 use bq_hooks::Hook;
 use bq_trace::{AnyCore, Seen};
 use std::alloc::AllocError;
 
-/// What came of asking a policy.
+/// What asking a policy led to.
 #[derive(Clone, Copy)]
 pub(crate) struct Asked {
-    /// The instructions that it took, 0 where none was asked.
+    /// The instructions that the policy took, 0 if no policy was asked.
     steps: u32,
-    /// The number that it answered.
+    /// The number that the policy answered, if it is known.
     answer: Option<u64>,
 }
 
 impl Asked {
-    /// No policy was asked.
+    /// The value if no policy was asked.
     pub fn nobody() -> Asked {
         Asked {
             steps: 0,
@@ -23,7 +23,7 @@ impl Asked {
         }
     }
 
-    /// The policy at a hook of a processor took this many steps.
+    /// The value if the policy at a hook of a processor took this many steps.
     pub fn at(machine: &AnyCore, processor: u8, hook: Hook, steps: u32) -> Asked {
         let answer = match machine.seen(processor) {
             Some(Seen::Cfs(cpu)) => answer(cpu, hook, steps),
@@ -45,7 +45,7 @@ impl Asked {
         }
     }
 
-    /// Adds that the policy's answer is not permitted, where one was asked and the rule chose all the same.
+    /// If a policy's answer is known, adds that it is not permitted. Call this if the rule decided.
     pub fn write_overruled(&self, text: &mut String) -> Result<(), AllocError> {
         let steps = self.steps;
         match self.answer {

@@ -1,4 +1,4 @@
-//! The tasks that a choice was among, and why the one that runs was chosen, in words.
+//! The tasks that a choice was among, and why the running one was chosen, in words.
 
 ghost use Rattle.std.specs.Prelude.{◌≤◌, length};
 
@@ -21,15 +21,15 @@ use std::alloc::{AllocError, Global};
 #[derive(Clone, Copy)]
 pub(crate) struct RunChoice {
     pub processor: u8,
-    /// Who ran before.
+    /// The task that ran before.
     pub was: Option<u16>,
-    /// Who runs.
+    /// The task that runs now.
     pub run: Option<u16>,
     pub by: By,
     pub asked: Asked,
 }
 
-/// Adds the tasks that were there, and why the one that runs was chosen.
+/// Adds the tasks that were there, and why the running one was chosen.
 pub(crate) fn write_choice(
     alloc: Global,
     text: &mut String,
@@ -52,7 +52,7 @@ pub(crate) fn write_choice(
     write_reason(text, names, rule, choice, tasks.as_slice(), rows.as_slice())
 }
 
-/// Adds a line a task, below a head, where there are tasks.
+/// Adds a head and one line for each task, if there are tasks.
 fn write_rows(
     alloc: Global,
     text: &mut String,
@@ -105,7 +105,7 @@ fn write_row(
     text.push_str("\n")
 }
 
-/// Adds why the task that runs was chosen.
+/// Adds why the running task was chosen.
 fn write_reason(
     text: &mut String,
     names: &Names,

@@ -1,4 +1,4 @@
-//! Whom a rule chooses of some tasks.
+//! Which of some tasks a rule chooses.
 ghost use Rattle.std.specs.Prelude.{◌≡◌, ◌≤◌, length, filter};
 ghost use Rattle.bq_disc.specs.Tasks.{first_by, former, runs_before};
 ghost use Rattle.bq_disc.specs.Dues.{due_before};
@@ -10,7 +10,7 @@ use bq_disc::Entity;
 use bq_disc::limits::TASKS;
 use bq_words::Rule;
 
-/// The task that a rule chooses: under CFS that of least (v, id), under EEVDF of the eligible that of least (deadline, id).
+/// The task that a rule chooses: CFS the one of least (v, id), EEVDF the eligible one of least (deadline, id). `None` if there is no such task.
 pub fn choice(rule: Rule, tasks: &[Entity]) -> Option<Entity>
     requires { length tasks.now ≤ TASKS }
     ensures { result ≡ (discipline_of rule).choice tasks.now }
@@ -37,7 +37,7 @@ fn least(tasks: &[Entity]) -> Option<Entity>
     best
 }
 
-/// A task, unless another that is given runs before it.
+/// The task, unless another one is given that runs before it.
 fn run_first(task: &Entity, other: Option<Entity>) -> Entity
     ensures { result ≡ former runs_before task.now other }
 {
@@ -47,7 +47,7 @@ fn run_first(task: &Entity, other: Option<Entity>) -> Entity
     }
 }
 
-/// Of the tasks whose v is at most the mean, by this weight and this sum of weight times v, that of least (deadline, id).
+/// The task of least (deadline, id) among those whose v is at most the mean. The tasks have this weight and this sum of weight times v together.
 fn earliest(tasks: &[Entity], weight: u64, moment: u128) -> Option<Entity>
     ensures { result ≡ first_by due_before (filter (is_at_most_mean weight moment) tasks.now) }
 {
@@ -62,7 +62,7 @@ fn earliest(tasks: &[Entity], weight: u64, moment: u128) -> Option<Entity>
     best
 }
 
-/// A task, unless another that is given is due before it.
+/// The task, unless another one is given that is due before it.
 pub(crate) fn due_first(task: &Entity, other: Option<Entity>) -> Entity
     ensures { result ≡ former due_before task.now other }
 {

@@ -6,7 +6,7 @@ use bq_parts::{Event, Refusal};
 use bq_weights::with_nice_values;
 use std::fmt;
 
-/// An event, as the trace names it, without its time.
+/// An event as the trace names it, without its time.
 #[derive(Clone, Copy)]
 pub struct InWords<'a>(pub &'a Event);
 
@@ -30,7 +30,7 @@ impl fmt::Display for InWords<'_> {
     }
 }
 
-/// The numbers of the task and the processors that an event names, in the order of its line.
+/// The task and the processors that an event names, in the order of its line.
 fn numbers_of(event: &Event) -> (Option<u16>, Option<u16>) {
     match event {
         Event::Admit { task, .. } | Event::Retire { task } => (Some(*task), None),

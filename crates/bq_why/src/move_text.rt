@@ -27,7 +27,7 @@ pub(crate) fn write_place(
     }
 }
 
-/// Adds the sizes of both processors, and which tasks may go: how many they are, and the first of them by falling (v, id).
+/// Adds the sizes of both processors, how many tasks may go, and the first of these by falling (v, id).
 pub(crate) fn write_sight(
     text: &mut String,
     names: &Names,
@@ -88,7 +88,7 @@ pub(crate) fn write_pull(
     }
 }
 
-/// Ends a line: why the discipline takes what it takes.
+/// Ends a line with why the discipline takes the task that it takes, or none.
 fn write_own_pull(text: &mut String, sight: &PullSight) -> Result<(), AllocError> {
     let size = sight.size;
     let other_size = sight.other_size;

@@ -1,18 +1,18 @@
-//! The words that follow each keyword: what they are to be, and what one that is not is said to be.
+//! The words that follow each keyword: what each must be, and what is said of one that does not fit.
 ghost use Rattle.std.specs.Prelude.{◌≡◌, ◌&&◌, length, nat_lt};
 ghost use Rattle.std.specs.Char.{is_ascii_digit};
 ghost use Rattle.std.specs.List.{list_all};
 
 use bq_bpf::board::COUNTERS;
 use bq_bpf::with_counters;
-use bq_hooks::Hook;
 use bq_hooks::hook::NO_HOOK;
+use bq_hooks::{Hook, with_hooks};
 use bq_lines::Keyword;
 use bq_words::numbers::hex_digits;
 use bq_words::{Rule, quantities, with_rules, with_tasks};
 use std::fmt;
 
-/// What a word of a line is to be.
+/// What a word of a line must be.
 #[derive(Clone, Copy)]
 pub enum LineOperand {
     Rule,
@@ -30,7 +30,7 @@ pub enum LineOperand {
 }
 
 impl LineOperand {
-    /// Whether a word is that.
+    /// Whether a word is of this kind.
     pub fn fits(self, word: &[u8]) -> bool {
         match self {
             LineOperand::Rule => Rule::of_word(word).is_some(),
@@ -50,8 +50,8 @@ impl LineOperand {
         }
     }
 
-    /// Whether a word is written as such words are, where they are numbers: in digits, behind `-` for a nice value, or in digits of hex
-    /// behind `0x` for a mask.
+    /// Whether a word has the form of its kind, if the kind is a number: digits, digits after `-` for a nice value, or hex digits after `0x`
+    /// for a mask. True if the kind is no number.
     pub fn has_form(self, word: &[u8]) -> bool {
         match self {
             LineOperand::Rule
@@ -77,7 +77,7 @@ impl LineOperand {
         }
     }
 
-    /// What a word without the form is said to be.
+    /// What is said of a word without this form.
     pub fn formless(self) -> &'static str {
         match self {
             LineOperand::Mask => "is no mask (decimal, or hex after 0x)",
@@ -85,7 +85,24 @@ impl LineOperand {
         }
     }
 
-    /// What a word that is not that is said to be, or not to fit.
+    /// What the word is called in the form of a line.
+    pub fn name(self) -> &'static str {
+        match self {
+            LineOperand::Rule => with_rules!(""),
+            LineOperand::ProcessorCount => "processors",
+            LineOperand::Processor => "processor",
+            LineOperand::Task => "task",
+            LineOperand::Nice => "nice",
+            LineOperand::Mask => "mask",
+            LineOperand::Time => "now",
+            LineOperand::Generation | LineOperand::Counter => "number",
+            LineOperand::Slice => "slice",
+            LineOperand::Hook => with_hooks!(""),
+            LineOperand::Image => "image or none",
+        }
+    }
+
+    /// What is said of a word that does not fit.
     fn words(self) -> &'static str {
         match self {
             LineOperand::Rule => with_rules!("is no rule (", ")"),
@@ -110,14 +127,14 @@ impl fmt::Display for LineOperand {
     }
 }
 
-/// Whether a word is one digit or more, and nothing else.
+/// Whether a word is at least one digit, and nothing else.
 fn are_digits(word: &[u8]) -> bool
     ensures { result ≡ (nat_lt 0 (length word.now) && list_all is_ascii_digit word.now) }
 {
     !word.is_empty() && all_digits(word)
 }
 
-/// Whether a word has no other bytes than digits.
+/// Whether each byte of a word is a digit.
 fn all_digits(word: &[u8]) -> bool
     ensures { result ≡ list_all is_ascii_digit word.now }
 {

@@ -7,8 +7,8 @@ use bq_disc::{Entity, RunQueue};
 use bq_parts::Cpu;
 use std::alloc::{AllocError, Global};
 
-/// The tasks that run or wait at a processor, the running one first, then by rising (v, id). Were there more than 1,024, some
-/// would be left out; the number of ids is limited.
+/// The tasks that run or wait at a processor: the running one first, then the queue by rising (v, id). If there were more than 1,024, some
+/// would be left out, but there are no more ids than that.
 pub fn present<Q: RunQueue>(alloc: Global, cpu: &Cpu<Q>) -> Result<Vec<Entity>, AllocError>
     ensures few { IfOk result (λ tasks. length tasks.items ≤ TASKS) }
     ensures all { IfOk result (λ tasks. length (present_at cpu.now.running) ≤ TASKS → tasks.items ≡ present_at cpu.now.running) }
@@ -21,7 +21,7 @@ pub fn present<Q: RunQueue>(alloc: Global, cpu: &Cpu<Q>) -> Result<Vec<Entity>, 
     Ok(tasks)
 }
 
-/// The tasks that wait at a processor, by rising (v, id). Were there more than 1,024, some would be left out.
+/// The tasks that wait at a processor, by rising (v, id). If there were more than 1,024, some would be left out.
 pub fn waiting<Q: RunQueue>(alloc: Global, cpu: &Cpu<Q>) -> Result<Vec<Entity>, AllocError>
     ensures few { IfOk result (λ tasks. length tasks.items ≤ TASKS) }
     ensures all { IfOk result (λ tasks. length cpu.now.running.queue ≤ TASKS → tasks.items ≡ cpu.now.running.queue) }
@@ -31,7 +31,7 @@ pub fn waiting<Q: RunQueue>(alloc: Global, cpu: &Cpu<Q>) -> Result<Vec<Entity>, 
     Ok(tasks)
 }
 
-/// Adds the tasks of the queue by rising (v, id), as long as there are fewer than 1,024.
+/// Adds the tasks of the queue by rising (v, id), until there are 1,024.
 fn add_queue<Q: RunQueue>(cpu: &Cpu<Q>, tasks: &mut Vec<Entity>) -> Result<(), AllocError>
     requires { length tasks.old.items ≤ TASKS }
     ensures few { OnOk result (length tasks.new.items ≤ TASKS) }

@@ -11,32 +11,32 @@ use bq_parts::Cpu;
 use bq_trace::{AnyCore, Seen};
 use std::alloc::{AllocError, Global};
 
-/// What a pull sees before it.
+/// What a pull sees before it happens.
 #[derive(Drop)]
 pub struct PullSight {
     pub puller: u8,
     pub other: u8,
     /// How many tasks run or wait at the puller.
     pub size: usize,
-    /// How many run or wait at the other processor.
+    /// How many tasks run or wait at the other processor.
     pub other_size: usize,
-    /// The tasks of the other's queue that may go to the puller.
+    /// The tasks of the other processor's queue that may go to the puller.
     pub movable: Movable,
 }
 
-/// Why the discipline takes what it takes.
+/// Why the discipline takes the task that it takes, or none.
 #[derive(Clone, Copy)]
 pub enum OwnPull {
-    /// It takes none: the other's size is not greater by two.
+    /// The discipline takes none: the other processor's size is not greater by at least two.
     TooFew,
-    /// It takes none: no task of the other's queue may go.
+    /// The discipline takes none: no task of the other processor's queue may go.
     NoneMayGo,
-    /// It takes the task of greatest (v, id) of those that may go.
+    /// The discipline takes the task of greatest (v, id) among those that may go.
     Greatest,
 }
 
 impl PullSight {
-    /// Why the discipline takes what it takes.
+    /// Why the discipline takes the task that it takes, or none.
     pub fn own(&self) -> OwnPull
         ensures { result ≡ own_pull_of self.now.size self.now.other_size self.now.movable.count }
     {
@@ -50,7 +50,7 @@ impl PullSight {
     }
 }
 
-/// What a pull of a machine's processor from another sees; `None` where the machine lacks one of them.
+/// What a pull of one processor from another sees. `None` if the machine lacks one of them.
 pub(crate) fn sight_of(
     alloc: Global,
     machine: &AnyCore,

@@ -1,4 +1,4 @@
-//! Why the task that runs does so.
+//! Why the running task runs.
 ghost use Rattle.std.specs.Prelude.{◌≡◌, ◌≤◌, length};
 ghost use Rattle.bq_disc.specs.Tasks.{with_id};
 ghost use Rattle.bq_why.specs.Reasons.{reason_of, cfs_reason_of, least_reason_of, eevdf_reason_of};
@@ -10,26 +10,26 @@ use bq_disc::limits::TASKS;
 use bq_hooks::By;
 use bq_words::Rule;
 
-/// Why the task that runs does so.
+/// Why the running task runs.
 #[derive(Clone, Copy)]
 pub enum Reason {
-    /// Nothing is there that could run.
+    /// Nothing runs: no task is there.
     Nobody,
-    /// The policy said so, by an answer that is permitted.
+    /// The policy chose the task, and its answer is permitted.
     Policy,
-    /// Of the eligible it is due first.
+    /// The task is due first of the eligible ones.
     EarliestDeadline,
-    /// It has the least virtual runtime.
+    /// The task has the least virtual runtime.
     LeastRuntime,
-    /// It has the least virtual runtime, and the task that ran was so far ahead of it that it gives way.
+    /// The task has the least virtual runtime. The one that ran was so far ahead of it that it gives way.
     GivesWay { ahead: u64 },
-    /// It runs on: it is ahead of this task, but not so far that it gives way.
+    /// The task runs on: it is ahead of task `of`, but not so far that it gives way.
     Stays { ahead: u64, of: u16 },
-    /// It is not the rule's choice.
+    /// The task is not the rule's choice.
     Other,
 }
 
-/// Why `run` runs, of the tasks that are there: by whose choice, where `was` ran before.
+/// Why `run` runs, among the tasks that are there. `by` made the choice, and `was` ran before.
 pub fn why(rule: Rule, by: By, was: Option<u16>, run: Option<u16>, tasks: &[Entity]) -> Reason
     requires { length tasks.now ≤ TASKS }
     ensures { result ≡ reason_of rule by was run tasks.now }
@@ -53,7 +53,7 @@ pub fn why(rule: Rule, by: By, was: Option<u16>, run: Option<u16>, tasks: &[Enti
     }
 }
 
-/// Under EEVDF, where this task is the choice.
+/// Under EEVDF, whether this task is the choice.
 fn eevdf_reason(run: u16, chosen: Option<Entity>) -> Reason
     ensures { result ≡ eevdf_reason_of run chosen }
 {
@@ -63,7 +63,7 @@ fn eevdf_reason(run: u16, chosen: Option<Entity>) -> Reason
     }
 }
 
-/// Under CFS, by the task that ran before, the task of least virtual runtime, and the one that runs.
+/// Under CFS, by the task that ran before, the task of least virtual runtime, and the running task.
 fn cfs_reason(former: Option<Entity>, least: Option<Entity>, runs: Option<Entity>) -> Reason
     ensures { result ≡ cfs_reason_of former least runs }
 {
@@ -82,7 +82,7 @@ fn cfs_reason(former: Option<Entity>, least: Option<Entity>, runs: Option<Entity
     }
 }
 
-/// Under CFS, where the task of least virtual runtime runs.
+/// Under CFS, if the task of least virtual runtime runs.
 fn least_reason(former: Option<Entity>, least: &Entity) -> Reason
     ensures { result ≡ least_reason_of former least.now }
 {
@@ -94,7 +94,7 @@ fn least_reason(former: Option<Entity>, least: &Entity) -> Reason
     }
 }
 
-/// The task of this number.
+/// The task with this id, if it is there.
 pub(crate) fn with_number(tasks: &[Entity], id: u16) -> Option<Entity>
     ensures { result ≡ with_id id tasks.now }
 {

@@ -1,4 +1,4 @@
-//! The tasks that a choice was distinguished from, in words.
+//! The tasks that a choice is distinguished from, in words.
 ghost use Rattle.std.specs.Prelude.{◌≤◌, length};
 
 use crate::reasons::with_number;
@@ -10,7 +10,7 @@ use bq_report::{Millis, Names};
 use bq_words::Rule;
 use std::alloc::AllocError;
 
-/// Ends a line: which eligible task has the same deadline as the one that runs, and which is due first of all and not eligible.
+/// Ends a line with the eligible task of the same deadline, if there is one, and the task that is due first of all but not eligible.
 pub(crate) fn write_deadlines(
     text: &mut String,
     names: &Names,
@@ -35,7 +35,7 @@ pub(crate) fn write_deadlines(
     text.push_str("\n")
 }
 
-/// Adds the task that is due first of all and not eligible.
+/// Adds the task that is due first of all but not eligible.
 fn write_passed_over(
     text: &mut String,
     names: &Names,
@@ -54,7 +54,7 @@ fn write_passed_over(
     write!(text, "; {who} is due first ({deadline}) but not eligible")
 }
 
-/// Adds which task gives way, and how far it is ahead.
+/// Adds which task gives way, and how far ahead it is.
 pub(crate) fn write_giving_way(
     text: &mut String,
     names: &Names,
@@ -71,8 +71,8 @@ pub(crate) fn write_giving_way(
     write!(text, "{was} gives way: {ahead} ms ahead of {run}")
 }
 
-/// Ends a line: which task has the same virtual runtime as the one that runs. Where that one ran before, it runs on; else the lower
-/// id wins.
+/// Ends a line with the task of the same virtual runtime as the running one, if there is one. If the running task ran before, it runs on;
+/// otherwise the lower id wins.
 pub(crate) fn write_equal_runtime(
     text: &mut String,
     names: &Names,
@@ -98,7 +98,7 @@ pub(crate) fn write_equal_runtime(
     text.push_str("\n")
 }
 
-/// A task by its name, or by its number.
+/// A task's name, or its number if it has none.
 fn who<'a>(names: &'a Names, task: &Entity) -> Who<'a> {
     Who {
         names,

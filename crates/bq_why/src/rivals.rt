@@ -1,4 +1,4 @@
-//! The tasks that a choice is distinguished from: one that is due first and is passed over, and one that is as near to being chosen.
+//! The tasks that a choice is distinguished from: one that is due first and passed over, and one that is as near to being chosen.
 ghost use Rattle.std.specs.Prelude.{◌≡◌, ◌≤◌, length, find};
 ghost use Rattle.bq_disc.specs.Tasks.{first_by};
 ghost use Rattle.bq_disc.specs.Dues.{due_before};
@@ -10,7 +10,7 @@ use bq_disc::Entity;
 use bq_disc::limits::TASKS;
 use bq_words::Rule;
 
-/// Under EEVDF the task that is due first of all, where it is not eligible: the choice passes it over.
+/// Under EEVDF the task that is due first of all, if it is not eligible: the choice passes it over.
 pub fn passed_over(tasks: &[Entity]) -> Option<Entity>
     requires { length tasks.now ≤ TASKS }
     ensures { result ≡ passed_over tasks.now }
@@ -22,7 +22,7 @@ pub fn passed_over(tasks: &[Entity]) -> Option<Entity>
     }
 }
 
-/// The task that is due first, eligible or not.
+/// The task that is due first, whether it is eligible or not.
 fn first_due(tasks: &[Entity]) -> Option<Entity>
     ensures { result ≡ first_by due_before tasks.now }
 {
@@ -35,8 +35,8 @@ fn first_due(tasks: &[Entity]) -> Option<Entity>
     best
 }
 
-/// Another task that is as near to being chosen as this one, so that the lower id wins: under CFS one of the same virtual runtime,
-/// under EEVDF an eligible one of the same deadline. Of several the first in their order.
+/// Another task that is as near to being chosen, so that the lower id wins. Under CFS it has the same virtual runtime, under EEVDF it is
+/// eligible and has the same deadline. Of several it is the first in their order.
 pub fn tied_with(rule: Rule, chosen: &Entity, tasks: &[Entity]) -> Option<Entity>
     requires { length tasks.now ≤ TASKS }
     ensures { result ≡ tied_with rule chosen.now tasks.now }
@@ -45,7 +45,7 @@ pub fn tied_with(rule: Rule, chosen: &Entity, tasks: &[Entity]) -> Option<Entity
     tasks.iter().copied().find(|task| is_tied(rule, totals.weight, totals.moment, chosen, task))
 }
 
-/// Whether a task is another one than the chosen and as near to being chosen, among tasks of this weight and this sum of weight times v.
+/// Whether `task` is not `chosen`, but as near to being chosen. The tasks have this weight and this sum of weight times v together.
 fn is_tied(rule: Rule, weight: u64, moment: u128, chosen: &Entity, task: &Entity) -> bool
     ensures { result ≡ is_tied rule weight moment chosen.now task.now }
 {

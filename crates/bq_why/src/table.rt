@@ -13,21 +13,21 @@ use std::alloc::{AllocError, Global};
 /// A task as a choice saw it.
 #[derive(Clone, Copy)]
 pub struct TaskRow {
-    /// Its number.
+    /// The task's id.
     pub task: u16,
-    /// Its weight.
+    /// The task's weight.
     pub weight: u32,
-    /// Its virtual runtime, in virtual nanoseconds.
+    /// The task's virtual runtime, in virtual nanoseconds.
     pub v: u64,
-    /// Its virtual deadline, in virtual nanoseconds; 0 under CFS.
+    /// The task's virtual deadline, in virtual nanoseconds; 0 under CFS.
     pub deadline: u64,
-    /// Whether its v is at most the mean of all: whether it has had no more than its share.
+    /// Whether the task's v is at most the mean of all, so that it has had no more than its share.
     pub is_eligible: bool,
-    /// How much it is owed if it is eligible, and else how much more it has had than its share: in nanoseconds of the processor.
+    /// How much the task is owed if it is eligible, otherwise how much more than its share it has had, in nanoseconds of the processor.
     pub lag: u128,
 }
 
-/// A row a task, in the order of the tasks.
+/// One row for each task, in the order of the tasks.
 pub fn rows(alloc: Global, tasks: &[Entity]) -> Result<Vec<TaskRow>, AllocError>
     requires { length tasks.now ≤ TASKS }
     ensures { IfOk result (λ rows. rows.items ≡ map (row_of tasks.now) tasks.now) }
@@ -44,7 +44,7 @@ pub fn rows(alloc: Global, tasks: &[Entity]) -> Result<Vec<TaskRow>, AllocError>
     Ok(rows)
 }
 
-/// The row of a task, among tasks of this weight, this sum of weight times v, and this mean.
+/// The row of a task. The tasks have this weight and this sum of weight times v together, and this mean.
 fn row_among(task: &Entity, weight: u64, moment: u128, mean: u64) -> TaskRow
     ensures { result ≡ row_by weight moment mean task.now }
 {
@@ -59,8 +59,8 @@ fn row_among(task: &Entity, weight: u64, moment: u128, mean: u64) -> TaskRow
     }
 }
 
-/// The virtual time that a rule measures its tasks from: under CFS the least v, under EEVDF the mean v, rounded down. `None` where
-/// no task is there.
+/// The virtual time that a rule measures its tasks from: CFS from the least v, EEVDF from the mean v, rounded down. `None` if there is no
+/// task.
 pub fn measured_from(rule: Rule, tasks: &[Entity]) -> Option<u64>
     requires { length tasks.now ≤ TASKS }
     ensures { result ≡ measured_from rule tasks.now }

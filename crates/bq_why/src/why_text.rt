@@ -1,4 +1,4 @@
-//! The form `why`: at each choice the tasks that were there, and why the one that runs was chosen.
+//! The form `why`: for each choice the tasks that were there, and why the running one was chosen.
 ghost use Rattle.std.specs.Prelude.{◌≡◌};
 ghost use Rattle.bq_why.specs.Words.{place_of};
 
@@ -18,28 +18,28 @@ use std::alloc::{AllocError, Global};
 /// An event that was done.
 #[derive(Clone, Copy)]
 pub struct Occurrence<'a> {
-    /// The number of its line.
+    /// The number of the event's line.
     pub number: u64,
     pub event: &'a Event,
     pub reply: &'a Reply,
-    /// What it changed of the schedule.
+    /// What the event changed in the schedule.
     pub change: &'a Change,
 }
 
-/// The form `why`, of what is in its window.
+/// The form `why`, for what is in its window.
 #[derive(Drop)]
 pub struct Why {
     alloc: Global,
     window: Window,
-    /// Who ran where the next event happens.
+    /// The task that ran at the processor of the next event.
     was: Option<u16>,
-    /// The line on which a wake began last.
+    /// The line on which the last wake began.
     begun: Option<u64>,
-    /// What the next event sees, where it is a pull.
+    /// What the next event sees, if it is a pull.
     sight: Option<PullSight>,
 }
 
-/// The processor at which an event may choose, and its time.
+/// The processor at which an event may choose, and the event's time. `None` if the event makes no choice.
 pub fn place_of(event: &Event) -> Option<(u8, u64)>
     ensures { result ≡ place_of event.now }
 {
@@ -57,7 +57,7 @@ pub fn place_of(event: &Event) -> Option<(u8, u64)>
     }
 }
 
-/// Who runs at a processor of the machine.
+/// The running task of a processor, if one runs.
 fn running(machine: &AnyCore, processor: u8) -> Option<u16> {
     match machine.seen(processor) {
         Some(Seen::Cfs(cpu)) => cpu.running_id(),
@@ -67,7 +67,7 @@ fn running(machine: &AnyCore, processor: u8) -> Option<u16> {
 }
 
 impl Why {
-    /// The choices in the window.
+    /// A form for the choices in the window.
     pub fn new(alloc: Global, window: Window) -> Why
         ensures { result.window ≡ window }
     {
@@ -80,7 +80,7 @@ impl Why {
         }
     }
 
-    /// Notes how a processor is before the event of a line.
+    /// Notes the processor's state before the event of a line.
     pub fn comes(
         &mut self,
         number: u64,
@@ -105,7 +105,7 @@ impl Why {
         Ok(())
     }
 
-    /// Adds the choices of an event that was done.
+    /// Adds the choices of an event that was done, if the window shows them.
     pub fn answered(
         &self,
         done: &Occurrence<'_>,
@@ -127,7 +127,7 @@ impl Why {
         self.write_reply(text, names, machine, processor, done)
     }
 
-    /// Adds when an event was done, and the words of its line. A wake is named by its task, and so is its end on a line of its own.
+    /// Adds when an event was done, and the words of its line. A wake is named by its task, and so is a wake's end on a line of its own.
     fn write_heading(
         &self,
         text: &mut String,
@@ -158,7 +158,7 @@ impl Why {
         }
     }
 
-    /// Adds the choices that a reply tells of.
+    /// Adds the choices that a reply reports.
     fn write_reply(
         &self,
         text: &mut String,
@@ -228,7 +228,7 @@ impl Why {
         }
     }
 
-    /// Whether the choices of a reply are shown.
+    /// Whether the window shows the choices of a reply.
     fn shows(&self, processor: u8, at: u64, reply: &Reply) -> bool {
         let task = match reply {
             Reply::Placed { task, .. } | Reply::Blocked { task, .. } => Some(*task),

@@ -8,7 +8,7 @@ use bq_report::{Millis, Names};
 use bq_words::Rule;
 use std::fmt;
 
-/// A task by its name, or by its number.
+/// A task's name, or its number if it has none.
 #[derive(Clone, Copy)]
 pub struct Who<'a> {
     pub names: &'a Names,
@@ -69,7 +69,7 @@ impl fmt::Display for Virtual {
     }
 }
 
-/// The sign of a virtual time: a minus where it lies before the first mark.
+/// The sign of a virtual time: a minus if it is before the first mark.
 fn sign_before(time: u64) -> &'static str
     ensures { result.now ≡ sign_before time }
 {
@@ -105,7 +105,7 @@ fn origin_name(rule: Rule) -> &'static str
     }
 }
 
-/// The lag of a row, in milliseconds of the processor: above 0 where it is owed.
+/// The lag of a row, in milliseconds of the processor: above 0 if the task is owed time.
 #[derive(Clone, Copy)]
 pub struct Lag<'a>(pub &'a TaskRow);
 
@@ -119,7 +119,7 @@ impl fmt::Display for Lag<'_> {
     }
 }
 
-/// The nanoseconds of a row's lag, as many as 64 bits hold.
+/// The nanoseconds of a row's lag, at most the greatest number of 64 bits.
 fn amount(row: &TaskRow) -> u64
     ensures { result ≡ min row.now.lag (2 ^ 64 - 1) }
 {
@@ -133,7 +133,7 @@ fn sign(row: &TaskRow) -> &'static str
     if row.is_eligible { "+" } else { "-" }
 }
 
-/// Whether a row may run, in words.
+/// Whether a row's task may run, in words.
 pub fn eligibility(row: &TaskRow) -> &'static str
     ensures { result.now ≡ eligibility row.now }
 {

@@ -12,10 +12,12 @@ use Rattle.bq_words.specs.Numbers.{below, number_of}
 -- the number of these digits after those of n
 abbrev pub number_from : ℕ → ℕ → List ℕ → Option ℕ
 number_from base n word =
-    cond (list_all (λ c. ltb (digit_value c) base) word && ltb (digits_value_after base n word) (2 ^ 64)) (Some (digits_value_after base n word)) None
+    cond (list_all (λ c. ltb (digit_value c) base) word && ltb (digits_value_after base n word) (2 ^ 64))
+    (Some (digits_value_after base n word)) None
 
 -- a digit counts behind what came before it
-pub number_from-digit : (base n c : ℕ) (word : List ℕ) → digit_value c < base → number_from base n (c ∷ word) ≡ number_from base (n * base + digit_value c) word
+pub number_from-digit : (base n c : ℕ) (word : List ℕ) → digit_value c < base
+    → number_from base n (c ∷ word) ≡ number_from base (n * base + digit_value c) word
 number_from-digit base n c word h = let e : ltb (digit_value c) base ≡ true = grind (arith, nat_tests) in rw e refl
 
 -- more digits make no less
@@ -48,14 +50,17 @@ number_step base value i word h digit =
     ap (number_from base value) (drop_more word i 0 h) ∙ number_from-digit base value (get_or word i 0) (drop (i + 1) word) digit
 
 -- a word of which the first digits are too large for 64 bits is no number
-pub number_too_large : (base value i : ℕ) (word : List ℕ) → number_from base 0 word ≡ number_from base value (drop i word) → i < length word → digit_value (get_or word i 0) < base
-    → 2 ^ 64 ≤ value * base + digit_value (get_or word i 0) → number_of base word ≡ None
+pub number_too_large : (base value i : ℕ) (word : List ℕ) → number_from base 0 word ≡ number_from base value (drop i word)
+    → i < length word → digit_value (get_or word i 0) < base → 2 ^ 64 ≤ value * base + digit_value (get_or word i 0)
+    → number_of base word ≡ None
 number_too_large base value i word so_far h digit large =
     number_from-all base word (omega arith) ∙ so_far ∙ number_step base value i word h digit
     ∙ number_from-large base (value * base + digit_value (get_or word i 0)) (drop (i + 1) word) (omega arith) large
 
 -- a word of which all digits were taken in is what they came to
-pub number_whole : (base value i : ℕ) (word : List ℕ) → number_from base 0 word ≡ number_from base value (drop i word) → 0 < length word → length word ≤ i → value < 2 ^ 64 → number_of base word ≡ Some value
+pub number_whole : (base value i : ℕ) (word : List ℕ) → number_from base 0 word ≡ number_from base value (drop i word)
+    → 0 < length word → length word ≤ i → value < 2 ^ 64
+    → number_of base word ≡ Some value
 number_whole base value i word so_far some end fits =
     number_from-all base word some ∙ so_far ∙ ap (number_from base value) (drop_all i word end) ∙ whole
   where

@@ -17,7 +17,8 @@ pub words-blank : (p : ℕ → Bool) (b : ℕ) (bs : List ℕ) → p b ≡ true 
 words-blank p b bs h = rw h refl
 
 -- bytes that are no blanks, up to a blank or the end, are the first word
-pub words-word : (p : ℕ → Bool) (w rest : List ℕ) → 0 < length w → All (λ b. p b ≡ false) w → EndsWord p rest → words_by p (w ++ rest) ≡ w ∷ words_by p rest
+pub words-word : (p : ℕ → Bool) (w rest : List ℕ) → 0 < length w → All (λ b. p b ≡ false) w → EndsWord p rest
+    → words_by p (w ++ rest) ≡ w ∷ words_by p rest
 words-word p w [] some h end =
     let e : ltb 0 (length w) ≡ true = grind (arith, nat_tests) in
     ap (words_by p) (append-nil w) ∙ ap (filter (λ x. ltb 0 (length x))) (slice_split_none p w h) ∙ ap (λ t. cond t (w ∷ []) []) e
@@ -33,7 +34,9 @@ ends_word p (b ∷ bs) zero h = h (omega arith)
 ends_word p (b ∷ bs) (suc n) h = ends_word p bs n (λ lt. h (omega arith))
 
 -- the first word, and those of what follows it
-pub words-first : (p : ℕ → Bool) (text : List ℕ) (len : ℕ) → IsWordLen p text len → 0 < len → words_by p text ≡ take len text ∷ words_by p (drop len text)
+pub words-first : (p : ℕ → Bool) (text : List ℕ) (len : ℕ) → IsWordLen p text len → 0 < len
+    → words_by p text ≡ take len text ∷ words_by p (drop len text)
 words-first p text len h some =
     let long : 0 < length (take len text) = let within = h.within in grind (arith, common_steps) in
-    ap (words_by p) (sym (take-append-drop len text)) ∙ words-word p (take len text) (drop len text) long h.no_blank (ends_word p text len h.then)
+    ap (words_by p) (sym (take-append-drop len text))
+    ∙ words-word p (take len text) (drop len text) long h.no_blank (ends_word p text len h.then)

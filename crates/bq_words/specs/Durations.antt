@@ -6,31 +6,31 @@ use Rattle.bq_words.specs.Numbers.{below}
 use Rattle.bq_words.specs.Units.{unit_of}
 use Rattle.bq_words.specs.Quantities.{decimal_of}
 
--- what the digits behind a point count together: each a tenth of what the one before it does, in whole nanoseconds
+-- what the digits of a fraction are worth together: each digit counts a tenth of the one before it, in whole nanoseconds
 abbrev pub parts_of : ℕ → List ℕ → ℕ
 parts_of unit [] = 0
 parts_of unit (c ∷ cs) = digit_value c * (unit / 10) + parts_of (unit / 10) cs
 
--- the nanoseconds of a fraction of a unit: one digit or more
+-- the nanoseconds of a fraction of a unit, which must have at least one digit
 abbrev pub fraction_of : ℕ → List ℕ → Option ℕ
 fraction_of unit digits =
     if nat_lt 0 (length digits) && list_all (λ c. nat_lt (digit_value c) 10) digits then Some (parts_of unit digits) else None
 
--- a point, which stands before a fraction
+-- a point, which separates a number from its fraction
 abbrev pub is_point : ℕ → Bool
 is_point c = c == 46
 
--- a number of units, in nanoseconds, below 2^64: whole ones, and where there is a point a fraction behind it
+-- a number of units, in nanoseconds, below 2^64: whole units, and a fraction if there is a point
 abbrev pub amount_at : ℕ → List ℕ → Option ℕ → Option ℕ
 amount_at unit number None = option_and_then (λ whole. below (2 ^ 64) (Some (whole * unit))) (decimal_of number)
 amount_at unit number (Some point) =
     option_and_then (λ whole. option_and_then (λ part. below (2 ^ 64) (Some (whole * unit + part))) (fraction_of unit (drop (point + 1) number))) (decimal_of (take point number))
 
--- that many units of this many nanoseconds each
+-- the nanoseconds of this number of units
 abbrev pub amount_of : ℕ → List ℕ → Option ℕ
 amount_of unit number = amount_at unit number (position is_point number)
 
--- the word cut where its number ends: that number of the unit that is behind it, or of nanoseconds if no unit stands there
+-- the word is cut where its number ends: the rest is the unit, or nanoseconds if there is no rest
 abbrev pub duration_at : List ℕ → Option ℕ → Option ℕ
 duration_at word None = amount_of 1 word
 duration_at word (Some end) = option_and_then (λ unit. amount_of unit (take end word)) (unit_of (drop end word))
@@ -39,6 +39,6 @@ duration_at word (Some end) = option_and_then (λ unit. amount_of unit (take end
 abbrev pub ends_number : ℕ → Bool
 ends_number c = not (is_ascii_digit c || is_point c)
 
--- the nanoseconds that a word writes: a number, and from the first byte that is neither a digit nor a point its unit
+-- the nanoseconds that a word writes: the unit begins at the first byte that is neither a digit nor a point
 abbrev pub duration_of : List ℕ → Option ℕ
 duration_of word = duration_at word (position ends_number word)

@@ -5,26 +5,28 @@ use Rattle.bq_words.specs.declared.processor_count.ProcessorCount.{ProcessorCoun
 use Rattle.bq_words.specs.Sizes.{size_numbered}
 use Rattle.bq_words.specs.Numbers.{below, number_of, value_of}
 
--- generations, slices and clock readings
+-- a generation, a slice or a clock reading: decimal, below 2^64
 abbrev pub decimal_of : List ℕ → Option ℕ
 decimal_of word = number_of 10 word
 
+-- a processor or a counter: decimal, below 2^8
 abbrev pub processor_of : List ℕ → Option ℕ
 processor_of word = below (2 ^ 8) (decimal_of word)
 
+-- a task: decimal, below 2^16
 abbrev pub task_of : List ℕ → Option ℕ
 task_of word = below (2 ^ 16) (decimal_of word)
 
--- decimal, or hex digits of either case after `0x`
+-- a mask: decimal, or hex digits of either case after `0x`
 abbrev pub mask_of : List ℕ → Option ℕ
 mask_of word = value_of word
 
--- decimal from -128 to 127
+-- a nice value: decimal, from -128 to 127
 abbrev pub nice_of : List ℕ → Option ℤ
 nice_of word =
     if starts_with nat_eq word (codes "-") then option_map (λ n. neg_ℤ (pos n)) (below 129 (decimal_of (drop 1 word)))
     else option_map (λ n. pos n) (below 128 (decimal_of word))
 
--- the size that a word names
+-- the number of processors that a word names
 abbrev pub size_of : List ℕ → Option ProcessorCount
 size_of word = option_and_then size_numbered (processor_of word)

@@ -15,7 +15,7 @@ rule_word Eevdf = codes "eevdf"
 abbrev pub rule_of : List ℕ → Option Rule
 rule_of word = if bytes_eq word (codes "cfs") then Some Cfs else if bytes_eq word (codes "eevdf") then Some Eevdf else None
 
--- the size of this many processors
+-- the size with this many processors, if there is one
 abbrev pub size_numbered : ℕ → Option ProcessorCount
 size_numbered n =
     if n == 1 then Some One

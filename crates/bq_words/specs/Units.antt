@@ -2,7 +2,7 @@
 use Rattle.std.specs.Prelude.{ℕ, List, Option, Some, None, if◌then◌else◌, codes}
 use Rattle.std.specs.Str.{bytes_eq}
 
--- how many nanoseconds a unit has
+-- how many nanoseconds a unit has, if the word is a unit
 abbrev pub unit_of : List ℕ → Option ℕ
 unit_of u =
     if bytes_eq u (codes "ns") then Some 1

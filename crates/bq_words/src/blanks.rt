@@ -1,17 +1,17 @@
-//! What stands between words.
+//! The bytes that separate words.
 ghost use Rattle.std.specs.Prelude.{◌≡◌, ℕ, Bool};
 ghost use Rattle.bq_words.specs.Words.{is_space};
 
-/// Which bytes stand between the words of a line.
+/// Which bytes separate the words of a line.
 pub trait Blank {
     ghost is_blank: { ℕ → Bool };
 
-    /// Whether the byte stands between words.
+    /// Whether the byte separates words.
     fn is_blank(byte: u8) -> bool
         ensures { result ≡ is_blank byte };
 }
 
-/// Spaces and tabs stand between words.
+/// Spaces and tabs separate words.
 pub struct Spaces;
 
 impl Blank for Spaces {

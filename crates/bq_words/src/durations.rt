@@ -5,10 +5,10 @@ ghost use Rattle.bq_words.specs.Durations.{amount_of, duration_of, ends_number, 
 use crate::nanoseconds;
 use crate::quantities::decimal;
 
-/// The nanoseconds that a word writes: a number, with a fraction or without, and `ns`, `us`, `ms`, `s` or nothing after it, which is `ns`.
-/// What is less than a nanosecond is cut off.
+/// The nanoseconds that a word writes: a number, with a fraction or without, and a unit: `ns`, `us`, `ms` or `s`. Without a unit the number
+/// counts nanoseconds. A part of a nanosecond is cut off.
 ///
-/// `1500`, `1.5us` and `0.0015ms` are all 1500. None where the word is no such thing, or has 2^64 ns or more.
+/// `1500`, `1.5us` and `0.0015ms` are all 1500. `None` if the word is no length of time, or if it has 2^64 ns or more.
 pub fn duration(word: &[u8]) -> Option<u64>
     ensures { result ≡ duration_of word.now }
 {
@@ -21,7 +21,7 @@ pub fn duration(word: &[u8]) -> Option<u64>
     }
 }
 
-/// Where the digits and points at the front end.
+/// Where the digits and points at the front of the word end. `None` if the word has nothing else.
 fn end_of_number(word: &[u8]) -> Option<usize>
     ensures value { result ≡ position ends_number word.now }
     ensures within { IfSome result (λ end. end < length word.now) }
@@ -41,7 +41,7 @@ fn is_point(byte: u8) -> bool
     byte == b'.'
 }
 
-/// Where a number has its point.
+/// Where a number has its first point, if it has one.
 fn point(number: &[u8]) -> Option<usize>
     ensures value { result ≡ position is_point number.now }
     ensures within { IfSome result (λ point. point < length number.now) }
@@ -49,9 +49,9 @@ fn point(number: &[u8]) -> Option<usize>
     number.iter().position(|byte| is_point(*byte))
 }
 
-/// That many units of this many nanoseconds each, as nanoseconds.
+/// The nanoseconds of this number of units. `unit` is how many nanoseconds one unit has.
 ///
-/// None where that is no number, or 2^64 ns or more.
+/// `None` if the bytes are no number, or if there are 2^64 ns or more.
 fn amount(number: &[u8], unit: u64) -> Option<u64>
     ensures { result ≡ amount_of unit number.now }
 {
@@ -65,9 +65,9 @@ fn amount(number: &[u8], unit: u64) -> Option<u64>
     }
 }
 
-/// The nanoseconds of a fraction of a unit, by the digits behind the point. What is less than a nanosecond is cut off.
+/// The nanoseconds of a fraction of a unit. `digits` are what follows the point. A part of a nanosecond is cut off.
 ///
-/// None where there is no digit, or something else.
+/// `None` if there is no digit, or if a byte is no digit.
 fn fraction(digits: &[u8], unit: u64) -> Option<u64>
     ensures { result ≡ fraction_of unit digits.now }
 {

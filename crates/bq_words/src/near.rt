@@ -1,4 +1,4 @@
-//! How near a word is to what was written in its place.
+//! How near a known word is to what was written.
 ghost use Rattle.std.specs.Prelude.{◌≡◌, nat_lt, IfOk, OnOk, OnErr};
 ghost use Rattle.bq_words.specs.Nearness.{edits, edits_before, fewer};
 
@@ -9,10 +9,10 @@ use strsim::levenshtein;
 /// How many edits a misspelling may have.
 const EDITS: usize = 2;
 
-/// How near a word has to be to be the one that was perhaps meant: nearer than each that was asked of before.
+/// How near a known word must be to be suggested: nearer than each word that was asked about before.
 #[derive(Drop)]
 pub struct Near {
-    /// This many edits, or more, are too many.
+    /// A word is too far if it needs this many edits or more.
     before: usize,
 }
 
@@ -25,7 +25,7 @@ impl Model for Near {
 }
 
 impl Near {
-    /// For what was written, before any word: at most two edits, and fewer than it has bytes.
+    /// The limit for what was written, before any word is asked about: at most two edits, and fewer than `meant` has bytes.
     pub fn of(meant: &str) -> Near
         ensures { result ≡ edits_before meant.now }
     {
@@ -34,7 +34,7 @@ impl Near {
         }
     }
 
-    /// Whether a word is nearer to what was written than those before it, and near at all.
+    /// Whether `known` is nearer to what was written than each word before it, and near enough at all.
     pub fn takes(&mut self, alloc: Global, meant: &str, known: &str) -> Result<bool, AllocError>
         ensures nearer { IfOk result (λ is. is ≡ nat_lt (edits meant.now known.now) self.old) }
         ensures next { OnOk result (self.new ≡ fewer self.old (edits meant.now known.now)) }

@@ -3,7 +3,7 @@ ghost use Rattle.std.specs.Prelude.{◌≡◌, ◌≤◌, MatchOption, codes, dr
 ghost use Rattle.std.specs.List.{starts_with};
 ghost use Rattle.bq_words.specs.Numbers.{number_of, value_of};
 
-/// A text with what numbers of 32 bits are below in it.
+/// `before`, 2^32 and `behind` as one text. 2^32 is the limit of numbers of 32 bits.
 #[macro_export]
 macro_rules! with_32_bits {
     ($before:literal, $behind:literal) => {
@@ -11,7 +11,7 @@ macro_rules! with_32_bits {
     };
 }
 
-/// The number that the word writes in this base, or `None` where it has no digit, has another byte, or does not fit 64 bits.
+/// The number that the word writes in this base. `None` if the word has no digit, has another byte, or does not fit 64 bits.
 pub fn number(word: &[u8], base: u32) -> Option<u64>
     requires low { 2 ≤ base }
     requires high { base ≤ 36 }
@@ -40,7 +40,7 @@ pub fn value(word: &[u8]) -> Option<u64>
     }
 }
 
-/// What stands behind the `0x` of a word that begins so, as a number in hex does.
+/// What follows the `0x` at the front of a word. `None` if the word does not begin with `0x`.
 pub fn hex_digits(word: &[u8]) -> Option<&[u8]>
     ensures { MatchOption result (starts_with nat_eq word.now (codes "0x") ≡ false) (λ digits. (starts_with nat_eq word.now (codes "0x") ≡ true) × (digits.now ≡ drop 2 word.now)) }
 {

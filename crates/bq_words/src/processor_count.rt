@@ -14,7 +14,7 @@ pub enum ProcessorCount {
     SixtyFour,
 }
 
-/// A text with the numbers of processors in it.
+/// `before`, the possible numbers of processors, and `behind` as one text.
 #[macro_export]
 macro_rules! with_sizes {
     ($before:literal) => {
@@ -26,7 +26,7 @@ macro_rules! with_sizes {
 }
 
 impl ProcessorCount {
-    /// The size of this many processors, if there is one.
+    /// The size with this many processors, if there is one.
     pub fn of_number(processors: u8) -> Option<ProcessorCount>
         ensures { result ≡ size_numbered processors }
     {

@@ -7,7 +7,7 @@ use crate::{ProcessorCount, quantities};
 
 /// The processors that a word names: numbers and ranges with commas between them, as `0-3,5`. Each is below 64.
 ///
-/// None where a part is neither, or a range runs backwards.
+/// `None` if a part is neither a number nor a range, or if a range runs backwards.
 pub fn processors(word: &[u8]) -> Option<u64>
     ensures { result ≡ processors_of word.now }
 {
@@ -24,7 +24,7 @@ pub fn processors(word: &[u8]) -> Option<u64>
     }
 }
 
-/// These bits, and those of a number or a range.
+/// The bits of `mask`, and those of a number or a range. `None` if `part` is neither.
 fn with_span(mask: u64, part: &[u8]) -> Option<u64>
     ensures { result ≡ option_map (bit_or mask) (span_of part.now) }
 {
@@ -34,7 +34,7 @@ fn with_span(mask: u64, part: &[u8]) -> Option<u64>
     }
 }
 
-/// The part before the first comma, and what is behind it. None where there is no comma.
+/// The part before the first comma, and what follows the comma. `None` if there is no comma.
 pub fn first_part(word: &[u8]) -> Option<(&[u8], &[u8])>
     ensures some { IfSome result (λ p. slice_split is_comma word.now ≡ p.0.now ∷ slice_split is_comma p.1.now) }
     ensures less { IfSome result (λ p. length p.1.now < length word.now) }
@@ -46,7 +46,7 @@ pub fn first_part(word: &[u8]) -> Option<(&[u8], &[u8])>
     }
 }
 
-/// Where such a byte first is.
+/// Where this byte is first, if `bytes` has it.
 fn place_of(byte: u8, bytes: &[u8]) -> Option<usize>
     ensures value { result ≡ position (λ b. b == byte) bytes.now }
     ensures within { IfSome result (λ at. at < length bytes.now) }
@@ -61,7 +61,7 @@ fn span(part: &[u8]) -> Option<u64>
     span_at(part, place_of(b'-', part))
 }
 
-/// The bits of a number, or of a range with its dash there.
+/// The bits of a number, or of a range if there is a dash. `dash` is where the dash is.
 fn span_at(part: &[u8], dash: Option<usize>) -> Option<u64>
     requires { IfSome dash (λ at. at < length part.now) }
     ensures { result ≡ span_at part.now dash }
@@ -82,7 +82,7 @@ fn one_bit(word: &[u8]) -> Option<u64>
     }
 }
 
-/// The bits of a range from one word to another.
+/// The bits of a range from one word to another. `None` if a word is no processor, or if the range runs backwards.
 fn range(first: &[u8], last: &[u8]) -> Option<u64>
     ensures { result ≡ option_and_then (λ f. option_and_then (bits_of f) (processor_below last.now)) (processor_below first.now) }
 {
@@ -92,7 +92,7 @@ fn range(first: &[u8], last: &[u8]) -> Option<u64>
     }
 }
 
-/// The bits from the first to the last.
+/// The bits from the first processor to the last.
 pub fn bits(first: u8, last: u8) -> u64
     requires order { first ≤ last }
     requires few { last < 64 }
@@ -101,7 +101,7 @@ pub fn bits(first: u8, last: u8) -> u64
     ((1u128 << (last + 1)) - (1u128 << first)) as u64
 }
 
-/// A processor's number.
+/// The processor's number that a word writes, if it is below 64.
 fn processor(word: &[u8]) -> Option<u8>
     ensures { result ≡ processor_below word.now }
 {

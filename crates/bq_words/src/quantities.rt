@@ -18,7 +18,7 @@ pub fn processor(word: &[u8]) -> Option<u8>
     u8::try_from(decimal(word)?).ok()
 }
 
-/// What a word that `size` does not take is said to be.
+/// What a message says of a word that `size` does not take.
 pub const NO_SIZE: &str = with_sizes!("is no number of processors (", ")");
 
 /// How many processors a machine has: decimal, one of 1, 2, 4, 8, 16, 32 and 64.
@@ -28,7 +28,7 @@ pub fn size(word: &[u8]) -> Option<ProcessorCount>
     ProcessorCount::of_number(processor(word)?)
 }
 
-/// A text with the numbers in it that a word may write for a task.
+/// `before`, the range of a task's number, and `behind` as one text.
 #[macro_export]
 macro_rules! with_tasks {
     ($before:literal, $behind:literal) => {

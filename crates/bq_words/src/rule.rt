@@ -5,13 +5,13 @@ ghost use Rattle.bq_words.specs.Sizes.{rule_of, rule_word};
 /// How processors choose among their tasks.
 #[derive(Clone, Copy, PartialEq, Eq)]
 pub enum Rule {
-    /// The task of least virtual time runs.
+    /// The task with the least virtual time runs.
     Cfs,
-    /// Of the tasks that have had no more than their share, that of the earliest deadline runs.
+    /// Of the tasks that have had no more than their share, the one with the earliest deadline runs.
     Eevdf,
 }
 
-/// A text with the words of rules in it.
+/// `before`, the words of the rules, and `behind` as one text.
 #[macro_export]
 macro_rules! with_rules {
     ($before:literal) => {
@@ -26,7 +26,7 @@ macro_rules! with_rules {
 }
 
 impl Rule {
-    /// The word that names it: `cfs` or `eevdf`.
+    /// The word that names the rule: `cfs` or `eevdf`.
     pub fn word(self) -> &'static str
         ensures { result.now ≡ rule_word self }
     {

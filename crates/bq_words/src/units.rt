@@ -2,7 +2,7 @@
 ghost use Rattle.std.specs.Prelude.{◌≡◌};
 ghost use Rattle.bq_words.specs.Units.{unit_of};
 
-/// A text with the units of time in it.
+/// `before`, the units of time, and `behind` as one text.
 #[macro_export]
 macro_rules! with_units {
     ($before:literal, $behind:literal) => {
@@ -10,7 +10,7 @@ macro_rules! with_units {
     };
 }
 
-/// How many nanoseconds a unit has: `ns`, `us`, `ms` or `s`.
+/// How many nanoseconds a unit has: `ns`, `us`, `ms` or `s`. `None` if the word is no unit.
 pub fn nanoseconds(unit: &[u8]) -> Option<u64>
     ensures { result ≡ unit_of unit.now }
 {

@@ -1,4 +1,4 @@
-//! The words of a text that has just so many.
+//! The words of a text that must have an exact number of them.
 ghost use Rattle.std.specs.Prelude.{◌≡◌, ◌∷◌, [], ℕ, List, MatchOption};
 ghost use Rattle.std.specs.Borrow.{Bor};
 ghost use Rattle.std.specs.Option.{option_map};
@@ -6,7 +6,7 @@ ghost use Rattle.bq_words.specs.Words.{words, one_of, two_of, three_of, four_of}
 
 use crate::words::next_word;
 
-/// Whether no word is left.
+/// Answers `Some` exactly when no word is left.
 pub fn end_of_words(text: &[u8]) -> Option<()>
     ensures { MatchOption result ((w : _) × (ws : _) × (words text.now ≡ w ∷ ws)) (λ _. words text.now ≡ []) }
 {
@@ -16,7 +16,7 @@ pub fn end_of_words(text: &[u8]) -> Option<()>
     }
 }
 
-/// The word of a text that has one.
+/// The word of a text that has exactly one.
 pub fn only_word(text: &[u8]) -> Option<&[u8]>
     ensures { option_map (λ (w : Bor (List ℕ)). w.now) result ≡ one_of (words text.now) }
 {
@@ -26,7 +26,7 @@ pub fn only_word(text: &[u8]) -> Option<&[u8]>
     }
 }
 
-/// The two words of a text that has two.
+/// The two words of a text that has exactly two.
 #[tactic(auto, using(crate::proofs::WordCountLemmas::two_by_one))]
 pub fn two_words(text: &[u8]) -> Option<(&[u8], &[u8])>
     ensures { option_map (λ w. (w.0.now, w.1.now)) result ≡ two_of (words text.now) }
@@ -37,7 +37,7 @@ pub fn two_words(text: &[u8]) -> Option<(&[u8], &[u8])>
     }
 }
 
-/// The three words of a text that has three.
+/// The three words of a text that has exactly three.
 #[tactic(auto, using(crate::proofs::WordCountLemmas::three_by_two))]
 pub fn three_words(text: &[u8]) -> Option<(&[u8], &[u8], &[u8])>
     ensures { option_map (λ w. (w.0.now, w.1.now, w.2.now)) result ≡ three_of (words text.now) }
@@ -51,7 +51,7 @@ pub fn three_words(text: &[u8]) -> Option<(&[u8], &[u8], &[u8])>
     }
 }
 
-/// The four words of a text that has four.
+/// The four words of a text that has exactly four.
 #[tactic(auto, using(crate::proofs::WordCountLemmas::four_by_three))]
 pub fn four_words(text: &[u8]) -> Option<(&[u8], &[u8], &[u8], &[u8])>
     ensures { option_map (λ w. (w.0.now, w.1.now, w.2.now, w.3.now)) result ≡ four_of (words text.now) }

@@ -4,14 +4,14 @@ ghost use Rattle.bq_words.specs.Words.{words, words_by, StartsWithWord, IsWordLe
 
 use crate::blanks::{Blank, Spaces};
 
-/// The first word between spaces and tabs, and what follows it; `None` where no word is left.
+/// The first word between spaces and tabs, and what follows the word. `None` if no word is left.
 pub fn next_word(text: &[u8]) -> Option<(&[u8], &[u8])>
     ensures { MatchOption result (words text.now ≡ []) (λ p. words text.now ≡ p.0.now ∷ words p.1.now) }
 {
     next_word_by::<Spaces>(text)
 }
 
-/// The first word between such blanks, and what follows it; `None` where no word is left.
+/// The first word between blanks of this kind, and what follows the word. `None` if no word is left.
 pub fn next_word_by<B: Blank>(text: &[u8]) -> Option<(&[u8], &[u8])>
     ensures { MatchOption result (words_by B.is_blank text.now ≡ []) (λ p. words_by B.is_blank text.now ≡ p.0.now ∷ words_by B.is_blank p.1.now) }
 {

@@ -30,11 +30,15 @@ slice_get-set_here (z ∷ zs) (suc n) x y h = slice_get-set_here zs n x y h
 -- a change at one place leaves the others
 pub changed_at-others : {A : Type 0} (f : A → A) (xs : List A) (n k : ℕ) → k ≢ n → slice_get (changed_at f xs n) k ≡ slice_get xs k
 changed_at-others {A} f xs n k h =
-    elim (slice_get xs n) as (λ (o : Option A). slice_get (option_map_or (λ (x : A). slice_set xs n (f x)) o xs) k ≡ slice_get xs k) [ None ↦ refl | Some x ↦ slice_get-set_other xs n k (f x) h ]
+    elim (slice_get xs n) as (λ (o : Option A). slice_get (option_map_or (λ (x : A). slice_set xs n (f x)) o xs) k ≡ slice_get xs k)
+    [ None ↦ refl | Some x ↦ slice_get-set_other xs n k (f x) h ]
 
 -- what is at a place is changed
-pub changed_at-here : {A : Type 0} (f : A → A) (xs : List A) (n : ℕ) (x : A) → slice_get xs n ≡ Some x → slice_get (changed_at f xs n) n ≡ Some (f x)
-changed_at-here {A} f xs n x h = ap (λ (o : Option A). slice_get (option_map_or (λ (y : A). slice_set xs n (f y)) o xs) n) h ∙ slice_get-set_here xs n (f x) x h
+pub changed_at-here : {A : Type 0} (f : A → A) (xs : List A) (n : ℕ) (x : A)
+    → slice_get xs n ≡ Some x → slice_get (changed_at f xs n) n ≡ Some (f x)
+changed_at-here {A} f xs n x h =
+    ap (λ (o : Option A). slice_get (option_map_or (λ (y : A). slice_set xs n (f y)) o xs) n) h
+    ∙ slice_get-set_here xs n (f x) x h
 
 -- where nothing stands at a place nothing is changed
 changed_at-none : {A : Type 0} (f : A → A) (xs : List A) (n : ℕ) → slice_get xs n ≡ None → changed_at f xs n ≡ xs
@@ -46,7 +50,9 @@ some_or_none None = inl refl
 some_or_none (Some x) = inr (x, refl)
 
 -- what a change leaves as it is can be read as before
-pub changed_at-read : {A B : Type 0} (f : A → A) (v : A → Option B) → ((x : A) → v (f x) ≡ v x) → (xs : List A) (n k : ℕ) → option_and_then v (slice_get (changed_at f xs n) k) ≡ option_and_then v (slice_get xs k)
+pub changed_at-read : {A B : Type 0} (f : A → A) (v : A → Option B)
+    → ((x : A) → v (f x) ≡ v x)
+    → (xs : List A) (n k : ℕ) → option_and_then v (slice_get (changed_at f xs n) k) ≡ option_and_then v (slice_get xs k)
 changed_at-read {A} {B} f v same xs n k = elim (cases_eq k n) [
   | inr other ↦ ap (λ (o : Option A). option_and_then v o) (changed_at-others f xs n k other)
   | inl here ↦ elim (some_or_none (slice_get xs n)) [
@@ -59,19 +65,30 @@ changed_at-read {A} {B} f v same xs n k = elim (cases_eq k n) [
 ]
 
 -- what comes when it came, and whose place is as it was
-pub agrees_if_kept : (end : ℕ) (a b : Accounts) (x y : List ℕ) (due : Due) → comes_at end b due ≡ comes_at end a due → (IsDue due → at_place y (place_of due) ≡ at_place x (place_of due)) → AgreesAt end a x due → AgreesAt end b y due
-agrees_if_kept end a b x y due same place h = record { at = λ there. place there ∙ h.at there ∙ ap (number_of (place_of due)) (sym same); there = λ time is. h.there time (sym same ∙ is) }
+pub agrees_if_kept : (end : ℕ) (a b : Accounts) (x y : List ℕ) (due : Due)
+    → comes_at end b due ≡ comes_at end a due → (IsDue due → at_place y (place_of due) ≡ at_place x (place_of due))
+    → AgreesAt end a x due
+    → AgreesAt end b y due
+agrees_if_kept end a b x y due same place h = record {
+  at = λ there. place there ∙ h.at there ∙ ap (number_of (place_of due)) (sym same);
+  there = λ time is. h.there time (sym same ∙ is);
+}
 
 -- what is put down for when it comes
-pub agrees_if_planned : (end time : ℕ) (b : Accounts) (x y : List ℕ) (due : Due) → IsPlanned end due time x y → comes_at end b due ≡ until end time → AgreesAt end b y due
-agrees_if_planned end time b x y due p is = record { at = λ there. p.at ∙ ap (number_of (place_of due)) (sym is); there = λ t some. p.there }
+pub agrees_if_planned : (end time : ℕ) (b : Accounts) (x y : List ℕ) (due : Due)
+    → IsPlanned end due time x y → comes_at end b due ≡ until end time → AgreesAt end b y due
+agrees_if_planned end time b x y due p is =
+    record { at = λ there. p.at ∙ ap (number_of (place_of due)) (sym is); there = λ t some. p.there }
 
 -- what does not come
-pub agrees_if_dropped : (end : ℕ) (b : Accounts) (x y : List ℕ) (due : Due) → IsDropped due x y → comes_at end b due ≡ None → AgreesAt end b y due
+pub agrees_if_dropped : (end : ℕ) (b : Accounts) (x y : List ℕ) (due : Due)
+    → IsDropped due x y → comes_at end b due ≡ None → AgreesAt end b y due
 agrees_if_dropped end b x y due d is = record { at = λ there. d.at ∙ ap (number_of (place_of due)) (sym is); there = λ t some. d.there }
 
 -- a phase of a task that has not changed ends when it did
-ends-same : (end : ℕ) (cs ds : List TaskProgress) (processor_state : ProcessorState) → ((task : ℕ) → processor_state.run ≡ Some task → slice_get ds task ≡ slice_get cs task) → ends_at end ds processor_state ≡ ends_at end cs processor_state
+ends-same : (end : ℕ) (cs ds : List TaskProgress) (processor_state : ProcessorState)
+    → ((task : ℕ) → processor_state.run ≡ Some task → slice_get ds task ≡ slice_get cs task)
+    → ends_at end ds processor_state ≡ ends_at end cs processor_state
 ends-same end cs ds processor_state same =
     let v : TaskProgress → Option ℕ = λ c. until end (end_of processor_state.since c) in
     let at : List TaskProgress → Option ℕ → Option ℕ = λ xs o. option_and_then (λ task. option_and_then v (slice_get xs task)) o in
@@ -81,13 +98,19 @@ ends-same end cs ds processor_state same =
     ]
 
 -- a processor that has not changed, and whose task has not, ends its phase when it did
-pub kept-end : (end q : ℕ) (a b : Accounts) (x y : List ℕ) → slice_get b.by_processor q ≡ slice_get a.by_processor q → ((task : ℕ) (processor_state : ProcessorState) → slice_get a.by_processor q ≡ Some processor_state → processor_state.run ≡ Some task → slice_get b.by_task task ≡ slice_get a.by_task task)
-    → (q < 64 → at_place y q ≡ at_place x q) → AgreesAt end a x (End q) → AgreesAt end b y (End q)
+pub kept-end : (end q : ℕ) (a b : Accounts) (x y : List ℕ) → slice_get b.by_processor q ≡ slice_get a.by_processor q
+    → ((task : ℕ) (processor_state : ProcessorState) → slice_get a.by_processor q ≡ Some processor_state →
+    processor_state.run ≡ Some task → slice_get b.by_task task ≡ slice_get a.by_task task)
+    → (q < 64 → at_place y q ≡ at_place x q) → AgreesAt end a x (End q)
+    → AgreesAt end b y (End q)
 kept-end end q a b x y by_processor by_task place h =
     let at : List TaskProgress → Option ProcessorState → Option ℕ = λ cs o. option_and_then (ends_at end cs) o in
-    let same : at b.by_task (slice_get a.by_processor q) ≡ at a.by_task (slice_get a.by_processor q) = elim (some_or_none (slice_get a.by_processor q)) [
+    let same : at b.by_task (slice_get a.by_processor q) ≡ at a.by_task (slice_get a.by_processor q) =
+    elim (some_or_none (slice_get a.by_processor q)) [
       | inl none ↦ ap (at b.by_task) none ∙ sym (ap (at a.by_task) none)
-      | inr (processor_state, is) ↦ ap (at b.by_task) is ∙ ends-same end a.by_task b.by_task processor_state (λ task runs. by_task task processor_state is runs) ∙ sym (ap (at a.by_task) is)
+      | inr (processor_state, is) ↦
+          ap (at b.by_task) is ∙ ends-same end a.by_task b.by_task processor_state (λ task runs. by_task task processor_state is runs)
+          ∙ sym (ap (at a.by_task) is)
     ] in
     agrees_if_kept end a b x y (End q) (ap (at b.by_task) by_processor ∙ same) place h
 
@@ -100,10 +123,14 @@ pub one-home : (a : Accounts) (task p q : ℕ) → HasHome a task p → HasHome 
 one-home a task p q g h = sym g.home ∙ ap (λ (c : TaskProgress). c.home) (same_Some g.progress h.progress (sym g.there ∙ h.there)) ∙ h.home
 
 -- a task that does not run where it ran last runs nowhere
-pub resting_runs_nowhere : (a : Accounts) (task : ℕ) → HaveHomes a → Rests a task → (q : ℕ) (processor_state : ProcessorState) → slice_get a.by_processor q ≡ Some processor_state → processor_state.run ≡ Some task → ⊥
+pub resting_runs_nowhere : (a : Accounts) (task : ℕ) → HaveHomes a → Rests a task → (q : ℕ) (processor_state : ProcessorState)
+    → slice_get a.by_processor q ≡ Some processor_state → processor_state.run ≡ Some task
+    → ⊥
 resting_runs_nowhere a task homes rests q processor_state at runs =
     let h : HasHome a task q = homes q task processor_state at runs in
-    let home : rests.progress.home ≡ q = ap (λ (c : TaskProgress). c.home) (same_Some rests.progress h.progress (sym rests.there ∙ h.there)) ∙ h.home in
+    let home : rests.progress.home ≡ q =
+    ap (λ (c : TaskProgress). c.home) (same_Some rests.progress h.progress (sym rests.there ∙ h.there)) ∙ h.home in
     let test : Option ProcessorState → Bool = λ o. option_map_or (λ (l : ProcessorState). is_same l.run (Some task)) o false in
-    let here : runs_at a.by_processor rests.progress.home task ≡ is_same (Some task) (Some task) = ap (λ k. runs_at a.by_processor k task) home ∙ ap test at ∙ ap (λ o. is_same o (Some task)) runs in
+    let here : runs_at a.by_processor rests.progress.home task ≡ is_same (Some task) (Some task) =
+    ap (λ k. runs_at a.by_processor k task) home ∙ ap test at ∙ ap (λ o. is_same o (Some task)) runs in
     true≢false (sym (here ∙ eq-eqb task task refl) ∙ rests.still)

@@ -4,13 +4,15 @@ use Rattle.std.proofs.Math.Nat.{mul-le-mul_right, pow-suc}
 use Rattle.bq_workload.specs.Draws.{fraction, digit, squared}
 
 -- one digit more
-pub fraction-step : (left known m d r : ℕ) → 0 < left → d ≡ digit m → r ≡ squared m → fraction (left - 1) (2 * known + d) r ≡ fraction left known m
+pub fraction-step : (left known m d r : ℕ) → 0 < left → d ≡ digit m → r ≡ squared m
+    → fraction (left - 1) (2 * known + d) r ≡ fraction left known m
 unfolding fraction
 fraction-step zero known m d r h e f = absurd (omega arith)
 fraction-step (suc n) known m d r h e f = rw (sub-one, e, f) refl
 
 -- a number with room for this many digits takes one
-pub room-step : (left known d : ℕ) → 0 < left → d ≤ 1 → (known + 1) * 2 ^ left ≤ 4294967296 → (2 * known + d + 1) * 2 ^ (left - 1) ≤ 4294967296
+pub room-step : (left known d : ℕ) → 0 < left → d ≤ 1 → (known + 1) * 2 ^ left ≤ 4294967296
+    → (2 * known + d + 1) * 2 ^ (left - 1) ≤ 4294967296
 room-step zero known d h small room = absurd (omega arith)
 room-step (suc n) known d h small room =
     let power : 2 ^ suc n ≡ 2 ^ n * 2 = pow-suc 2 n in

@@ -22,31 +22,51 @@ use Rattle.bq_workload.proofs.AgreeLemmas.{changed_at-here, changed_at-others, c
 use Rattle.bq_workload.proofs.AgreedLemmas.{AgreesBut, after-change, both, agrees_but_one_end, charged-agrees, charged-is, counted, counted-here, end-of, homes-read, agrees_if_same_there, agrees_if_times_same, look_at, look-of, since_now, tick_at, tick-of, with_end}
 
 -- a phase that has just ended ends when it was to
-ends-now : (since now : ℕ) (c : TaskProgress) → since ≤ now → now < 2 ^ 64 → c.got + (now - since) ≡ c.due → end_of now (run_for (now - since) c) ≡ end_of since c
+ends-now : (since now : ℕ) (c : TaskProgress) → since ≤ now → now < 2 ^ 64 → c.got + (now - since) ≡ c.due
+    → end_of now (run_for (now - since) c) ≡ end_of since c
 ends-now since now c early late done = omega arith
 
 -- the phase of the task that runs at a processor has just ended
-pub done-agrees : (end p now task : ℕ) (processor_state : ProcessorState) (c : TaskProgress) (a b : Accounts) (x y : List ℕ) → slice_get a.by_processor p ≡ Some processor_state → IfSome processor_state.run (λ _. processor_state.since ≤ now) → now < 2 ^ 64
-    → b ≡ charged p now a → y ≡ x → IsDone b p task c → Agrees end a x → Agrees end b y
+pub done-agrees : (end p now task : ℕ) (processor_state : ProcessorState) (c : TaskProgress) (a b : Accounts) (x y : List ℕ)
+    → slice_get a.by_processor p ≡ Some processor_state → IfSome processor_state.run (λ _. processor_state.since ≤ now)
+    → now < 2 ^ 64 → b ≡ charged p now a → y ≡ x → IsDone b p task c → Agrees end a x
+    → Agrees end b y
 done-agrees end p now task processor_state c a b x y at early late is event_queue done h =
     let d = both (counted processor_state now a.by_task) (changed_at (since_now now) a.by_processor p) in
     let same : b ≡ d = is ∙ charged-is p now processor_state a at in
-    let new : slice_get d.by_processor p ≡ Some (since_now now processor_state) = changed_at-here (since_now now) a.by_processor p processor_state at in
-    let processor_state_is : done.processor_state ≡ since_now now processor_state = same_Some done.processor_state (since_now now processor_state) (sym done.at ∙ ap (λ (z : Accounts). slice_get z.by_processor p) same ∙ new) in
+    let new : slice_get d.by_processor p ≡ Some (since_now now processor_state) =
+    changed_at-here (since_now now) a.by_processor p processor_state at in
+    let processor_state_is : done.processor_state ≡ since_now now processor_state =
+    same_Some done.processor_state (since_now now processor_state)
+    (sym done.at ∙ ap (λ (z : Accounts). slice_get z.by_processor p) same ∙ new) in
     let runs : processor_state.run ≡ Some task = sym (ap (λ (l : ProcessorState). l.run) processor_state_is) ∙ done.runs in
     let home : HasHome a task p = h.homes p task processor_state at runs in
-    let there : slice_get d.by_task task ≡ Some (run_for (now - processor_state.since) home.progress) = counted-here processor_state now a.by_task task home.progress runs home.there in
-    let progress_is : c ≡ run_for (now - processor_state.since) home.progress = same_Some c (run_for (now - processor_state.since) home.progress) (sym done.there ∙ ap (λ (z : Accounts). slice_get z.by_task task) same ∙ there) in
-    let exact : home.progress.got + (now - processor_state.since) ≡ home.progress.due = sym (ap (λ (k : TaskProgress). k.got) progress_is) ∙ done.done ∙ ap (λ (k : TaskProgress). k.due) progress_is in
+    let there : slice_get d.by_task task ≡ Some (run_for (now - processor_state.since) home.progress) =
+    counted-here processor_state now a.by_task task home.progress runs home.there in
+    let progress_is : c ≡ run_for (now - processor_state.since) home.progress =
+    same_Some c (run_for (now - processor_state.since) home.progress)
+    (sym done.there ∙ ap (λ (z : Accounts). slice_get z.by_task task) same ∙ there) in
+    let exact : home.progress.got + (now - processor_state.since) ≡ home.progress.due =
+    sym (ap (λ (k : TaskProgress). k.got) progress_is) ∙ done.done ∙ ap (λ (k : TaskProgress). k.due) progress_is in
     let soon : processor_state.since ≤ now = subst (λ (o : Option ℕ). IfSome o (λ _. processor_state.since ≤ now)) runs early in
     let e : comes_at end d (End p) ≡ comes_at end a (End p) =
-    end-of end p task d (since_now now processor_state) (run_for (now - processor_state.since) home.progress) new runs there ∙ ap (until end) (ends-now processor_state.since now home.progress soon late exact) ∙ sym (end-of end p task a processor_state home.progress at runs home.there) in
-    let others : AgreesBut end p d x = subst (λ (z : Accounts). AgreesBut end p z x) (charged-is p now processor_state a at) (charged-agrees end p now processor_state a x at h) in
-    let whole : Agrees end d x = record { all = with_end end p d x others (agrees_if_kept end a d x x (End p) e (λ low. refl) (h.all (End p))); homes = others.homes } in
+    end-of end p task d (since_now now processor_state) (run_for (now - processor_state.since) home.progress) new runs there
+    ∙ ap (until end) (ends-now processor_state.since now home.progress soon late exact)
+    ∙ sym (end-of end p task a processor_state home.progress at runs home.there) in
+    let others : AgreesBut end p d x =
+    subst (λ (z : Accounts). AgreesBut end p z x) (charged-is p now processor_state a at)
+    (charged-agrees end p now processor_state a x at h) in
+    let whole : Agrees end d x = record {
+      all = with_end end p d x others (agrees_if_kept end a d x x (End p) e (λ low. refl) (h.all (End p)));
+      homes = others.homes;
+    } in
     subst (λ (z : Accounts). Agrees end z y) (sym same) (subst (λ (l : List ℕ). Agrees end d l) (sym event_queue) whole)
 
 -- a processor ticks next then
-pub beaten-agrees : (end p now between : ℕ) (a b : Accounts) (x y : List ℕ) (processor_state : ProcessorState) → slice_get a.by_processor p ≡ Some processor_state → b ≡ beaten p now between a → IsPlanned end (Tick p) (next_multiple between now) x y → Agrees end a x → Agrees end b y
+pub beaten-agrees : (end p now between : ℕ) (a b : Accounts) (x y : List ℕ) (processor_state : ProcessorState)
+    → slice_get a.by_processor p ≡ Some processor_state → b ≡ beaten p now between a
+    → IsPlanned end (Tick p) (next_multiple between now) x y → Agrees end a x
+    → Agrees end b y
 beaten-agrees end p now between a b x y processor_state at is plan h =
     let f : ProcessorState → ProcessorState = λ l. record l { tick = Some (next_multiple between now) } in
     let d = of_processor f p a in
@@ -59,15 +79,22 @@ beaten-agrees end p now between a b x y processor_state at is plan h =
       by_task = λ q task l other here mine. refl;
       rings = λ k. refl;
       places = λ k few i j l. plan.others k few j;
-      ends = agrees_if_kept end a d x y (End p) (changed_at-read f (ends_at end a.by_task) (λ l. refl) a.by_processor p p) (λ few. plan.others p (omega arith) (omega arith)) (h.all (End p));
+      ends =
+          agrees_if_kept end a d x y (End p) (changed_at-read f (ends_at end a.by_task) (λ l. refl) a.by_processor p p)
+          (λ few. plan.others p (omega arith) (omega arith)) (h.all (End p));
       ticks = agrees_if_planned end (next_multiple between now) d x y (Tick p) plan (tick-of end p d (f processor_state) new);
-      looks = agrees_if_kept end a d x y (Pull p) (changed_at-read f (look_at end) (λ l. refl) a.by_processor p p) (λ few. plan.others (1152 + p) (omega arith) (omega arith)) (h.all (Pull p));
+      looks =
+          agrees_if_kept end a d x y (Pull p) (changed_at-read f (look_at end) (λ l. refl) a.by_processor p p)
+          (λ few. plan.others (1152 + p) (omega arith) (omega arith)) (h.all (Pull p));
       home = λ task l here mine. homes p task l here mine;
     }) in
     subst (λ (z : Accounts). Agrees end z y) (sym is) whole
 
 -- a processor looks next then
-pub looked-agrees : (end p now between : ℕ) (a b : Accounts) (x y : List ℕ) (processor_state : ProcessorState) → slice_get a.by_processor p ≡ Some processor_state → b ≡ looked p now between a → IsPlanned end (Pull p) (next_multiple between now) x y → Agrees end a x → Agrees end b y
+pub looked-agrees : (end p now between : ℕ) (a b : Accounts) (x y : List ℕ) (processor_state : ProcessorState)
+    → slice_get a.by_processor p ≡ Some processor_state → b ≡ looked p now between a
+    → IsPlanned end (Pull p) (next_multiple between now) x y → Agrees end a x
+    → Agrees end b y
 looked-agrees end p now between a b x y processor_state at is plan h =
     let f : ProcessorState → ProcessorState = λ l. record l { look = Some (next_multiple between now) } in
     let d = of_processor f p a in
@@ -80,25 +107,34 @@ looked-agrees end p now between a b x y processor_state at is plan h =
       by_task = λ q task l other here mine. refl;
       rings = λ k. refl;
       places = λ k few i j l. plan.others k few l;
-      ends = agrees_if_kept end a d x y (End p) (changed_at-read f (ends_at end a.by_task) (λ l. refl) a.by_processor p p) (λ few. plan.others p (omega arith) (omega arith)) (h.all (End p));
-      ticks = agrees_if_kept end a d x y (Tick p) (changed_at-read f (tick_at end) (λ l. refl) a.by_processor p p) (λ few. plan.others (1088 + p) (omega arith) (omega arith)) (h.all (Tick p));
+      ends =
+          agrees_if_kept end a d x y (End p) (changed_at-read f (ends_at end a.by_task) (λ l. refl) a.by_processor p p)
+          (λ few. plan.others p (omega arith) (omega arith)) (h.all (End p));
+      ticks =
+          agrees_if_kept end a d x y (Tick p) (changed_at-read f (tick_at end) (λ l. refl) a.by_processor p p)
+          (λ few. plan.others (1088 + p) (omega arith) (omega arith)) (h.all (Tick p));
       looks = agrees_if_planned end (next_multiple between now) d x y (Pull p) plan (look-of end p d (f processor_state) new);
       home = λ task l here mine. homes p task l here mine;
     }) in
     subst (λ (z : Accounts). Agrees end z y) (sym is) whole
 
 -- a task's progress in a list
-ring-of : (end task : ℕ) (a : Accounts) (c : TaskProgress) → slice_get a.by_task task ≡ Some c → comes_at end a (Wake task) ≡ rings_at end c.task_state c.timer
+ring-of : (end task : ℕ) (a : Accounts) (c : TaskProgress) → slice_get a.by_task task ≡ Some c
+    → comes_at end a (Wake task) ≡ rings_at end c.task_state c.timer
 ring-of end task a c there = ap (λ (o : Option TaskProgress). option_and_then (λ d. rings_at end d.task_state d.timer) o) there
 
 -- a timer that is put down, or none
-timer-planned : (end task timer : ℕ) (task_state : TaskState) (b : Accounts) (x y : List ℕ) → comes_at end b (Wake task) ≡ rings_at end task_state timer → PlansTimer end task task_state timer x y → AgreesAt end b y (Wake task)
+timer-planned : (end task timer : ℕ) (task_state : TaskState) (b : Accounts) (x y : List ℕ)
+    → comes_at end b (Wake task) ≡ rings_at end task_state timer → PlansTimer end task task_state timer x y
+    → AgreesAt end b y (Wake task)
 timer-planned end task timer Asleep b x y is plan = agrees_if_planned end timer b x y (Wake task) plan is
 timer-planned end task timer Waiting b x y is plan = agrees_if_dropped end b x y (Wake task) plan is
 timer-planned end task timer Runnable b x y is plan = agrees_if_dropped end b x y (Wake task) plan is
 timer-planned end task timer Over b x y is plan = agrees_if_dropped end b x y (Wake task) plan is
 
-timer-others : (end task timer : ℕ) (task_state : TaskState) (x y : List ℕ) → PlansTimer end task task_state timer x y → (k : ℕ) → k < 2048 → k ≢ 64 + task → at_place y k ≡ at_place x k
+timer-others : (end task timer : ℕ) (task_state : TaskState) (x y : List ℕ)
+    → PlansTimer end task task_state timer x y → (k : ℕ) → k < 2048 → k ≢ 64 + task
+    → at_place y k ≡ at_place x k
 timer-others end task timer Asleep x y plan k few other = plan.others k few other
 timer-others end task timer Waiting x y plan k few other = plan.others k few other
 timer-others end task timer Runnable x y plan k few other = plan.others k few other
@@ -111,53 +147,88 @@ timer-there end task timer Runnable x y plan = plan.there
 timer-there end task timer Over x y plan = plan.there
 
 -- the task that runs at a processor has come so far
-pub taken_up-agrees : (end p task : ℕ) (processor_state : ProcessorState) (c : TaskProgress) (a b : Accounts) (x y : List ℕ) → slice_get a.by_processor p ≡ Some processor_state → b.by_task ≡ slice_set a.by_task task c → b.by_processor ≡ a.by_processor → PlansProgress end p task processor_state c x y → Agrees end a x → Agrees end b y
+pub taken_up-agrees : (end p task : ℕ) (processor_state : ProcessorState) (c : TaskProgress) (a b : Accounts) (x y : List ℕ)
+    → slice_get a.by_processor p ≡ Some processor_state → b.by_task ≡ slice_set a.by_task task c
+    → b.by_processor ≡ a.by_processor → PlansProgress end p task processor_state c x y → Agrees end a x
+    → Agrees end b y
 taken_up-agrees end p task processor_state c a b x y at by_task by_processor plan h =
     let d = both (slice_set a.by_task task c) a.by_processor in
-    let is : b ≡ d = ap (λ (l : List TaskProgress). both l b.by_processor) by_task ∙ ap (λ (l : List ProcessorState). both (slice_set a.by_task task c) l) by_processor in
+    let is : b ≡ d =
+    ap (λ (l : List TaskProgress). both l b.by_processor) by_task
+    ∙ ap (λ (l : List ProcessorState). both (slice_set a.by_task task c) l) by_processor in
     let low : p < 64 = plan.ends.there in
     let few : task < 1024 = timer-there end task c.timer c.task_state x plan.mid plan.timer in
     let home : HasHome a task p = h.homes p task processor_state at plan.runs in
     let there : slice_get d.by_task task ≡ Some c = slice_get-set_here a.by_task task c home.progress home.there in
-    let others : (k : ℕ) → k ≢ task → slice_get d.by_task k ≡ slice_get a.by_task k = λ k other. slice_get-set_other a.by_task task k c other in
+    let others : (k : ℕ) → k ≢ task → slice_get d.by_task k ≡ slice_get a.by_task k =
+    λ k other. slice_get-set_other a.by_task task k c other in
     let mine : HasHome d task p = record { progress = c; there = there; home = plan.home } in
     let one = plan.ends.others in
     let two = timer-others end task c.timer c.task_state x plan.mid plan.timer in
     let wakes : (k : ℕ) → AgreesAt end d y (Wake k) = λ k. elim (cases_eq k task) [
-      | inl same ↦ subst (λ (n : ℕ). AgreesAt end d y (Wake n)) (sym same) (agrees_if_same_there end d plan.mid y (Wake task) (λ small. one (64 + task) (omega arith) (omega arith)) (timer-planned end task c.timer c.task_state d x plan.mid (ring-of end task d c there) plan.timer))
-      | inr other ↦ agrees_if_kept end a d x y (Wake k) (ap (λ (o : Option TaskProgress). option_and_then (λ e. rings_at end e.task_state e.timer) o) (others k other)) (λ small. one (64 + k) (omega arith) (omega arith) ∙ two (64 + k) (omega arith) (omega arith)) (h.all (Wake k))
+      | inl same ↦
+          subst (λ (n : ℕ). AgreesAt end d y (Wake n)) (sym same)
+          (agrees_if_same_there end d plan.mid y (Wake task) (λ small. one (64 + task) (omega arith) (omega arith))
+          (timer-planned end task c.timer c.task_state d x plan.mid (ring-of end task d c there) plan.timer))
+      | inr other ↦
+          agrees_if_kept end a d x y (Wake k)
+          (ap (λ (o : Option TaskProgress). option_and_then (λ e. rings_at end e.task_state e.timer) o) (others k other))
+          (λ small. one (64 + k) (omega arith) (omega arith) ∙ two (64 + k) (omega arith) (omega arith)) (h.all (Wake k))
     ] in
     let homes : HaveHomes d = λ q k l here runs. elim (cases_eq k task) [
-      | inl same ↦ subst (λ (n : ℕ). HasHome d n q) (sym same) (subst (λ (n : ℕ). HasHome d task n) (one-home a task p q home (subst (λ (n : ℕ). HasHome a n q) same (h.homes q k l here runs))) mine)
+      | inl same ↦
+          subst (λ (n : ℕ). HasHome d n q) (sym same)
+          (subst (λ (n : ℕ). HasHome d task n)
+          (one-home a task p q home (subst (λ (n : ℕ). HasHome a n q) same (h.homes q k l here runs))) mine)
       | inr other ↦ kept-home a d k q (others k other) (h.homes q k l here runs)
     ] in
-    let alone : (q k : ℕ) (l : ProcessorState) → q ≢ p → slice_get a.by_processor q ≡ Some l → l.run ≡ Some k → k ≢ task = λ q k l other here runs same. other (one-home a task q p (subst (λ (n : ℕ). HasHome a n q) same (h.homes q k l here runs)) home) in
+    let alone : (q k : ℕ) (l : ProcessorState) → q ≢ p → slice_get a.by_processor q ≡ Some l → l.run ≡ Some k → k ≢ task =
+    λ q k l other here runs same.
+    other (one-home a task q p (subst (λ (n : ℕ). HasHome a n q) same (h.homes q k l here runs)) home) in
     let rest : AgreesBut end p d y = record {
-      ends = λ q other. kept-end end q a d x y refl (λ k l here runs. others k (alone q k l other here runs)) (λ small. one q (omega arith) other ∙ two q (omega arith) (omega arith)) (h.all (End q));
+      ends = λ q other.
+          kept-end end q a d x y refl (λ k l here runs. others k (alone q k l other here runs))
+          (λ small. one q (omega arith) other ∙ two q (omega arith) (omega arith)) (h.all (End q));
       wakes = wakes;
-      ticks = λ q. agrees_if_kept end a d x y (Tick q) refl (λ small. one (1088 + q) (omega arith) (omega arith) ∙ two (1088 + q) (omega arith) (omega arith)) (h.all (Tick q));
-      looks = λ q. agrees_if_kept end a d x y (Pull q) refl (λ small. one (1152 + q) (omega arith) (omega arith) ∙ two (1152 + q) (omega arith) (omega arith)) (h.all (Pull q));
+      ticks = λ q.
+          agrees_if_kept end a d x y (Tick q) refl
+          (λ small. one (1088 + q) (omega arith) (omega arith) ∙ two (1088 + q) (omega arith) (omega arith)) (h.all (Tick q));
+      looks = λ q.
+          agrees_if_kept end a d x y (Pull q) refl
+          (λ small. one (1152 + q) (omega arith) (omega arith) ∙ two (1152 + q) (omega arith) (omega arith)) (h.all (Pull q));
       homes = homes;
     } in
-    let ends = agrees_if_planned end (end_of processor_state.since c) d plan.mid y (End p) plan.ends (end-of end p task d processor_state c at plan.runs there) in
+    let ends =
+    agrees_if_planned end (end_of processor_state.since c) d plan.mid y (End p) plan.ends
+    (end-of end p task d processor_state c at plan.runs there) in
     let whole : Agrees end d y = record { all = with_end end p d y rest ends; homes = homes } in
     subst (λ (z : Accounts). Agrees end z y) (sym is) whole
 
 -- a task that rests is woken
-pub woken-agrees : (end task : ℕ) (a b : Accounts) (x y : List ℕ) → Rests a task → b ≡ of_task woken task a → IsDropped (Wake task) x y → Agrees end a x → Agrees end b y
+pub woken-agrees : (end task : ℕ) (a b : Accounts) (x y : List ℕ)
+    → Rests a task → b ≡ of_task woken task a → IsDropped (Wake task) x y → Agrees end a x → Agrees end b y
 woken-agrees end task a b x y rests is plan h =
     let d = of_task woken task a in
     let there : slice_get d.by_task task ≡ Some (woken rests.progress) = changed_at-here woken a.by_task task rests.progress rests.there in
-    let others : (k : ℕ) → k ≢ task → slice_get d.by_task k ≡ slice_get a.by_task k = λ k other. changed_at-others woken a.by_task task k other in
+    let others : (k : ℕ) → k ≢ task → slice_get d.by_task k ≡ slice_get a.by_task k =
+    λ k other. changed_at-others woken a.by_task task k other in
     let few : task < 1024 = plan.there in
-    let alone : (q k : ℕ) (l : ProcessorState) → slice_get a.by_processor q ≡ Some l → l.run ≡ Some k → k ≢ task = λ q k l here runs same. resting_runs_nowhere a task h.homes rests q l here (runs ∙ ap (λ (n : ℕ). Some n) same) in
+    let alone : (q k : ℕ) (l : ProcessorState) → slice_get a.by_processor q ≡ Some l → l.run ≡ Some k → k ≢ task =
+    λ q k l here runs same. resting_runs_nowhere a task h.homes rests q l here (runs ∙ ap (λ (n : ℕ). Some n) same) in
     let homes : HaveHomes d = λ q k l here runs. kept-home a d k q (others k (alone q k l here runs)) (h.homes q k l here runs) in
-    let ends : (q : ℕ) → AgreesAt end d y (End q) = λ q. kept-end end q a d x y refl (λ k l here runs. others k (alone q k l here runs)) (λ small. plan.others q (omega arith) (omega arith)) (h.all (End q)) in
+    let ends : (q : ℕ) → AgreesAt end d y (End q) = λ q.
+    kept-end end q a d x y refl (λ k l here runs. others k (alone q k l here runs))
+    (λ small. plan.others q (omega arith) (omega arith)) (h.all (End q)) in
     let rest : AgreesBut end 64 d y = record {
       ends = λ q other. ends q;
       wakes = λ k. elim (cases_eq k task) [
-        | inl same ↦ subst (λ (n : ℕ). AgreesAt end d y (Wake n)) (sym same) (agrees_if_dropped end d x y (Wake task) plan (ring-of end task d (woken rests.progress) there))
-        | inr other ↦ agrees_if_kept end a d x y (Wake k) (ap (λ (o : Option TaskProgress). option_and_then (λ e. rings_at end e.task_state e.timer) o) (others k other)) (λ small. plan.others (64 + k) (omega arith) (omega arith)) (h.all (Wake k))
+        | inl same ↦
+            subst (λ (n : ℕ). AgreesAt end d y (Wake n)) (sym same)
+            (agrees_if_dropped end d x y (Wake task) plan (ring-of end task d (woken rests.progress) there))
+        | inr other ↦
+            agrees_if_kept end a d x y (Wake k)
+            (ap (λ (o : Option TaskProgress). option_and_then (λ e. rings_at end e.task_state e.timer) o) (others k other))
+            (λ small. plan.others (64 + k) (omega arith) (omega arith)) (h.all (Wake k))
       ];
       ticks = λ q. agrees_if_kept end a d x y (Tick q) refl (λ small. plan.others (1088 + q) (omega arith) (omega arith)) (h.all (Tick q));
       looks = λ q. agrees_if_kept end a d x y (Pull q) refl (λ small. plan.others (1152 + q) (omega arith) (omega arith)) (h.all (Pull q));
@@ -172,7 +243,7 @@ in-longer [] ys k x h = absurd (none-some x h)
 in-longer (z ∷ zs) ys zero x h = h
 in-longer (z ∷ zs) ys (suc k) x h = in-longer zs ys k x h
 
--- and the last is the next
+-- the last item of a list that is longer by one is the new one
 last-of : {A : Type 0} (xs : List A) (x : A) (k : ℕ) → k ≡ length xs → slice_get (xs ++ x ∷ []) k ≡ Some x
 last-of [] x k h = ap (slice_get (x ∷ [])) (let e : k ≡ zero = omega (arith, h) in e)
 last-of (z ∷ zs) x zero h = absurd (omega (arith, h))
@@ -186,22 +257,38 @@ others-of (z ∷ zs) x zero h = refl
 others-of (z ∷ zs) x (suc k) h = others-of zs x k (λ e. h (omega (arith, e)))
 
 -- one task more, which sleeps until its timer rings
-pub added-agrees : (end task : ℕ) (c : TaskProgress) (a b : Accounts) (x y : List ℕ) → task ≡ length a.by_task → c.task_state ≡ Asleep → b.by_task ≡ a.by_task ++ c ∷ [] → b.by_processor ≡ a.by_processor → IsPlanned end (Wake task) c.timer x y → Agrees end a x → Agrees end b y
+pub added-agrees : (end task : ℕ) (c : TaskProgress) (a b : Accounts) (x y : List ℕ)
+    → task ≡ length a.by_task → c.task_state ≡ Asleep → b.by_task ≡ a.by_task ++ c ∷ [] → b.by_processor ≡ a.by_processor
+    → IsPlanned end (Wake task) c.timer x y → Agrees end a x
+    → Agrees end b y
 added-agrees end task c a b x y number asleep by_task by_processor plan h =
     let d = both (a.by_task ++ c ∷ []) a.by_processor in
-    let is : b ≡ d = ap (λ (l : List TaskProgress). both l b.by_processor) by_task ∙ ap (λ (l : List ProcessorState). both (a.by_task ++ c ∷ []) l) by_processor in
+    let is : b ≡ d =
+    ap (λ (l : List TaskProgress). both l b.by_processor) by_task
+    ∙ ap (λ (l : List ProcessorState). both (a.by_task ++ c ∷ []) l) by_processor in
     let few : task < 1024 = plan.there in
     let there : slice_get d.by_task task ≡ Some c = last-of a.by_task c task number in
-    let others : (k : ℕ) → k ≢ task → slice_get d.by_task k ≡ slice_get a.by_task k = λ k other. others-of a.by_task c k (λ e. other (e ∙ sym number)) in
-    let stays : (q k : ℕ) (l : ProcessorState) → slice_get a.by_processor q ≡ Some l → l.run ≡ Some k → slice_get d.by_task k ≡ slice_get a.by_task k =
-    λ q k l here runs. let home : HasHome a k q = h.homes q k l here runs in in-longer a.by_task (c ∷ []) k home.progress home.there ∙ sym home.there in
+    let others : (k : ℕ) → k ≢ task → slice_get d.by_task k ≡ slice_get a.by_task k =
+    λ k other. others-of a.by_task c k (λ e. other (e ∙ sym number)) in
+    let stays : (q k : ℕ) (l : ProcessorState) → slice_get a.by_processor q ≡ Some l → l.run ≡ Some k
+    → slice_get d.by_task k ≡ slice_get a.by_task k =
+    λ q k l here runs.
+    let home : HasHome a k q = h.homes q k l here runs in
+    in-longer a.by_task (c ∷ []) k home.progress home.there ∙ sym home.there in
     let homes : HaveHomes d = λ q k l here runs. kept-home a d k q (stays q k l here runs) (h.homes q k l here runs) in
-    let ends : (q : ℕ) → AgreesAt end d y (End q) = λ q. kept-end end q a d x y refl (stays q) (λ small. plan.others q (omega arith) (omega arith)) (h.all (End q)) in
+    let ends : (q : ℕ) → AgreesAt end d y (End q) =
+    λ q. kept-end end q a d x y refl (stays q) (λ small. plan.others q (omega arith) (omega arith)) (h.all (End q)) in
     let rest : AgreesBut end 64 d y = record {
       ends = λ q other. ends q;
       wakes = λ k. elim (cases_eq k task) [
-        | inl same ↦ subst (λ (n : ℕ). AgreesAt end d y (Wake n)) (sym same) (agrees_if_planned end c.timer d x y (Wake task) plan (ring-of end task d c there ∙ ap (λ (s : TaskState). rings_at end s c.timer) asleep))
-        | inr other ↦ agrees_if_kept end a d x y (Wake k) (ap (λ (o : Option TaskProgress). option_and_then (λ e. rings_at end e.task_state e.timer) o) (others k other)) (λ small. plan.others (64 + k) (omega arith) (omega arith)) (h.all (Wake k))
+        | inl same ↦
+            subst (λ (n : ℕ). AgreesAt end d y (Wake n)) (sym same)
+            (agrees_if_planned end c.timer d x y (Wake task) plan
+            (ring-of end task d c there ∙ ap (λ (s : TaskState). rings_at end s c.timer) asleep))
+        | inr other ↦
+            agrees_if_kept end a d x y (Wake k)
+            (ap (λ (o : Option TaskProgress). option_and_then (λ e. rings_at end e.task_state e.timer) o) (others k other))
+            (λ small. plan.others (64 + k) (omega arith) (omega arith)) (h.all (Wake k))
       ];
       ticks = λ q. agrees_if_kept end a d x y (Tick q) refl (λ small. plan.others (1088 + q) (omega arith) (omega arith)) (h.all (Tick q));
       looks = λ q. agrees_if_kept end a d x y (Pull q) refl (λ small. plan.others (1152 + q) (omega arith) (omega arith)) (h.all (Pull q));
@@ -215,7 +302,8 @@ pub same-accounts : (cs ds : List TaskProgress) (ls ms : List ProcessorState) �
 same-accounts cs ds ls ms e f = ap (λ x. both x ls) e ∙ ap (both ds) f
 
 -- what is there is changed
-pub changed_at-is : {A : Type 0} (f : A → A) (xs : List A) (n : ℕ) (x : A) → slice_get xs n ≡ Some x → changed_at f xs n ≡ slice_set xs n (f x)
+pub changed_at-is : {A : Type 0} (f : A → A) (xs : List A) (n : ℕ) (x : A)
+    → slice_get xs n ≡ Some x → changed_at f xs n ≡ slice_set xs n (f x)
 changed_at-is {A} f xs n x at = ap (λ (o : Option A). option_map_or (λ (y : A). slice_set xs n (f y)) o xs) at
 
 -- two facts of a call that has done its work
@@ -224,25 +312,45 @@ both-ok P Q (Ok x) p q = (p, q)
 both-ok P Q (Err e) p q = p
 
 -- a roster whose event queue and periods are as they were, and whose accounts have changed so
-pub resized-agreed : (p : ℕ) (f : ProcessorState → ProcessorState) (r s : Roster) → ((l : ProcessorState) → (f l).run ≡ l.run) → ((cs : List TaskProgress) (l : ProcessorState) → ends_at r.periods.end cs (f l) ≡ ends_at r.periods.end cs l) → ((l : ProcessorState) → (f l).tick ≡ l.tick) → ((l : ProcessorState) → (f l).look ≡ l.look)
-    → accounts_of s ≡ of_processor f p (accounts_of r) → s.event_queue ≡ r.event_queue → s.periods ≡ r.periods → StaysAgreed r s
+pub resized-agreed : (p : ℕ) (f : ProcessorState → ProcessorState) (r s : Roster)
+    → ((l : ProcessorState) → (f l).run ≡ l.run)
+    → ((cs : List TaskProgress) (l : ProcessorState) → ends_at r.periods.end cs (f l) ≡ ends_at r.periods.end cs l)
+    → ((l : ProcessorState) → (f l).tick ≡ l.tick) → ((l : ProcessorState) → (f l).look ≡ l.look)
+    → accounts_of s ≡ of_processor f p (accounts_of r) → s.event_queue ≡ r.event_queue → s.periods ≡ r.periods
+    → StaysAgreed r s
 resized-agreed p f r s run ends tick look is event_queue periods h =
-    subst (λ (k : Periods). Agrees k.end (accounts_of s) s.event_queue) (sym periods) (agrees_if_times_same r.periods.end p f (accounts_of r) (accounts_of s) r.event_queue s.event_queue run ends tick look is event_queue h)
+    subst (λ (k : Periods). Agrees k.end (accounts_of s) s.event_queue) (sym periods)
+    (agrees_if_times_same r.periods.end p f (accounts_of r) (accounts_of s) r.event_queue s.event_queue run ends tick
+    look is event_queue h)
 
 -- one task less at a processor
-pub shrunk-agreed : (p : ℕ) (r s : Roster) → accounts_of s ≡ shrunk p (accounts_of r) → s.event_queue ≡ r.event_queue → s.periods ≡ r.periods → StaysAgreed r s
-shrunk-agreed p r s is event_queue periods = resized-agreed p (λ l. record l { size = l.size - 1 }) r s (λ l. refl) (λ cs l. refl) (λ l. refl) (λ l. refl) is event_queue periods
+pub shrunk-agreed : (p : ℕ) (r s : Roster) → accounts_of s ≡ shrunk p (accounts_of r) → s.event_queue ≡ r.event_queue
+    → s.periods ≡ r.periods
+    → StaysAgreed r s
+shrunk-agreed p r s is event_queue periods =
+    resized-agreed p (λ l. record l { size = l.size - 1 }) r s (λ l. refl) (λ cs l. refl)
+    (λ l. refl) (λ l. refl) is event_queue periods
 
 -- this many tasks more at a processor
-pub grown-agreed : (p count : ℕ) (r s : Roster) → accounts_of s ≡ grown p count (accounts_of r) → s.event_queue ≡ r.event_queue → s.periods ≡ r.periods → StaysAgreed r s
-grown-agreed p count r s is event_queue periods = resized-agreed p (λ l. record l { size = l.size + count }) r s (λ l. refl) (λ cs l. refl) (λ l. refl) (λ l. refl) is event_queue periods
+pub grown-agreed : (p count : ℕ) (r s : Roster) → accounts_of s ≡ grown p count (accounts_of r)
+    → s.event_queue ≡ r.event_queue → s.periods ≡ r.periods
+    → StaysAgreed r s
+grown-agreed p count r s is event_queue periods =
+    resized-agreed p (λ l. record l { size = l.size + count }) r s (λ l. refl) (λ cs l. refl)
+    (λ l. refl) (λ l. refl) is event_queue periods
 
 -- a roster once the time of a processor is counted
-pub charged-agreed : (p now : ℕ) (processor_state : ProcessorState) (r s : Roster) → slice_get r.by_processor.items p ≡ Some processor_state → accounts_of s ≡ charged p now (accounts_of r) → s.event_queue ≡ r.event_queue → s.periods ≡ r.periods → IsAgreed r → AgreesBut s.periods.end p (accounts_of s) s.event_queue
+pub charged-agreed : (p now : ℕ) (processor_state : ProcessorState) (r s : Roster)
+    → slice_get r.by_processor.items p ≡ Some processor_state → accounts_of s ≡ charged p now (accounts_of r)
+    → s.event_queue ≡ r.event_queue → s.periods ≡ r.periods → IsAgreed r
+    → AgreesBut s.periods.end p (accounts_of s) s.event_queue
 charged-agreed p now processor_state r s at is event_queue periods h =
     let end = r.periods.end in
-    let but : AgreesBut end p (charged p now (accounts_of r)) r.event_queue = charged-agrees end p now processor_state (accounts_of r) r.event_queue at h in
-    subst (λ (k : Periods). AgreesBut k.end p (accounts_of s) s.event_queue) (sym periods) (subst (λ (l : List ℕ). AgreesBut end p (accounts_of s) l) (sym event_queue) (subst (λ (a : Accounts). AgreesBut end p a r.event_queue) (sym is) but))
+    let but : AgreesBut end p (charged p now (accounts_of r)) r.event_queue =
+    charged-agrees end p now processor_state (accounts_of r) r.event_queue at h in
+    subst (λ (k : Periods). AgreesBut k.end p (accounts_of s) s.event_queue) (sym periods)
+    (subst (λ (l : List ℕ). AgreesBut end p (accounts_of s) l) (sym event_queue)
+    (subst (λ (a : Accounts). AgreesBut end p a r.event_queue) (sym is) but))
 
 -- places of what is due, and what is due at a place
 place-low : (due : Due) → IsDue due → place_of due < 1216
@@ -256,7 +364,10 @@ abbrev Stands : ℕ → Due → Type 0
 Stands n due = IsDue due × (place_of due ≡ n)
 
 stands-by : (n : ℕ) (due : Due) (a b c d : Bool) → nat_lt n 64 ≡ a → nat_lt n 1088 ≡ b → nat_lt n 1152 ≡ c → nat_lt n 1216 ≡ d
-    → (if a then Some (End n) else if b then Some (Wake (n - 64)) else if c then Some (Tick (n - 1088)) else if d then Some (Pull (n - 1152)) else None) ≡ Some due → Stands n due
+    → (if a then Some (End n) else if b then Some (Wake (n - 64)) else if c then Some (Tick (n - 1088))
+    else if d then Some (Pull (n - 1152)) else None)
+    ≡ Some due
+    → Stands n due
 stands-by n due true b c d e f g h is = subst (Stands n) (same_Some (End n) due is) (ltb-true n 64 e, refl)
 stands-by n due false true c d e f g h is =
     let low = ltb-false n 64 e in
@@ -281,13 +392,18 @@ number-is p time None low is = absurd (omega (arith, low, is))
 number-is p time (Some t) low is = ap (λ (n : ℕ). Some n) (let e : t ≡ time = omega (arith, is) in e)
 
 -- what is first in the event queue comes first by the accounts
-pub first-next : (end : ℕ) (a : Accounts) (x : List ℕ) (time place : ℕ) (due : Due) → IsFirst x time place → due_at place ≡ Some due → Agrees end a x → IsNext end a due time
+pub first-next : (end : ℕ) (a : Accounts) (x : List ℕ) (time place : ℕ) (due : Due)
+    → IsFirst x time place → due_at place ≡ Some due → Agrees end a x → IsNext end a due time
 first-next end a x time place due first at h =
     let stand : Stands place due = stands place due at in
     let low : place_of due < 1216 = place-low due stand.0 in
-    let taken : at_place x (place_of due) ≡ time * 2048 + place_of due = subst (λ (n : ℕ). at_place x n ≡ time * 2048 + n) (sym stand.1) first.taken in
+    let taken : at_place x (place_of due) ≡ time * 2048 + place_of due =
+    subst (λ (n : ℕ). at_place x n ≡ time * 2048 + n) (sym stand.1) first.taken in
     let bound : (other : Due) → IsDue other → time * 2048 + place_of due ≤ at_place x (place_of other) =
-    λ other there. let few : place_of other < 1216 = place-low other there in subst (λ (n : ℕ). time * 2048 + n ≤ at_place x (place_of other)) (sym stand.1) (first.bound (place_of other) (omega arith)) in
+    λ other there.
+    let few : place_of other < 1216 = place-low other there in
+    subst (λ (n : ℕ). time * 2048 + n ≤ at_place x (place_of other)) (sym stand.1)
+    (first.bound (place_of other) (omega arith)) in
     let least : (other : Due) (t : ℕ) → comes_at end a other ≡ Some t → IsBefore t other time due → ⊥ =
     λ other t comes before.
     let there : IsDue other = (h.all other).there t comes in
@@ -326,35 +442,58 @@ there-replicate (suc n) zero x h = refl
 there-replicate (suc n) (suc k) x h = there-replicate n k x (omega arith)
 
 -- a roster whose processor ticks next then
-pub beaten-agreed : (p now next : ℕ) (processor_state : ProcessorState) (r m s : Roster) → slice_get r.by_processor.items p ≡ Some processor_state → next ≡ next_multiple r.periods.tick now → IsPlanned r.periods.end (Tick p) (next_multiple r.periods.tick now) r.event_queue m.event_queue → m.by_task ≡ r.by_task → m.by_processor ≡ r.by_processor → m.periods ≡ r.periods
-    → s.by_processor.items ≡ slice_set m.by_processor.items p (record processor_state { tick = Some next }) → s.by_task ≡ m.by_task → s.event_queue ≡ m.event_queue → s.periods ≡ m.periods → StaysAgreed r s
+pub beaten-agreed : (p now next : ℕ) (processor_state : ProcessorState) (r m s : Roster)
+    → slice_get r.by_processor.items p ≡ Some processor_state → next ≡ next_multiple r.periods.tick now
+    → IsPlanned r.periods.end (Tick p) (next_multiple r.periods.tick now) r.event_queue m.event_queue
+    → m.by_task ≡ r.by_task → m.by_processor ≡ r.by_processor → m.periods ≡ r.periods
+    → s.by_processor.items ≡ slice_set m.by_processor.items p (record processor_state { tick = Some next })
+    → s.by_task ≡ m.by_task → s.event_queue ≡ m.event_queue → s.periods ≡ m.periods
+    → StaysAgreed r s
 beaten-agreed p now next processor_state r m s at is plan by_task by_processor periods set by_task' event_queue periods' h =
     let end = r.periods.end in
     let f : ProcessorState → ProcessorState = λ l. record l { tick = Some (next_multiple r.periods.tick now) } in
     let new : s.by_processor.items ≡ changed_at f r.by_processor.items p =
-    set ∙ ap (λ (n : ℕ). slice_set m.by_processor.items p (record processor_state { tick = Some n })) is ∙ ap (λ v. slice_set v.items p (f processor_state)) by_processor ∙ sym (changed_at-is f r.by_processor.items p processor_state at) in
-    let whole : accounts_of s ≡ beaten p now r.periods.tick (accounts_of r) = same-accounts _ _ _ _ (ap (λ v. v.items) (by_task' ∙ by_task)) new in
+    set ∙ ap (λ (n : ℕ). slice_set m.by_processor.items p (record processor_state { tick = Some n })) is
+    ∙ ap (λ v. slice_set v.items p (f processor_state)) by_processor
+    ∙ sym (changed_at-is f r.by_processor.items p processor_state at) in
+    let whole : accounts_of s ≡ beaten p now r.periods.tick (accounts_of r) =
+    same-accounts _ _ _ _ (ap (λ v. v.items) (by_task' ∙ by_task)) new in
     subst (λ (k : Periods). Agrees k.end (accounts_of s) s.event_queue) (sym (periods' ∙ periods))
-    (subst (λ (l : List ℕ). Agrees end (accounts_of s) l) (sym event_queue) (beaten-agrees end p now r.periods.tick (accounts_of r) (accounts_of s) r.event_queue m.event_queue processor_state at whole plan h))
+    (subst (λ (l : List ℕ). Agrees end (accounts_of s) l) (sym event_queue)
+    (beaten-agrees end p now r.periods.tick (accounts_of r) (accounts_of s) r.event_queue m.event_queue processor_state at whole plan h))
 
 -- a roster whose processor looks next then
-pub looked-agreed : (p now next : ℕ) (processor_state : ProcessorState) (r m s : Roster) → slice_get r.by_processor.items p ≡ Some processor_state → next ≡ next_multiple r.periods.balance now → IsPlanned r.periods.end (Pull p) next r.event_queue m.event_queue → m.by_task ≡ r.by_task → m.by_processor ≡ r.by_processor → m.periods ≡ r.periods
-    → s.by_processor.items ≡ slice_set m.by_processor.items p (record processor_state { look = Some next }) → s.by_task ≡ m.by_task → s.event_queue ≡ m.event_queue → s.periods ≡ m.periods → StaysAgreed r s
+pub looked-agreed : (p now next : ℕ) (processor_state : ProcessorState) (r m s : Roster)
+    → slice_get r.by_processor.items p ≡ Some processor_state → next ≡ next_multiple r.periods.balance now
+    → IsPlanned r.periods.end (Pull p) next r.event_queue m.event_queue
+    → m.by_task ≡ r.by_task → m.by_processor ≡ r.by_processor → m.periods ≡ r.periods
+    → s.by_processor.items ≡ slice_set m.by_processor.items p (record processor_state { look = Some next })
+    → s.by_task ≡ m.by_task → s.event_queue ≡ m.event_queue → s.periods ≡ m.periods
+    → StaysAgreed r s
 looked-agreed p now next processor_state r m s at is plan by_task by_processor periods set by_task' event_queue periods' h =
     let end = r.periods.end in
     let f : ProcessorState → ProcessorState = λ l. record l { look = Some (next_multiple r.periods.balance now) } in
     let new : s.by_processor.items ≡ changed_at f r.by_processor.items p =
-    set ∙ ap (λ (n : ℕ). slice_set m.by_processor.items p (record processor_state { look = Some n })) is ∙ ap (λ v. slice_set v.items p (f processor_state)) by_processor ∙ sym (changed_at-is f r.by_processor.items p processor_state at) in
-    let whole : accounts_of s ≡ looked p now r.periods.balance (accounts_of r) = same-accounts _ _ _ _ (ap (λ v. v.items) (by_task' ∙ by_task)) new in
-    let put : IsPlanned end (Pull p) (next_multiple r.periods.balance now) r.event_queue m.event_queue = subst (λ (n : ℕ). IsPlanned end (Pull p) n r.event_queue m.event_queue) is plan in
+    set ∙ ap (λ (n : ℕ). slice_set m.by_processor.items p (record processor_state { look = Some n })) is
+    ∙ ap (λ v. slice_set v.items p (f processor_state)) by_processor
+    ∙ sym (changed_at-is f r.by_processor.items p processor_state at) in
+    let whole : accounts_of s ≡ looked p now r.periods.balance (accounts_of r) =
+    same-accounts _ _ _ _ (ap (λ v. v.items) (by_task' ∙ by_task)) new in
+    let put : IsPlanned end (Pull p) (next_multiple r.periods.balance now) r.event_queue m.event_queue =
+    subst (λ (n : ℕ). IsPlanned end (Pull p) n r.event_queue m.event_queue) is plan in
     subst (λ (k : Periods). Agrees k.end (accounts_of s) s.event_queue) (sym (periods' ∙ periods))
-    (subst (λ (l : List ℕ). Agrees end (accounts_of s) l) (sym event_queue) (looked-agrees end p now r.periods.balance (accounts_of r) (accounts_of s) r.event_queue m.event_queue processor_state at whole put h))
+    (subst (λ (l : List ℕ). Agrees end (accounts_of s) l) (sym event_queue)
+    (looked-agrees end p now r.periods.balance (accounts_of r) (accounts_of s) r.event_queue
+    m.event_queue processor_state at whole put h))
 
 -- what the same processors do not say
-nothing-read : {B : Type 0} (v : ProcessorState → Option B) (count k : ℕ) (processor_state : ProcessorState) → v processor_state ≡ None → option_and_then v (slice_get (replicate count processor_state) k) ≡ None
+nothing-read : {B : Type 0} (v : ProcessorState → Option B) (count k : ℕ) (processor_state : ProcessorState)
+    → v processor_state ≡ None → option_and_then v (slice_get (replicate count processor_state) k) ≡ None
 nothing-read {B} v count k processor_state none = elim (some_or_none (slice_get (replicate count processor_state) k)) [
   | inl nothing ↦ ap (λ (o : Option ProcessorState). option_and_then v o) nothing
-  | inr (l, at) ↦ ap (λ (o : Option ProcessorState). option_and_then v o) at ∙ ap v (sym (at-replicate count k processor_state l at).1) ∙ none
+  | inr (l, at) ↦
+      ap (λ (o : Option ProcessorState). option_and_then v o) at
+      ∙ ap v (sym (at-replicate count k processor_state l at).1) ∙ none
 ]
 
 -- no place before those of looks, and none after the last of this many, is due at the opening
@@ -363,21 +502,30 @@ look-past count time place low = ap (λ (b : Bool). if b && nat_lt place (1152 +
 
 look-after : (count : ℕ) (time : Option ℕ) (q : ℕ) → count ≤ q → look_of count time (1152 + q) ≡ None
 look-after count time q high =
-    ap (λ (b : Bool). if b && nat_lt (1152 + q) (1152 + count) then time else None) (le-leb 1152 (1152 + q) (omega arith)) ∙ ap (λ (b : Bool). if b then time else None) (le-ltb (1152 + q) (1152 + count) (omega arith))
+    ap (λ (b : Bool). if b && nat_lt (1152 + q) (1152 + count) then time else None) (le-leb 1152 (1152 + q) (omega arith))
+    ∙ ap (λ (b : Bool). if b then time else None) (le-ltb (1152 + q) (1152 + count) (omega arith))
 
 look-within : (count : ℕ) (time : Option ℕ) (q : ℕ) → q < count → look_of count time (1152 + q) ≡ time
 look-within count time q low =
-    ap (λ (b : Bool). if b && nat_lt (1152 + q) (1152 + count) then time else None) (le-leb 1152 (1152 + q) (omega arith)) ∙ ap (λ (b : Bool). if b then time else None) (lt-ltb (1152 + q) (1152 + count) (omega arith))
+    ap (λ (b : Bool). if b && nat_lt (1152 + q) (1152 + count) then time else None) (le-leb 1152 (1152 + q) (omega arith))
+    ∙ ap (λ (b : Bool). if b then time else None) (lt-ltb (1152 + q) (1152 + count) (omega arith))
 
 -- what does not come at the opening
-quiet : (end count : ℕ) (time : Option ℕ) (a : Accounts) (x : List ℕ) (due : Due) → AreLooks count time x → (IsDue due → place_of due < 1152) → comes_at end a due ≡ None → AgreesAt end a x due
+quiet : (end count : ℕ) (time : Option ℕ) (a : Accounts) (x : List ℕ) (due : Due)
+    → AreLooks count time x → (IsDue due → place_of due < 1152) → comes_at end a due ≡ None
+    → AgreesAt end a x due
 quiet end count time a x due looks low none = record {
-  at = λ there. let few : place_of due < 1152 = low there in looks (place_of due) (omega arith) ∙ ap (number_of (place_of due)) (look-past count time (place_of due) few) ∙ ap (number_of (place_of due)) (sym none);
+  at = λ there.
+      let few : place_of due < 1152 = low there in
+      looks (place_of due) (omega arith) ∙ ap (number_of (place_of due)) (look-past count time (place_of due) few)
+      ∙ ap (number_of (place_of due)) (sym none);
   there = λ t some. absurd (none-some t (sym none ∙ some));
 }
 
 -- at the opening, where the event queue has the first looks, it agrees
-pub opening-agrees : (end processors balance : ℕ) (x : List ℕ) → processors ≤ 64 → AreLooks (min processors 64) (option_and_then (until end) (first_look processors balance)) x → Agrees end (opening processors balance) x
+pub opening-agrees : (end processors balance : ℕ) (x : List ℕ)
+    → processors ≤ 64 → AreLooks (min processors 64) (option_and_then (until end) (first_look processors balance)) x
+    → Agrees end (opening processors balance) x
 opening-agrees end processors balance x few looks =
     let processor_state : ProcessorState = at_rest (first_look processors balance) in
     let time = option_and_then (until end) (first_look processors balance) in
@@ -387,33 +535,67 @@ opening-agrees end processors balance x few looks =
     let look : (q : ℕ) → AgreesAt end a x (Pull q) = λ q. elim (cases_lt q processors) [
       | inl low ↦
           let comes : comes_at end a (Pull q) ≡ time = look-of end q a processor_state (there-replicate processors q processor_state low) in
-          record { at = λ there. looks (1152 + q) (omega arith) ∙ ap (number_of (1152 + q)) (look-within count time q (omega arith)) ∙ ap (number_of (1152 + q)) (sym comes); there = λ t some. omega arith }
+          record {
+            at = λ there.
+                looks (1152 + q) (omega arith) ∙ ap (number_of (1152 + q)) (look-within count time q (omega arith))
+                ∙ ap (number_of (1152 + q)) (sym comes);
+            there = λ t some. omega arith;
+          }
       | inr high ↦
-          let comes : comes_at end a (Pull q) ≡ None = ap (λ (o : Option ProcessorState). option_and_then (look_at end) o) (past-replicate processors q processor_state high) in
-          record { at = λ there. looks (1152 + q) (omega arith) ∙ ap (number_of (1152 + q)) (look-after count time q (omega arith)) ∙ ap (number_of (1152 + q)) (sym comes); there = λ t some. absurd (none-some t (sym comes ∙ some)) }
+          let comes : comes_at end a (Pull q) ≡ None =
+          ap (λ (o : Option ProcessorState). option_and_then (look_at end) o)
+          (past-replicate processors q processor_state high) in
+          record {
+            at = λ there.
+                looks (1152 + q) (omega arith) ∙ ap (number_of (1152 + q)) (look-after count time q (omega arith))
+                ∙ ap (number_of (1152 + q)) (sym comes);
+            there = λ t some. absurd (none-some t (sym comes ∙ some));
+          }
     ] in
-    let homes : HaveHomes a = λ q task l at runs. absurd (none-some task (ap (λ (m : ProcessorState). m.run) (at-replicate processors q processor_state l at).1 ∙ runs)) in
+    let homes : HaveHomes a = λ q task l at runs.
+    absurd (none-some task (ap (λ (m : ProcessorState). m.run) (at-replicate processors q processor_state l at).1 ∙ runs)) in
     let rest : AgreesBut end 64 a x = record {
-      ends = λ q other. quiet end count time a x (End q) looks (λ there. omega arith) (nothing-read (ends_at end []) processors q processor_state refl);
+      ends = λ q other.
+          quiet end count time a x (End q) looks (λ there. omega arith)
+          (nothing-read (ends_at end []) processors q processor_state refl);
       wakes = λ k. quiet end count time a x (Wake k) looks (λ there. omega arith) refl;
-      ticks = λ q. quiet end count time a x (Tick q) looks (λ there. omega arith) (nothing-read (tick_at end) processors q processor_state refl);
+      ticks = λ q.
+          quiet end count time a x (Tick q) looks (λ there. omega arith)
+          (nothing-read (tick_at end) processors q processor_state refl);
       looks = look;
       homes = homes;
     } in
-    record { all = with_end end 64 a x rest (quiet end count time a x (End 64) looks (λ there. omega arith) (nothing-read (ends_at end []) processors 64 processor_state refl)); homes = homes }
+    record {
+      all =
+          with_end end 64 a x rest (quiet end count time a x (End 64) looks (λ there. omega arith)
+          (nothing-read (ends_at end []) processors 64 processor_state refl));
+      homes = homes;
+    }
 
 -- a roster with one task more, whose timer is put down
-pub added-agreed : (task start : ℕ) (progress : TaskProgress) (r m s : Roster) → task ≡ length r.by_task.items → progress.task_state ≡ Asleep → progress.timer ≡ start → m.by_task.items ≡ r.by_task.items ++ progress ∷ [] → m.by_processor ≡ r.by_processor → m.event_queue ≡ r.event_queue → m.periods ≡ r.periods
-    → IsPlanned m.periods.end (Wake task) start m.event_queue s.event_queue → s.by_task ≡ m.by_task → s.by_processor ≡ m.by_processor → s.periods ≡ m.periods → StaysAgreed r s
-added-agreed task start progress r m s number asleep timer by_task by_processor event_queue periods plan by_task' by_processor' periods' h =
+pub added-agreed : (task start : ℕ) (progress : TaskProgress) (r m s : Roster)
+    → task ≡ length r.by_task.items → progress.task_state ≡ Asleep → progress.timer ≡ start
+    → m.by_task.items ≡ r.by_task.items ++ progress ∷ [] → m.by_processor ≡ r.by_processor → m.event_queue ≡ r.event_queue
+    → m.periods ≡ r.periods → IsPlanned m.periods.end (Wake task) start m.event_queue s.event_queue → s.by_task ≡ m.by_task
+    → s.by_processor ≡ m.by_processor → s.periods ≡ m.periods
+    → StaysAgreed r s
+added-agreed task start progress r m s number asleep timer by_task by_processor event_queue periods
+    plan by_task' by_processor' periods' h =
     let end = r.periods.end in
     let P : Periods → Type 0 = λ k. IsPlanned k.end (Wake task) start m.event_queue s.event_queue in
     let Q : List ℕ → Type 0 = λ l. IsPlanned end (Wake task) start l s.event_queue in
-    let put : IsPlanned end (Wake task) progress.timer r.event_queue s.event_queue = subst (λ (n : ℕ). IsPlanned end (Wake task) n r.event_queue s.event_queue) (sym timer) (subst Q event_queue (subst P periods plan)) in
+    let put : IsPlanned end (Wake task) progress.timer r.event_queue s.event_queue =
+    subst (λ (n : ℕ). IsPlanned end (Wake task) n r.event_queue s.event_queue) (sym timer)
+    (subst Q event_queue (subst P periods plan)) in
     subst (λ (k : Periods). Agrees k.end (accounts_of s) s.event_queue) (sym (periods' ∙ periods))
-    (added-agrees end task progress (accounts_of r) (accounts_of s) r.event_queue s.event_queue number asleep (ap (λ v. v.items) by_task' ∙ by_task) (ap (λ v. v.items) (by_processor' ∙ by_processor)) put h)
+    (added-agrees end task progress (accounts_of r) (accounts_of s) r.event_queue s.event_queue number asleep
+    (ap (λ v. v.items) by_task' ∙ by_task) (ap (λ v. v.items) (by_processor' ∙ by_processor)) put h)
 
 -- a roster at its opening
-pub opening-agreed : (processors balance end : ℕ) (r : Roster) → processors ≤ 64 → accounts_of r ≡ opening processors balance → r.periods.end ≡ end → AreLooks (min processors 64) (option_and_then (until end) (first_look processors balance)) r.event_queue → IsAgreed r
+pub opening-agreed : (processors balance end : ℕ) (r : Roster)
+    → processors ≤ 64 → accounts_of r ≡ opening processors balance → r.periods.end ≡ end
+    → AreLooks (min processors 64) (option_and_then (until end) (first_look processors balance)) r.event_queue
+    → IsAgreed r
 opening-agreed processors balance end r few is periods looks =
-    subst (λ (n : ℕ). Agrees n (accounts_of r) r.event_queue) (sym periods) (subst (λ (a : Accounts). Agrees end a r.event_queue) (sym is) (opening-agrees end processors balance r.event_queue few looks))
+    subst (λ (n : ℕ). Agrees n (accounts_of r) r.event_queue) (sym periods)
+    (subst (λ (a : Accounts). Agrees end a r.event_queue) (sym is) (opening-agrees end processors balance r.event_queue few looks))

@@ -23,8 +23,9 @@ fraction-below (suc n) m =
     rw (fraction-first n m, pow-suc 2 n) (omega (arith, rest, first))
 
 -- at the answers of both tests
-rises-by : (m w : ℕ) (b c : Bool) → ltb (m * m) (2 ^ 127) ≡ b → ltb (w * w) (2 ^ 127) ≡ c → m * m ≤ w * w →
-    ((cond b 0 1 ≤ cond c 0 1) × (cond b (m * m / 2 ^ 63) (m * m / 2 ^ 64) ≤ cond c (w * w / 2 ^ 63) (w * w / 2 ^ 64))) ⊎ (cond b 0 1 + 1 ≤ cond c 0 1)
+rises-by : (m w : ℕ) (b c : Bool) → ltb (m * m) (2 ^ 127) ≡ b → ltb (w * w) (2 ^ 127) ≡ c → m * m ≤ w * w
+    → ((cond b 0 1 ≤ cond c 0 1) × (cond b (m * m / 2 ^ 63) (m * m / 2 ^ 64) ≤ cond c (w * w / 2 ^ 63) (w * w / 2 ^ 64)))
+    ⊎ (cond b 0 1 + 1 ≤ cond c 0 1)
 rises-by m w true true e f h = inl (omega arith, omega (arith, h))
 rises-by m w true false e f h = inr (omega arith)
 rises-by m w false true e f h = absurd (omega (arith, h, ltb-false _ _ e, ltb-true _ _ f))
@@ -62,7 +63,8 @@ zeros-fall a b h high =
     ]
 
 -- the logarithm of greater words is no greater
-pub logarithm-falls : (first second higher later : ℕ) → first ≤ higher → higher < 2 ^ 64 → second ≤ later → logarithm higher later ≤ logarithm first second
+pub logarithm-falls : (first second higher later : ℕ) → first ≤ higher → higher < 2 ^ 64 → second ≤ later
+    → logarithm higher later ≤ logarithm first second
 logarithm-falls first second higher later h high after =
     let zeros : leading_zeros w64 higher ≤ leading_zeros w64 first = zeros-fall first higher h high in
     let digits : fraction 32 0 (2 ^ 63 + second / 2) ≤ fraction 32 0 (2 ^ 63 + later / 2) = fraction-rises 32 _ _ (omega (arith, after)) in
@@ -72,5 +74,6 @@ logarithm-falls first second higher later h high after =
 pub falls-with-words : FallsWithWords
 falls-with-words mean first second higher later h high after =
     let less : logarithm higher later ≤ logarithm first second = logarithm-falls first second higher later h high after in
-    let times : logarithm higher later * 2977044472 * mean ≤ logarithm first second * 2977044472 * mean = mul-le-mul_right mean (mul-le-mul_right 2977044472 less) in
+    let times : logarithm higher later * 2977044472 * mean ≤ logarithm first second * 2977044472 * mean =
+    mul-le-mul_right mean (mul-le-mul_right 2977044472 less) in
     omega (arith, times)

@@ -26,7 +26,8 @@ pub known-before : (n known m : ℕ) → fraction n known m ≡ known * 2 ^ n + 
 unfolding fraction
 known-before zero known m = omega arith
 known-before (suc n) known m =
-    let here : fraction n (2 * known + digit m) (squared m) ≡ (2 * known + digit m) * 2 ^ n + fraction n 0 (squared m) = known-before n _ _ in
+    let here : fraction n (2 * known + digit m) (squared m) ≡ (2 * known + digit m) * 2 ^ n + fraction n 0 (squared m) =
+    known-before n _ _ in
     let there : fraction n (2 * 0 + digit m) (squared m) ≡ (2 * 0 + digit m) * 2 ^ n + fraction n 0 (squared m) = known-before n _ _ in
     let power : 2 ^ suc n ≡ 2 ^ n * 2 = pow-suc 2 n in
     rw (here, there, power) (omega arith)
@@ -46,7 +47,8 @@ pub record Squares (m d s : ℕ) : Type 0 where
   pub small : d ≤ 1
 
 -- at either answer of the test
-squares-by : (m : ℕ) (b : Bool) → ltb (m * m) (2 ^ 127) ≡ b → 2 ^ 126 ≤ m * m → Squares m (cond b 0 1) (cond b (m * m / 2 ^ 63) (m * m / 2 ^ 64))
+squares-by : (m : ℕ) (b : Bool) → ltb (m * m) (2 ^ 127) ≡ b → 2 ^ 126 ≤ m * m
+    → Squares m (cond b 0 1) (cond b (m * m / 2 ^ 63) (m * m / 2 ^ 64))
 squares-by m true e h = record { below = omega arith; near = omega arith; low = omega arith; small = omega arith }
 squares-by m false e h =
     let passed : 2 ^ 127 ≤ m * m = ltb-false _ _ e in
@@ -63,9 +65,13 @@ square-power n m =
     rw (turned, pow-add m (2 ^ n) (2 ^ n), mul-pow m m (2 ^ n)) refl
 
 -- the power of two by a mantissa's digits, by those of its square
-powers-split : (n m more : ℕ) → 2 ^ (fraction (suc n) 0 m + more + 63 * 2 ^ suc n) ≡ 2 ^ (fraction n 0 (squared m) + more + 63 * 2 ^ n) * 2 ^ ((63 + digit m) * 2 ^ n)
+powers-split : (n m more : ℕ)
+    → 2 ^ (fraction (suc n) 0 m + more + 63 * 2 ^ suc n)
+    ≡ 2 ^ (fraction n 0 (squared m) + more + 63 * 2 ^ n) * 2 ^ ((63 + digit m) * 2 ^ n)
 powers-split n m more =
-    let split : fraction (suc n) 0 m + more + 63 * 2 ^ suc n ≡ (fraction n 0 (squared m) + more + 63 * 2 ^ n) + (63 + digit m) * 2 ^ n = rw (fraction-first n m, pow-suc 2 n) (omega arith) in
+    let split : fraction (suc n) 0 m + more + 63 * 2 ^ suc n
+    ≡ (fraction n 0 (squared m) + more + 63 * 2 ^ n) + (63 + digit m) * 2 ^ n =
+    rw (fraction-first n m, pow-suc 2 n) (omega arith) in
     rw split (pow-add 2 _ _)
 
 -- the digits are never more than the logarithm
@@ -76,7 +82,8 @@ never-more (suc n) m h =
     let square : Squares m (digit m) (squared m) = squares-of m h in
     let rest : 2 ^ (fraction n 0 (squared m) + 0 + 63 * 2 ^ n) ≤ squared m ^ (2 ^ n) = never-more n (squared m) square.low in
     let whole : (squared m * 2 ^ (63 + digit m)) ^ (2 ^ n) ≤ (m * m) ^ (2 ^ n) = pow-le-pow_left square.below (2 ^ n) in
-    let parts : (squared m * 2 ^ (63 + digit m)) ^ (2 ^ n) ≡ squared m ^ (2 ^ n) * 2 ^ ((63 + digit m) * 2 ^ n) = mul-pow _ _ (2 ^ n) ∙ ap (λ (x : ℕ). squared m ^ (2 ^ n) * x) (power-of-power 2 (63 + digit m) (2 ^ n)) in
+    let parts : (squared m * 2 ^ (63 + digit m)) ^ (2 ^ n) ≡ squared m ^ (2 ^ n) * 2 ^ ((63 + digit m) * 2 ^ n) =
+    mul-pow _ _ (2 ^ n) ∙ ap (λ (x : ℕ). squared m ^ (2 ^ n) * x) (power-of-power 2 (63 + digit m) (2 ^ n)) in
     rw (powers-split n m 0, square-power n m) (le_trans (mul-le-mul_right _ rest) (rw parts at whole))
 
 -- a number and one more, to a power, are not much apart
@@ -94,7 +101,8 @@ pub cut-off : (n : ℕ) → n ≤ 62 → (2 ^ 63 + 1) ^ (2 ^ n) ≤ 2 * (2 ^ 63)
 cut-off n h =
     let few : 2 ^ n ≤ 2 ^ 62 = pow-le-pow_right (omega arith) h in
     let rest : 2 ^ n + (2 ^ 63 - 2 ^ n) ≡ 2 ^ 63 = omega (arith, few) in
-    let near : (2 ^ 63 + 1) ^ (2 ^ n) * (2 ^ 63 - 2 ^ n) ≤ (2 ^ 63) ^ (2 ^ n) * 2 ^ 63 = next_power_is_near (2 ^ 63) (2 ^ n) (2 ^ 63 - 2 ^ n) rest in
+    let near : (2 ^ 63 + 1) ^ (2 ^ n) * (2 ^ 63 - 2 ^ n) ≤ (2 ^ 63) ^ (2 ^ n) * 2 ^ 63 =
+    next_power_is_near (2 ^ 63) (2 ^ n) (2 ^ 63 - 2 ^ n) rest in
     let half : (2 ^ 63 + 1) ^ (2 ^ n) * 2 ^ 62 ≤ (2 ^ 63 + 1) ^ (2 ^ n) * (2 ^ 63 - 2 ^ n) = mul-le-mul_left _ (omega (arith, few)) in
     omega (arith, near, half)
 
@@ -127,17 +135,30 @@ some-power : (a n : ℕ) → 0 < (a + 1) ^ n
 some-power a n = one-le-pow n (a + 1) (omega arith)
 
 -- the digits and one more are above the logarithm, except for what is cut off
-pub never-far : (n m : ℕ) → 2 ^ 63 ≤ m → m < 2 ^ 64 → m ^ (2 ^ n) * (2 ^ 63) ^ (2 ^ n) < (2 ^ 63 + 1) ^ (2 ^ n) * 2 ^ (fraction n 0 m + 1 + 63 * 2 ^ n)
+pub never-far : (n m : ℕ) → 2 ^ 63 ≤ m → m < 2 ^ 64
+    → m ^ (2 ^ n) * (2 ^ 63) ^ (2 ^ n) < (2 ^ 63 + 1) ^ (2 ^ n) * 2 ^ (fraction n 0 m + 1 + 63 * 2 ^ n)
 unfolding fraction
 never-far zero m h high = rw (power-of-one m) (omega (arith, high))
 never-far (suc n) m h high =
     let square : Squares m (digit m) (squared m) = squares-of m h in
-    let rest : squared m ^ (2 ^ n) * (2 ^ 63) ^ (2 ^ n) < (2 ^ 63 + 1) ^ (2 ^ n) * 2 ^ (fraction n 0 (squared m) + 1 + 63 * 2 ^ n) = never-far n (squared m) square.low (squared-high m high) in
-    let whole : (m * m * 2 ^ 63) ^ (2 ^ n) ≤ (squared m * (2 ^ 63 + 1) * 2 ^ (63 + digit m)) ^ (2 ^ n) = pow-le-pow_left square.near (2 ^ n) in
+    let rest : squared m ^ (2 ^ n) * (2 ^ 63) ^ (2 ^ n)
+    < (2 ^ 63 + 1) ^ (2 ^ n) * 2 ^ (fraction n 0 (squared m) + 1 + 63 * 2 ^ n) =
+    never-far n (squared m) square.low (squared-high m high) in
+    let whole : (m * m * 2 ^ 63) ^ (2 ^ n) ≤ (squared m * (2 ^ 63 + 1) * 2 ^ (63 + digit m)) ^ (2 ^ n) =
+    pow-le-pow_left square.near (2 ^ n) in
     let left : (m * m * 2 ^ 63) ^ (2 ^ n) ≡ (m * m) ^ (2 ^ n) * (2 ^ 63) ^ (2 ^ n) = mul-pow (m * m) (2 ^ 63) (2 ^ n) in
-    let right : (squared m * (2 ^ 63 + 1) * 2 ^ (63 + digit m)) ^ (2 ^ n) ≡ squared m ^ (2 ^ n) * (2 ^ 63 + 1) ^ (2 ^ n) * 2 ^ ((63 + digit m) * 2 ^ n) = rw (mul-pow (squared m * (2 ^ 63 + 1)) (2 ^ (63 + digit m)) (2 ^ n), mul-pow (squared m) (2 ^ 63 + 1) (2 ^ n), power-of-power 2 (63 + digit m) (2 ^ n)) refl in
-    let some : 0 < (2 ^ 63 + 1) ^ (2 ^ n) * 2 ^ ((63 + digit m) * 2 ^ n) = mul-le-mul (some-power (2 ^ 63) (2 ^ n)) (pow_pos ((63 + digit m) * 2 ^ n)) in
-    rw (powers-split n m 1, square-power n m, doubled n (2 ^ 63), doubled n (2 ^ 63 + 1)) (chained ((m * m) ^ (2 ^ n)) ((2 ^ 63) ^ (2 ^ n)) (squared m ^ (2 ^ n)) ((2 ^ 63 + 1) ^ (2 ^ n)) (2 ^ ((63 + digit m) * 2 ^ n)) _ (rw (left, right) at whole) rest some)
+    let right : (squared m * (2 ^ 63 + 1) * 2 ^ (63 + digit m)) ^ (2 ^ n)
+    ≡ squared m ^ (2 ^ n) * (2 ^ 63 + 1) ^ (2 ^ n) * 2 ^ ((63 + digit m) * 2 ^ n) =
+    rw (
+      mul-pow (squared m * (2 ^ 63 + 1)) (2 ^ (63 + digit m)) (2 ^ n),
+      mul-pow (squared m) (2 ^ 63 + 1) (2 ^ n),
+      power-of-power 2 (63 + digit m) (2 ^ n),
+    ) refl in
+    let some : 0 < (2 ^ 63 + 1) ^ (2 ^ n) * 2 ^ ((63 + digit m) * 2 ^ n) =
+    mul-le-mul (some-power (2 ^ 63) (2 ^ n)) (pow_pos ((63 + digit m) * 2 ^ n)) in
+    rw (powers-split n m 1, square-power n m, doubled n (2 ^ 63), doubled n (2 ^ 63 + 1))
+    (chained ((m * m) ^ (2 ^ n)) ((2 ^ 63) ^ (2 ^ n)) (squared m ^ (2 ^ n)) ((2 ^ 63 + 1) ^ (2 ^ n))
+    (2 ^ ((63 + digit m) * 2 ^ n)) _ (rw (left, right) at whole) rest some)
 
 -- where twice as much is no more than a factor apart, it is cancelled
 cancelled : (a b g r : ℕ) → a * b < g * r → g ≤ 2 * b → a < r * 2
@@ -151,5 +172,6 @@ gives-logarithm n m h high few =
     let bare : fraction n 0 m + 0 + 63 * 2 ^ n ≡ fraction n 0 m + 63 * 2 ^ n = omega arith in
     let one : fraction n 0 m + 2 + 63 * 2 ^ n ≡ suc (fraction n 0 m + 1 + 63 * 2 ^ n) = omega arith in (
       rw bare at (never-more n m h),
-      rw (one, pow-suc 2 (fraction n 0 m + 1 + 63 * 2 ^ n)) (cancelled (m ^ (2 ^ n)) ((2 ^ 63) ^ (2 ^ n)) ((2 ^ 63 + 1) ^ (2 ^ n)) _ (never-far n m h high) (cut-off n few)),
+      rw (one, pow-suc 2 (fraction n 0 m + 1 + 63 * 2 ^ n))
+          (cancelled (m ^ (2 ^ n)) ((2 ^ 63) ^ (2 ^ n)) ((2 ^ 63 + 1) ^ (2 ^ n)) _ (never-far n m h high) (cut-off n few)),
     )

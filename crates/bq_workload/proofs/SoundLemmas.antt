@@ -48,13 +48,14 @@ kinds_named processors kinds number (kind ∷ ks) h =
     (short_name kind (holds_unless (has_name kind) (flaw.Name number) numbers.0), kinds_named processors kinds (number + 1) ks both.1)
 
 -- in a workload without a flaw no name is too long
-pub sound-named : (w : Workload) → first_flaw w ≡ None → AllByRecursion (λ (kind : TaskKind). length (string_bytes kind.name) ≤ 1024) w.tasks.items
+pub sound-named : (w : Workload) → first_flaw w ≡ None
+    → AllByRecursion (λ (kind : TaskKind). length (string_bytes kind.name) ≤ 1024) w.tasks.items
 sound-named w h =
     let kinds = flaws_of_kinds (processors_in w.machine.size) (length w.tasks.items) 0 w.tasks.items in
     let all = no_parts (flaws_of_machine w.machine ++ kinds) (flaws_of_count w.tasks.items) (no_flaws _ h) in
     kinds_named _ _ 0 w.tasks.items (no_parts (flaws_of_machine w.machine) kinds all.0).1
 
--- and there are not too many tasks
+-- in a workload without a flaw there are not too many tasks
 pub sound-few : (w : Workload) → first_flaw w ≡ None → tasks_in w.tasks.items ≤ 1024
 sound-few w h =
     let kinds = flaws_of_kinds (processors_in w.machine.size) (length w.tasks.items) 0 w.tasks.items in

@@ -11,8 +11,10 @@ below-half k = elim (cases_lt (2 * (k / 2)) k) [ inl more ↦ inr (omega arith) 
 
 -- a number that is less than or equal to the two below it is so to each of them
 pub less-below : (xs : List ℕ) (h k : ℕ) → IsLess xs h → (k ≡ 2 * h) ⊎ (k ≡ 2 * h + 1) → get_or xs h 0 ≤ get_or xs k 0
-less-below xs h k less (inl even) = let same : get_or xs k 0 ≡ get_or xs (2 * h) 0 = ap (λ i. get_or xs i 0) even in omega (arith, less, same)
-less-below xs h k less (inr odd) = let same : get_or xs k 0 ≡ get_or xs (2 * h + 1) 0 = ap (λ i. get_or xs i 0) odd in omega (arith, less, same)
+less-below xs h k less (inl even) =
+    let same : get_or xs k 0 ≡ get_or xs (2 * h) 0 = ap (λ i. get_or xs i 0) even in omega (arith, less, same)
+less-below xs h k less (inr odd) =
+    let same : get_or xs k 0 ≡ get_or xs (2 * h + 1) 0 = ap (λ i. get_or xs i 0) odd in omega (arith, less, same)
 
 -- the root is no more than any number
 pub root-bounds : (n k : ℕ) (xs : List ℕ) → HasMinima xs → k ≤ n → 1 ≤ k → k < 4096 → get_or xs 1 0 ≤ get_or xs k 0
@@ -32,7 +34,8 @@ pub min-is : (a b : ℕ) → (min a b ≡ a) ⊎ (min a b ≡ b)
 min-is a b = elim (cases_lt a b) [ inl less ↦ inl (omega arith) | inr more ↦ inr (omega arith) ]
 
 -- each number stands at some leaf
-pub leaf-of : (n k : ℕ) (xs : List ℕ) → HasMinima xs → 4096 ≤ n + k → 1 ≤ k → k < 4096 → (place : ℕ) × (place < 2048) × (get_or xs (2048 + place) 0 ≡ get_or xs k 0)
+pub leaf-of : (n k : ℕ) (xs : List ℕ) → HasMinima xs → 4096 ≤ n + k → 1 ≤ k → k < 4096
+    → (place : ℕ) × (place < 2048) × (get_or xs (2048 + place) 0 ≡ get_or xs k 0)
 leaf-of zero k xs m h low high = absurd (omega arith)
 leaf-of (suc n) k xs m h low high =
     elim (cases_lt k 2048) [
@@ -40,10 +43,12 @@ leaf-of (suc n) k xs m h low high =
           let less : get_or xs k 0 ≡ min (get_or xs (2 * k) 0) (get_or xs (2 * k + 1) 0) = m k low inner in
           elim (min-is (get_or xs (2 * k) 0) (get_or xs (2 * k + 1) 0)) [
             | inl left ↦
-                let below : (place : ℕ) × (place < 2048) × (get_or xs (2048 + place) 0 ≡ get_or xs (2 * k) 0) = leaf-of n (2 * k) xs m (omega arith) (omega arith) (omega arith) in
+                let below : (place : ℕ) × (place < 2048) × (get_or xs (2048 + place) 0 ≡ get_or xs (2 * k) 0) =
+                leaf-of n (2 * k) xs m (omega arith) (omega arith) (omega arith) in
                 (below.0, below.1, below.2 ∙ sym (less ∙ left))
             | inr right ↦
-                let below : (place : ℕ) × (place < 2048) × (get_or xs (2048 + place) 0 ≡ get_or xs (2 * k + 1) 0) = leaf-of n (2 * k + 1) xs m (omega arith) (omega arith) (omega arith) in
+                let below : (place : ℕ) × (place < 2048) × (get_or xs (2048 + place) 0 ≡ get_or xs (2 * k + 1) 0) =
+                leaf-of n (2 * k + 1) xs m (omega arith) (omega arith) (omega arith) in
                 (below.0, below.1, below.2 ∙ sym (less ∙ right))
           ]
       | inr leaf ↦ (k - 2048, omega arith, ap (λ i. get_or xs i 0) (let e : 2048 + (k - 2048) ≡ k = omega arith in e))
@@ -72,21 +77,31 @@ nothing-due xs m places root place h =
     elim (places place h) [ inl none ↦ none | inr (stand, small) ↦ absurd (omega (arith, up, root, small)) ]
 
 -- where the root is due, it has the time and the place of what is due first
-pub first-due : (xs : List ℕ) → HasMinima xs → HasPlaces xs → get_or xs 1 0 ≢ never → IsFirst xs (get_or xs 1 0 / 2048) (get_or xs 1 0 % 2048)
+pub first-due : (xs : List ℕ) → HasMinima xs → HasPlaces xs → get_or xs 1 0 ≢ never
+    → IsFirst xs (get_or xs 1 0 / 2048) (get_or xs 1 0 % 2048)
 first-due xs m places due =
-    let leaf : (place : ℕ) × (place < 2048) × (get_or xs (2048 + place) 0 ≡ get_or xs 1 0) = leaf-of 4096 1 xs m (omega arith) (omega arith) (omega arith) in
+    let leaf : (place : ℕ) × (place < 2048) × (get_or xs (2048 + place) 0 ≡ get_or xs 1 0) =
+    leaf-of 4096 1 xs m (omega arith) (omega arith) (omega arith) in
     let stand : get_or xs 1 0 % 2048 ≡ leaf.0 = elim (places leaf.0 leaf.1) [
       | inl none ↦ absurd (due (sym leaf.2 ∙ none))
       | inr (here, small) ↦ sym (ap (λ n. n % 2048) leaf.2) ∙ here
     ] in
     record {
       within = omega arith;
-      taken = let e : get_or xs (2048 + get_or xs 1 0 % 2048) 0 ≡ get_or xs (2048 + leaf.0) 0 = ap (λ i. get_or xs (2048 + i) 0) stand in omega (arith, e, leaf.2);
-      bound = λ other h. let up : get_or xs 1 0 ≤ get_or xs (2048 + other) 0 = root-bounds 4096 (2048 + other) xs m (omega arith) (omega arith) (omega arith) in omega (arith, up);
+      taken =
+          let e : get_or xs (2048 + get_or xs 1 0 % 2048) 0 ≡ get_or xs (2048 + leaf.0) 0 =
+          ap (λ i. get_or xs (2048 + i) 0) stand in
+          omega (arith, e, leaf.2);
+      bound = λ other h.
+          let up : get_or xs 1 0 ≤ get_or xs (2048 + other) 0 =
+          root-bounds 4096 (2048 + other) xs m (omega arith) (omega arith) (omega arith) in
+          omega (arith, up);
     }
 
 -- what is due first has a place, and no spare leaf
-pub first-place : (xs : List ℕ) (time place : ℕ) → HasPlaces xs → HasSpareLeaves xs → time * 2048 + place ≢ never → IsFirst xs time place → place < 1216
+pub first-place : (xs : List ℕ) (time place : ℕ) → HasPlaces xs → HasSpareLeaves xs → time * 2048 + place ≢ never
+    → IsFirst xs time place
+    → place < 1216
 first-place xs time place places spare due first = elim (cases_lt place 1216) [
   | inl low ↦ low
   | inr high ↦ absurd (due (sym first.taken ∙ spare place high first.within))
@@ -105,7 +120,9 @@ changed-leaf xs leaf n high m k low small but =
     rw (here, left, right) (m k low small)
 
 -- where a node gets the less of its two, only the node above it may have another than the less of its two
-pub recomputed-node : (xs : List ℕ) (h n : ℕ) → 1 ≤ h → h < length xs → n ≡ min (get_or xs (2 * h) 0) (get_or xs (2 * h + 1) 0) → HasOtherMinima h xs → HasOtherMinima (h / 2) (set xs h n)
+pub recomputed-node : (xs : List ℕ) (h n : ℕ) → 1 ≤ h → h < length xs
+    → n ≡ min (get_or xs (2 * h) 0) (get_or xs (2 * h + 1) 0) → HasOtherMinima h xs
+    → HasOtherMinima (h / 2) (set xs h n)
 recomputed-node xs h n positive inside is others k low small but =
     let left : get_or (set xs h n) (2 * k) 0 ≡ get_or xs (2 * k) 0 = get_or-set_other xs h (2 * k) n 0 (omega arith) in
     let right : get_or (set xs h n) (2 * k + 1) 0 ≡ get_or xs (2 * k + 1) 0 = get_or-set_other xs h (2 * k + 1) n 0 (omega arith) in

@@ -1,4 +1,4 @@
--- The accounts of a simulation: what runs where and since when, and how far each task has come.
+-- The accounts of a simulation: what runs at each processor and since when, and how far each task has come.
 use Rattle.std.specs.Prelude.{◌≡◌, ℕ, ◌+◌, ◌-◌, ◌==◌, Bool, true, false, ◌&&◌, if◌then◌else◌, List, [], nat_lt, replicate, Option, Some, None, option_map, slice_get, slice_set, unwrap_or}
 use Rattle.std.specs.List.{list_all}
 use Rattle.std.specs.Option.{option_map_or}
@@ -14,10 +14,11 @@ pub record Accounts : Type 0 where
   pub by_task : List TaskProgress
   pub by_processor : List ProcessorState
 
+-- the accounts that a roster keeps
 abbrev pub accounts_of : Roster → Accounts
 accounts_of r = record { by_task = r.by_task.items; by_processor = r.by_processor.items }
 
--- a processor that runs nothing, does not tick, and looks for a task to pull then, where it looks at all
+-- a processor that runs nothing and does not tick; it looks for a task to pull at this instant, if it looks at all
 abbrev pub at_rest : Option ℕ → ProcessorState
 at_rest look = record { run = None; since = 0; size = 0; tick = None; look = look }
 
@@ -45,12 +46,13 @@ of_processor f processor a = record a { by_processor = changed_at f a.by_process
 abbrev pub charged_by : ProcessorState → ℕ → Accounts → Accounts
 charged_by processor_state now a = option_map_or (λ task. of_task (run_for (now - processor_state.since)) task a) processor_state.run a
 
+-- the time of the task that runs at a processor, if one does, is counted up to now
 abbrev pub charged : ℕ → ℕ → Accounts → Accounts
 charged processor now a =
     option_map_or (λ (processor_state : ProcessorState). of_processor (λ l. record l { since = now }) processor (charged_by processor_state now a))
     (slice_get a.by_processor processor) a
 
--- the task runs there, and has got just what its phase takes
+-- the task runs at this processor, and has got exactly what its phase takes
 pub record IsDone (a : Accounts) (processor task : ℕ) (c : TaskProgress) : Type 0 where
   pub processor_state : ProcessorState
   pub at : slice_get a.by_processor processor ≡ Some processor_state
@@ -58,25 +60,26 @@ pub record IsDone (a : Accounts) (processor task : ℕ) (c : TaskProgress) : Typ
   pub there : slice_get a.by_task task ≡ Some c
   pub done : c.got ≡ c.due
 
--- nothing runs there from now on: it has no tick, and looks for a task at once, where it looks at all
+-- nothing runs at this processor from now on: it has no tick, and looks for a task at once, if it looks at all
 abbrev pub idled : ℕ → ProcessorState → ProcessorState
 idled now l = record l { run = None; tick = None; look = option_map (λ _. now) l.look }
 
--- a task runs there from now on; where none ran it ticks next at the next multiple of the time between two ticks
+-- a task runs at this processor from now on; if none ran before, the processor ticks next at the next multiple of the tick period
 abbrev pub occupied : ℕ → ℕ → ℕ → ProcessorState → ProcessorState
 occupied tick task now l = record l { run = Some task; since = now; tick = Some (unwrap_or l.tick (next_multiple tick now)) }
 
--- from now on this task runs at a processor, or none does
+-- this task runs at a processor from now on, or none does
 abbrev pub taken_over : ℕ → Option ℕ → ℕ → Periods → Accounts → Accounts
 taken_over processor None now periods a = of_processor (idled now) processor a
 taken_over processor (Some task) now periods a = of_task (moved_to processor periods.migration_cost) task (of_processor (occupied periods.tick task now) processor a)
 
+-- both are one task, or both are none
 abbrev pub is_same : Option ℕ → Option ℕ → Bool
 is_same None None = true
 is_same (Some m) (Some n) = m == n
 is_same m n = false
 
--- so says an answer: if another ran before, that has its time
+-- this task runs at a processor from now on, or none; if another ran there before, its time is counted first
 abbrev pub switched : ℕ → Option ℕ → ℕ → Periods → Accounts → Accounts
 switched processor run now periods a =
     option_map_or (λ (processor_state : ProcessorState). if is_same processor_state.run run then a else taken_over processor run now periods (charged processor now a))
@@ -108,7 +111,7 @@ pub record TicksAt (a : Accounts) (processor now : ℕ) : Type 0 where
   pub at : slice_get a.by_processor processor ≡ Some processor_state
   pub tick : processor_state.tick ≡ Some now
 
--- its clock beats: it ticks next at the next multiple of the time between two ticks
+-- the clock of a processor beats: its next tick is at the next multiple of the tick period
 abbrev pub beaten : ℕ → ℕ → ℕ → Accounts → Accounts
 beaten processor now tick a = of_processor (λ l. record l { tick = Some (next_multiple tick now) }) processor a
 
@@ -118,11 +121,12 @@ pub record LooksAt (a : Accounts) (processor now : ℕ) : Type 0 where
   pub at : slice_get a.by_processor processor ≡ Some processor_state
   pub look : processor_state.look ≡ Some now
 
--- it looks: it does so next at the next multiple of the time between two looks
+-- a processor looks for a task: its next look is at the next multiple of the time between two looks
 abbrev pub looked : ℕ → ℕ → ℕ → Accounts → Accounts
 looked processor now balance a = of_processor (λ l. record l { look = Some (next_multiple balance now) }) processor a
 
--- the phase of the task that runs there, if one does, ends after the end: it has come so far, and its time is counted until an instant
+-- the phase of the task that runs at a processor ends after the end of the simulation, if the task's time is counted up to `since`; true if
+-- none runs, false if there is no such task
 abbrev pub runs_past : ℕ → List TaskProgress → ProcessorState → Bool
 runs_past end by_task processor_state = option_map_or (λ task. option_map_or (lacks_more processor_state.since end) (slice_get by_task task) false) processor_state.run true
 

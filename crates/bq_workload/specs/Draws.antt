@@ -9,7 +9,7 @@ use Rattle.bq_workload.specs.Lengths.{longest}
 abbrev pub uniform : ℕ → ℕ → ℕ → ℕ
 uniform least greatest word = least + word * (greatest - least + 1) / 2 ^ 64
 
--- a mantissa from 2^63 to 2^64, squared, and halved where that passes 2
+-- the square of a mantissa from 2^63 to 2^64; a square of 2 or more is halved
 abbrev pub squared : ℕ → ℕ
 squared m = if nat_lt (m * m) (2 ^ 127) then m * m / 2 ^ 63 else m * m / 2 ^ 64
 
@@ -17,7 +17,7 @@ squared m = if nat_lt (m * m) (2 ^ 127) then m * m / 2 ^ 63 else m * m / 2 ^ 64
 abbrev pub digit : ℕ → ℕ
 digit m = if nat_lt (m * m) (2 ^ 127) then 0 else 1
 
--- this many digits of it, after those that are known
+-- this many more digits of the logarithm of a mantissa, after the digits that are known
 unfoldable pub fraction : ℕ → ℕ → ℕ → ℕ
 fraction zero known m = known
 fraction (suc n) known m = fraction n (2 * known + digit m) (squared m)
@@ -27,10 +27,12 @@ fraction (suc n) known m = fraction n (2 * known + digit m) (squared m)
 abbrev pub logarithm : ℕ → ℕ → ℕ
 logarithm first second = (leading_zeros w64 first + 1) * 2 ^ 32 - fraction 32 0 (2 ^ 63 + second / 2)
 
--- times the mean and the natural logarithm of 2, at least 1 and at most the longest
+-- minus the natural logarithm of the drawn number (`logarithm` has it to base 2), times the mean; at least 1 and at most the longest.
+-- 2977044472 is the natural logarithm of 2, in units of 2^-32
 abbrev pub exponential : ℕ → ℕ → ℕ → ℕ
 exponential mean first second = min (max (logarithm first second * 2977044472 * mean / 2 ^ 64) 1) longest
 
+-- the length that two words give, by what is asked for
 abbrev pub length_drawn : Length → ℕ → ℕ → ℕ
 length_drawn (Fixed n) first second = n
 length_drawn (Uniform least greatest) first second = uniform least greatest first

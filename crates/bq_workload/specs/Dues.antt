@@ -15,12 +15,14 @@ IsDue (Wake task) = task < TASKS
 IsDue (Tick processor) = processor < PROCESSORS
 IsDue (Pull processor) = processor < PROCESSORS
 
+-- the place of a thing in the order of one instant: phase ends first, then wakes, ticks and looks
 abbrev pub place_of : Due → ℕ
 place_of (End processor) = processor
 place_of (Wake task) = 64 + task
 place_of (Tick processor) = 1088 + processor
 place_of (Pull processor) = 1152 + processor
 
+-- the thing at a place, if the place is below 1216
 abbrev pub due_at : ℕ → Option Due
 due_at n =
     if nat_lt n 64 then Some (End n)
@@ -37,19 +39,19 @@ next_multiple between now = (now / between + 1) * between
 abbrev pub until : ℕ → ℕ → Option ℕ
 until end time = if nat_le time end && nat_lt time (2 ^ 48) then Some time else None
 
--- this comes due then, unless that is after the end, and of nothing else it has changed when it is due
+-- this thing is due at a time, or never if that is after the end; nothing else changes in the event queue
 pub record IsPlanned (end : ℕ) (due : Due) (time : ℕ) (old new : List ℕ) : Type 0 where
   pub there : IsDue due
   pub at : at_place new (place_of due) ≡ number_of (place_of due) (until end time)
   pub others : ChangesOnly (place_of due) old new
 
--- this never comes due, and of nothing else it has changed when it is due
+-- this thing is never due; nothing else changes in the event queue
 pub record IsDropped (due : Due) (old new : List ℕ) : Type 0 where
   pub there : IsDue due
   pub at : at_place new (place_of due) ≡ never
   pub others : ChangesOnly (place_of due) old new
 
--- when what is at a place comes due, where this many processors look for a task then
+-- when the thing at a place comes due, if each of this many processors looks at this time and nothing else comes
 abbrev pub look_of : ℕ → Option ℕ → ℕ → Option ℕ
 look_of processors time place = if nat_le (place_of (Pull 0)) place && nat_lt place (place_of (Pull processors)) then time else None
 
@@ -61,33 +63,33 @@ AreLooks processors time event_queue = (place : ℕ) → place < 2048 → at_pla
 abbrev pub end_of : ℕ → TaskProgress → ℕ
 end_of now c = min (now + (c.due - c.got)) (2 ^ 64 - 1)
 
--- how many tasks a processor has; none where there is no such processor
+-- how many tasks a processor has; 0 if there is no such processor
 abbrev pub size_at : List ProcessorState → ℕ → ℕ
 size_at by_processor processor = option_map_or (λ (processor_state : ProcessorState). processor_state.size) (slice_get by_processor processor) 0
 
--- of this many processors this one has the most tasks, and more than one; of those that have as many it is the first
+-- of this many processors this one has the most tasks, and more than one; it is the first of those that have as many
 pub record IsLargest (by_processor : List ProcessorState) (count processor : ℕ) : Type 0 where
   pub within : processor < count
   pub several : 1 < size_at by_processor processor
   pub most : (other : ℕ) → other < count → size_at by_processor other ≤ size_at by_processor processor
   pub first : (other : ℕ) → other < processor → size_at by_processor other < size_at by_processor processor
 
--- the largest of this many processors; none where no one has more than one task
+-- the largest of this many processors; none if no processor has more than one task
 abbrev pub HasLargest : List ProcessorState → ℕ → Option ℕ → Type 0
 HasLargest by_processor count None = (processor : ℕ) → processor < count → size_at by_processor processor ≤ 1
 HasLargest by_processor count (Some processor) = IsLargest by_processor count processor
 
--- the largest of this many processors and the next, where that of the others is known
+-- the largest of some processors and the next one, if the largest of the others is known
 abbrev pub larger : List ProcessorState → Option ℕ → ℕ → Option ℕ
 larger by_processor None next = if nat_lt 1 (size_at by_processor next) then Some next else None
 larger by_processor (Some best) next = if nat_lt (size_at by_processor best) (size_at by_processor next) then Some next else Some best
 
--- from another processor than this, or from none
+-- a processor, if it is another than this one
 abbrev pub other_than : ℕ → Option ℕ → Option ℕ
 other_than processor None = None
 other_than processor (Some other) = if other == processor then None else Some other
 
--- from which processor this one pulls a task: from the largest, if that is another
+-- the processor from which this one pulls a task: the largest, if that is another
 pub record IsSource (by_processor : List ProcessorState) (processor : ℕ) (source : Option ℕ) : Type 0 where
   pub largest : Option ℕ
   pub has : HasLargest by_processor PROCESSORS largest

@@ -4,7 +4,7 @@ use Rattle.std.specs.Char.{is_ascii_digit}
 use Rattle.std.specs.List.{list_all}
 use Rattle.bq_words.specs.Durations.{duration_of, is_point}
 
--- only digits and points
+-- whether a text has only digits and points
 abbrev pub is_bare : List ℕ → Bool
 is_bare word = list_all (λ c. is_ascii_digit c || is_point c) word
 

@@ -1,12 +1,12 @@
--- How many tasks the kinds of a workload have.
+-- The number of tasks that the kinds of a workload have.
 use Rattle.std.specs.Prelude.{ℕ, List, slice_get, sum_by}
 use Rattle.std.specs.Option.{option_map_or}
 use Rattle.bq_workload.specs.declared.workload.TaskKind.{TaskKind}
 
--- the kind of this number
+-- how many tasks the kind of this number has; 0 if there is no such kind
 abbrev pub count_of : List TaskKind → ℕ → ℕ
 count_of kinds number = option_map_or (λ (kind : TaskKind). kind.count) (slice_get kinds number) 0
 
--- all of these kinds
+-- how many tasks all of these kinds have
 abbrev pub tasks_in : List TaskKind → ℕ
 tasks_in kinds = sum_by (λ (kind : TaskKind). kind.count) kinds

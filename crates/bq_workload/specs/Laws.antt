@@ -2,8 +2,8 @@
 use Rattle.std.specs.Prelude.{ℕ, ◌+◌, ◌*◌, ◌^◌, ◌<◌, ◌≤◌}
 use Rattle.bq_workload.specs.Draws.{fraction, exponential}
 
--- This many digits of a mantissa's logarithm to base 2, where the mantissa counts by 2^63: never more than the logarithm, and
--- less than two units of the last digit below it
+-- This many digits of a mantissa's logarithm to base 2, if the mantissa counts by 2^63: never more than the logarithm, and less
+-- than two units of the last digit below the logarithm
 abbrev pub GivesLogarithm : Type 0
 GivesLogarithm =
     (n m : ℕ) → 2 ^ 63 ≤ m → m < 2 ^ 64 → n ≤ 62 →

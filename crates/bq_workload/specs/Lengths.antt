@@ -13,11 +13,13 @@ longest = 281474976710655
 abbrev pub is_long : ℕ → Bool
 is_long n = nat_le 1 n && nat_le n longest
 
+-- the numbers of a length are in range, and its least is at most its greatest
 abbrev pub is_length : Length → Bool
 is_length (Fixed n) = is_long n
 is_length (Uniform least greatest) = nat_le 1 least && nat_le least greatest && nat_le greatest longest
 is_length (Exponential mean) = is_long mean
 
+-- an action takes time whatever other tasks do
 abbrev pub takes_time : Action → Bool
 takes_time (Run length) = true
 takes_time (Sleep length) = true

@@ -1,5 +1,5 @@
--- A tree of least numbers, written level by level: what is at k is the less of what is at 2k and at 2k + 1. The
--- leaves stand from 2048 on: one for each of the 1216 places of what may come due, and spare ones behind them.
+-- A tree of least numbers, written level by level: what is at k is the less of what is at 2k and at 2k + 1. The leaves begin at
+-- 2048: one for each of the 1216 places of what may come due, and spare leaves after them.
 use Rattle.std.specs.Prelude.{◌≡◌, ◌≢◌, ℕ, ◌+◌, ◌*◌, ◌%◌, ◌<◌, ◌≤◌, ◌⊎◌, List, slice_index, min, Option, Some, None}
 
 -- the number for what is never due: above all others
@@ -15,6 +15,7 @@ number_of place (Some time) = time * 2048 + place
 abbrev pub at_place : List ℕ → ℕ → ℕ
 at_place xs place = slice_index xs (2048 + place)
 
+-- the number at a node is the less of the two below it
 abbrev pub IsLess : List ℕ → ℕ → Type 0
 IsLess xs k = slice_index xs k ≡ min (slice_index xs (2 * k)) (slice_index xs (2 * k + 1))
 
@@ -30,7 +31,7 @@ HasOtherMinima but xs = (k : ℕ) → 1 ≤ k → k < 2048 → k ≢ but → IsL
 abbrev pub HasPlaces : List ℕ → Type 0
 HasPlaces xs = (place : ℕ) → place < 2048 → (at_place xs place ≡ never) ⊎ ((at_place xs place % 2048 ≡ place) × (at_place xs place < never))
 
--- behind the leaves of the places nothing is ever due
+-- after the leaves of the places nothing is ever due
 abbrev pub HasSpareLeaves : List ℕ → Type 0
 HasSpareLeaves xs = (place : ℕ) → 1216 ≤ place → place < 2048 → at_place xs place ≡ never
 
@@ -38,6 +39,7 @@ HasSpareLeaves xs = (place : ℕ) → 1216 ≤ place → place < 2048 → at_pla
 abbrev pub ChangesOnly : ℕ → List ℕ → List ℕ → Type 0
 ChangesOnly place xs ys = (k : ℕ) → k < 2048 → k ≢ place → at_place ys k ≡ at_place xs k
 
+-- nothing is ever due
 abbrev pub AreNever : List ℕ → Type 0
 AreNever xs = (place : ℕ) → place < 2048 → at_place xs place ≡ never
 

@@ -16,7 +16,7 @@ use Rattle.bq_workload.specs.Minima.{at_place, number_of}
 abbrev pub ends_at : ℕ → List TaskProgress → ProcessorState → Option ℕ
 ends_at end by_task processor_state = option_and_then (λ task. option_and_then (λ c. until end (end_of processor_state.since c)) (slice_get by_task task)) processor_state.run
 
--- when a timer rings: that of a task that sleeps by one
+-- when the timer of a task rings: only if the task sleeps until its timer wakes it
 abbrev pub rings_at : ℕ → TaskState → ℕ → Option ℕ
 rings_at end Asleep timer = until end timer
 rings_at end task_state timer = None
@@ -28,20 +28,20 @@ comes_at end a (Wake task) = option_and_then (λ c. rings_at end c.task_state c.
 comes_at end a (Tick processor) = option_and_then (λ processor_state. option_and_then (until end) processor_state.tick) (slice_get a.by_processor processor)
 comes_at end a (Pull processor) = option_and_then (λ processor_state. option_and_then (until end) processor_state.look) (slice_get a.by_processor processor)
 
--- this, which comes then, is before another thing: it comes at an earlier instant, or at the same with a lesser place
+-- one thing is before another: it comes earlier, or at one instant with it and at a lesser place
 abbrev pub IsBefore : ℕ → Due → ℕ → Due → Type 0
 IsBefore time due later other = (time < later) ⊎ ((time ≡ later) × (place_of due < place_of other))
 
--- by the accounts this comes first of all that comes until the end: it comes then, and nothing that comes is before it
+-- by the accounts this thing comes at this time, and nothing else that comes until the end is before it
 pub record IsNext (end : ℕ) (a : Accounts) (due : Due) (time : ℕ) : Type 0 where
   pub comes : comes_at end a due ≡ Some time
   pub first : (other : Due) (t : ℕ) → comes_at end a other ≡ Some t → IsBefore t other time due → ⊥
 
--- by the accounts nothing comes any more until the end
+-- by the accounts nothing comes until the end
 abbrev pub NothingComes : ℕ → Accounts → Type 0
 NothingComes end a = (due : Due) → comes_at end a due ≡ None
 
--- of this thing an event queue says when it comes by the accounts, and only what may be due comes
+-- an event queue says of this thing when it comes by the accounts; and a thing that comes may be due
 pub record AgreesAt (end : ℕ) (a : Accounts) (event_queue : List ℕ) (due : Due) : Type 0 where
   pub at : IsDue due → at_place event_queue (place_of due) ≡ number_of (place_of due) (comes_at end a due)
   pub there : (time : ℕ) → comes_at end a due ≡ Some time → IsDue due
@@ -67,7 +67,7 @@ pub record Agrees (end : ℕ) (a : Accounts) (event_queue : List ℕ) : Type 0 w
 abbrev pub IsAgreed : Roster → Type 0
 IsAgreed r = Agrees r.periods.end (accounts_of r) r.event_queue
 
--- where it agreed with them it does so afterwards
+-- if the old roster agrees with its accounts, the new one agrees with its own
 abbrev pub StaysAgreed : Roster → Roster → Type 0
 StaysAgreed old new = IsAgreed old → IsAgreed new
 
@@ -75,7 +75,7 @@ StaysAgreed old new = IsAgreed old → IsAgreed new
 abbrev pub runs_at : List ProcessorState → ℕ → ℕ → Bool
 runs_at by_processor processor task = option_map_or (λ (processor_state : ProcessorState). is_same processor_state.run (Some task)) (slice_get by_processor processor) false
 
--- a task does not run where it ran last
+-- a task does not run at the processor where it ran last
 pub record Rests (a : Accounts) (task : ℕ) : Type 0 where
   pub progress : TaskProgress
   pub there : slice_get a.by_task task ≡ Some progress

@@ -15,7 +15,7 @@ abbrev pub PlansTick : Periods → ℕ → ℕ → Option ℕ → List ℕ → L
 PlansTick periods processor now None old new = IsPlanned periods.end (Tick processor) (next_multiple periods.tick now) old new
 PlansTick periods processor now (Some time) old new = new ≡ old
 
--- a task that has come so far runs there: its phase ends when it has got what is left of it
+-- a task with this progress runs at a processor: its phase ends when it has got the rest of what it takes
 pub record PlansTask (periods : Periods) (processor now : ℕ) (tick : Option ℕ) (c : TaskProgress) (old new : List ℕ) : Type 0 where
   pub mid : List ℕ
   pub ticks : PlansTick periods processor now tick old mid
@@ -40,33 +40,33 @@ PlansRun periods processor None now processor_state by_task old new = PlansNone 
 PlansRun periods processor (Some task) now processor_state by_task old new =
     (c : TaskProgress) × (slice_get by_task task ≡ Some c) × PlansTask periods processor now processor_state.tick c old new
 
--- so plans a roster in which this task runs at a processor from now on, or none does
+-- the plans of a roster are those of a processor at which this task runs from now on, or none
 abbrev pub TakeoverIsPlanned : ℕ → Option ℕ → ℕ → Roster → Roster → Type 0
 TakeoverIsPlanned processor run now old new =
     (processor_state : ProcessorState) × (slice_get old.by_processor.items processor ≡ Some processor_state) ×
     PlansRun old.periods processor run now processor_state new.by_task.items old.event_queue new.event_queue
 
--- nothing changes where the same runs
+-- nothing changes if the same task runs as before
 abbrev pub PlansUnless : Bool → Periods → ℕ → Option ℕ → ℕ → ProcessorState → List TaskProgress → List ℕ → List ℕ → Type 0
 PlansUnless true periods processor run now processor_state by_task old new = new ≡ old
 PlansUnless false periods processor run now processor_state by_task old new = PlansRun periods processor run now processor_state by_task old new
 
--- so says an answer, by the accounts before and the tasks' progress after
+-- the plans after a switch, by the accounts before it and the tasks' progress after it
 pub record PlansSwitch (periods : Periods) (processor : ℕ) (run : Option ℕ) (now : ℕ) (a : Accounts) (by_task : List TaskProgress) (old new : List ℕ) : Type 0 where
   pub processor_state : ProcessorState
   pub at : slice_get a.by_processor processor ≡ Some processor_state
   pub plans : PlansUnless (is_same processor_state.run run) periods processor run now processor_state by_task old new
 
--- so plans a roster after an answer, by its accounts as they stood when another task took over
+-- the plans of a roster after an answer, by its accounts at the moment when another task took over
 abbrev pub SwitchIsPlanned : ℕ → Option ℕ → ℕ → Accounts → Roster → Roster → Type 0
 SwitchIsPlanned processor run now a old new = PlansSwitch old.periods processor run now a new.by_task.items old.event_queue new.event_queue
 
--- the timer of a task is put down where it sleeps by one, and else none
+-- the timer of a task is planned if the task sleeps until its timer wakes it; otherwise no timer is
 abbrev pub PlansTimer : ℕ → ℕ → TaskState → ℕ → List ℕ → List ℕ → Type 0
 PlansTimer end task Asleep timer old new = IsPlanned end (Wake task) timer old new
 PlansTimer end task task_state timer old new = IsDropped (Wake task) old new
 
--- the task that runs at a processor has come so far: its timer is put down, and the end of its phase
+-- the task that runs at a processor has this progress: its timer is planned, and the end of its phase
 pub record PlansProgress (end processor task : ℕ) (processor_state : ProcessorState) (c : TaskProgress) (old new : List ℕ) : Type 0 where
   pub mid : List ℕ
   pub runs : processor_state.run ≡ Some task
@@ -74,7 +74,7 @@ pub record PlansProgress (end processor task : ℕ) (processor_state : Processor
   pub timer : PlansTimer end task c.task_state c.timer old mid
   pub ends : IsPlanned end (End processor) (end_of processor_state.since c) mid new
 
--- so plans a roster in which the task that runs at a processor has come so far
+-- the plans of a roster in which the task that runs at a processor has this progress
 abbrev pub ProgressIsPlanned : ℕ → ℕ → TaskProgress → Roster → Roster → Type 0
 ProgressIsPlanned processor task c old new =
     (processor_state : ProcessorState) × (slice_get old.by_processor.items processor ≡ Some processor_state) ×

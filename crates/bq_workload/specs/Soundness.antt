@@ -16,7 +16,7 @@ use Rattle.bq_disc.specs.declared.limits.TheConstants.{GREATEST_SLICE, LEAST_SLI
 use Rattle.bq_weights.specs.VirtualTime.{is_nice}
 use Rattle.bq_words.specs.Sizes.{processors_in}
 
--- a flaw where something does not hold
+-- the flaw, if something does not hold
 abbrev pub unless : Bool → Unsound → List Unsound
 unless true flaw = []
 unless false flaw = flaw ∷ []
@@ -25,7 +25,7 @@ unless false flaw = flaw ∷ []
 abbrev pub has_times : Setup → Bool
 has_times machine = is_long machine.duration && is_long machine.tick && is_long machine.balance && nat_le machine.migration_cost longest
 
--- for ever, or at least once
+-- a kind repeats its actions for ever, or at least once
 abbrev pub goes_round : Option ℕ → Bool
 goes_round None = true
 goes_round (Some loops) = nat_le 1 loops
@@ -57,30 +57,31 @@ is_action kinds (Sleep length) = is_length length
 is_action kinds Wait = true
 is_action kinds (Wake kind) = nat_lt kind kinds
 
+-- the flaw of a machine, if it has one
 abbrev pub flaws_of_machine : Setup → List Unsound
 flaws_of_machine machine = unless (has_times machine) flaw.Machine
 
--- of the actions of a kind, from a place on
+-- the flaws of a kind's actions, from a place on
 abbrev pub flaws_of_actions : ℕ → ℕ → ℕ → List Action → List Unsound
 flaws_of_actions kinds number place [] = []
 flaws_of_actions kinds number place (action ∷ actions) = unless (is_action kinds action) (flaw.Action number place) ++ flaws_of_actions kinds number (place + 1) actions
 
--- of what a kind does, with one of its actions at least taking time
+-- the flaws of what a kind does; one of its actions at least takes time
 abbrev pub flaws_of_doing : ℕ → ℕ → List Action → List Unsound
 flaws_of_doing kinds number actions = flaws_of_actions kinds number 0 actions ++ unless (list_any takes_time actions) (flaw.NoTime number)
 
--- of one of this many kinds, on this many processors
+-- the flaws of one kind, which is one of this many, on this many processors
 abbrev pub flaws_of_kind : ℕ → ℕ → ℕ → TaskKind → List Unsound
 flaws_of_kind processors kinds number kind =
     unless (has_name kind) (flaw.Name number) ++ unless (has_numbers kind) (flaw.Kind number) ++ unless (allows_one processors kind.mask) (flaw.Mask number)
     ++ flaws_of_doing kinds number kind.actions.items
 
--- of the kinds from a number on
+-- the flaws of the kinds from a number on
 abbrev pub flaws_of_kinds : ℕ → ℕ → ℕ → List TaskKind → List Unsound
 flaws_of_kinds processors kinds number [] = []
 flaws_of_kinds processors kinds number (kind ∷ more) = flaws_of_kind processors kinds number kind ++ flaws_of_kinds processors kinds (number + 1) more
 
--- of all kinds together: they have too many tasks
+-- the flaw of all kinds together: they have too many tasks
 abbrev pub flaws_of_count : List TaskKind → List Unsound
 flaws_of_count kinds = unless (nat_le (tasks_in kinds) TASKS) flaw.Tasks
 

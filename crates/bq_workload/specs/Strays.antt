@@ -1,4 +1,4 @@
--- Which calls of a roster go astray, and fail, by the accounts that they find. None does where the accounts agree with the world and with the clock.
+-- The calls of a roster that fail, by the accounts that they find. No call fails if the accounts agree with the world and the clock.
 use Rattle.std.specs.Prelude.{◌≡◌, ◌≢◌, ℕ, ◌+◌, ◌-◌, ◌^◌, ◌<◌, ◌≤◌, ◌⊎◌, false, Option, None, Some, slice_get}
 use Rattle.bq_disc.specs.declared.limits.TheConstants.{PROCESSORS, TASKS}
 use Rattle.bq_workload.specs.declared.processor_state.ProcessorState.{ProcessorState}
@@ -8,15 +8,15 @@ use Rattle.bq_workload.specs.Accounts.{Accounts, IsDone, LooksAt, TicksAt, charg
 use Rattle.bq_workload.specs.Dues.{next_multiple, size_at}
 use Rattle.bq_workload.specs.Next.{Rests, runs_at}
 
--- a number stands for no processor, or for none at which anything may come due
+-- a number names no processor, or none at which anything may come due
 abbrev pub IsStrayProcessor : ℕ → Accounts → Type 0
 IsStrayProcessor processor a = (slice_get a.by_processor processor ≡ None) ⊎ (PROCESSORS ≤ processor)
 
--- a number stands for no task, or for none that a timer may wake
+-- a number names no task, or none that a timer may wake
 abbrev pub IsStrayTask : ℕ → Accounts → Type 0
 IsStrayTask task a = (slice_get a.by_task task ≡ None) ⊎ (TASKS ≤ task)
 
--- the time between two things is none, or 64 bits do not count its first multiple after an instant
+-- the time between two things is 0, or 64 bits do not count its first multiple after an instant
 abbrev pub HasNoNext : ℕ → ℕ → Type 0
 HasNoNext between now = (between ≡ 0) ⊎ (2 ^ 64 ≤ next_multiple between now)
 
@@ -27,7 +27,8 @@ pub record Overflows (task ran : ℕ) (a : Accounts) : Type 0 where
   pub uncounted : 2 ^ 64 ≤ progress.got + ran
   pub overrun : progress.due < progress.got + ran
 
--- a task has not run from one instant to another: the other is before, there is no such task, or 64 bits do not count what it would have got
+-- a task has not run from one instant to another: the second is before the first, there is no such task, or 64 bits do not count what it
+-- would have got
 abbrev pub IsStrayRun : ℕ → ℕ → ℕ → Accounts → Type 0
 IsStrayRun task since now a = (now < since) ⊎ (slice_get a.by_task task ≡ None) ⊎ Overflows task (now - since) a
 
@@ -53,18 +54,19 @@ pub record HasOverrun (task : ℕ) (a : Accounts) : Type 0 where
 abbrev pub IsStrayStart : Periods → ℕ → ℕ → ℕ → Accounts → Type 0
 IsStrayStart periods processor task now a = (Rests a task → ⊥) ⊎ HasOverrun task a ⊎ HasNoNext periods.tick now ⊎ IsStrayProcessor processor a
 
--- a task does not begin to run at a processor; or it is not one that falls idle
+-- the named task does not begin to run at a processor; or without a task, there is no such processor to fall idle
 abbrev pub IsStrayTakeover : Periods → ℕ → Option ℕ → ℕ → Accounts → Type 0
 IsStrayTakeover periods processor None now a = IsStrayProcessor processor a
 IsStrayTakeover periods processor (Some task) now a = IsStrayStart periods processor task now a
 
--- another task is to run at a processor, or none, than runs there: the time of what ran there is not counted, or the other does not begin
+-- what runs at a processor is to change, and the change fails: the time of the old task is not counted, or the new one does not begin
 pub record SwitchesAstray (periods : Periods) (processor : ℕ) (run : Option ℕ) (now : ℕ) (a : Accounts) : Type 0 where
   pub processor_state : ProcessorState
   pub at : slice_get a.by_processor processor ≡ Some processor_state
   pub other : is_same processor_state.run run ≡ false
   pub astray : IsStrayCharge processor now a ⊎ IsStrayTakeover periods processor run now (charged processor now a)
 
+-- a switch fails: there is no such processor, or it fails on the way
 abbrev pub IsStraySwitch : Periods → ℕ → Option ℕ → ℕ → Accounts → Type 0
 IsStraySwitch periods processor run now a = (slice_get a.by_processor processor ≡ None) ⊎ SwitchesAstray periods processor run now a
 
@@ -72,7 +74,7 @@ IsStraySwitch periods processor run now a = (slice_get a.by_processor processor 
 abbrev pub IsStrayLeave : Periods → ℕ → Option ℕ → ℕ → Accounts → Type 0
 IsStrayLeave periods processor run now a = (size_at a.by_processor processor ≡ 0) ⊎ IsStraySwitch periods processor run now (shrunk processor a)
 
--- there is no processor to take so many tasks more, or 32 bits do not count them
+-- there is no processor to take this many tasks more, or 32 bits do not count them
 abbrev pub IsStrayGrowth : ℕ → ℕ → Accounts → Type 0
 IsStrayGrowth processor count a = (slice_get a.by_processor processor ≡ None) ⊎ (2 ^ 32 ≤ size_at a.by_processor processor + count)
 
@@ -92,18 +94,18 @@ IsStrayBeat processor now tick a = (TicksAt a processor now → ⊥) ⊎ (PROCES
 abbrev pub IsStrayLook : ℕ → ℕ → ℕ → Accounts → Type 0
 IsStrayLook processor now balance a = (LooksAt a processor now → ⊥) ⊎ (PROCESSORS ≤ processor) ⊎ HasNoNext balance now
 
--- a task to be woken does not rest, or is none that a timer may wake
+-- a task to be woken does not rest, or no timer may wake it
 abbrev pub IsStrayWake : ℕ → Accounts → Type 0
 IsStrayWake task a = (Rests a task → ⊥) ⊎ (TASKS ≤ task)
 
--- a task that has come so far does not run at a processor, did not run there last, or has run past its phase
+-- a task with this progress does not run at a processor, did not run there last, or has run past its phase
 abbrev pub IsStrayProgress : ℕ → ℕ → TaskProgress → Accounts → Type 0
 IsStrayProgress processor task c a = (runs_at a.by_processor processor task ≡ false) ⊎ (c.home ≢ processor) ⊎ (c.due < c.got) ⊎ (PROCESSORS ≤ processor) ⊎ IsStrayTask task a
 
--- no task runs at a processor that has got just what its phase takes
+-- no task runs at this processor that has got exactly what its phase takes
 abbrev pub NoneIsDone : ℕ → Accounts → Type 0
 NoneIsDone processor a = (task : ℕ) (c : TaskProgress) → IsDone a processor task c → ⊥
 
--- no phase ends at a processor just now
+-- no phase ends at this processor now
 abbrev pub IsStrayEnd : ℕ → ℕ → Accounts → Type 0
 IsStrayEnd processor now a = IsStrayCharge processor now a ⊎ NoneIsDone processor (charged processor now a)

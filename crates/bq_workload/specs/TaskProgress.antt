@@ -1,4 +1,4 @@
--- What becomes of a task's run phase.
+-- How far a task has come: its actions and rounds, its run phase, its timer.
 use Rattle.std.specs.Prelude.{ℕ, ◌+◌, ◌-◌, ◌==◌, Bool, true, false, not, ◌&&◌, if◌then◌else◌, min, nat_le, nat_lt}
 use Rattle.bq_workload.specs.declared.progress.TaskProgress.{TaskProgress}
 use Rattle.bq_workload.specs.declared.progress.TaskState.{TaskState}
@@ -8,7 +8,8 @@ use Rattle.bq_workload.specs.declared.progress.TaskState.TheVariants.{Asleep, Ru
 abbrev pub fresh : ℕ → ℕ → ℕ → TaskProgress
 fresh kind home start = record { kind = kind; action = 0; woken = 0; loops = 0; task_state = Asleep; timer = start; due = 0; got = 0; home = home; has_run = false }
 
--- it has done one of this many actions, and comes to the next; after the last to the first, again, as far as 64 bits count
+-- a task has done one of this many actions, and comes to the next; after the last it comes to the first again, and its rounds
+-- are counted as far as 64 bits count
 abbrev pub advanced : ℕ → TaskProgress → TaskProgress
 advanced actions c =
     if nat_le actions (c.action + 1) then record c { action = 0; woken = 0; loops = min (c.loops + 1) 18446744073709551615 } else record c { action = c.action + 1; woken = 0 }
@@ -17,11 +18,11 @@ advanced actions c =
 abbrev pub begun : ℕ → TaskProgress → TaskProgress
 begun length c = record c { due = length; got = 0 }
 
--- the task has run for so long; a task that ceases to run keeps the rest of its phase
+-- a task has run for this long; a task that stops running keeps the rest of its phase
 abbrev pub run_for : ℕ → TaskProgress → TaskProgress
 run_for ran c = record c { got = c.got + ran }
 
--- it runs at another processor than before
+-- a task begins to run at another processor than before
 abbrev pub migrates_to : ℕ → TaskProgress → Bool
 migrates_to processor c = c.has_run && not (c.home == processor)
 
@@ -29,35 +30,35 @@ migrates_to processor c = c.has_run && not (c.home == processor)
 abbrev pub lengthened : ℕ → ℕ → ℕ
 lengthened cost due = due + min cost (18446744073709551615 - due)
 
--- it begins to run at a processor: what is left of its phase is longer where it migrates, and nothing is left where it has run past it
+-- a task begins to run at a processor. The rest of its phase grows by the cost if the task migrates and has not run past its phase
 abbrev pub moved_to : ℕ → ℕ → TaskProgress → TaskProgress
 moved_to processor cost c = record c { due = (if migrates_to processor c && nat_le c.got c.due then lengthened cost c.due else c.due); home = processor; has_run = true }
 
--- it is woken, and has no phase yet
+-- a task is woken, and has no phase yet
 abbrev pub woken : TaskProgress → TaskProgress
 woken c = record c { task_state = Runnable; due = 0; got = 0 }
 
--- it has got just what its phase takes
+-- a task has got exactly what its phase takes
 abbrev pub is_done : TaskProgress → Bool
 is_done c = c.got == c.due
 
--- a timer rings after the end, or wakes nobody
+-- a timer rings after the end, or wakes no task
 abbrev pub rings_past : ℕ → TaskState → ℕ → Bool
 rings_past end Asleep timer = nat_lt end timer
 rings_past end task_state timer = true
 
--- no timer wakes it until the end
+-- no timer wakes a task until the end
 abbrev pub sleeps_past : ℕ → TaskProgress → Bool
 sleeps_past end c = rings_past end c.task_state c.timer
 
--- it has got no more than its phase takes
+-- a task has got no more than its phase takes
 abbrev pub keeps_phase : TaskProgress → Bool
 keeps_phase c = nat_le c.got c.due
 
--- nor does a timer wake it until the end
+-- a task has got no more than its phase takes, and no timer wakes it until the end
 abbrev pub keeps_time : ℕ → TaskProgress → Bool
 keeps_time end c = keeps_phase c && sleeps_past end c
 
--- it lacks more of its phase than it can get from an instant until the end
+-- a task lacks more of its phase than it can get from an instant until the end
 abbrev pub lacks_more : ℕ → ℕ → TaskProgress → Bool
 lacks_more since end c = nat_lt (end + c.got) (since + c.due)

@@ -8,7 +8,7 @@ use crate::limits::LONGEST;
 /// How long something takes, in nanoseconds. Each is from 1 to `LONGEST`, 2^48 - 1: so nothing takes no time.
 #[derive(Clone, Copy, PartialEq, Eq)]
 pub enum Length {
-    /// Always the same.
+    /// A fixed length.
     Fixed(u64),
     /// Each whole number from `least` to `greatest`, both included, as likely as another.
     Uniform { least: u64, greatest: u64 },
@@ -17,7 +17,7 @@ pub enum Length {
 }
 
 impl Length {
-    /// Whether it is one: its numbers are from 1 to `LONGEST`, and the least is no more than the greatest.
+    /// Answers whether its numbers are from 1 to `LONGEST` and its least is at most its greatest.
     pub fn is_sound(&self) -> bool
         ensures { result ≡ is_length self.now }
     {
@@ -34,9 +34,9 @@ impl Length {
 /// One thing that a task does, while it runs.
 #[derive(Clone, Copy, PartialEq, Eq)]
 pub enum Action {
-    /// It runs for so much time of a processor: a run phase.
+    /// It runs for this much time of a processor: a run phase.
     Run(Length),
-    /// It sleeps for so long; then a timer wakes it.
+    /// It sleeps for this long; then a timer wakes it.
     Sleep(Length),
     /// It sleeps until another task wakes it.
     Wait,
@@ -45,7 +45,7 @@ pub enum Action {
 }
 
 impl Action {
-    /// Whether it takes time whatever others do: running and sleeping do.
+    /// Answers whether the action takes time whatever other tasks do: `Run` and `Sleep` do.
     pub fn takes_time(&self) -> bool
         ensures { result ≡ takes_time self.now }
     {
@@ -53,7 +53,7 @@ impl Action {
     }
 }
 
-/// Whether one of some actions takes time.
+/// Answers whether at least one of these actions takes time.
 pub fn take_time(actions: &[Action]) -> bool
     ensures { result ≡ list_any takes_time actions.now }
 {

@@ -1,4 +1,4 @@
-//! When the processors of a simulation tick, and when they look for tasks to pull, and where.
+//! The clocks of the processors: when each ticks, when it looks for a task to pull, and from which processor it pulls.
 ghost use Rattle.std.specs.Prelude.{◌≡◌, ◌⊎◌, ◌≤◌, None, Some, IfOk, IfErr, OnOk, unwrap_or};
 ghost use Rattle.bq_workload.specs.Accounts.{LooksAt, TicksAt, accounts_of, beaten, first_look, looked};
 ghost use Rattle.bq_workload.specs.Dues.{HasLargest, IsPlanned, IsSource, larger, next_multiple, size_at};
@@ -10,7 +10,7 @@ use crate::Due;
 use crate::roster::{BrokenInvariant, Roster};
 use bq_disc::limits::PROCESSORS;
 
-/// When each of this many processors looks first for a task to pull; a single one never looks.
+/// Answers when each of this many processors first looks for a task to pull. A single processor never looks.
 pub(crate) fn first_look(processors: u8, balance: u64) -> Option<u64>
     ensures { result ≡ first_look processors balance }
 {
@@ -30,7 +30,7 @@ fn next_after(now: u64, between: u64) -> Result<u64, BrokenInvariant>
 }
 
 impl Roster {
-    /// The clock of a processor beats, which is to tick just now. Its next tick is planned.
+    /// The clock of a processor beats, and its next tick is planned. It must be due to tick now.
     pub fn beat(&mut self, processor: u8, now: u64) -> Result<(), BrokenInvariant>
         ensures due { OnOk result (TicksAt (accounts_of self.old) processor now) }
         ensures accounts { OnOk result (accounts_of self.new ≡ beaten processor now self.old.periods.tick (accounts_of self.old)) }
@@ -49,7 +49,7 @@ impl Roster {
         Ok(())
     }
 
-    /// When a processor that runs something from now on ticks next: then, or if it has no tick yet, at one that is planned.
+    /// Answers when a processor that runs something from now on ticks next: at its tick, or if it has none, at one that this call plans.
     pub(crate) fn next_tick(
         &mut self,
         processor: u8,
@@ -69,7 +69,7 @@ impl Roster {
         }
     }
 
-    /// A processor that looks for tasks to pull at all is to look just now.
+    /// Plans a look for a task to pull at this instant, if the processor looks at all.
     pub(crate) fn look_at_once(
         &mut self,
         processor: u8,
@@ -88,7 +88,7 @@ impl Roster {
         }
     }
 
-    /// The next tick of a processor is planned. When it is.
+    /// Plans the next tick of a processor, and answers its time.
     fn plan_tick(&mut self, processor: u8, now: u64) -> Result<u64, BrokenInvariant>
         ensures next { IfOk result (λ next. next ≡ next_multiple self.old.periods.tick now) }
         ensures planned { OnOk result (IsPlanned self.old.periods.end (Due.Tick processor) (next_multiple self.old.periods.tick now) self.old.event_queue self.new.event_queue) }
@@ -102,8 +102,8 @@ impl Roster {
         Ok(next)
     }
 
-    /// A processor looks for a task to pull, which is to look just now: from where it pulls one, if from anywhere. Its next look
-    /// is planned.
+    /// A processor looks for a task to pull, and its next look is planned. It must be due to look now. Answers from which
+    /// processor it pulls, if any.
     pub fn look(&mut self, processor: u8, now: u64) -> Result<Option<u8>, BrokenInvariant>
         ensures due { OnOk result (LooksAt (accounts_of self.old) processor now) }
         ensures source { IfOk result (λ source. IsSource self.old.by_processor.items processor source) }
@@ -135,7 +135,7 @@ impl Roster {
         }
     }
 
-    /// The processor with the most tasks, the least number where several have, unless it has less than two.
+    /// Answers the processor with the most tasks, the least number if several have as many. None if no processor has two.
     pub fn largest(&self) -> Option<u8>
         ensures { HasLargest self.now.by_processor.items 64 result }
     {
@@ -146,7 +146,7 @@ impl Roster {
         best
     }
 
-    /// The largest of this many processors and the next, where that of the others is known.
+    /// Answers the larger of `best`, the largest of the processors before, and the next processor.
     fn larger(&self, best: Option<u8>, next: u8) -> Option<u8>
         ensures { result ≡ larger self.now.by_processor.items best next }
     {
@@ -161,7 +161,7 @@ impl Roster {
         }
     }
 
-    /// How many tasks a processor has; none where there is no such processor.
+    /// Answers how many tasks a processor has: 0 if there is no such processor.
     fn size_at(&self, processor: u8) -> u32
         ensures { result ≡ size_at self.now.by_processor.items processor }
     {

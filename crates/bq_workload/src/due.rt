@@ -4,8 +4,8 @@ ghost use Rattle.bq_workload.specs.Dues.{IsDue, place_of, due_at};
 
 use bq_disc::limits::{PROCESSORS, TASKS};
 
-/// Something that comes due. At one instant they come in this order, and those of one kind by their numbers. Processors
-/// are numbered from 0 to 63, tasks from 0 to 1023.
+/// Something that comes due. Things of one instant come in this order, and things of one kind by their numbers. Processors are
+/// numbered from 0 to 63, tasks from 0 to 1023.
 #[derive(Clone, Copy)]
 pub enum Due {
     /// The run phase of the task that runs at a processor ends.
@@ -18,7 +18,7 @@ pub enum Due {
     Pull(u8),
 }
 
-/// The place of the first wake, behind those of the ends of phases.
+/// The place of the first wake, after the places of the phase ends.
 const WAKES: u16 = PROCESSORS as u16;
 
 /// The place of the first tick.

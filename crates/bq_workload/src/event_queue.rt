@@ -5,17 +5,17 @@ ghost use Rattle.bq_workload.specs.Minima.{number_of, at_place, AreNever, Change
 use std::alloc::{AllocError, Global};
 use std::marker::Model;
 
-/// How many leaves the tree has: more than there are places, as many as a whole tree has.
+/// The number of leaves of the tree: a power of two that is more than the number of places.
 const LEAVES: usize = 2048;
 
 /// The number of what is never due.
 const NEVER: u64 = u64::MAX;
 
-/// The time at which what is at each of 1,216 places is due, if it is. Contracts see a number for each: the time and
-/// the place as one, or `never`.
+/// The time at which the thing at each of 1,216 places is due, if it is. Contracts see one number for each place: the time and
+/// the place together, or `never`.
 ///
-/// The numbers are the leaves of a tree, in which each node has the less of the two below it. So the first is the root.
-/// The leaves behind those of the places are never due.
+/// The numbers are the leaves of a tree, in which each node has the less of the two below it. So the root has the first. The
+/// leaves after the places are never due.
 #[derive(Drop)]
 pub struct EventQueue {
     numbers: Vec<u64>,
@@ -33,7 +33,7 @@ impl Model for EventQueue {
 }
 
 impl EventQueue {
-    /// Nothing is ever due. It takes all the memory that it will need.
+    /// A queue in which nothing is ever due. It allocates all the memory that it will need.
     pub fn new(alloc: Global) -> Result<EventQueue, AllocError>
         ensures { IfOk result AreNever }
     {
@@ -58,7 +58,7 @@ impl EventQueue {
         recompute(&mut self.numbers, leaf);
     }
 
-    /// The time at which something is due first, and its place: the least place, where several are due then.
+    /// Answers the time at which something is due first, and its place: the least place if several are due then.
     pub fn first(&self) -> Option<(u64, u16)>
         ensures none { IfNone result (AreNever self.now) }
         ensures first { IfSome result (λ due. IsFirst self.now due.0 due.1) }
@@ -72,7 +72,7 @@ impl EventQueue {
     }
 }
 
-/// The number by which it is ordered.
+/// The number that orders a place in the tree, by its time; `never` without one.
 fn number_of(place: u16, time: Option<u64>) -> u64
     requires place { place < 2048 }
     requires time { IfSome time (λ t. t < 2 ^ 48) }
@@ -84,7 +84,7 @@ fn number_of(place: u16, time: Option<u64>) -> u64
     }
 }
 
-/// Above a leaf that has changed each node gets the less of the two below it again.
+/// Recomputes the nodes above a leaf that has changed: each gets the less of the two below it.
 fn recompute(numbers: &mut [u64], leaf: usize)
     requires all { length numbers.old ≡ 4096 }
     requires low { 2048 ≤ leaf }

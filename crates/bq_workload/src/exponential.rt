@@ -1,16 +1,16 @@
 //! Exponential lengths by whole numbers.
 //!
-//! Minus the logarithm of a number drawn evenly from 0 to 1 is exponential. To base 2 that number is a power of a half,
-//! one more than the zeros that a word begins with, times a mantissa from 1 to 2, which another word gives. So the
-//! logarithm is that power less the mantissa's own, whose binary digits come one by one: the mantissa is squared, and the
-//! digit is 1 where it passes 2, by which it is then halved.
+//! Minus the logarithm of a number drawn evenly from 0 to 1 is exponential. The number is a power of a half times a mantissa
+//! from 1 to 2. The exponent is one more than the zeros that one word begins with; another word gives the mantissa. So minus the
+//! logarithm to base 2 is the exponent less the logarithm of the mantissa. The binary digits of the mantissa's logarithm come
+//! one by one: the mantissa is squared, and the digit is 1 if the square passes 2; then the square is halved.
 ghost use Rattle.std.specs.Prelude.{◌≡◌, ◌≤◌, ◌<◌, ◌*◌, ◌^◌};
 ghost use Rattle.bq_workload.specs.Lengths.{longest};
 ghost use Rattle.bq_workload.specs.Draws.{exponential, fraction, logarithm, digit, squared};
 
 use crate::limits::LONGEST;
 
-/// How many binary digits of a logarithm are computed.
+/// The number of binary digits of a logarithm that are computed.
 const DIGITS: u32 = 32;
 
 /// The natural logarithm of 2, as a number of 2^32.

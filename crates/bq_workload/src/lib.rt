@@ -1,8 +1,8 @@
 //! A workload as a value: what its tasks do, how long that takes, and how far each task has come.
-//! A workload is plain values; its first flaw is named, if it has one, and so is the most steps that it takes.
+//! A workload is plain values. Calls answer its first flaw, if it has one, and the most steps that it takes.
 //! Each length is a function of the seed, the task's number, its place and what is asked for, drawn in whole numbers.
-//! A roster keeps who runs where and what is due: of all that is due, the first by time, kind and number is named.
-//! Stands on bq_words for rules and numbers of processors, and on bq_disc for masks and clocks.
+//! A roster keeps which task runs where and what is due, and answers what is due first: by time, kind and number.
+//! Builds on bq_words for rules and numbers of processors, and on bq_disc for masks and clocks.
 #![tactic(auto)]
 
 pub mod action;

@@ -3,5 +3,5 @@
 /// The longest duration, in nanoseconds: as long as a clock goes.
 pub use bq_disc::clock::LATEST as LONGEST;
 
-/// How many bytes the name of a kind of tasks may have.
+/// The most bytes that the name of a kind of tasks may have.
 pub const LONGEST_NAME: usize = 1024;

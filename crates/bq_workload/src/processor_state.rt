@@ -12,14 +12,14 @@ pub struct ProcessorState {
     pub since: u64,
     /// How many tasks run there or wait in the queue.
     pub size: u32,
-    /// When it ticks next; nothing where nothing runs.
+    /// When it ticks next; none if nothing runs.
     pub tick: Option<u64>,
-    /// When it looks next for a task to pull; nothing where there is no other processor.
+    /// When it looks next for a task to pull; none if there is no other processor.
     pub look: Option<u64>,
 }
 
 impl ProcessorState {
-    /// Nothing runs, and it looks next for a task to pull then, where it looks at all.
+    /// A processor that runs nothing, and looks next for a task to pull at this instant, if it looks at all.
     pub fn new(look: Option<u64>) -> ProcessorState
         ensures { result ≡ at_rest look }
     {
@@ -32,7 +32,7 @@ impl ProcessorState {
         }
     }
 
-    /// Whether it neither ticks nor looks for a task to pull until the end.
+    /// Answers whether it neither ticks nor looks for a task to pull until the end.
     pub fn rests_past(&self, end: u64) -> bool
         ensures { result ≡ rests_past end self.now }
     {
@@ -40,7 +40,7 @@ impl ProcessorState {
     }
 }
 
-/// Whether what comes at a time, if it comes, comes after the end.
+/// Answers whether a time is after the end; true if there is no time.
 fn is_past(time: Option<u64>, end: u64) -> bool
     ensures { result ≡ is_past end time }
 {

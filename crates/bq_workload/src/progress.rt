@@ -26,7 +26,7 @@ pub struct TaskProgress {
     /// How often it has done all its actions.
     pub loops: u64,
     pub task_state: TaskState,
-    /// When its timer wakes it, where it is asleep.
+    /// When its timer wakes it, if it is asleep.
     pub timer: u64,
     /// What its run phase takes: its length, and the costs of changes of processor.
     pub due: u64,
@@ -67,7 +67,7 @@ impl TaskProgress {
         self.got = 0;
     }
 
-    /// It has run for so long. None where what it has got would be more than 64 bits can count.
+    /// The task has run for this long. None if 64 bits cannot count what it has got; then nothing changes.
     pub fn run_for(&mut self, ran: u64) -> Option<()>
         ensures some { IfSome result (λ _. self.new ≡ run_for ran self.old) }
         ensures none { IfNone result (self.new ≡ self.old) }
@@ -80,8 +80,8 @@ impl TaskProgress {
         Some(())
     }
 
-    /// It begins to run at a processor: where it ran at another before, what is left of its phase is longer by the cost. A task
-    /// that has run past its phase has nothing left. No phase is longer than 64 bits can count: no run of a simulation lasts as long.
+    /// The task begins to run at a processor. If it ran at another before, the rest of its phase is longer by the cost; a task
+    /// that has run past its phase has no rest. A phase is at most what 64 bits count: no run of a simulation lasts as long.
     pub fn move_to(&mut self, processor: u8, cost: u64)
         ensures { self.new ≡ moved_to processor cost self.old }
     {
@@ -92,7 +92,7 @@ impl TaskProgress {
         self.has_run = true;
     }
 
-    /// It is woken, and has no run phase yet.
+    /// Wakes the task, which has no run phase yet.
     pub fn wake(&mut self)
         ensures { self.new ≡ woken self.old }
     {
@@ -101,21 +101,21 @@ impl TaskProgress {
         self.got = 0;
     }
 
-    /// Whether it has got just what its run phase takes.
+    /// Answers whether the task has got exactly what its run phase takes.
     pub fn is_done(&self) -> bool
         ensures { result ≡ is_done self.now }
     {
         self.got == self.due
     }
 
-    /// Whether it has got no more than its run phase takes, and no timer wakes it until the end.
+    /// Answers whether the task has got no more than its run phase takes, and no timer wakes it until the end.
     pub fn keeps_time(&self, end: u64) -> bool
         ensures { result ≡ keeps_time end self.now }
     {
         self.got <= self.due && self.sleeps_past(end)
     }
 
-    /// Whether no timer wakes it until the end.
+    /// Answers whether no timer wakes the task until the end.
     fn sleeps_past(&self, end: u64) -> bool
         ensures { result ≡ sleeps_past end self.now }
     {
@@ -125,7 +125,7 @@ impl TaskProgress {
         }
     }
 
-    /// Whether it lacks more of its phase than it can get from this instant until the end.
+    /// Answers whether the task lacks more of its phase than it can get from this instant until the end.
     pub fn lacks_more(&self, since: u64, end: u64) -> bool
         ensures { result ≡ lacks_more since end self.now }
     {

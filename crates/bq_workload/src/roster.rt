@@ -17,12 +17,12 @@ use bq_disc::clock::LATEST;
 use bq_disc::limits::{PROCESSORS, TASKS};
 use std::alloc::{AllocError, Global};
 
-/// A number that stands for no task or processor, a time that does not fit, or a phase that ended too early or too late:
-/// the keeper of the roster lost count. The contract of each call says which of these it may find.
+/// A number that names no task or processor, a time that does not fit, or a phase that ended too early or too late: the caller
+/// lost count. The contract of each call says which of these it may find.
 #[derive(Clone, Copy, Drop)]
 pub struct BrokenInvariant;
 
-/// How a simulation goes: when it ends, the times between ticks and between pulls, and what a change of processor costs.
+/// The times of a simulation: when it ends, the times between ticks and between pulls, and what a change of processor costs.
 #[derive(Clone, Copy)]
 pub struct Periods {
     pub end: u64,
@@ -31,7 +31,7 @@ pub struct Periods {
     pub migration_cost: u64,
 }
 
-/// Who runs where, how far each task has come, and what comes due until the end.
+/// The task that runs at each processor, the progress of each task, and what comes due until the end.
 #[derive(Drop)]
 pub struct Roster {
     pub(crate) by_task: Vec<TaskProgress>,
@@ -41,8 +41,8 @@ pub struct Roster {
 }
 
 impl Roster {
-    /// This many processors that run nothing, and no task. Where there are at least two, each looks for a task to pull at the
-    /// first multiple of the time between two looks.
+    /// A roster of this many processors that run nothing, and of no task. If there are at least two processors, each looks for a
+    /// task to pull at the first multiple of the time between two looks.
     pub fn new(alloc: Global, processors: u8, periods: Periods) -> Result<Roster, AllocError>
         ensures accounts { IfOk result (λ roster. accounts_of roster ≡ opening processors periods.balance) }
         ensures periods { IfOk result (λ roster. roster.periods ≡ periods) }
@@ -61,7 +61,7 @@ impl Roster {
         })
     }
 
-    /// One more task.
+    /// Adds a task.
     pub fn add(&mut self, progress: TaskProgress) -> Result<(), AllocError>
         ensures by_task { OnOk result (self.new.by_task.items ≡ self.old.by_task.items ++ progress ∷ []) }
         ensures by_processor { self.new.by_processor ≡ self.old.by_processor }
@@ -72,7 +72,7 @@ impl Roster {
         Ok(())
     }
 
-    /// How far a task has come.
+    /// Answers how far a task has come.
     pub fn progress(&self, task: u16) -> Result<TaskProgress, BrokenInvariant>
         ensures there { IfOk result (λ progress. slice_get self.now.by_task.items task ≡ Some progress) }
         ensures missing { IfErr result (λ _. slice_get self.now.by_task.items task ≡ None) }
@@ -83,7 +83,7 @@ impl Roster {
             .ok_or(BrokenInvariant)
     }
 
-    /// A task has come so far.
+    /// Keeps the progress of a task.
     fn set_progress(&mut self, task: u16, progress: TaskProgress) -> Result<(), BrokenInvariant>
         ensures there { OnOk result (task < length self.old.by_task.items) }
         ensures by_task { OnOk result (self.new.by_task.items ≡ slice_set self.old.by_task.items task progress) }
@@ -99,7 +99,7 @@ impl Roster {
         Ok(())
     }
 
-    /// What is known of a processor.
+    /// Answers what is known of a processor.
     pub fn processor_state(&self, processor: u8) -> Result<ProcessorState, BrokenInvariant>
         ensures there { IfOk result (λ processor_state. slice_get self.now.by_processor.items processor ≡ Some processor_state) }
         ensures missing { IfErr result (λ _. slice_get self.now.by_processor.items processor ≡ None) }
@@ -110,7 +110,7 @@ impl Roster {
             .ok_or(BrokenInvariant)
     }
 
-    /// This is known of a processor from now on.
+    /// Keeps what is known of a processor from now on.
     pub(crate) fn set_processor_state(&mut self, processor: u8, processor_state: ProcessorState)
         requires there { processor < length self.old.by_processor.items }
         ensures by_processor { self.new.by_processor.items ≡ slice_set self.old.by_processor.items processor processor_state }
@@ -121,7 +121,7 @@ impl Roster {
         self.by_processor[usize::from(processor)] = processor_state;
     }
 
-    /// How many processors there are.
+    /// Answers how many processors there are.
     pub fn processors(&self) -> usize
         ensures { result ≡ length self.now.by_processor.items }
     {
@@ -139,7 +139,7 @@ impl Roster {
         }
     }
 
-    /// This comes due then; what would come after the end never does.
+    /// Plans that this comes due at a time. What would come after the end never does.
     pub fn plan(&mut self, due: Due, time: u64) -> Result<(), BrokenInvariant>
         ensures planned { OnOk result (IsPlanned self.old.periods.end due time self.old.event_queue self.new.event_queue) }
         ensures stray { IfErr result (λ _. IsDue due → ⊥) }
@@ -152,7 +152,7 @@ impl Roster {
         Ok(())
     }
 
-    /// This does not come due.
+    /// Drops the plan of this: it does not come due.
     pub(crate) fn drop_plan(&mut self, due: Due) -> Result<(), BrokenInvariant>
         ensures dropped { OnOk result (IsDropped due self.old.event_queue self.new.event_queue) }
         ensures stray { IfErr result (λ _. IsDue due → ⊥) }
@@ -205,7 +205,7 @@ fn place_of(due: Due) -> Result<u16, BrokenInvariant>
 }
 
 impl Roster {
-    /// A task does not run where it ran last, as far as is kept; so it runs nowhere.
+    /// Checks that a task does not run at the processor where it ran last, by what is kept; so it runs nowhere.
     pub(crate) fn find_at_rest(&self, task: u16) -> Result<(), BrokenInvariant>
         ensures rests { OnOk result (Rests (accounts_of self.now) task) }
         ensures stray { IfErr result (λ _. Rests (accounts_of self.now) task → ⊥) }
@@ -217,7 +217,7 @@ impl Roster {
         Ok(())
     }
 
-    /// Whether a task runs at a processor.
+    /// Answers whether a task runs at a processor.
     fn runs_at(&self, processor: u8, task: u16) -> bool
         ensures { result ≡ runs_at self.now.by_processor.items processor task }
     {
@@ -227,7 +227,7 @@ impl Roster {
         }
     }
 
-    /// The phase of the task that runs at a processor ends when it has got what is left of it.
+    /// Plans the end of the phase of the task that runs at a processor: when it has got the rest of what it takes.
     pub(crate) fn plan_end(
         &mut self,
         processor: u8,
@@ -270,7 +270,8 @@ impl Roster {
         self.by_task[usize::from(task)].wake();
     }
 
-    /// The task that runs at a processor has come so far: the end of its phase is put down, and its timer where it sleeps by one.
+    /// The task that runs at a processor has this progress. The end of its phase is planned, and its timer if it sleeps until
+    /// its timer wakes it.
     pub fn take_up(
         &mut self,
         processor: u8,
@@ -289,7 +290,7 @@ impl Roster {
         self.plan_progress(processor, task, &progress)
     }
 
-    /// The end of the phase of the task that runs at a processor is put down, and its timer where it sleeps by one.
+    /// Plans the end of the phase of the task that runs at a processor, and its timer if it sleeps until its timer wakes it.
     fn plan_progress(
         &mut self,
         processor: u8,
@@ -310,7 +311,7 @@ impl Roster {
         self.plan_end(processor, progress, processor_state.since)
     }
 
-    /// The timer of a task is put down where it sleeps by one.
+    /// Plans the timer of a task if the task sleeps until its timer wakes it; drops its plan otherwise.
     fn plan_timer(&mut self, task: u16, progress: &TaskProgress) -> Result<(), BrokenInvariant>
         ensures timer { OnOk result (PlansTimer self.old.periods.end task progress.now.task_state progress.now.timer self.old.event_queue self.new.event_queue) }
         ensures stray { IfErr result (λ _. TASKS ≤ task) }
@@ -324,8 +325,8 @@ impl Roster {
         }
     }
 
-    /// The phase of the task that runs at a processor has ended just now. The task, and how far it has come: it has got what
-    /// its phase takes, no more and no less.
+    /// The phase of the task that runs at a processor has ended now. Answers the task and its progress: it has got exactly what
+    /// its phase takes.
     pub fn end_phase(
         &mut self,
         processor: u8,
@@ -342,7 +343,7 @@ impl Roster {
         self.done_at(processor)
     }
 
-    /// The task that runs at a processor, and how far it has come, where it has got what its phase takes.
+    /// Answers the task that runs at a processor and its progress, if it has got exactly what its phase takes.
     fn done_at(&self, processor: u8) -> Result<(u16, TaskProgress), BrokenInvariant>
         ensures done { IfOk result (λ ended. IsDone (accounts_of self.now) processor ended.0 ended.1) }
         ensures stray { IfErr result (λ _. NoneIsDone processor (accounts_of self.now)) }
@@ -357,9 +358,9 @@ impl Roster {
         Ok((task, progress))
     }
 
-    /// Whether no task has run past its phase, and until the end no timer wakes one any more, no phase of a task that runs ends,
-    /// and no processor ticks or looks for a task to pull. Where nothing comes any more that is so unless a task has run past its
-    /// phase.
+    /// Answers whether no task has run past its phase, and nothing comes until the end: no timer wakes a task, no phase of a
+    /// task that runs ends, and no processor ticks or looks for a task to pull. If nothing comes any more, it is over unless a
+    /// task has run past its phase.
     pub fn is_over(&self, end: u64) -> bool
         ensures over { result ≡ is_over end (accounts_of self.now) }
         ensures none { end < 2 ^ 48 → HaveHomes (accounts_of self.now) → NothingComes end (accounts_of self.now) → result ≡ list_all keeps_phase self.now.by_task.items }
@@ -367,14 +368,14 @@ impl Roster {
         self.all_keep_time(end) && self.all_run_past(end) && self.all_rest_past(end)
     }
 
-    /// Whether no task has run past its phase, and no timer wakes one any more until the end.
+    /// Answers whether no task has run past its phase, and no timer wakes one until the end.
     fn all_keep_time(&self, end: u64) -> bool
         ensures { result ≡ list_all (keeps_time end) self.now.by_task.items }
     {
         self.by_task.iter().all(|progress| progress.keeps_time(end))
     }
 
-    /// Whether no phase of a task that runs ends any more until the end.
+    /// Answers whether no phase of a task that runs ends until the end.
     fn all_run_past(&self, end: u64) -> bool
         ensures { result ≡ list_all (runs_past end self.now.by_task.items) self.now.by_processor.items }
     {
@@ -383,7 +384,7 @@ impl Roster {
             .all(|processor_state| self.runs_past(processor_state, end))
     }
 
-    /// Whether no processor ticks or looks for a task to pull any more until the end.
+    /// Answers whether no processor ticks or looks for a task to pull until the end.
     fn all_rest_past(&self, end: u64) -> bool
         ensures { result ≡ list_all (rests_past end) self.now.by_processor.items }
     {
@@ -392,7 +393,7 @@ impl Roster {
             .all(|processor_state| processor_state.rests_past(end))
     }
 
-    /// Whether the phase of the task that runs at a processor ends after the end; also where none runs.
+    /// Answers whether the phase of the task that runs at a processor ends after the end; true if none runs.
     fn runs_past(&self, processor_state: &ProcessorState, end: u64) -> bool
         ensures { result ≡ runs_past end self.now.by_task.items processor_state.now }
     {

@@ -5,11 +5,11 @@ use bq_words::{ProcessorCount, Rule};
 /// The machine of a simulation, and how long it is watched. Times are nanoseconds.
 #[derive(Clone, Copy, PartialEq, Eq)]
 pub struct Setup {
-    /// How processors choose among their tasks.
+    /// The rule by which processors choose among their tasks.
     pub rule: Rule,
     /// How many processors there are.
     pub size: ProcessorCount,
-    /// How long it runs, from 1 to 2^48 - 1: what comes after this instant is not done.
+    /// How long it runs, from 1 to 2^48 - 1. What comes after this instant is not done.
     pub duration: u64,
     /// The time between two ticks of a processor that runs something, from 1 to 2^48 - 1.
     pub tick: u64,

@@ -1,4 +1,4 @@
-//! Which workloads can be followed.
+//! The flaws of a workload; one without a flaw can be followed.
 ghost use Rattle.std.specs.Prelude.{◌≡◌, false, IfNone, IfSome, slice_get};
 ghost use Rattle.std.specs.Result.{result_err};
 ghost use Rattle.bq_disc.specs.Masks.{allows};
@@ -31,8 +31,8 @@ pub enum Unsound {
     Action(usize, usize),
 }
 
-/// Whether a workload can be followed to its end; where not, the first of its flaws: those of the machine come before those
-/// of its kinds of tasks, each by its number, and how many tasks there are comes last.
+/// Checks that a workload can be followed to its end. The error is the first of its flaws: flaws of the machine come first, then
+/// flaws of its kinds of tasks, each by its number. Too many tasks come last.
 pub fn soundness(workload: &Workload) -> Result<(), Unsound>
     ensures { result_err result ≡ first_flaw workload.now }
 {
@@ -50,7 +50,7 @@ pub fn soundness(workload: &Workload) -> Result<(), Unsound>
     Ok(())
 }
 
-/// Whether the times of a machine can be counted.
+/// Checks that the times of a machine can be counted.
 fn sound_machine(machine: &Setup) -> Result<(), Unsound>
     ensures { result_err result ≡ slice_get (flaws_of_machine machine.now) 0 }
 {
@@ -64,14 +64,14 @@ fn sound_machine(machine: &Setup) -> Result<(), Unsound>
     Ok(())
 }
 
-/// From 1 to the longest.
+/// Answers whether a time is from 1 to the longest.
 fn is_time(time: u64) -> bool
     ensures { result ≡ is_long time }
 {
     1 <= time && time <= LONGEST
 }
 
-/// Whether tasks of a kind can be followed, as one of this many kinds: first its name, then its numbers, its mask, and what it does.
+/// Checks that tasks of a kind can be followed, as one of this many kinds: first its name, then its numbers, its mask, and what it does.
 fn sound_kind(number: usize, kind: &TaskKind, processors: u8, kinds: usize) -> Result<(), Unsound>
     ensures { result_err result ≡ slice_get (flaws_of_kind processors kinds number kind.now) 0 }
 {
@@ -87,14 +87,14 @@ fn sound_kind(number: usize, kind: &TaskKind, processors: u8, kinds: usize) -> R
     sound_actions(number, &kind.actions, kinds)
 }
 
-/// Whether the name of a kind is no longer than one may be.
+/// Answers whether the name of a kind has at most `LONGEST_NAME` bytes.
 fn has_name(kind: &TaskKind) -> bool
     ensures { result ≡ has_name kind.now }
 {
     kind.name.len() <= LONGEST_NAME
 }
 
-/// Whether the numbers of a kind are in their ranges.
+/// Answers whether the numbers of a kind are in their ranges.
 fn has_numbers(kind: &TaskKind) -> bool
     ensures { result ≡ has_numbers kind.now }
 {
@@ -106,7 +106,7 @@ fn has_numbers(kind: &TaskKind) -> bool
         && kind.loops != Some(0)
 }
 
-/// Whether each action of a kind can be done, by its place, and one of them takes time.
+/// Checks that each action of a kind can be done, in order, and that one of them takes time.
 fn sound_actions(number: usize, actions: &[Action], kinds: usize) -> Result<(), Unsound>
     ensures { result_err result ≡ slice_get (flaws_of_doing kinds number actions.now) 0 }
 {
@@ -121,7 +121,7 @@ fn sound_actions(number: usize, actions: &[Action], kinds: usize) -> Result<(), 
     Ok(())
 }
 
-/// Whether its length is one, or it wakes one of this many kinds.
+/// Answers whether the length of an action is in range, or the action wakes one of this many kinds.
 fn is_action(action: &Action, kinds: usize) -> bool
     ensures { result ≡ is_action kinds action.now }
 {

@@ -1,4 +1,4 @@
-//! Which task runs where from now on.
+//! How one task takes over from another at a processor.
 ghost use Rattle.std.specs.Prelude.{◌≡◌, ◌<◌, ◌≤◌, ◌-◌, None, Some, IfErr, IfSome, OnOk, length, slice_get};
 ghost use Rattle.bq_workload.specs.declared.processor_state.ProcessorState.{ProcessorState};
 ghost use Rattle.bq_workload.specs.TaskProgress.{moved_to, run_for};
@@ -90,7 +90,7 @@ impl Roster {
         self.plan_end(processor, &progress, now)
     }
 
-    /// A task is taken to a processor: how far it has come with that.
+    /// Takes a task to a processor. Answers its progress, with the cost of a migration if it is one.
     fn move_to(&mut self, processor: u8, task: u16) -> TaskProgress
         requires there { task < length self.old.by_task.items }
         ensures accounts { accounts_of self.new ≡ of_task (moved_to processor self.old.periods.migration_cost) task (accounts_of self.old) }
@@ -139,7 +139,7 @@ impl Roster {
         self.switch(processor, run, now)
     }
 
-    /// This many tasks have entered the queue of a processor, where this one runs now.
+    /// This many tasks have entered the queue of a processor, and this task runs there now.
     pub fn enter(
         &mut self,
         processor: u8,

@@ -3,7 +3,7 @@
 use crate::action::Action;
 use crate::setup::Setup;
 
-/// Some tasks that do the same.
+/// Tasks that all do the same actions.
 #[derive(Drop)]
 pub struct TaskKind {
     /// At most 1,024 bytes.
@@ -18,7 +18,7 @@ pub struct TaskKind {
     pub slice: u64,
     /// When their first wake is, at most 2^48 - 1.
     pub start: u64,
-    /// How often they do what they do, at least once; for ever where there is no number.
+    /// How often they do all their actions, at least once; for ever if there is no number.
     pub loops: Option<u64>,
     /// What they do, in order and over again: at least one action that runs or sleeps.
     pub actions: Vec<Action>,

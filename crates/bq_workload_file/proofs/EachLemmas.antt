@@ -17,17 +17,20 @@ each-cond {A} true x y Q h k = h
 each-cond {A} false x y Q h k = k
 
 -- what is read of a value that is read
-pub each-then : {A B : Type 0} (o : Option A) (P : A → Type 0) (f : A → Option B) (Q : B → Type 0) → IfSome o P → ((a : A) → P a → IfSome (f a) Q) → IfSome (option_and_then f o) Q
+pub each-then : {A B : Type 0} (o : Option A) (P : A → Type 0) (f : A → Option B) (Q : B → Type 0)
+    → IfSome o P → ((a : A) → P a → IfSome (f a) Q) → IfSome (option_and_then f o) Q
 each-then {A} {B} None P f Q h k = tt
 each-then {A} {B} (Some a) P f Q h k = k a h
 
--- the same, whatever the value is of which it is read
-pub each-of : {A B : Type 0} (o : Option A) (f : A → Option B) (Q : B → Type 0) → ((a : A) → IfSome (f a) Q) → IfSome (option_and_then f o) Q
+-- what is read, whatever the value is of which it is read
+pub each-of : {A B : Type 0} (o : Option A) (f : A → Option B) (Q : B → Type 0)
+    → ((a : A) → IfSome (f a) Q) → IfSome (option_and_then f o) Q
 each-of {A} {B} None f Q k = tt
 each-of {A} {B} (Some a) f Q k = k a
 
 -- what is made of a value that is read
-pub each-map : {A B : Type 0} (o : Option A) (P : A → Type 0) (f : A → B) (Q : B → Type 0) → IfSome o P → ((a : A) → P a → Q (f a)) → IfSome (option_map f o) Q
+pub each-map : {A B : Type 0} (o : Option A) (P : A → Type 0) (f : A → B) (Q : B → Type 0)
+    → IfSome o P → ((a : A) → P a → Q (f a)) → IfSome (option_map f o) Q
 each-map {A} {B} None P f Q h k = tt
 each-map {A} {B} (Some a) P f Q h k = k a h
 

@@ -18,7 +18,9 @@ only-none (e ∷ []) h = absurd (h refl)
 only-none (e ∷ f ∷ es) h = refl
 
 -- where there is one
-pub only-one : (es : List Entry) (k : String Global) (v : Value) → length es ≡ 1 → slice_get es 0 ≡ Some (k, v) → Some (string_bytes k, view v) ≡ only_of (members_view es)
+pub only-one : (es : List Entry) (k : String Global) (v : Value)
+    → length es ≡ 1 → slice_get es 0 ≡ Some (k, v)
+    → Some (string_bytes k, view v) ≡ only_of (members_view es)
 only-one [] k v h e = cc
 only-one (x ∷ []) k v h e = let same : x ≡ (k, v) = cc in ap (λ (y : Entry). Some (string_bytes y.0, view y.1)) (sym same)
 only-one (x ∷ y ∷ es) k v h e = absurd (omega (arith, h))
@@ -31,33 +33,47 @@ ends-none (v ∷ w ∷ []) h = absurd (h refl)
 ends-none (v ∷ w ∷ x ∷ vs) h = refl
 
 -- the next value of a list is an action, and the others are read behind it
-pub actions-more : (names : List (String Global)) (acts : List Action) (vs : List Value) (i : ℕ) (v : Value) (a : Action) → i < length vs → v ≡ get_or vs i v → Some a ≡ action_of names (view v) → actions_of names acts (items_view (drop i vs)) ≡ actions_of names (acts ++ a ∷ []) (items_view (drop (i + 1) vs))
+pub actions-more : (names : List (String Global)) (acts : List Action) (vs : List Value) (i : ℕ) (v : Value) (a : Action)
+    → i < length vs → v ≡ get_or vs i v → Some a ≡ action_of names (view v)
+    → actions_of names acts (items_view (drop i vs)) ≡ actions_of names (acts ++ a ∷ []) (items_view (drop (i + 1) vs))
 actions-more names acts vs i v a h e f =
     ap (actions_of names acts) (items_view-drop vs i v h)
-    ∙ ap (option_and_then (λ (b : Action). actions_of names (acts ++ b ∷ []) (items_view (drop (i + 1) vs)))) (ap (λ (w : Value). action_of names (view w)) (sym e) ∙ sym f)
+    ∙ ap (option_and_then (λ (b : Action). actions_of names (acts ++ b ∷ []) (items_view (drop (i + 1) vs))))
+    (ap (λ (w : Value). action_of names (view w)) (sym e) ∙ sym f)
 
 -- some values that are kinds of tasks, and one more, are the kinds and one more
-pub AreKinds-more : (names : List (String Global)) (all : ℕ) (vs : List Value) (ks : List TaskKind) (v : Value) (k : TaskKind) → AreKinds names all (items_view vs) ks → (ms : Members) → as_table (view v) ≡ Some ms → IsKind names all ms k → AreKinds names all (items_view (vs ++ v ∷ [])) (ks ++ k ∷ [])
+pub AreKinds-more : (names : List (String Global)) (all : ℕ) (vs : List Value) (ks : List TaskKind) (v : Value) (k : TaskKind)
+    → AreKinds names all (items_view vs) ks → (ms : Members) → as_table (view v) ≡ Some ms → IsKind names all ms k
+    → AreKinds names all (items_view (vs ++ v ∷ [])) (ks ++ k ∷ [])
 AreKinds-more names all [] [] v k h ms t d = ((ms, t, d), tt)
 AreKinds-more names all [] (l ∷ ks) v k h ms t d = absurd h
 AreKinds-more names all (w ∷ vs) [] v k h ms t d = absurd h
 AreKinds-more names all (w ∷ vs) (l ∷ ks) v k h ms t d = (h.0, AreKinds-more names all vs ks v k h.1 ms t d)
 
 -- some values that are kinds of tasks, at least one, are one kind at least
-pub some-kinds : (names : List (String Global)) (all : ℕ) (vs : List Value) (ks : List TaskKind) → AreKinds names all (items_view vs) ks → 0 < length vs → 0 < length ks
+pub some-kinds : (names : List (String Global)) (all : ℕ) (vs : List Value) (ks : List TaskKind)
+    → AreKinds names all (items_view vs) ks → 0 < length vs → 0 < length ks
 some-kinds names all [] ks h some = absurd (omega (arith, some))
 some-kinds names all (v ∷ vs) [] h some = absurd h
 some-kinds names all (v ∷ vs) (k ∷ ks) h some = omega arith
 
 -- some values that are names, and one more, are the names and one more
-pub AreNames-more : (vs : List Value) (ns : List (String Global)) (v : Value) (n : String Global) → AreNames (items_view vs) ns → name_in (view v) ≡ Some (string_bytes n) → AreNames (items_view (vs ++ v ∷ [])) (ns ++ n ∷ [])
+pub AreNames-more : (vs : List Value) (ns : List (String Global)) (v : Value) (n : String Global)
+    → AreNames (items_view vs) ns → name_in (view v) ≡ Some (string_bytes n)
+    → AreNames (items_view (vs ++ v ∷ [])) (ns ++ n ∷ [])
 AreNames-more [] [] v n h e = (e, tt)
 AreNames-more [] (m ∷ ns) v n h e = absurd h
 AreNames-more (w ∷ vs) [] v n h e = absurd h
 AreNames-more (w ∷ vs) (m ∷ ns) v n h e = (h.0, AreNames-more vs ns v n h.1 e)
 
 -- names that are new each, to those before and to one another, stay so with a new name at their end
-pub AreOthers-more : (before names : List (String Global)) (n : String Global) → AreOthers before names → named_at (before ++ names) (string_bytes n) ≡ None → AreOthers before (names ++ n ∷ [])
-AreOthers-more before [] n h new = (subst (λ (all : List (String Global)). named_at all (string_bytes n) ≡ None) (append-nil before) new, tt)
-AreOthers-more before (x ∷ names) n h new =
-    (h.0, AreOthers-more (before ++ x ∷ []) names n h.1 (subst (λ (all : List (String Global)). named_at all (string_bytes n) ≡ None) (sym (append_assoc before (x ∷ []) names)) new))
+pub AreOthers-more : (before names : List (String Global)) (n : String Global)
+    → AreOthers before names → named_at (before ++ names) (string_bytes n) ≡ None
+    → AreOthers before (names ++ n ∷ [])
+AreOthers-more before [] n h new =
+    (subst (λ (all : List (String Global)). named_at all (string_bytes n) ≡ None) (append-nil before) new, tt)
+AreOthers-more before (x ∷ names) n h new = (
+  h.0,
+  AreOthers-more (before ++ x ∷ []) names n h.1
+      (subst (λ (all : List (String Global)). named_at all (string_bytes n) ≡ None) (sym (append_assoc before (x ∷ []) names)) new),
+)

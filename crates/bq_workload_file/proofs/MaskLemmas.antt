@@ -19,7 +19,8 @@ none_allowed mask first (suc count) h =
     let rest = mask / 2 ^ first in
     let both = or_parts (allows mask first) (list_any (allows mask) (range_with_len (first + 1) count)) h in
     let even : rest % 2 ≡ 0 = omega (arith, eqb-false (rest % 2) 1 both.0) in
-    let half : rest / 2 ≡ mask / 2 ^ (first + 1) = div-div-eq-div-mul mask (2 ^ first) 2 ∙ ap (λ (d : ℕ). mask / d) (sym (pow_more 2 first)) in
+    let half : rest / 2 ≡ mask / 2 ^ (first + 1) =
+    div-div-eq-div-mul mask (2 ^ first) 2 ∙ ap (λ (d : ℕ). mask / d) (sym (pow_more 2 first)) in
     let more : rest / 2 % 2 ^ count ≡ 0 = ap (λ (d : ℕ). d % 2 ^ count) half ∙ none_allowed mask (first + 1) count both.1 in
     let sum : rest / 2 % 2 ^ count * 2 + rest % 2 ≡ 0 = omega (arith, more, even) in
     let whole : rest % 2 ^ (count + 1) ≡ 0 = mod-pow-add rest count 1 ∙ sum in

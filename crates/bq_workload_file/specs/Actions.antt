@@ -17,12 +17,15 @@ abbrev pub waits : Bool → Option Action
 waits true = Some Wait
 waits false = None
 
+-- `wait` is an action if its value is true
 abbrev pub wait_of : Data → Option Action
 wait_of d = option_and_then waits (as_bool d)
 
+-- `wake` names a kind of tasks
 abbrev pub wake_of : List (String Global) → Data → Option Action
 wake_of names d = option_map (λ kind. Wake kind) (option_and_then (named_at names) (as_str d))
 
+-- the action of an entry, by its key
 abbrev pub entry_of : List (String Global) → List ℕ → Data → Option Action
 entry_of names key d =
     if bytes_eq key (codes "run") then option_map (λ l. Run l) (length_of d)
@@ -35,7 +38,7 @@ entry_of names key d =
 abbrev pub action_of : List (String Global) → Data → Option Action
 action_of names d = option_and_then (λ (key, value). entry_of names key value) (option_and_then only_of (as_table d))
 
--- those so far, and those of the items
+-- the actions read until now, and those of the items
 abbrev pub actions_of : List (String Global) → List Action → Items → Option (List Action)
 actions_of names done no_items = Some done
 actions_of names done (item d ds) = option_and_then (λ a. actions_of names (done ++ a ∷ []) ds) (action_of names d)

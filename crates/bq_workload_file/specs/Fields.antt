@@ -1,4 +1,4 @@
--- What the values of a workload's keys stand for.
+-- The meaning of the values of a workload's keys.
 use Rattle.std.specs.Prelude.{ℕ, length, ◌&&◌, ◌==◌, nat_le, nat_lt, ℤ, pos, negsuc, List, Option, Some, None, codes, option_map, option_and_then, if◌then◌else◌, bit_and}
 use Rattle.toml.specs.Data.{Data, Members, as_integer, as_str, get_member}
 use Rattle.bq_weights.specs.VirtualTime.{is_nice}
@@ -26,12 +26,12 @@ whole (negsuc n) = None
 abbrev pub number_in : ℕ → ℕ → Data → Option ℕ
 number_in least greatest d = option_and_then (within least greatest) (option_and_then whole (as_integer d))
 
--- what is read of the value of a key, or the default where the key is absent
+-- the default if the key is absent; otherwise what is read of its value
 abbrev pub or_default : {A : Type 0} → A → (Data → Option A) → Option Data → Option A
 or_default a read None = Some a
 or_default a read (Some d) = read d
 
--- how often; for ever where the key is absent
+-- how often a task does its actions; for ever if the key is absent
 abbrev pub loops_of : Option Data → Option (Option ℕ)
 loops_of None = Some None
 loops_of (Some d) = option_map (λ n. Some n) (number_in 1 9223372036854775807 d)
@@ -44,12 +44,15 @@ nice_of d = option_and_then (λ n. if is_nice n then Some n else None) (as_integ
 abbrev pub some_of : ℕ → ℕ → Option ℕ
 some_of all mask = if bit_and mask all == 0 then None else Some mask
 
+-- a set of processors, at least one of them the machine's
 abbrev pub mask_of : ℕ → Data → Option ℕ
 mask_of all d = option_and_then (some_of all) (option_and_then processors_of (as_str d))
 
+-- the rule that a value names
 abbrev pub rule_in : Data → Option Rule
 rule_in d = option_and_then rule_of (as_str d)
 
+-- the number of processors that a value is
 abbrev pub size_in : Data → Option ProcessorCount
 size_in d = option_and_then size_numbered (number_in 1 64 d)
 

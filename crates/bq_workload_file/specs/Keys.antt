@@ -9,15 +9,15 @@ use Rattle.bq_workload_file.specs.declared.blame.Trouble.TheVariants.{At, OutOfM
 use Rattle.bq_workload_file.specs.declared.why.Why.{Why}
 use Rattle.bq_workload_file.specs.declared.why.Why.TheVariants.{UnknownKey}
 
--- those of a document
+-- the keys of a document
 abbrev pub document_keys : List (List ℕ)
 document_keys = codes "machine" ∷ codes "task" ∷ []
 
--- those of its machine
+-- the keys of its machine
 abbrev pub machine_keys : List (List ℕ)
 machine_keys = codes "discipline" ∷ codes "processors" ∷ codes "duration" ∷ codes "tick" ∷ codes "balance" ∷ codes "migration_cost" ∷ codes "seed" ∷ []
 
--- those of a kind of tasks
+-- the keys of a kind of tasks
 abbrev pub task_keys : List (List ℕ)
 task_keys =
     codes "name" ∷ codes "count" ∷ codes "nice" ∷ codes "cpus" ∷ codes "slice" ∷ codes "start" ∷ codes "loops" ∷ codes "run" ∷ codes "sleep" ∷ codes "do" ∷ []
@@ -31,12 +31,12 @@ abbrev pub first_unknown : List (List ℕ) → Members → Option (List ℕ)
 first_unknown words no_members = None
 first_unknown words (member key value more) = if is_one_of words key then first_unknown words more else Some key
 
--- the key of which it is reported that it means nothing
+-- the key that is reported as unknown
 abbrev pub unknown_key : Why → Option (List ℕ)
 unknown_key (UnknownKey key known) = Some key.now
 unknown_key why = None
 
--- the key of which it is reported, with its place, that it means nothing
+-- the key that is reported as unknown, with its place
 abbrev pub unknown_there : Trouble → Option (List ℕ)
 unknown_there (At place why) = unknown_key why
 unknown_there OutOfMemory = None

@@ -18,22 +18,26 @@ ends_of (item first (item last no_items)) =
     option_and_then (λ least. option_and_then (λ greatest. if nat_le least greatest then Some (Uniform least greatest) else None) (time_of last)) (time_of first)
 ends_of other = None
 
+-- a uniform length, by the array of its two ends
 abbrev pub uniform_of : Data → Option Length
 uniform_of d = option_and_then ends_of (as_array d)
 
+-- a length that is drawn, by a key and its value
 abbrev pub drawn_by : List ℕ × Data → Option Length
 drawn_by (key, d) =
     if bytes_eq key (codes "uniform") then uniform_of d
     else if bytes_eq key (codes "exponential") then option_map (λ mean. Exponential mean) (time_of d)
     else None
 
+-- a length that is drawn, by the one entry of its table
 abbrev pub drawn_of : Members → Option Length
 drawn_of ms = option_and_then drawn_by (only_of ms)
 
--- a table says how it is drawn, anything else is always the same
+-- a table says how the length is drawn; any other value is a fixed length
 abbrev pub fixed_or_drawn : Data → Option Members → Option Length
 fixed_or_drawn d (Some ms) = drawn_of ms
 fixed_or_drawn d None = option_map (λ n. Fixed n) (time_of d)
 
+-- the length that a value says
 abbrev pub length_of : Data → Option Length
 length_of d = fixed_or_drawn d (as_table d)

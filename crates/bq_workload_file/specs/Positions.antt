@@ -1,7 +1,8 @@
--- Where a byte of a text stands, as a reader counts: its line and its column, both from 1.
+-- The position of a byte of a text as a reader counts it: its line and its column, both from 1.
 use Rattle.std.specs.Prelude.{◌≡◌, ℕ, ◌+◌, ◌≤◌, Bool, not, ◌==◌, List, take, reverse, length, count_by, take_while}
 use Rattle.std.specs.Fmt.{is_char_start}
 
+-- a byte ends a line
 abbrev pub is_line_end : ℕ → Bool
 is_line_end b = b == 10
 
@@ -9,11 +10,11 @@ is_line_end b = b == 10
 abbrev pub line_after : List ℕ → ℕ
 line_after before = count_by is_line_end before + 1
 
--- the bytes behind the last line end, read backwards
+-- the bytes after the last line end, read backwards
 abbrev pub last_line : List ℕ → List ℕ
 last_line before = take_while (λ b. not (is_line_end b)) (reverse before)
 
--- the column of what comes after these bytes: one more than the characters behind the last line end
+-- the column of what comes after these bytes: one more than the characters after the last line end
 abbrev pub column_after : List ℕ → ℕ
 column_after before = count_by is_char_start (last_line before) + 1
 

@@ -49,7 +49,7 @@ changed_by c s = record s {
   seed = unwrap_or c.seed s.seed;
 }
 
--- a run, and a sleep where there is one
+-- a run, and a sleep if there is one
 abbrev pub short_of : Option Data → Option Data → Option (List Action)
 short_of None sleep = None
 short_of (Some run) None = option_map (λ r. Run r ∷ []) (length_of run)
@@ -61,7 +61,7 @@ doing names None run sleep = short_of run sleep
 doing names (Some list) None None = option_and_then (actions_of names []) (as_array list)
 doing names (Some list) run sleep = None
 
--- so it is with the tasks of a kind, by its table
+-- the actions of the tasks of a kind, by the kind's table
 abbrev pub actions_in : List (String Global) → Members → Option (List Action)
 actions_in names ms = doing names (get_member (codes "do") ms) (get_member (codes "run") ms) (get_member (codes "sleep") ms)
 
@@ -103,11 +103,12 @@ abbrev pub AreOthers : List (String Global) → List (String Global) → Type 0
 AreOthers before [] = Unit {0}
 AreOthers before (name ∷ names) = (named_at before (string_bytes name) ≡ None) × AreOthers (before ++ name ∷ []) names
 
--- the table of the machine; one without entries where the document has none
+-- the table of the machine; a table without entries if the document has none
 abbrev pub machine_table : Option Data → Option Members
 machine_table None = Some no_members
 machine_table (Some d) = as_table d
 
+-- a machine is the one that a document describes
 abbrev pub IsMachine : Members → Setup → Type 0
 IsMachine document s = IsSomeAnd (machine_table (get_member (codes "machine") document)) (λ ms. IsSetup ms s)
 
@@ -134,11 +135,11 @@ pub record IsWorkload (c : Changes) (document : Members) (w : Workload) : Type 0
   pub few : sum_by (λ k. k.count) w.tasks.items ≤ TASKS
 
 -- the workload that a text describes
-abbrev pub Describes : List ℕ → Changes → Workload → Type 0
-Describes text c w = (document : Members) × (parse_document text ≡ Some document) × IsWorkload c document w
+abbrev pub DescribesWorkload : List ℕ → Changes → Workload → Type 0
+DescribesWorkload text c w = (document : Members) × (parse_document text ≡ Some document) × IsWorkload c document w
 
--- a text is called no TOML only if it is not TOML, at the place of one of its bytes or of its end, and to say no workload only where
--- it is TOML
+-- a text is reported as no TOML only if it is not TOML, at the place of one of its bytes or of its end; it is reported as no
+-- workload only if it is TOML
 abbrev pub IsReadFault : List ℕ → Fault → Type 0
 IsReadFault text (Syntax line column message) = (parse_document text ≡ None) × IsPlace text line column
 IsReadFault text (Meaning words) = IsSome (parse_document text)

@@ -63,7 +63,7 @@ pub(crate) fn phase<'a>(key: &'static str, value: &'a Value) -> Result<bq_worklo
     }
 }
 
-/// A task waits where `wait` is true.
+/// A task waits if `wait` is true.
 fn waiting<'a>(value: &'a Value) -> Result<Action, Why<'a>>
     ensures { result_ok result ≡ wait_of (view value.now) }
 {
@@ -77,7 +77,7 @@ fn waiting<'a>(value: &'a Value) -> Result<Action, Why<'a>>
     }
 }
 
-/// A task wakes those of a name.
+/// A task wakes the tasks of the kind with this name.
 fn waking<'a>(value: &'a Value, names: &'a [String]) -> Result<Action, Why<'a>>
     ensures { result_ok result ≡ wake_of names.now (view value.now) }
 {

@@ -19,7 +19,7 @@ pub(crate) enum Location<'a> {
         number: usize,
         name: Option<&'a str>,
     },
-    /// An action by its number, from 1, among those of such a table.
+    /// An action by its number, from 1, among the actions of such a table.
     Action {
         number: usize,
         name: Option<&'a str>,
@@ -91,7 +91,7 @@ impl<'a> Location<'a> {
     }
 
     /// What was read here, or what is wrong here.
-    pub(crate) fn says<T: Drop>(self, read: Result<T, Why<'a>>) -> Result<T, Trouble<'a>>
+    pub(crate) fn locate<T: Drop>(self, read: Result<T, Why<'a>>) -> Result<T, Trouble<'a>>
         ensures read { result_ok result ≡ result_ok read.entry }
         ensures unknown { option_and_then unknown_there (result_err result) ≡ option_and_then unknown_key (result_err read.entry) }
     {

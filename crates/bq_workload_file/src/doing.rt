@@ -38,7 +38,7 @@ pub(crate) fn all_actions<'a>(
     }
 }
 
-/// A run, and a sleep where there is one.
+/// Answers a run, and a sleep if there is one.
 fn short<'a>(
     alloc: Global,
     place: Location<'a>,
@@ -49,14 +49,14 @@ fn short<'a>(
 {
     let mut actions = Vec::new(alloc);
     match run {
-        Some(value) => actions.push(Action::Run(place.says(phase("run", value))?))?,
+        Some(value) => actions.push(Action::Run(place.locate(phase("run", value))?))?,
         None => return Err(Trouble::At {
             place,
             why: Why::Missing("do (or run)"),
         }),
     }
     if let Some(value) = sleep {
-        actions.push(Action::Sleep(place.says(phase("sleep", value))?))?;
+        actions.push(Action::Sleep(place.locate(phase("sleep", value))?))?;
     }
     Ok(actions)
 }

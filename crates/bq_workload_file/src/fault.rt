@@ -23,7 +23,7 @@ pub enum Fault {
         column: usize,
         message: String,
     },
-    /// It is TOML, and says no workload: where, and what is wrong.
+    /// It is TOML, but no workload: the place in the document, and what is wrong.
     #[error(": {0}")]
     Meaning(String),
     #[error(": out of memory")]
@@ -36,7 +36,7 @@ impl From<AllocError> for Fault {
     }
 }
 
-/// Where a text is no TOML, and why.
+/// Answers where a text is no TOML, and why.
 pub(crate) fn syntax(alloc: Global, text: &str, error: &toml::de::Error) -> Fault
     requires { ¬ IsMemory error.now → parse_document text.now ≡ None }
     ensures { IsReadFault text.now result }
@@ -84,7 +84,7 @@ fn passed(line: usize, column: usize, byte: u8) -> (usize, usize)
     }
 }
 
-/// Whether a byte is the first of a character.
+/// Answers whether a byte is the first of a character.
 fn is_char_start(byte: u8) -> bool
     ensures { result ≡ is_char_start byte }
 {

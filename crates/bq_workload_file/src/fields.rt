@@ -48,7 +48,7 @@ fn number(value: &Value, range: Range) -> Option<u64>
     within(number as u64, range)
 }
 
-/// The duration at a key, or the default where the key is absent.
+/// Answers the duration at a key, or the default if the key is absent.
 pub(crate) fn span_at<'a>(
     table: &'a Table,
     key: &'static str,
@@ -70,7 +70,7 @@ pub(crate) fn span_at<'a>(
     }
 }
 
-/// The whole number at a key, or the default where the key is absent.
+/// Answers the whole number at a key, or the default if the key is absent.
 pub(crate) fn number_at<'a>(
     table: &'a Table,
     key: &'static str,
@@ -94,7 +94,7 @@ pub(crate) fn number_at<'a>(
     }
 }
 
-/// How often a task does what it does; for ever where the key is absent.
+/// Answers how often a task does its actions; for ever if the key is absent.
 pub(crate) fn loops(table: &Table) -> Result<Option<u64>, Why<'_>>
     ensures { result_ok result ≡ loops_of (get_member (codes "loops") (table_view table.now)) }
 {
@@ -127,7 +127,7 @@ fn nice_value(value: &Value) -> Option<i8>
     }
 }
 
-/// The nice value of a task, 0 where the key is absent.
+/// Answers the nice value of a task, 0 if the key is absent.
 pub(crate) fn nice(table: &Table) -> Result<i8, Why<'_>>
     ensures { result_ok result ≡ or_default (pos 0) nice_of (get_member (codes "nice") (table_view table.now)) }
 {
@@ -174,7 +174,7 @@ fn named(value: &Value) -> Option<u64>
     processors(word.as_bytes())
 }
 
-/// The rule by which processors choose, or the default where the key is absent.
+/// Answers the rule by which processors choose, or the default if the key is absent.
 pub(crate) fn rule(table: &Table, default: Rule) -> Result<Rule, Why<'_>>
     ensures { result_ok result ≡ or_default default rule_in (get_member (codes "discipline") (table_view table.now)) }
 {
@@ -199,7 +199,7 @@ fn rule_named(value: &Value) -> Option<Rule>
     Rule::of_word(word.as_bytes())
 }
 
-/// How many processors there are, or the default where the key is absent.
+/// Answers how many processors there are, or the default if the key is absent.
 pub(crate) fn size(table: &Table, default: ProcessorCount) -> Result<ProcessorCount, Why<'_>>
     ensures { result_ok result ≡ or_default default size_in (get_member (codes "processors") (table_view table.now)) }
 {

@@ -32,7 +32,7 @@ pub(crate) struct Processors {
 }
 
 impl Processors {
-    /// Those of a machine of this size.
+    /// The processors of a machine of this size.
     pub(crate) fn of(size: ProcessorCount) -> Processors
         ensures { result.all ≡ all_of size }
     {
@@ -106,8 +106,8 @@ pub(crate) fn kind<'a>(
         number,
         name: called.ok(),
     };
-    let name = place.says(called)?;
-    let numbers = place.says(all_numbers(table, processors))?;
+    let name = place.locate(called)?;
+    let numbers = place.locate(all_numbers(table, processors))?;
     let actions = all_actions(alloc, table, place, names)?;
     if !take_time(actions.as_slice()) {
         return Err(Trouble::At {

@@ -3,7 +3,7 @@
 use bq_words::Near;
 use std::alloc::{AllocError, Global};
 
-/// How many bytes a word has at most that may be a misspelling.
+/// The most bytes of a word that may be a misspelling.
 const SHORT: usize = 40;
 
 /// Keys that are often written for another.

@@ -31,7 +31,7 @@ pub(crate) fn only(table: &Table) -> Option<(&str, &Value)>
     }
 }
 
-/// Each key is one of the known words; where not, the first unknown one is reported.
+/// Checks that each key is one of the known words. The error is the first unknown key.
 pub(crate) fn all_known<'a>(table: &'a Table, known: &'static [&'static str]) -> Result<(), Why<'a>>
     ensures { option_map unknown_key (result_err result) ≡ option_map (λ key. Some key) (first_unknown (map (λ word. word.now) known.now) (table_view table.now)) }
 {
@@ -46,7 +46,7 @@ pub(crate) fn all_known<'a>(table: &'a Table, known: &'static [&'static str]) ->
     Ok(())
 }
 
-/// Whether a key is one of some words.
+/// Answers whether a key is one of some words.
 fn is_word(key: &str, words: &[&str]) -> bool
     ensures { result ≡ list_any (λ word. bytes_eq word.now key.now) words.now }
 {

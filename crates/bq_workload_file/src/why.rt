@@ -85,7 +85,7 @@ pub(crate) enum Why<'a> {
     TwoForms,
     /// Nothing in a `do` takes time.
     NoTime,
-    /// None of the machine's processors, of which there are this many, is among those.
+    /// The value names none of the processors of the machine, which has `processors` of them.
     NoProcessor {
         value: &'a Value,
         processors: u8,
@@ -235,7 +235,7 @@ fn no_time<W: fmt::Write>(f: &mut fmt::Formatter<W>, value: &Value, range: &Rang
     }
 }
 
-/// What a value is not, where the words are always the same.
+/// Says what a value is not, if the words do not depend on it.
 fn described(wanted: &Wanted) -> &'static str {
     match wanted {
         Wanted::Nice => with_nice_values!("is not a nice value (a whole number from ", ")"),
@@ -255,10 +255,10 @@ fn described(wanted: &Wanted) -> &'static str {
     }
 }
 
-/// How many characters of a text are quoted.
+/// The most characters of a text that are quoted.
 const QUOTED: usize = 40;
 
-/// A text in quotes, cut behind 40 characters, and then `..`.
+/// A text in quotes, cut after 40 characters, and then `..`.
 #[derive(Clone, Copy)]
 struct Quoted<'a>(&'a str);
 

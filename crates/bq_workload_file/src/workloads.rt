@@ -6,7 +6,7 @@ ghost use Rattle.toml.specs.View.{view, items_view, table_view};
 ghost use Rattle.bq_workload.specs.Lengths.{is_long};
 ghost use Rattle.bq_workload.specs.Soundness.{first_flaw};
 ghost use Rattle.bq_workload_file.specs.Keys.{IsRefusedFor, document_keys, first_unknown};
-ghost use Rattle.bq_workload_file.specs.Workloads.{AreKinds, AreNames, AreOthers, Describes, IsMachine, IsReadFault, tasks_of};
+ghost use Rattle.bq_workload_file.specs.Workloads.{AreKinds, AreNames, AreOthers, DescribesWorkload, IsMachine, IsReadFault, tasks_of};
 
 use crate::actions;
 use crate::blame::{Location, Trouble};
@@ -28,7 +28,7 @@ static DOCUMENT: [&str; 2] = ["machine", "task"];
 /// The workload that a text describes, on its machine with these changes. A text is called no TOML only if it is not TOML.
 /// The loop can follow it to its end, unless a machine may not have a changed duration.
 pub fn read(alloc: Global, text: &str, changes: Changes) -> Result<Workload, Fault>
-    ensures describes { IfOk result (Describes text.now changes) }
+    ensures describes { IfOk result (DescribesWorkload text.now changes) }
     ensures sound { IfSome changes.duration (λ d. is_long d ≡ true) → IfOk result (λ w. first_flaw w ≡ None) }
     ensures fault { IfErr result (IsReadFault text.now) }
 {
@@ -38,12 +38,12 @@ pub fn read(alloc: Global, text: &str, changes: Changes) -> Result<Workload, Fau
     };
     let (machine, tables) = match outline(&document) {
         Ok(parts) => parts,
-        Err(trouble) => return Err(told(alloc, &trouble)),
+        Err(trouble) => return Err(reported(alloc, &trouble)),
     };
     let machine = changes.made(machine);
     let names = match names(alloc, tables) {
         Ok(names) => names,
-        Err(trouble) => return Err(told(alloc, &trouble)),
+        Err(trouble) => return Err(reported(alloc, &trouble)),
     };
     match kinds(
         alloc,
@@ -52,12 +52,12 @@ pub fn read(alloc: Global, text: &str, changes: Changes) -> Result<Workload, Fau
         Processors::of(machine.size),
     ) {
         Ok(tasks) => Ok(Workload { machine, tasks }),
-        Err(trouble) => Err(told(alloc, &trouble)),
+        Err(trouble) => Err(reported(alloc, &trouble)),
     }
 }
 
 /// The fault that a trouble is reported as.
-fn told(alloc: Global, trouble: &Trouble<'_>) -> Fault
+fn reported(alloc: Global, trouble: &Trouble<'_>) -> Fault
     ensures { (text : List ℕ) → IsSome (parse_document text) → IsReadFault text result }
 {
     match trouble {
@@ -77,9 +77,9 @@ fn outline(document: &Table) -> Result<(Setup, &[Value]), Trouble<'_>>
     ensures tasks { IfOk result (λ p. tasks_of (table_view document.now) ≡ Some (items_view p.1.now)) }
     ensures some { IfOk result (λ p. 0 < length p.1.now) }
 {
-    Location::Document.says(all_known(document, &DOCUMENT))?;
+    Location::Document.locate(all_known(document, &DOCUMENT))?;
     let machine = machine(document)?;
-    let tables = Location::Document.says(tables(document))?;
+    let tables = Location::Document.locate(tables(document))?;
     Ok((machine, tables))
 }
 
@@ -90,8 +90,8 @@ fn machine(document: &Table) -> Result<Setup, Trouble<'_>>
     match at(document, "machine") {
         None => Ok(absent()),
         Some(value) => {
-            let table = Location::Document.says(table_at("machine", value))?;
-            Location::Machine.says(setup(table))
+            let table = Location::Document.locate(table_at("machine", value))?;
+            Location::Machine.locate(setup(table))
         }
     }
 }
@@ -130,7 +130,7 @@ fn tables(document: &Table) -> Result<&[Value], Why<'_>>
     }
 }
 
-/// The names of the tasks, of which no two are the same. Each is of one task at least, so there are at most 1,024.
+/// Answers the names of the tasks, no two of which are equal. Each is of one task at least, so there are at most 1,024.
 fn names<'a>(alloc: Global, tables: &'a [Value]) -> Result<Vec<String>, Trouble<'a>>
     ensures names { IfOk result (λ v. AreNames (items_view tables.now) v.items) }
     ensures others { IfOk result (λ v. AreOthers [] v.items) }
@@ -147,8 +147,8 @@ fn names<'a>(alloc: Global, tables: &'a [Value]) -> Result<Vec<String>, Trouble<
             number: index + 1,
             name: None,
         };
-        let table = place.says(table_at("task", value))?;
-        let name = place.says(name(table))?;
+        let table = place.locate(table_at("task", value))?;
+        let name = place.locate(name(table))?;
         if let Some(first) = actions::place(names.as_slice(), name) {
             return Err(Trouble::At {
                 place,
@@ -176,7 +176,7 @@ fn kinds<'a>(
     let mut kinds = Vec::new(alloc);
     let mut tasks: u16 = 0;
     for (index, value) in tables.iter().enumerate() {
-        let table = Location::Document.says(table_at("task", value))?;
+        let table = Location::Document.locate(table_at("task", value))?;
         let kind = kind(alloc, table, index + 1, names, processors)?;
         tasks = match tasks.checked_add(kind.count) {
             Some(tasks) if tasks <= TASKS => tasks,

@@ -2,12 +2,12 @@
 #![tactic(auto)]
 
 use bq_cli::do_command;
-use bq_console::say_refused;
+use bq_console::report_refused;
 use std::process::ExitCode;
 
 fn main(rt: HostRuntime) -> ExitCode {
     match do_command(&rt, &rt) {
         Ok(code) => code,
-        Err(fault) => say_refused(&rt, &fault),
+        Err(fault) => report_refused(&rt, &fault),
     }
 }

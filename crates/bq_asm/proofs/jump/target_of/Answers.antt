@@ -7,7 +7,8 @@ use Rattle.bq_asm.proofs.jump.target_of.Goals as goal
 pub returns-in_err-word : goal.returns-in_err-word
 returns-in_err-word c =
     let last = ap option_copied (sym c.in_err-word.was) ∙ c.last.ensures.value in
-    ap (option_map (λ word. word.now)) c.from_residual.ensures ∙ sym (target_of-jump c.args.insn c.args.operands.now None (sym c.is_jump.ensures ∙ c.if-not-is_jump.false) last)
+    ap (option_map (λ word. word.now)) c.from_residual.ensures
+    ∙ sym (target_of-jump c.args.insn c.args.operands.now None (sym c.is_jump.ensures ∙ c.if-not-is_jump.false) last)
 
 pub returns-then-is_label : goal.returns-then-is_label
 returns-then-is_label c =

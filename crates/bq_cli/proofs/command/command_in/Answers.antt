@@ -16,5 +16,8 @@ returns-in_err-par_words-clause-taken c =
     let named : subcommand_name_of m ≡ Some (codes "par") = search rules in
     let listed : option_map (λ (q : Text × List Row). q.1) (subcommand_rows_of m) ≡ Some rows = search rules in
     rw (p.1, p.2) (λ command given.
-    let both = name_and_rows_of_entry (out-ArgMatches m).subcommand (λ b. (out-SubCommand (box_value b)).name.now) (λ b. rows_of (found_of (out-SubCommand (box_value b)).matches)) (codes "par") (name_of command) given.0 rows named listed given.1 in
+    let both =
+    name_and_rows_of_entry (out-ArgMatches m).subcommand (λ b. (out-SubCommand (box_value b)).name.now)
+    (λ b. rows_of (found_of (out-SubCommand (box_value b)).matches)) (codes "par") (name_of command) given.0 rows
+    named listed given.1 in
     only_par_has_its_name given.0 rows command _ both.0 both.1 given.2 c.in_err-par_words.ensures.taken)

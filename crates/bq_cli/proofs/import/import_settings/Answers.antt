@@ -5,7 +5,7 @@ use Rattle.bq_cli.proofs.import.import_settings.Goals.{in-None, in-None-maps, in
 pub returns-clause-asked : goal.returns-clause-asked
 returns-clause-asked c = record {
   head = c.in-Ok.head;
-  says = c.in-Ok.ensures.says;
+  gives = c.in-Ok.ensures.gives;
   hook = search rules;
   maps = elim c.match-maps-2.branch [
     | in-Some-maps w ↦ search rules

@@ -8,4 +8,5 @@ invariant-tasks l = l.figures.items ≡ flat_map figures_of_task (range_with_len
 
 abbrev pub invariant-processors : goal.invariant-processors
 invariant-processors l =
-    l.figures.items ≡ flat_map figures_of_task (range_with_len 0 l.fn.size.tasks) ++ flat_map figures_of_processor (range_with_len 0 l.processor)
+    l.figures.items
+    ≡ flat_map figures_of_task (range_with_len 0 l.fn.size.tasks) ++ flat_map figures_of_processor (range_with_len 0 l.processor)

@@ -1,7 +1,7 @@
 -- What the limit lets through is gathered.
 use Rattle.std.proofs.Common.{◌≡◌, ◌∙◌, ℕ, [], ap, subst, sym}
 use Rattle.bq_schedule.specs.WakeLatencies.{latencies_of}
-use Rattle.bq_simulate.specs.Faults.{flaw_told}
+use Rattle.bq_simulate.specs.Faults.{reported_flaw}
 use Rattle.bq_simulate.specs.Simulations.{with_seed}
 use Rattle.bq_simulate.specs.declared.fault.SimulateFault.TheVariants.{Enough}
 use Rattle.bq_experiment.specs.Limits.{IsLonger}
@@ -18,10 +18,12 @@ returns-in-Ok-clause-gathered c =
     let old = c.new-limited.result in
     let new = c.simulate_seed.new.sink in
     let none = ap (λ (g : Gatherer). g.schedule) c.new-limited.ensures.sink ∙ c.new-gatherer.ensures.schedule in
-    let empty : (task : ℕ) → latencies_of old.sink.latencies task ≡ [] = λ task. ap (λ (g : Gatherer). latencies_of g.latencies task) c.new-limited.ensures.sink ∙ c.new-gatherer.ensures.latencies task in
+    let empty : (task : ℕ) → latencies_of old.sink.latencies task ≡ [] =
+    λ task.
+    ap (λ (g : Gatherer). latencies_of g.latencies task) c.new-limited.ensures.sink ∙ c.new-gatherer.ensures.latencies task in
     let policies = c.args.policies.now in
     let w = with_seed c.args.workload.now c.args.seed in
-    let all = gathers_simulation old new policies w none empty c.in-Ok.ensures.told c.in-Ok.ensures.wants in
+    let all = gathers_simulation old new policies w none empty c.in-Ok.ensures.reported c.in-Ok.ensures.wants in
     subst (λ (most : ℕ). IsGathered policies w most new.sink.schedule new.sink.latencies) c.new-limited.ensures.left all
 
 -- where the limit was passed, more came
@@ -29,9 +31,11 @@ pub returns-in-Err-clause-fault : goal.returns-in-Err-clause-fault
 returns-in-Err-clause-fault c =
     let policies = c.args.policies.now in
     let w = with_seed c.args.workload.now c.args.seed in
-    let said = c.in-Err.ensures in
+    let stated = c.in-Err.ensures in
     let more : c.in-Err.fault ≡ Enough → IsLonger policies w c.args.most = λ enough.
-    let got = said.enough enough in
+    let got = stated.enough enough in
     subst (λ (most : ℕ). IsLonger policies w most) c.new-limited.ensures.left
-    (longer Takes c.new-limited.result c.simulate_seed.new.sink policies w (sym said.flaw ∙ ap flaw_told enough) c.new-limited.ensures.over got.0 got.1) in
-    subst (IsNoRun policies w c.args.most) (sym c.from.ensures) (refused_is_no_run policies w c.args.most c.in-Err.fault said.flaw said.ends more)
+    (longer Takes c.new-limited.result c.simulate_seed.new.sink policies w (sym stated.flaw ∙ ap reported_flaw enough)
+    c.new-limited.ensures.over got.0 got.1) in
+    subst (IsNoRun policies w c.args.most) (sym c.from.ensures)
+    (refused_is_no_run policies w c.args.most c.in-Err.fault stated.flaw stated.ends more)

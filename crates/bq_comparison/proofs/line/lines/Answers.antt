@@ -25,15 +25,18 @@ rows-preserved c =
     ap (λ l. beside 0 l theirs) (take_more rows i none inside) ∙ beside-more 0 (take i rows) row theirs
     ∙ ap (λ n. beside 0 (take i rows) theirs ++ record { ours = row; theirs = row_at theirs n } ∷ []) place in
     let made : record { ours = get_or c.deref-row-items.result.now i none; theirs = c.their.result } ≡ line =
-    ap (λ l. record { ours = get_or l i none; theirs = c.their.result }) all ∙ ap (λ t. record { ours = row; theirs = t }) c.their.ensures in
+    ap (λ l. record { ours = get_or l i none; theirs = c.their.result }) all
+    ∙ ap (λ t. record { ours = row; theirs = t }) c.their.ensures in
     let of : List FigureLine → Type 0 = λ ys. Selects shows (beside 0 (take (i + 1) rows) theirs) ys in
     let from : List FigureLine → Type 0 = λ xs. Selects shows xs (c.rows.lines.items ++ line ∷ []) in
     let kept : List FigureLine → Type 0 = λ xs. Selects shows xs c.rows.lines.items in
     elim c.if-is_shown.branch [
       | then-is_shown+in_ok-push w ↦
           subst of (sym (ap (λ v. v.items) w.lines-is ∙ w.in_ok-push.ensures.items ∙ ap (λ x. c.rows.lines.items ++ x ∷ []) made))
-          (subst from (sym more) (Selects-take shows (beside 0 (take i rows) theirs) c.rows.lines.items line c.rows.invariant (subst shows made (w.if-is_shown.ensures.0 refl))))
+          (subst from (sym more) (Selects-take shows (beside 0 (take i rows) theirs) c.rows.lines.items line c.rows.invariant
+          (subst shows made (w.if-is_shown.ensures.0 refl))))
       | else-is_shown w ↦
           subst of (sym (ap (λ v. v.items) w.lines-is))
-          (subst kept (sym more) (Selects-leave shows (beside 0 (take i rows) theirs) c.rows.lines.items line c.rows.invariant (λ h. let e = w.if-is_shown.ensures.1 (subst shows (sym made) h) in cc)))
+          (subst kept (sym more) (Selects-leave shows (beside 0 (take i rows) theirs) c.rows.lines.items line c.rows.invariant
+          (λ h. let e = w.if-is_shown.ensures.1 (subst shows (sym made) h) in cc)))
     ]

@@ -19,6 +19,6 @@ figures-preserved c =
     let Q : ℕ → Type 0 = λ n. IsRow f (numbers_at n runs) row in
     let numbers : c.as_slice.result.now ≡ numbers_at i runs = search rules in
     let place : i ≡ 0 + length (take i figures) = omega (arith, length-take i figures) in
-    let told : Q i = subst P numbers c.row_of.ensures in
+    let reported : Q i = subst P numbers c.row_of.ensures in
     rw (take_more figures i (Task 0 Ran) inside, c.in_ok-push.ensures.items)
-    (AreRowsFrom-push 0 runs (take i figures) c.figures.rows.items f row c.figures.invariant (subst Q place told))
+    (AreRowsFrom-push 0 runs (take i figures) c.figures.rows.items f row c.figures.invariant (subst Q place reported))

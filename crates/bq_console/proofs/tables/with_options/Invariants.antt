@@ -7,6 +7,7 @@ use Rattle.bq_console.proofs.tables.with_options.Given as goal
 -- the options that are left lead where all lead
 abbrev pub invariant-options : goal.invariant-options
 invariant-options l = record {
-  app : with_rules (app_of l.command) (map option_of (drop l.text-index l.options)) ≡ with_rules (app_of l.initial.command) (map option_of l.options);
+  app : with_rules (app_of l.command) (map option_of (drop l.text-index l.options))
+      ≡ with_rules (app_of l.initial.command) (map option_of l.options);
   globals : (fields_of l.command).has_globals ≡ (fields_of l.initial.command).has_globals;
 }

@@ -1,5 +1,5 @@
 use Rattle.std.proofs.Common.{◌≡◌, List, ℕ, ◌++◌, ◌∙◌, ap, arith, string_bytes}
-use Rattle.bq_parts.specs.Counts.{counted}
+use Rattle.bq_parts.specs.Counts.{saturating_sum}
 use Rattle.bq_drawing.specs.Axes.{axis_name, marks_text}
 use Rattle.bq_drawing.specs.Shapes.{setting_of}
 use Rattle.bq_drawing.specs.Titles.{unit_name}
@@ -21,9 +21,9 @@ pub returns : goal.returns
 returns c =
     let s = setting_of c.args.frame.now in
     let end : c.loop-number.number ≡ 12 = omega (arith, c.loop-number.invariant.within, c.loop-number-test.false) in
-    last_added c.write_axis_name.result (string_bytes c.args.text.now) (string_bytes c.loop-number.text) (string_bytes c.write_axis_name.new.text)
-    (marks_text s c.args.step c.args.top c.args.bottom 12) (axis_name (unit_name s.unit) (counted c.args.bottom 42))
-    (axis_name c.name.result.now c.saturating_add.result)
+    last_added c.write_axis_name.result (string_bytes c.args.text.now) (string_bytes c.loop-number.text)
+    (string_bytes c.write_axis_name.new.text) (marks_text s c.args.step c.args.top c.args.bottom 12)
+    (axis_name (unit_name s.unit) (saturating_sum c.args.bottom 42)) (axis_name c.name.result.now c.saturating_add.result)
     (c.loop-number.invariant.text ∙ ap (λ n. string_bytes c.args.text.now ++ marks_text s c.args.step c.args.top c.args.bottom n) end)
-    (ap (λ line. axis_name c.name.result.now line) c.saturating_add.ensures ∙ ap (λ (name : List ℕ). axis_name name (counted c.args.bottom 42)) c.name.ensures)
-    c.write_axis_name.ensures
+    (ap (λ line. axis_name c.name.result.now line) c.saturating_add.ensures
+    ∙ ap (λ (name : List ℕ). axis_name name (saturating_sum c.args.bottom 42)) c.name.ensures) c.write_axis_name.ensures

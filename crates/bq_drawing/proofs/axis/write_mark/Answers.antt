@@ -1,7 +1,7 @@
 use Rattle.std.proofs.Common.{◌≡◌, ◌++◌, ◌/◌, ◌∙◌, ap, sym, arith, true, nat_le, cond, [], string_bytes}
 use Rattle.std.proofs.lemmas.Bool.Decides.{nat_tests}
 use Rattle.std.proofs.lemmas.Result.{on_ok_weaker}
-use Rattle.bq_parts.specs.Counts.{counted}
+use Rattle.bq_parts.specs.Counts.{saturating_sum}
 use Rattle.bq_drawing.specs.Axes.{grid_count, grid_line, mark_text}
 use Rattle.bq_drawing.specs.Places.{place_of}
 use Rattle.bq_drawing.specs.Shapes.{setting_of}
@@ -13,16 +13,16 @@ pub returns : goal.returns
 returns c =
     let s = setting_of c.args.frame.now in
     let place = place_of s.extent c.args.at in
-    let own = grid_count place (counted c.args.bottom 20) (c.args.at / unit_length s.unit) in
+    let own = grid_count place (saturating_sum c.args.bottom 20) (c.args.at / unit_length s.unit) in
     let drawn : nat_le c.args.at s.extent.to ≡ true = search (arith, nat_tests, c.if-at-frame.false) in
-    let told : grid_count c.place-place.result.0 c.saturating_add.result (c.args.at / c.length.result) ≡ own
+    let reported : grid_count c.place-place.result.0 c.saturating_add.result (c.args.at / c.length.result) ≡ own
     = ap (λ p. grid_count p c.saturating_add.result (c.args.at / c.length.result)) c.place-place.ensures
     ∙ ap (λ line. grid_count place line (c.args.at / c.length.result)) c.saturating_add.ensures
-    ∙ ap (λ unit. grid_count place (counted c.args.bottom 20) (c.args.at / unit)) c.length.ensures.value in
+    ∙ ap (λ unit. grid_count place (saturating_sum c.args.bottom 20) (c.args.at / unit)) c.length.ensures.value in
     on_ok_weaker c.write_grid_count.result
     (λ e. both_added (string_bytes c.args.text.now) (string_bytes c.write_grid_line.new.text) (string_bytes c.write_grid_count.new.text)
     (grid_line place c.args.top c.args.bottom) own
     (c.in_ok-write_grid_line.ensures ∙ ap (λ p. string_bytes c.args.text.now ++ grid_line p c.args.top c.args.bottom) c.place-place.ensures)
-    (e ∙ ap (λ t. string_bytes c.write_grid_line.new.text ++ t) told)
+    (e ∙ ap (λ t. string_bytes c.write_grid_line.new.text ++ t) reported)
     ∙ ap (λ b. string_bytes c.args.text.now ++ cond b (mark_text s c.args.top c.args.bottom c.args.at) []) (sym drawn))
     c.write_grid_count.ensures

@@ -1,6 +1,6 @@
 use Rattle.std.proofs.Common.{◌≡◌, ◌<◌, ◌^◌, [], ◌++◌, drop}
 use Rattle.std.specs.Prelude.{string_bytes}
-use Rattle.bq_parts.specs.Counts.{counted}
+use Rattle.bq_parts.specs.Counts.{saturating_sum}
 use Rattle.bq_drawing.specs.declared.lanes.Stretch.{Stretch}
 use Rattle.bq_drawing.specs.Lanes.{lanes_after, left_out}
 use Rattle.bq_drawing.specs.Shapes.{in_lanes, setting_of, wait_in, waits_text}
@@ -13,5 +13,6 @@ invariant-loop-wait l = record {
       ≡ waits_text (setting_of l.frame) l.top l.waits;
   lanes : lanes_after (λ (wait : Stretch). wait) l.lanes (drop l.wait-index l.waits) ≡ lanes_after (λ (wait : Stretch). wait) [] l.waits;
   fits : l.left_out < 2 ^ 64;
-  left_out : counted l.left_out (left_out (λ (wait : Stretch). wait) l.lanes (drop l.wait-index l.waits)) ≡ counted 0 (left_out (λ (wait : Stretch). wait) [] l.waits);
+  left_out : saturating_sum l.left_out (left_out (λ (wait : Stretch). wait) l.lanes (drop l.wait-index l.waits))
+      ≡ saturating_sum 0 (left_out (λ (wait : Stretch). wait) [] l.waits);
 }

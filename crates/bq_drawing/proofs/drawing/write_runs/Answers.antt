@@ -5,8 +5,8 @@ use Rattle.bq_drawing.proofs.drawing.write_runs.Goals as goal
 
 pub loop-run-preserved : goal.loop-run-preserved
 loop-run-preserved c =
-    shapes_next (run_text (setting_of c.args.frame.now) c.args.top) c.args.runs.now c.loop-run.run-index _ _ _ _ c.loop-run-test.true c.in_ok-write_run.ensures
-    c.loop-run.invariant
+    shapes_next (run_text (setting_of c.args.frame.now) c.args.top) c.args.runs.now c.loop-run.run-index _ _ _ _
+    c.loop-run-test.true c.in_ok-write_run.ensures c.loop-run.invariant
 
 pub returns : goal.returns
 returns c =

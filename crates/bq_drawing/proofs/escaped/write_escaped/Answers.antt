@@ -11,5 +11,8 @@ loop-letter-preserved c = letters_more _ _ _ c.loop-letter.yielded c.in-Some.let
 
 pub returns : goal.returns
 returns c =
-    let end = YieldsList-end (YieldsList-from_take c.args.most (YieldsList-from_chars c.args.given.now c.utf8.given cc) cc) c.loop-letter.yielded _ c.loop-letter.yielded_by _ _ c.in-None.is c.next.ensures.steps in
-    c.loop-letter.invariant ∙ ap (λ (l : List ℕ). string_bytes c.args.text.now ++ flat_map xml_letter l) (sym (map-id c.loop-letter.yielded) ∙ end.0)
+    let end =
+    YieldsList-end (YieldsList-from_take c.args.most (YieldsList-from_chars c.args.given.now c.utf8.given cc) cc)
+    c.loop-letter.yielded _ c.loop-letter.yielded_by _ _ c.in-None.is c.next.ensures.steps in
+    c.loop-letter.invariant
+    ∙ ap (λ (l : List ℕ). string_bytes c.args.text.now ++ flat_map xml_letter l) (sym (map-id c.loop-letter.yielded) ∙ end.0)

@@ -11,10 +11,13 @@ pub returns : goal.returns
 returns c =
     let unit = c.args.frame.now.unit in
     let old = string_bytes c.args.text.now in
-    on_ok_weaker _
-    (both_added old _ _ (codes ", after " ++ (amount_text unit c.args.run.now.waited ++ (codes " " ++ (unit_name unit ++ codes " of waiting"))))
+    on_ok_weaker _ (both_added old _ _
+    (codes ", after " ++ (amount_text unit c.args.run.now.waited ++ (codes " " ++ (unit_name unit ++ codes " of waiting"))))
     (latency_text unit c.args.run.now.latency)
     (c.in_ok-write.ensures.bytes
-    ∙ ap (λ (a : Amount). old ++ (codes ", after " ++ (amount_text a.unit a.time ++ (codes " " ++ (c.name-unit.result.now ++ codes " of waiting"))))) c.amount-waited.ensures
-    ∙ ap (λ (name : List ℕ). old ++ (codes ", after " ++ (amount_text unit c.args.run.now.waited ++ (codes " " ++ (name ++ codes " of waiting"))))) c.name-unit.ensures))
-    c.write_latency.ensures
+    ∙ ap (λ (a : Amount).
+    old ++ (codes ", after " ++ (amount_text a.unit a.time ++ (codes " " ++ (c.name-unit.result.now ++ codes " of waiting")))))
+    c.amount-waited.ensures
+    ∙ ap (λ (name : List ℕ).
+    old ++ (codes ", after " ++ (amount_text unit c.args.run.now.waited ++ (codes " " ++ (name ++ codes " of waiting")))))
+    c.name-unit.ensures)) c.write_latency.ensures

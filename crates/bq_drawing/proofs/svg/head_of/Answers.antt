@@ -12,9 +12,10 @@ returns c =
     let t2 = string_bytes c.write_root_title.new.text in
     let styles = c.as_str-2.result.now in
     let root = root_text (name_text (hash_of look.theme (string_bytes drawn.text))) drawn.height in
-    let begun : t1 ≡ root
-    = c.in_ok-write_root.ensures ∙ ap (λ (t : List ℕ). t ++ root_text (name_text c.of-name.result.0) drawn.height) c.new-text.ensures.bytes
-    ∙ ap (λ hash. root_text (name_text hash) drawn.height) (c.of-name.ensures ∙ ap (λ (t : List ℕ). hash_of look.theme t) c.as_str.ensures.value) in (
+    let begun : t1 ≡ root =
+    c.in_ok-write_root.ensures ∙ ap (λ (t : List ℕ). t ++ root_text (name_text c.of-name.result.0) drawn.height) c.new-text.ensures.bytes
+    ∙ ap (λ hash. root_text (name_text hash) drawn.height)
+    (c.of-name.ensures ∙ ap (λ (t : List ℕ). hash_of look.theme t) c.as_str.ensures.value) in (
       styles,
       both_added t1 t2 (string_bytes c.push_str.new.self) (root_title (title_of look)) styles
           (c.in_ok-write_root_title.ensures ∙ ap (λ (t : List ℕ). t1 ++ root_title t) c.title.ensures) c.in_ok-push_str.ensures.bytes

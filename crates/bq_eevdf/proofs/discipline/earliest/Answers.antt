@@ -13,4 +13,5 @@ returns g c =
     let sums = rw c.in-Some.is at (c.considered-all.ensures.sums xs c.totals.ensures.sums) in
     let here : is_at_most_mean all.weight all.moment t ≡ true = cc in
     let due = c.earliest.ensures ∙ ap (λ d. earliest_of d c.earliest_at_most_mean-queued.result) c.due.ensures in
-    rw c.in-Some.is (ap (λ d. Some d) due ∙ earliest_with t xs all c.earliest_at_most_mean-queued.result sums here c.earliest_at_most_mean-queued.ensures)
+    rw c.in-Some.is
+    (ap (λ d. Some d) due ∙ earliest_with t xs all c.earliest_at_most_mean-queued.result sums here c.earliest_at_most_mean-queued.ensures)

@@ -5,4 +5,5 @@ use Rattle.bq_experiment.proofs.names.add_names.Given as goal
 
 -- this many tasks of the kind have their names
 abbrev pub invariant-numbers : goal.invariant-numbers
-invariant-numbers l = map string_bytes l.names.items ≡ map string_bytes l.initial.names.items ++ map (name_in l.kind) (range_with_len 0 l.number)
+invariant-numbers l =
+    map string_bytes l.names.items ≡ map string_bytes l.initial.names.items ++ map (name_in l.kind) (range_with_len 0 l.number)

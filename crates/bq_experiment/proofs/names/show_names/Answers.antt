@@ -14,8 +14,10 @@ comments-preserved c =
     let old = c.args.viewer.now.screen.names in
     let mid = c.comments.viewer.screen.names in
     let new = c.take.new.self.screen.names in
-    let line : c.as_bytes-line.result.now ≡ string_bytes (get_or all i comment) = c.as_bytes-line.ensures.value ∙ ap (λ (s : String Global). string_bytes s) c.comment-item.is in
-    let learnt : Learns (string_bytes (get_or all i comment)) mid new = subst (λ (l : List ℕ). Learns l mid new) line c.in_ok-take.ensures.heard in
+    let line : c.as_bytes-line.result.now ≡ string_bytes (get_or all i comment) =
+    c.as_bytes-line.ensures.value ∙ ap (λ (s : String Global). string_bytes s) c.comment-item.is in
+    let learnt : Learns (string_bytes (get_or all i comment)) mid new =
+    subst (λ (l : List ℕ). Learns l mid new) line c.in_ok-take.ensures.short_line in
     record {
       rest = rests_on c.args.viewer.now c.comments.viewer c.take.new.self c.comments.invariant.rest (c.take.ensures.rest tt);
       names = subst (λ (lines : List (List ℕ)). LearnsAll lines old new) (sym (map_more string_bytes all i comment c.comments-test.true))
@@ -25,9 +27,14 @@ comments-preserved c =
 pub returns-clause-names : goal.returns-clause-names
 returns-clause-names c =
     let all = c.deref-comment-items.result.now in
-    let whole = ap (λ (l : List (String Global)). map string_bytes l) (take_all c.comments.comment-index all c.comments-test.false ∙ c.deref-comment-items.ensures.value) ∙ c.in_ok-comments.ensures in
-    subst (λ (lines : List (List ℕ)). LearnsAll lines c.args.viewer.now.screen.names c.comments.viewer.screen.names) whole c.comments.invariant.names
+    let whole =
+    ap (λ (l : List (String Global)). map string_bytes l)
+    (take_all c.comments.comment-index all c.comments-test.false ∙ c.deref-comment-items.ensures.value)
+    ∙ c.in_ok-comments.ensures in
+    subst (λ (lines : List (List ℕ)). LearnsAll lines c.args.viewer.now.screen.names c.comments.viewer.screen.names) whole
+    c.comments.invariant.names
 
 pub returns-clause-lines : goal.returns-clause-lines
 returns-clause-lines c =
-    c.len.ensures ∙ c.in_ok-comments.comments.ok.0 ∙ sym (length-map c.in_ok-comments.comments.items string_bytes) ∙ ap (λ (l : List (List ℕ)). length l) c.in_ok-comments.ensures
+    c.len.ensures ∙ c.in_ok-comments.comments.ok.0 ∙ sym (length-map c.in_ok-comments.comments.items string_bytes)
+    ∙ ap (λ (l : List (List ℕ)). length l) c.in_ok-comments.ensures

@@ -5,8 +5,8 @@ use Rattle.bq_experiment.proofs.running.view.Goals as goal
 
 pub returns-clause-notes : goal.returns-clause-notes
 returns-clause-notes g c =
-    let viewer = c.watch.new.run.sink.sink.viewer in
-    let viewed = c.in_ok-watch.ensures.viewed in
+    let viewer = c.feed_viewer.new.run.sink.sink.viewer in
+    let viewed = c.in_ok-feed_viewer.ensures.viewed in
     let ends = c.in_ok-end.ensures.notes in
     let before = string_bytes ends.begun.notes ++ absent_notes viewer.schedule ends.begun.tasks.items ends.begun.processors in
     record {

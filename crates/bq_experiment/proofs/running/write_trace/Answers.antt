@@ -13,8 +13,10 @@ pub returns-in-Ok-write_text-clause-written : goal.returns-in-Ok-write_text-clau
 returns-in-Ok-write_text-clause-written g c =
     let contents = g.W.Write.contents in
     let policies = c.args.policies.now in
-    run_written contents c.args.run.now c.simulate_before.new.sink (contents (inner_of c.write_text.new.self.output)) c.args.workload.now policies.loaded (image_for policies.images)
-    c.requires.empty c.requires.images c.in-Ok.ensures.of_images c.in-Ok.ensures.sound c.in-Ok.ensures.wants c.in-Ok.ensures.told c.in-Ok-write_text.ensures.added
+    run_written contents c.args.run.now c.simulate_into.new.sink (contents (inner_of c.write_text.new.self.output))
+    c.args.workload.now policies.loaded (image_for policies.images) c.requires.empty c.requires.images
+    c.in-Ok.ensures.of_images c.in-Ok.ensures.sound c.in-Ok.ensures.wants c.in-Ok.ensures.reported
+    c.in-Ok-write_text.ensures.added
 
 -- where the limit was passed, more came
 pub returns-in-Err-clause-fault : goal.returns-in-Err-clause-fault
@@ -22,8 +24,9 @@ returns-in-Err-clause-fault g c =
     let policies = c.args.policies.now.loaded in
     let w = c.args.workload.now in
     let old = c.args.run.now in
-    let said = c.in-Err.ensures in
+    let stated = c.in-Err.ensures in
     let longer : c.in-Err.fault ≡ Enough → IsLonger policies w old.left = λ enough.
-    let got = said.enough enough in
-    longer_named (TakesRun g.W.Write.contents) old c.simulate_before.new.sink policies w got.0 c.requires.over got.1.0 got.1.1 in
-    IsStopped-by (IsNoEnd policies w old.left) c.in-Err.fault c.write_rest.result _ (record { flaw = said.flaw; ends = said.ends; longer = longer }) c.write_rest.ensures
+    let got = stated.enough enough in
+    longer_named (TakesRun g.W.Write.contents) old c.simulate_into.new.sink policies w got.0 c.requires.over got.1.0 got.1.1 in
+    IsStopped-by (IsNoEnd policies w old.left) c.in-Err.fault c.write_rest.result _
+    (record { flaw = stated.flaw; ends = stated.ends; longer = longer }) c.write_rest.ensures

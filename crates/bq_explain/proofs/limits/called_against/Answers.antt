@@ -8,7 +8,8 @@ use Rattle.bq_explain.proofs.limits.called_against.Goals as goal
 
 pub loop-insn-preserved : goal.loop-insn-preserved
 loop-insn-preserved c =
-    All-more (CallsNoOther (Some c.args.helpers.now)) c.args.insns.now c.loop-insn.insn-index _ c.loop-insn-test.true c.loop-insn.invariant c.in_default.ensures
+    All-more (CallsNoOther (Some c.args.helpers.now)) c.args.insns.now c.loop-insn.insn-index _ c.loop-insn-test.true
+    c.loop-insn.invariant c.in_default.ensures
 
 pub returns-in-Some : goal.returns-in-Some
 returns-in-Some c =
@@ -21,4 +22,6 @@ returns-in-Some c =
     search (rules, first)
 
 pub returns : goal.returns
-returns c = subst (All (CallsNoOther (Some c.args.helpers.now))) (take_all c.loop-insn.insn-index c.args.insns.now (search rules)) c.loop-insn.invariant
+returns c =
+    subst (All (CallsNoOther (Some c.args.helpers.now))) (take_all c.loop-insn.insn-index c.args.insns.now (search rules))
+    c.loop-insn.invariant

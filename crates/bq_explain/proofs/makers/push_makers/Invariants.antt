@@ -5,4 +5,6 @@ use Rattle.bq_explain.specs.declared.makers.Maker.{Maker}
 use Rattle.bq_explain.proofs.makers.push_makers.Given as goal
 
 abbrev pub invariant-loop-register : goal.invariant-loop-register
-invariant-loop-register l = (maker : Maker) → Contains l.trail.items maker → Contains l.initial.trail.items maker ⊎ MakesAsked l.slots l.slot l.asked maker
+invariant-loop-register l =
+    (maker : Maker) → Contains l.trail.items maker →
+    Contains l.initial.trail.items maker ⊎ MakesAsked l.slots l.slot l.asked maker

@@ -20,14 +20,19 @@ begun slots slot asked old new none pushed maker there = by (pushed maker there)
     by (inr made) = first maker.register maker.slot made.of_asked made.makes
 
 pub loop-at-init : goal.loop-at-init
-loop-at-init c = begun c.args.slots.now c.args.slot c.args.asked.now c.new-trail.result.items c.push_makers.new.trail.items c.new-trail.ensures.items c.in_ok-push_makers.ensures
+loop-at-init c =
+    begun c.args.slots.now c.args.slot c.args.asked.now c.new-trail.result.items c.push_makers.new.trail.items
+    c.new-trail.ensures.items c.in_ok-push_makers.ensures
 
 pub loop-at-preserved : goal.loop-at-preserved
 loop-at-preserved c =
     elim c.if-at-len.branch [
       | then-at-len+in_ok-push_operands w ↦
           let inside : c.loop-at.at < length c.loop-at.trail.items = search rules in
-          let there = subst (λ (m : Maker). Contains c.loop-at.trail.items m) (sym w.index-maker.ensures) (Contains-get_or c.loop-at.trail.items c.loop-at.at w.index-maker.result.now inside) in
-          rw w.trail-is (w.in_ok-push_operands.ensures c.args.slot c.args.asked.now (c.loop-at.invariant w.index-maker.result.now there) c.loop-at.invariant)
+          let there =
+          subst (λ (m : Maker). Contains c.loop-at.trail.items m) (sym w.index-maker.ensures)
+          (Contains-get_or c.loop-at.trail.items c.loop-at.at w.index-maker.result.now inside) in
+          rw w.trail-is (w.in_ok-push_operands.ensures c.args.slot c.args.asked.now
+          (c.loop-at.invariant w.index-maker.result.now there) c.loop-at.invariant)
       | else-at-len w ↦ rw w.trail-is c.loop-at.invariant
     ]

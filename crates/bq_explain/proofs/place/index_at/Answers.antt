@@ -12,4 +12,5 @@ returns-then-at-slot c insn is =
 
 pub loop-index-preserved : goal.loop-index-preserved
 loop-index-preserved c =
-    slots_more c.args.insns.now c.loop-index.index _ c.loop-index.at c.slots.result c.in_ok-at.at c.loop-index-test.true c.loop-index.invariant c.slots.ensures c.in_ok-at.ensures.1
+    slots_more c.args.insns.now c.loop-index.index _ c.loop-index.at c.slots.result c.in_ok-at.at c.loop-index-test.true
+    c.loop-index.invariant c.slots.ensures c.in_ok-at.ensures.1

@@ -14,7 +14,9 @@ finding_of-finding-requires-clause-known c = rw (← c.in_ok-program.ensures.jud
 pub trail_of-requires-clause-walkable : goal.trail_of-requires-clause-walkable
 trail_of-requires-clause-walkable c = record {
   short = rw c.requires.slots (few_slots c.args.policy.now.insns.items c.args.policy.now.whole);
-  sound = faultless_sound c.args.policy.now.insns.items c.args.slots.now c.requires.slots (subst (λ (s : List (Option Insn)). IsFaultless s) (sym c.requires.slots) c.requires.faultless);
+  sound =
+      faultless_sound c.args.policy.now.insns.items c.args.slots.now c.requires.slots
+      (subst (λ (s : List (Option Insn)). IsFaultless s) (sym c.requires.slots) c.requires.faultless);
 }
 
 pub finding_of-finding-requires-clause-inside : goal.finding_of-finding-requires-clause-inside

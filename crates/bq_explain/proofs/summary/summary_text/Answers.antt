@@ -9,6 +9,12 @@ use Rattle.bq_explain.proofs.summary.summary_text.Goals as goal
 
 pub returns : goal.returns
 returns c =
-    let behind = codes ", helpers " ++ (string_bytes c.in_ok-helpers.helpers ++ (codes ", counters " ++ (decimal c.args.summary.now.counters ++ (codes ", slots " ++ (decimal c.args.summary.now.slots ++ codes "\n"))))) in
-    IfOk-weaker c.format.result (λ text. string_bytes text ≡ string_bytes c.in_ok-words.words ++ behind) (λ text. StartsWith (accepted_words c.args.policy.now c.args.budget) (string_bytes text))
-    (λ text is. goes_on (string_bytes text) (string_bytes c.in_ok-words.words) _ behind is c.in_ok-words.ensures) c.format.ensures.ok
+    let behind =
+    codes ", helpers "
+    ++ (string_bytes c.in_ok-helpers.helpers
+    ++ (codes ", counters "
+    ++ (decimal c.args.summary.now.counters ++ (codes ", slots " ++ (decimal c.args.summary.now.slots ++ codes "\n"))))) in
+    IfOk-weaker c.format.result (λ text. string_bytes text ≡ string_bytes c.in_ok-words.words ++ behind)
+    (λ text. StartsWith (accepted_words c.args.policy.now c.args.budget) (string_bytes text))
+    (λ text is. goes_on (string_bytes text) (string_bytes c.in_ok-words.words) _ behind is c.in_ok-words.ensures)
+    c.format.ensures.ok

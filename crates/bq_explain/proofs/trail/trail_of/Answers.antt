@@ -7,7 +7,8 @@ use Rattle.bq_explain.specs.declared.trail.Made.{Made}
 use Rattle.bq_explain.proofs.trail.trail_of.Goals as goal
 
 -- what tells of makers on the trail is on it
-on_trail : (slots : List (Option Insn)) (slot : ℕ) (asked : List Bool) (makers : List Maker) (made : List Made) → AreOnTrail slots slot asked makers → AreOf slots makers made → AreMade slots slot asked made
+on_trail : (slots : List (Option Insn)) (slot : ℕ) (asked : List Bool) (makers : List Maker) (made : List Made)
+    → AreOnTrail slots slot asked makers → AreOf slots makers made → AreMade slots slot asked made
 on_trail slots slot asked makers made on of one there =
     let source = of one there in (
       subst (λ (r : ℕ). IsOnTrail slots slot asked r one.place.slot) (sym source.2.register_is)
@@ -16,4 +17,6 @@ on_trail slots slot asked makers made on of one there =
     )
 
 pub returns : goal.returns
-returns c = on_trail c.args.slots.now c.args.slot c.args.asked.now c.in_ok-makers.makers.items c.in_ok-made.made.items c.in_ok-makers.ensures (rw (← c.as_slice.ensures.value) c.in_ok-made.ensures)
+returns c =
+    on_trail c.args.slots.now c.args.slot c.args.asked.now c.in_ok-makers.makers.items c.in_ok-made.made.items
+    c.in_ok-makers.ensures (rw (← c.as_slice.ensures.value) c.in_ok-made.ensures)

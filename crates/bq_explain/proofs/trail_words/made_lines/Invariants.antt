@@ -5,4 +5,5 @@ use Rattle.bq_explain.proofs.trail_words.made_lines.Given as goal
 
 -- the lines that are left complete the text
 abbrev pub invariant-loop-made : goal.invariant-loop-made
-invariant-loop-made l = string_bytes l.text ++ flat_map (made_text l.shapes) (drop l.made-index l.makers) ≡ flat_map (made_text l.shapes) l.makers
+invariant-loop-made l =
+    string_bytes l.text ++ flat_map (made_text l.shapes) (drop l.made-index l.makers) ≡ flat_map (made_text l.shapes) l.makers

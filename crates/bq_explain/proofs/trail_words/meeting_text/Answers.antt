@@ -8,7 +8,12 @@ use Rattle.bq_explain.proofs.trail_words.meeting_text.Goals as goal
 pub returns : goal.returns
 returns c =
     let meeting = c.args.meeting.now in
-    let where_met = codes "; where they meet, at slot " ++ (decimal meeting.slot ++ (codes ", " ++ (string_bytes c.in_ok-met.met ++ codes "\n"))) in
-    IfOk-weaker c.format.result (λ text. string_bytes text ≡ codes "  r" ++ (decimal meeting.register ++ (codes " is " ++ (string_bytes c.in_ok-first.first ++ (codes ", and " ++ (string_bytes c.in_ok-second.second ++ where_met))))))
-    (λ text. string_bytes text ≡ meeting_text c.args.shapes.now meeting) (λ text is. is ∙ rw (c.in_ok-first.ensures, c.in_ok-second.ensures, c.in_ok-met.ensures) refl)
-    c.format.ensures.ok
+    let where_met =
+    codes "; where they meet, at slot " ++ (decimal meeting.slot ++ (codes ", " ++ (string_bytes c.in_ok-met.met ++ codes "\n"))) in
+    IfOk-weaker c.format.result (λ text.
+    string_bytes text
+    ≡ codes "  r"
+    ++ (decimal meeting.register
+    ++ (codes " is " ++ (string_bytes c.in_ok-first.first ++ (codes ", and " ++ (string_bytes c.in_ok-second.second ++ where_met))))))
+    (λ text. string_bytes text ≡ meeting_text c.args.shapes.now meeting)
+    (λ text is. is ∙ rw (c.in_ok-first.ensures, c.in_ok-second.ensures, c.in_ok-met.ensures) refl) c.format.ensures.ok

@@ -7,10 +7,14 @@ use Rattle.bq_explain.specs.Verdicts.{over_line}
 use Rattle.bq_explain.proofs.verdict.over_line.Goals as goal
 
 -- the line, piece by piece
-pieces : (word used most : List ℕ) → codes "refused limit " ++ (word ++ (codes " " ++ (used ++ (codes " of " ++ (most ++ codes "\n"))))) ≡ refused_line (codes "limit " ++ (word ++ (codes " " ++ (used ++ (codes " of " ++ most)))))
+pieces : (word used most : List ℕ)
+    → codes "refused limit " ++ (word ++ (codes " " ++ (used ++ (codes " of " ++ (most ++ codes "\n")))))
+    ≡ refused_line (codes "limit " ++ (word ++ (codes " " ++ (used ++ (codes " of " ++ most)))))
 pieces word used most =
-    let end : (used ++ (codes " of " ++ most)) ++ codes "\n" ≡ used ++ (codes " of " ++ (most ++ codes "\n")) = append_assoc used (codes " of " ++ most) (codes "\n") in
-    let whole : (word ++ (codes " " ++ (used ++ (codes " of " ++ most)))) ++ codes "\n" ≡ word ++ (codes " " ++ (used ++ (codes " of " ++ (most ++ codes "\n")))) =
+    let end : (used ++ (codes " of " ++ most)) ++ codes "\n" ≡ used ++ (codes " of " ++ (most ++ codes "\n")) =
+    append_assoc used (codes " of " ++ most) (codes "\n") in
+    let whole : (word ++ (codes " " ++ (used ++ (codes " of " ++ most)))) ++ codes "\n"
+    ≡ word ++ (codes " " ++ (used ++ (codes " of " ++ (most ++ codes "\n")))) =
     append_assoc word (codes " " ++ (used ++ (codes " of " ++ most))) (codes "\n") ∙ ap (λ (t : List ℕ). word ++ (codes " " ++ t)) end in
     ap (λ (t : List ℕ). codes "refused limit " ++ t) (sym whole)
 
@@ -19,5 +23,10 @@ returns c =
     let word = c.word-word.result.now in
     let used = decimal c.args.over.used in
     let most = decimal c.args.over.most in
-    IfOk-weaker c.format.result (λ text. string_bytes text ≡ codes "refused limit " ++ (word ++ (codes " " ++ (used ++ (codes " of " ++ (most ++ codes "\n")))))) (λ text. string_bytes text ≡ over_line c.args.over)
-    (λ text is. is ∙ (pieces word used most ∙ ap (λ (w : List ℕ). refused_line (codes "limit " ++ (w ++ (codes " " ++ (used ++ (codes " of " ++ most)))))) c.word-word.ensures)) c.format.ensures.ok
+    IfOk-weaker c.format.result
+    (λ text. string_bytes text ≡ codes "refused limit " ++ (word ++ (codes " " ++ (used ++ (codes " of " ++ (most ++ codes "\n"))))))
+    (λ text. string_bytes text ≡ over_line c.args.over)
+    (λ text is.
+    is ∙ (pieces word used most
+    ∙ ap (λ (w : List ℕ). refused_line (codes "limit " ++ (w ++ (codes " " ++ (used ++ (codes " of " ++ most)))))) c.word-word.ensures))
+    c.format.ensures.ok

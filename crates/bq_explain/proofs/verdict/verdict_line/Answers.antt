@@ -9,6 +9,9 @@ pub returns-in-OverSteps : goal.returns-in-OverSteps
 returns-in-OverSteps c =
     let budget = decimal c.in-OverSteps.budget in
     let most = decimal c.in-OverSteps.most in
-    rw c.in-OverSteps.is (
-    IfOk-weaker c.format.result (λ text. string_bytes text ≡ codes "refused limit steps " ++ (budget ++ (codes " of " ++ (most ++ codes "\n")))) (λ text. string_bytes text ≡ refused_line (codes "limit steps " ++ (budget ++ (codes " of " ++ most))))
-    (λ text is. is ∙ sym (ap (λ told. codes "refused limit steps " ++ told) (append_assoc budget (codes " of " ++ most) (codes "\n")))) c.format.ensures.ok)
+    rw c.in-OverSteps.is (IfOk-weaker c.format.result
+    (λ text. string_bytes text ≡ codes "refused limit steps " ++ (budget ++ (codes " of " ++ (most ++ codes "\n"))))
+    (λ text. string_bytes text ≡ refused_line (codes "limit steps " ++ (budget ++ (codes " of " ++ most))))
+    (λ text is.
+    is ∙ sym (ap (λ described. codes "refused limit steps " ++ described) (append_assoc budget (codes " of " ++ most) (codes "\n"))))
+    c.format.ensures.ok)

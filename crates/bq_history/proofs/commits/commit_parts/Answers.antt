@@ -8,8 +8,15 @@ change_jointly-requires g c =
     let m = c.requires.may in
     let j = c.journal.inside in
     let k = c.caller.inside in
-    let is : (j.holder ++ k.holder) ++ c.args.parts.now ≡ journal_item j.log j.kept ∷ caller_item k.number (receipts_of k.holder) ∷ map part_item m.0 =
+    let is : (j.holder ++ k.holder) ++ c.args.parts.now
+    ≡ journal_item j.log j.kept ∷ caller_item k.number (receipts_of k.holder) ∷ map part_item m.0 =
     ap (λ x. (x ++ k.holder) ++ c.args.parts.now) c.journal.invariant
     ∙ ap (λ x. ((journal_item j.log j.kept ∷ []) ++ x) ++ c.args.parts.now) c.caller.invariant
     ∙ ap (λ x. (journal_item j.log j.kept ∷ caller_item k.number (receipts_of k.holder) ∷ []) ++ x) m.1 in
-    record { changes = commits_at (g.M.World.step c.args.history.now.about) g.M.World.kept g.M.World.same g.M.World.fits (g.M.World.opening c.args.history.now.about) c.args.history.now.callers j.log j.kept c.renew.new.kept k.number (receipts_of k.holder) m.0 g.Q.Holding.items c.args.draft.told ((j.holder ++ k.holder) ++ c.args.parts.now) (rw (c.renew.ensures, ap (λ v. v.1) c.journal.view_is) m.2) is }
+    record {
+      changes =
+          commits_at (g.M.World.step c.args.history.now.about) g.M.World.kept g.M.World.same g.M.World.fits
+          (g.M.World.opening c.args.history.now.about) c.args.history.now.callers j.log j.kept c.renew.new.kept k.number
+          (receipts_of k.holder) m.0 g.Q.Holding.items c.args.draft.reported ((j.holder ++ k.holder) ++ c.args.parts.now)
+          (rw (c.renew.ensures, ap (λ v. v.1) c.journal.view_is) m.2) is;
+    }

@@ -14,14 +14,24 @@ loop-k-init g c = record {
 pub find-at-requires : goal.find-at-requires
 find-at-requires g c =
     let low : c.loop-k.k < length c.loop-k.items = omega (arith, c.loop-k-test.true, c.loop-k.invariant.long) in
-    record { there = not_before g.T.Placed.place c.loop-k.items c.loop-k.k c.loop-k.invariant.placed (c.loop-k.invariant.each c.loop-k.k low) }
+    record {
+      there =
+          not_before g.T.Placed.place c.loop-k.items c.loop-k.k c.loop-k.invariant.placed
+          (c.loop-k.invariant.each c.loop-k.k low);
+    }
 
 pub loop-k-preserved : goal.loop-k-preserved
 loop-k-preserved g c =
     let low : c.loop-k.k < length c.loop-k.items = omega (arith, c.loop-k-test.true, c.loop-k.invariant.long) in
     record {
       long = c.swap.ensures.len ∙ c.loop-k.invariant.long;
-      placed = more_placed g.T.Placed.place c.loop-k.items c.swap.new.self c.loop-k.k c.find-at.result low c.find-at.ensures.after c.swap.ensures.len c.find-at.ensures.found c.swap.ensures.by_index c.loop-k.invariant.placed;
-      each = still_all g.T.Placed.place c.loop-k.items c.swap.new.self c.loop-k.k c.find-at.result low c.find-at.ensures.after c.swap.ensures.len c.find-at.ensures.found c.swap.ensures.by_index c.loop-k.invariant.each;
-      came = still_from g.T.Placed.place c.loop-k.items c.swap.new.self c.loop-k.k c.find-at.result low c.find-at.ensures.after c.swap.ensures.len c.find-at.ensures.found c.swap.ensures.by_index c.args.items.now c.loop-k.invariant.came;
+      placed =
+          more_placed g.T.Placed.place c.loop-k.items c.swap.new.self c.loop-k.k c.find-at.result low c.find-at.ensures.after
+          c.swap.ensures.len c.find-at.ensures.found c.swap.ensures.by_index c.loop-k.invariant.placed;
+      each =
+          still_all g.T.Placed.place c.loop-k.items c.swap.new.self c.loop-k.k c.find-at.result low c.find-at.ensures.after
+          c.swap.ensures.len c.find-at.ensures.found c.swap.ensures.by_index c.loop-k.invariant.each;
+      came =
+          still_from g.T.Placed.place c.loop-k.items c.swap.new.self c.loop-k.k c.find-at.result low c.find-at.ensures.after
+          c.swap.ensures.len c.find-at.ensures.found c.swap.ensures.by_index c.args.items.now c.loop-k.invariant.came;
     }

@@ -5,6 +5,8 @@ use Rattle.bq_hooks.proofs.fields.put_figures.Goals as goal
 pub returns : goal.returns
 returns c =
     record {
-      filled = three_filled c.args.at c.args.context.now c.put_u32.new.context c.put_u32-2.new.context c.put_u64.new.context (u32_bytes c.args.id) (u32_bytes c.args.weight) (u64_bytes c.args.v)
-          c.put_u32.ensures.filled c.put_u32-2.ensures.filled c.put_u64.ensures.filled;
+      filled =
+          three_filled c.args.at c.args.context.now c.put_u32.new.context c.put_u32-2.new.context c.put_u64.new.context
+          (u32_bytes c.args.id) (u32_bytes c.args.weight) (u64_bytes c.args.v) c.put_u32.ensures.filled
+          c.put_u32-2.ensures.filled c.put_u64.ensures.filled;
     }

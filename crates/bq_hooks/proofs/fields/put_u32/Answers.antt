@@ -8,4 +8,8 @@ pub returns : goal.returns
 returns c =
     let at = c.args.at in
     let xs = c.args.context.now in
-    record { filled = filled_behind at 4 (length xs - at) xs c.write_u32.new.buf (u32_bytes c.args.number) (drop 4 (mid_of at (length xs - at) xs)) c.write_u32.ensures refl (omega (arith, c.requires)) }
+    record {
+      filled =
+          filled_behind at 4 (length xs - at) xs c.write_u32.new.buf (u32_bytes c.args.number)
+          (drop 4 (mid_of at (length xs - at) xs)) c.write_u32.ensures refl (omega (arith, c.requires));
+    }

@@ -8,4 +8,8 @@ pub returns : goal.returns
 returns c =
     let at = c.args.at in
     let xs = c.args.context.now in
-    record { filled = filled_behind at 8 (length xs - at) xs c.write_u64.new.buf (u64_bytes c.args.number) (drop 8 (mid_of at (length xs - at) xs)) c.write_u64.ensures refl (omega (arith, c.requires)) }
+    record {
+      filled =
+          filled_behind at 8 (length xs - at) xs c.write_u64.new.buf (u64_bytes c.args.number)
+          (drop 8 (mid_of at (length xs - at) xs)) c.write_u64.ensures refl (omega (arith, c.requires));
+    }

@@ -16,5 +16,6 @@ pub returns-clause-below : goal.returns-clause-below
 returns-clause-below c =
     let t = c.args.task.now in
     let loads = c.args.loads.now in
-    let own : Some c.in-Some.place ≡ own_place c.args.count loads t = sym c.in-Some.is ∙ (rw (c.prev.ensures, c.mask.ensures) at c.first_place.ensures) in
+    let own : Some c.in-Some.place ≡ own_place c.args.count loads t =
+    sym c.in-Some.is ∙ (rw (c.prev.ensures, c.mask.ensures) at c.first_place.ensures) in
     own_place_below c.args.count loads t c.in-Some.place c.requires.usable own

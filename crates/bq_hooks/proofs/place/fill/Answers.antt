@@ -5,8 +5,10 @@ use Rattle.bq_hooks.proofs.place.fill.Goals as goal
 
 pub loop-processor-preserved : goal.loop-processor-preserved
 loop-processor-preserved c =
-    load_filled c.args.limit c.args.facts.now c.loop-processor.processor c.from.result c.loop-processor.context c.put_u32.new.context c.loop-processor.invariant
-    (c.from.ensures ∙ c.get.ensures ∙ ap (λ (x : PlaceFacts). slice_index x.loads c.loop-processor.processor) c.facts.view_is) c.put_u32.ensures.filled
+    load_filled c.args.limit c.args.facts.now c.loop-processor.processor c.from.result
+    c.loop-processor.context c.put_u32.new.context c.loop-processor.invariant
+    (c.from.ensures ∙ c.get.ensures ∙ ap (λ (x : PlaceFacts). slice_index x.loads c.loop-processor.processor) c.facts.view_is)
+    c.put_u32.ensures.filled
 
 pub returns : goal.returns
 returns c =

@@ -21,10 +21,11 @@ loop-at-init g c =
       own = c.args.facts.now.own;
     } in
     let shown = c.len.ensures.value ∙ ap length c.movable-movable.ensures.first ∙ length-shown movable in
-    let filled = pull_header_filled f c.args.context.now c.put_four.new.context c.put_four-2.new.context
-    c.from.result c.from-2.result c.args.facts.now.puller_size c.args.facts.now.source_size c.movable-movable.result.count c.len.result c.or_nobody.result
-    c.from.ensures c.from-2.ensures refl refl c.put_four.ensures.filled
-    c.movable-movable.ensures.count shown c.or_nobody.ensures c.put_four-2.ensures.filled in
+    let filled =
+    pull_header_filled f c.args.context.now c.put_four.new.context c.put_four-2.new.context c.from.result c.from-2.result
+    c.args.facts.now.puller_size c.args.facts.now.source_size c.movable-movable.result.count c.len.result c.or_nobody.result
+    c.from.ensures c.from-2.ensures refl refl c.put_four.ensures.filled c.movable-movable.ensures.count shown
+    c.or_nobody.ensures c.put_four-2.ensures.filled in
     record {
       filled = filled ∙ sym (append-nil (pull_header f));
       long = omega (arith, c.put_four.auto.context, c.put_four-2.auto.context, c.fits-context);
@@ -42,12 +43,17 @@ loop-at-preserved g c =
       movable = movable;
       own = c.args.facts.now.own;
     } in
-    let shown = shown_at queue movable 8 c.loop-at.at (movable_found c.args.facts.now.puller queue c.requires.distinct) c.loop-at-test.true in
+    let shown =
+    shown_at queue movable 8 c.loop-at.at (movable_found c.args.facts.now.puller queue c.requires.distinct)
+    c.loop-at-test.true in
     let at_id : List ℕ → Option Task = λ xs. option_and_then (λ id. with_id id queue) (slice_get xs c.loop-at.at) in
-    let named : at_id c.as_slice.result.now ≡ slice_get movable c.loop-at.at = ap at_id (c.as_slice.ensures.value ∙ c.movable-movable.ensures.first) ∙ shown in
+    let named : at_id c.as_slice.result.now ≡ slice_get movable c.loop-at.at =
+    ap at_id (c.as_slice.ensures.value ∙ c.movable-movable.ensures.first) ∙ shown in
     let task = ◌∙◌ {b = at_id c.as_slice.result.now} c.shown-task.ensures named in
     record {
-      filled = task_filled f c.loop-at.at _ c.loop-at.context c.put_task.new.context c.loop-at.invariant.filled task c.put_task.ensures.filled;
+      filled =
+          task_filled f c.loop-at.at _ c.loop-at.context c.put_task.new.context c.loop-at.invariant.filled task
+          c.put_task.ensures.filled;
       long = c.put_task.auto.context ∙ c.loop-at.invariant.long;
     }
 

@@ -15,6 +15,7 @@ invariant-loop-at g l =
       own = l.facts.own;
     } in
     record {
-      filled : take (32 + 16 * l.at) l.context ≡ pull_header f ++ flat_map (λ k. task_bytes 0 (slice_get f.movable k)) (range_with_len 0 l.at);
+      filled : take (32 + 16 * l.at) l.context
+          ≡ pull_header f ++ flat_map (λ k. task_bytes 0 (slice_get f.movable k)) (range_with_len 0 l.at);
       long : length l.context ≡ 160;
     }

@@ -10,7 +10,8 @@ loop-slot-preserved c = below_more _ _ c.loop-slot.invariant c.in_ok-slot_leads_
 pub returns-in_err-slot_leads_well-clause-err : goal.returns-in_err-slot_leads_well-clause-err
 returns-in_err-slot_leads_well-clause-err c =
     let p = err_from_is_err_and c.from_residual.result c.from_residual.ensures.1 in
-    rw (p.1, p.2) (first_wrong c.args.slots.now c.loop-slot.slot c.in_err-slot_leads_well.field-0.0 c.loop-slot.invariant c.in_err-slot_leads_well.ensures.err)
+    rw (p.1, p.2) (first_wrong c.args.slots.now c.loop-slot.slot c.in_err-slot_leads_well.field-0.0
+    c.loop-slot.invariant c.in_err-slot_leads_well.ensures.err)
 
 pub returns-clause-ok : goal.returns-clause-ok
 returns-clause-ok c = record {

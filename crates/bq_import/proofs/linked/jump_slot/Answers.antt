@@ -10,5 +10,6 @@ unreachable-requires c =
     let fits : SFits w64 c.in-Some.distance = search rules in
     let same : to_z w64 (of_z w64 c.in-Some.distance) ≡ c.in-Some.distance = omega (arith, ints) in
     let there = (c.requires.linked.leads c.args.slot c.args.insn c.requires.here).1 c.in-Some.distance (sym c.in-Some.ensures) in
-    let none : (to : ℕ) → LeadsTo c.args.slot c.in-Some.distance to → IsStart c.args.slots.now to → ⊥ = rw same at c.in_default-landing.ensures.none in
+    let none : (to : ℕ) → LeadsTo c.args.slot c.in-Some.distance to → IsStart c.args.slots.now to → ⊥ =
+    rw same at c.in_default-landing.ensures.none in
     none there.0 there.1 there.2

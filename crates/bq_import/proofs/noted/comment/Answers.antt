@@ -7,4 +7,5 @@ use Rattle.bq_import.proofs.noted.comment.Goals as goal
 pub returns : goal.returns
 returns c =
     let words = string_bytes c.args.words.now in
-    IfOk-weaker c.format.result (λ note. string_bytes note ≡ codes "; " ++ (words ++ codes "\n")) (λ note. IsNote (string_bytes note)) (λ note is. inr (words, c.requires, is)) c.format.ensures.ok
+    IfOk-weaker c.format.result (λ note. string_bytes note ≡ codes "; " ++ (words ++ codes "\n"))
+    (λ note. IsNote (string_bytes note)) (λ note is. inr (words, c.requires, is)) c.format.ensures.ok

@@ -12,14 +12,16 @@ kept-requires-clause-linked c =
     let p = c.requires.copy in
     let first = c.args.searched.now in
     let same = c.as_slice-2.ensures.value ∙ (c.in_ok-slots.ensures ∙ ap spread c.as_slice.ensures.value) in
-    subst (λ (s : List (Option Insn)). IsLinked s) (sym same) (copy_linked p.0 p.1 first.insns.items first.origins.items p.2 c.requires.well_formed c.requires.numbers)
+    subst (λ (s : List (Option Insn)). IsLinked s) (sym same)
+    (copy_linked p.0 p.1 first.insns.items first.origins.items p.2 c.requires.well_formed c.requires.numbers)
 
 pub kept-requires-clause-forward : goal.kept-requires-clause-forward
 kept-requires-clause-forward c =
     let p = c.requires.copy in
     let first = c.args.searched.now in
     let same = c.as_slice-2.ensures.value ∙ (c.in_ok-slots.ensures ∙ ap spread c.as_slice.ensures.value) in
-    subst (λ (s : List (Option Insn)). AllForward s) (sym same) (copy_forward p.0 p.1 first.insns.items first.origins.items p.2 c.requires.well_formed c.requires.numbers)
+    subst (λ (s : List (Option Insn)). AllForward s) (sym same)
+    (copy_forward p.0 p.1 first.insns.items first.origins.items p.2 c.requires.well_formed c.requires.numbers)
 
 pub returns-clause-copy : goal.returns-clause-copy
 returns-clause-copy c = λ maps old p.
@@ -30,6 +32,7 @@ returns-clause-copy c = λ maps old p.
     subst (λ (s : List (Option Insn)). IsCopy 0 s (spread kept.insns.items) kept.origins.items) same c.in_ok-insns.ensures.copy in
     let composed : AreComposed first.origins.items kept.origins.items c.in_ok-origins.origins.items =
     subst (λ (xs : List ℕ). AreComposed xs kept.origins.items c.in_ok-origins.origins.items) c.as_slice-3.ensures.value
-    (subst (λ (ys : List ℕ). AreComposed c.as_slice-3.result.now ys c.in_ok-origins.origins.items) c.as_slice-4.ensures.value c.in_ok-origins.ensures) in
-    copy_of_copy maps old (spread first.insns.items) (spread kept.insns.items) first.origins.items kept.origins.items c.in_ok-origins.origins.items p second composed
-    c.in_ok-insns.ensures.long
+    (subst (λ (ys : List ℕ). AreComposed c.as_slice-3.result.now ys c.in_ok-origins.origins.items)
+    c.as_slice-4.ensures.value c.in_ok-origins.ensures) in
+    copy_of_copy maps old (spread first.insns.items) (spread kept.insns.items) first.origins.items kept.origins.items
+    c.in_ok-origins.origins.items p second composed c.in_ok-insns.ensures.long

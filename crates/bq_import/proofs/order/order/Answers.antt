@@ -6,4 +6,5 @@ use Rattle.bq_import.proofs.order.order.Goals as goal
 
 pub returns-clause-disorder : goal.returns-clause-disorder
 returns-clause-disorder c =
-    subst (λ (s : List (Option Insn)). IfErr c.order_slots.result (IsDisorder s)) (c.as_slice.ensures.value ∙ c.in_ok-slots.ensures) c.order_slots.ensures.disorder
+    subst (λ (s : List (Option Insn)). IfErr c.order_slots.result (IsDisorder s))
+    (c.as_slice.ensures.value ∙ c.in_ok-slots.ensures) c.order_slots.ensures.disorder

@@ -24,7 +24,8 @@ returns-clause-copy c =
     let ordered = c.in_ok-ordered.ordered in
     let built = c.in_ok-run.ensures.built in
     let turned = c.in_ok-ordered.ensures in
-    subst (λ (xs : List (Option Insn)). IsCopy c.args.maps c.args.slots.now xs ordered.origins.items) (sym (ap spread turned.insns ∙ built.spread_is))
+    subst (λ (xs : List (Option Insn)). IsCopy c.args.maps c.args.slots.now xs ordered.origins.items)
+    (sym (ap spread turned.insns ∙ built.spread_is))
     (subst (λ (ys : List ℕ). IsCopy c.args.maps c.args.slots.now (reverse back) ys) (sym turned.origins)
     (is_copy c.args.maps c.args.slots.now back origins built c.in_ok-run.ensures.front))
 

@@ -27,7 +27,9 @@ loop-rest-preserved c =
     let before = c.loop-rest.invariant in
     record {
       ranged = grind (arith, common_steps);
-      numbers = subst (λ (l : List Insn). AllFit l) (sym c.in_ok-push.ensures.items) (numbers_more c.loop-rest.insns.items c.in-Ok.insn before.numbers c.in-Ok.ensures.ok.numbers);
+      numbers =
+          subst (λ (l : List Insn). AllFit l) (sym c.in_ok-push.ensures.items)
+          (numbers_more c.loop-rest.insns.items c.in-Ok.insn before.numbers c.in-Ok.ensures.ok.numbers);
       slots = grind (arith, common_steps);
       spelled = grind (arith, common_steps);
       left = grind (arith, common_steps);

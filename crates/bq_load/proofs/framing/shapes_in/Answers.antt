@@ -13,5 +13,7 @@ loop-rest-preserved c =
     let some : 0 < length c.loop-rest.rest.now = grind (arith, nat_tests) in
     record {
       left = shape_read c.loop-rest.rest.now c.in_ok-first.after.now some c.loop-rest.invariant.left c.in_ok-first.ensures.read;
-      so_far = rw c.in_ok-push.ensures.items (shapes_more c.args.bytes.now c.loop-rest.rest.now c.in_ok-first.after.now c.loop-rest.shapes.items c.in_ok-first.first c.loop-rest.invariant.so_far c.in_ok-first.ensures.spelled);
+      so_far =
+          rw c.in_ok-push.ensures.items (shapes_more c.args.bytes.now c.loop-rest.rest.now c.in_ok-first.after.now
+          c.loop-rest.shapes.items c.in_ok-first.first c.loop-rest.invariant.so_far c.in_ok-first.ensures.spelled);
     }

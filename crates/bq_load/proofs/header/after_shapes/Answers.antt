@@ -6,11 +6,14 @@ use Rattle.bq_load.proofs.header.after_shapes.Goals as goal
 pub returns-in_err-after-clause-read : goal.returns-in_err-after-clause-read
 returns-in_err-after-clause-read c =
     let p = err_from_is_err_and c.from_residual.result c.from_residual.ensures.1 in
-    rw (p.1, p.2) (shapes_fail c.args.count c.loop.counter c.loop.rest.now c.args.bytes.now c.in_err-after.field-0.0 c.loop-test.true c.in_err-after.ensures.read c.loop.invariant.same)
+    rw (p.1, p.2) (shapes_fail c.args.count c.loop.counter c.loop.rest.now c.args.bytes.now c.in_err-after.field-0.0
+    c.loop-test.true c.in_err-after.ensures.read c.loop.invariant.same)
 
 pub loop-preserved : goal.loop-preserved
 loop-preserved c = record {
-  same = shapes_on c.args.count c.loop.counter c.loop.rest.now c.in_ok-after.after.now c.args.bytes.now c.loop-test.true c.in_ok-after.ensures.read c.loop.invariant.same;
+  same =
+      shapes_on c.args.count c.loop.counter c.loop.rest.now c.in_ok-after.after.now c.args.bytes.now c.loop-test.true
+      c.in_ok-after.ensures.read c.loop.invariant.same;
   length = omega (arith, shape_length c.loop.rest.now c.in_ok-after.after.now c.in_ok-after.ensures.read, c.loop.invariant.length);
 }
 

@@ -14,7 +14,8 @@ shapes_in-requires c = (c.in_ok-header.ensures.ok.frames.shapes, c.in_ok-header.
 pub returns-in_err-shapes-clause-unread : goal.returns-in_err-shapes-clause-unread
 returns-in_err-shapes-clause-unread c =
     let p = err_from_is_err_and c.from_residual-in_err-shapes.result c.from_residual-in_err-shapes.ensures.1 in
-    rw (p.1, p.2, c.in_err-shapes.ensures.err) (has_image c.args.bytes.now (spelled_of c.in_ok-header.header) c.in_ok-header.program.now c.in_ok-header.ensures.ok)
+    rw (p.1, p.2, c.in_err-shapes.ensures.err)
+    (has_image c.args.bytes.now (spelled_of c.in_ok-header.header) c.in_ok-header.program.now c.in_ok-header.ensures.ok)
 
 pub returns-in_err-program-clause-unread : goal.returns-in_err-program-clause-unread
 returns-in_err-program-clause-unread c =
@@ -23,9 +24,13 @@ returns-in_err-program-clause-unread c =
 
 pub returns-clause-image : goal.returns-clause-image
 returns-clause-image c =
-    rw c.in_ok-program.ensures.items (is_image c.args.bytes.now (spelled_of c.in_ok-header.header) c.in_ok-header.program.now c.in_ok-shapes.shapes.items c.in_ok-header.ensures.ok c.in_ok-shapes.ensures.ok)
+    rw c.in_ok-program.ensures.items
+    (is_image c.args.bytes.now (spelled_of c.in_ok-header.header) c.in_ok-header.program.now c.in_ok-shapes.shapes.items
+    c.in_ok-header.ensures.ok c.in_ok-shapes.ensures.ok)
 
 pub invariant_of-form : goal.invariant_of-form
 invariant_of-form c = record {
-  few = (is_image c.args.bytes.now (spelled_of c.in_ok-header.header) c.in_ok-header.program.now c.in_ok-shapes.shapes.items c.in_ok-header.ensures.ok c.in_ok-shapes.ensures.ok).framed.header.few;
+  few =
+      (is_image c.args.bytes.now (spelled_of c.in_ok-header.header) c.in_ok-header.program.now c.in_ok-shapes.shapes.items
+      c.in_ok-header.ensures.ok c.in_ok-shapes.ensures.ok).framed.header.few;
 }

@@ -17,7 +17,9 @@ loop-shape-preserved c =
     let index : ℕ = c.loop-shape.shape-index in
     let before : List ℕ = c.args.out.now.items in
     let passed : List MapShape = take index c.args.shapes.now in
-    let more : take (index + 1) c.args.shapes.now ≡ passed ++ c.shape-item.result ∷ [] = take_more c.args.shapes.now index c.shape-item.result (omega arith) ∙ ap (λ (s : MapShape). passed ++ s ∷ []) (sym c.shape-item.is) in
+    let more : take (index + 1) c.args.shapes.now ≡ passed ++ c.shape-item.result ∷ [] =
+    take_more c.args.shapes.now index c.shape-item.result (omega arith)
+    ∙ ap (λ (s : MapShape). passed ++ s ∷ []) (sym c.shape-item.is) in
     c.in_ok-extend_from_slice.ensures.items ∙ ap (λ (b : List ℕ). c.loop-shape.out.items ++ b) c.bytes_of.ensures
     ∙ ap (λ (o : List ℕ). o ++ shape_bytes c.shape-item.result) c.loop-shape.invariant
     ∙ flat_map_more shape_bytes before passed c.shape-item.result

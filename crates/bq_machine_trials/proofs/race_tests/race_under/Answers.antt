@@ -19,7 +19,9 @@ metronome_sync = search (crosses, sendable) depth 20
 pub map_vec-requires-sync-F : goal.map_vec-requires-sync-F
 map_vec-requires-sync-F g c κs within =
     let t = c.type_bounds.sync-T in
-    let m = machine_sync (param 0 g.row.Q) Metronome.the_row (param 1 g.row.N) (number 64) (param 3 g.row.Q-R) metronome.ghosts g.N.Naming g.N.Counting g.Q.RunQueue g.Q.R.Discipline c.type_bounds.send-Q metronome_sync in
+    let m =
+    machine_sync (param 0 g.row.Q) Metronome.the_row (param 1 g.row.N) (number 64) (param 3 g.row.Q-R) metronome.ghosts
+    g.N.Naming g.N.Counting g.Q.RunQueue g.Q.R.Discipline c.type_bounds.send-Q metronome_sync in
     search (crosses, sendable) depth 20
 
 -- a seat with its seed

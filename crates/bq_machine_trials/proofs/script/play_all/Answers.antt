@@ -35,7 +35,9 @@ clock_sync = search (gate.the_send, gate.the_sync, crosses, sendable) depth 40
 pub map_vec-requires-sync-F : goal.map_vec-requires-sync-F
 map_vec-requires-sync-F g c κs within =
     let t = c.type_bounds.sync-R in
-    let m = machine_sync Held.the_row Counted.the_row (param 0 g.row.N) (number 4) Cfs.the_row clock.ghosts g.N.Naming g.N.Counting held.ghosts cfs.ghosts held_send clock_sync in
+    let m =
+    machine_sync Held.the_row Counted.the_row (param 0 g.row.N) (number 4) Cfs.the_row clock.ghosts g.N.Naming g.N.Counting
+    held.ghosts cfs.ghosts held_send clock_sync in
     search (crosses, sendable) depth 20
 
 receipt_send : IsSend (Receipt.the_row Record.the_row)
@@ -43,11 +45,13 @@ receipt_send = search (receipt.the_send, record_send) depth 10
 
 -- a seat with what it is to do
 job_send : (N : RattleType) (n : Naming.Ghosts N.Denot) (m : Counting.Ghosts N.Denot) → IsSend (Job.the_row N n m)
-job_send N n m = declared_send (Job.the_type N n m) (seat_send N n m, (search (gate.the_send, gate.the_sync, crosses, sendable) depth 80 fits 20000, tt))
+job_send N n m = declared_send (Job.the_type N n m)
+    (seat_send N n m, (search (gate.the_send, gate.the_sync, crosses, sendable) depth 80 fits 20000, tt))
 
 -- a seat that has come back, with its receipts
 played_send : (N : RattleType) (n : Naming.Ghosts N.Denot) (m : Counting.Ghosts N.Denot) → IsSend (Played.the_row N n m)
-played_send N n m = declared_send (Played.the_type N n m) (seat_send N n m, (Vec-send (Receipt.the_row Record.the_row) receipt_send, (search (crosses, sendable) depth 10, tt)))
+played_send N n m = declared_send (Played.the_type N n m)
+    (seat_send N n m, (Vec-send (Receipt.the_row Record.the_row) receipt_send, (search (crosses, sendable) depth 10, tt)))
 
 pub map_vec-requires-send-X : goal.map_vec-requires-send-X
 map_vec-requires-send-X g c κs within = search (played_send, crosses, sendable) depth 40
@@ -57,5 +61,6 @@ map_vec-requires-send-J g c κs within = search (job_send, sendable) depth 20
 
 pub close-closed-requires : goal.close-closed-requires
 close-closed-requires g c =
-    let owned : EachOnce c.expect-machine.result.0.recorder.history.callers c.in_turn-2.new.self.seats.items = rw (← c.deref.ensures.value) (c.owns.ensures.0 c.if-not-owns.false) in
+    let owned : EachOnce c.expect-machine.result.0.recorder.history.callers c.in_turn-2.new.self.seats.items =
+    rw (← c.deref.ensures.value) (c.owns.ensures.0 c.if-not-owns.false) in
     (search rules, (omega arith, owned))

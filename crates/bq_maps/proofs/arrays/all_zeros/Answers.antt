@@ -10,11 +10,18 @@ loop-shape-preserved c =
     let before = c.loop-shape.invariant in
     let size : ℕ = c.from.result * c.from-in-loop-shape.result in
     let all : c.push.new.self.items ≡ c.loop-shape.all.items ++ c.in_ok-zeros.field-0 ∷ [] = c.in_ok-push.ensures.items in
-    let contents : map f c.push.new.self.items ≡ map f c.loop-shape.all.items ++ replicate size 0 ∷ [] = ap (map f) all ∙ map_push f c.loop-shape.all.items c.in_ok-zeros.field-0 ∙ ap (λ (l : List ℕ). map f c.loop-shape.all.items ++ l ∷ []) c.in_ok-zeros.ensures in
+    let contents : map f c.push.new.self.items ≡ map f c.loop-shape.all.items ++ replicate size 0 ∷ [] =
+    ap (map f) all ∙ map_push f c.loop-shape.all.items c.in_ok-zeros.field-0
+    ∙ ap (λ (l : List ℕ). map f c.loop-shape.all.items ++ l ∷ []) c.in_ok-zeros.ensures in
     let more = take_more c.args.shapes.now c.loop-shape.shape-index c.shape-item.result (omega arith) in
-    let shapes : take (c.loop-shape.shape-index + 1) c.args.shapes.now ≡ take c.loop-shape.shape-index c.args.shapes.now ++ c.shape-item.result ∷ [] = more ∙ ap (λ (s : MapShape). take c.loop-shape.shape-index c.args.shapes.now ++ s ∷ []) (sym c.shape-item.is) in
-    let sized : length (replicate {A = ℕ} size 0) ≡ c.shape-item.result.value_size * c.shape-item.result.entries = length-replicate {A = ℕ} size 0 ∙ rw (c.from.ensures, c.from-in-loop-shape.ensures) refl in
+    let shapes : take (c.loop-shape.shape-index + 1) c.args.shapes.now
+    ≡ take c.loop-shape.shape-index c.args.shapes.now ++ c.shape-item.result ∷ [] =
+    more ∙ ap (λ (s : MapShape). take c.loop-shape.shape-index c.args.shapes.now ++ s ∷ []) (sym c.shape-item.is) in
+    let sized : length (replicate {A = ℕ} size 0) ≡ c.shape-item.result.value_size * c.shape-item.result.entries =
+    length-replicate {A = ℕ} size 0 ∙ rw (c.from.ensures, c.from-in-loop-shape.ensures) refl in
     record {
-      have = rw (shapes, contents) (have_more (take c.loop-shape.shape-index c.args.shapes.now) (map f c.loop-shape.all.items) c.shape-item.result (replicate size 0) before.have sized (zeros_are_bytes size));
+      have =
+          rw (shapes, contents) (have_more (take c.loop-shape.shape-index c.args.shapes.now) (map f c.loop-shape.all.items)
+          c.shape-item.result (replicate size 0) before.have sized (zeros_are_bytes size));
       zero = rw contents (zero_more (map f c.loop-shape.all.items) size before.zero);
     }

@@ -10,4 +10,5 @@ returns-then-is_followed c =
     let off = c.args.access.off in
     let fits : SFits w16 off = search rules in
     let same : to_z w16 (of_z w16 off) ≡ off = omega (arith, ints) in
-    range_of_followed off c.args.pointer.offset (Follows c.args.pointer.kind) (c.if-is_followed.ensures.0 refl) c.moved.result (rw same at c.moved.ensures.range) (rw same at c.moved.ensures.wraps)
+    range_of_followed off c.args.pointer.offset (Follows c.args.pointer.kind) (c.if-is_followed.ensures.0 refl) c.moved.result
+    (rw same at c.moved.ensures.range) (rw same at c.moved.ensures.wraps)

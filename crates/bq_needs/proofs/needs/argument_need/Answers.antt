@@ -23,4 +23,5 @@ of_call p state helper (Some n) (a, is, bad) = ((a, is, bad), λ gives. bad.not_
 pub returns-in-Call : goal.returns-in-Call
 returns-in-Call c =
     let fits : SFits w32 c.in-Call.helper = search rules in
-    rw c.in-Call.is (of_call c.args.policy.now c.args.state.now c.in-Call.helper c.call_need.result (simp (to_z-of_z fits) at c.call_need.ensures))
+    rw c.in-Call.is
+    (of_call c.args.policy.now c.args.state.now c.in-Call.helper c.call_need.result (simp (to_z-of_z fits) at c.call_need.ensures))

@@ -7,6 +7,7 @@ use Rattle.bq_needs.proofs.words.need_text.Goals as goal
 pub returns-in-Map : goal.returns-in-Map
 returns-in-Map c =
     let fits : SFits w32 c.in-Map.index = search rules in
-    let told : IfOk c.map_text.result (λ text. string_bytes text ≡ map_text c.in-Map.index c.len.result) = simp (to_z-of_z fits) at c.map_text.ensures in
+    let described : IfOk c.map_text.result (λ text. string_bytes text ≡ map_text c.in-Map.index c.len.result) =
+    simp (to_z-of_z fits) at c.map_text.ensures in
     let count : c.len.result ≡ length c.args.policy.now.form.shapes.items = search rules in
-    rw c.in-Map.is (subst (λ (n : ℕ). IfOk c.map_text.result (λ text. string_bytes text ≡ map_text c.in-Map.index n)) count told)
+    rw c.in-Map.is (subst (λ (n : ℕ). IfOk c.map_text.result (λ text. string_bytes text ≡ map_text c.in-Map.index n)) count described)

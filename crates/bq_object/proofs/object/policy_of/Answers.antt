@@ -18,5 +18,8 @@ returns-clause-err c =
     if_err_weaker
     (IsFunctionFault c.args.file.now c.in_ok-headers.headers.now c.in_ok-tables.tables.entries.now c.in_ok-tables.tables.names.now)
     (IsObjectFault c.args.file.now) c.function.result
-    (λ fault wrong. inr (c.in_ok-headers.headers.now, c.in_ok-headers.ensures.ok, inr (c.in_ok-tables.tables.entries.now, c.in_ok-tables.tables.names.now, c.in_ok-tables.ensures.ok, wrong)))
-    c.function.ensures.err
+    (λ fault wrong. inr (
+      c.in_ok-headers.headers.now,
+      c.in_ok-headers.ensures.ok,
+      inr (c.in_ok-tables.tables.entries.now, c.in_ok-tables.tables.names.now, c.in_ok-tables.ensures.ok, wrong),
+    )) c.function.ensures.err

@@ -4,7 +4,9 @@ use Rattle.bq_object.proofs.object.read_tables.Goals as goal
 
 pub returns-in_default-contents-2-clause-err : goal.returns-in_default-contents-2-clause-err
 returns-in_default-contents-2-clause-err c =
-    let linked = subst (λ (k : ℕ). IsSection c.args.headers.now k c.in-Some-section_at.strings) c.from.ensures c.in-Some-section_at.ensures.some in
+    let linked =
+    subst (λ (k : ℕ). IsSection c.args.headers.now k c.in-Some-section_at.strings) c.from.ensures
+    c.in-Some-section_at.ensures.some in
     (c.in-Some.table, c.in-Some.ensures.some, inr (c.in-Some-section_at.strings, linked, c.in_default-contents-2.ensures.none))
 
 pub returns-clause-ok : goal.returns-clause-ok

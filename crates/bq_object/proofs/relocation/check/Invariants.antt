@@ -6,4 +6,5 @@ use Rattle.bq_object.proofs.relocation.check.Given as goal
 
 -- no section so far changes the function
 abbrev pub invariant-loop-index : goal.invariant-loop-index
-invariant-loop-index l = (k : ℕ) → k < l.index → (section : Section) → IsSection l.headers k section → IsSectionClear l.file section l.policy
+invariant-loop-index l =
+    (k : ℕ) → k < l.index → (section : Section) → IsSection l.headers k section → IsSectionClear l.file section l.policy

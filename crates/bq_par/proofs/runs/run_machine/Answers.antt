@@ -16,5 +16,10 @@ drive_all-requires-clause-fresh g c κs within = (
 pub finish-requires : goal.finish-requires
 finish-requires g c =
     let seats = ap (λ l. length l) c.in_ok-machine.ensures.seats in
-    let fresh = fresh_many Record 0 g.row.P in
-    (search rules, (c.in_ok-machine.ensures.about.1, (omega (arith, c.in_ok-done.ensures.many, c.in_ok-machine.seats.ok.0, seats, fresh), c.in_ok-done.ensures.shifts)))
+    let fresh = fresh_many Record 0 g.row.P in (
+      search rules,
+      (
+        c.in_ok-machine.ensures.about.1,
+        (omega (arith, c.in_ok-done.ensures.many, c.in_ok-machine.seats.ok.0, seats, fresh), c.in_ok-done.ensures.shifts),
+      ),
+    )

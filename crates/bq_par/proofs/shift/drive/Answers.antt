@@ -15,4 +15,5 @@ returns-clause-shift g c =
       started = c.in_ok-start.ensures.start;
       ticked = c.in_ok-tick_all.ensures.ticks;
     } in
-    subst (λ (s : ℕ × List (Receipt Record)). IsShift s.0 c.args.ticks s.1) (sym c.in_ok-tick_all.ensures.held) (subst (λ (k : ℕ). IsShift k c.args.ticks all) (sym own) shift)
+    subst (λ (s : ℕ × List (Receipt Record)). IsShift s.0 c.args.ticks s.1) (sym c.in_ok-tick_all.ensures.held)
+    (subst (λ (k : ℕ). IsShift k c.args.ticks all) (sym own) shift)

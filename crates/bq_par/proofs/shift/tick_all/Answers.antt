@@ -11,5 +11,7 @@ ticks-preserved g c =
     let event = c.in_ok-ticked.ensures.event in
     record {
       held = search rules;
-      ticked = rw c.in_ok-keep.ensures (one_more c.args.duty.now.processor c.ticks.counter c.args.receipts.now.items c.ticks.receipts.items c.in_ok-ticked.ticked (event.0, event.2) c.ticks.invariant.ticked);
+      ticked =
+          rw c.in_ok-keep.ensures (one_more c.args.duty.now.processor c.ticks.counter c.args.receipts.now.items
+          c.ticks.receipts.items c.in_ok-ticked.ticked (event.0, event.2) c.ticks.invariant.ticked);
     }

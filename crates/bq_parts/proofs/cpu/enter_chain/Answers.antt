@@ -16,6 +16,10 @@ loop-node-preserved g c =
     record {
       straight = c.in-Some.ensures.straight;
       same_mark = c.insert.ensures.mark ∙ c.loop-node.invariant.same_mark;
-      goes_on = rw (c.insert.ensures.members, new, c.loop-node.invariant.same_mark) (rw c.in-Some.ensures.tasks at c.loop-node.invariant.goes_on);
-      apart = λ id. rw (c.insert.ensures.members, new, count_of-place) (omega (arith, rw c.in-Some.ensures.tasks at (c.loop-node.invariant.apart id)));
+      goes_on =
+          rw (c.insert.ensures.members, new, c.loop-node.invariant.same_mark)
+          (rw c.in-Some.ensures.tasks at c.loop-node.invariant.goes_on);
+      apart = λ id.
+          rw (c.insert.ensures.members, new, count_of-place)
+          (omega (arith, rw c.in-Some.ensures.tasks at (c.loop-node.invariant.apart id)));
     }

@@ -12,7 +12,8 @@ invariant-loop-node g l =
     record {
       straight : IsStraightBehind l.rest;
       same_mark : kept l.queue ≡ kept l.fn.queue;
-      goes_on : entered d (kept l.fn.queue) (members l.queue) (chain_behind l.rest) ≡ entered d (kept l.fn.queue) (members l.fn.queue) (chain_behind l.fn.tasks);
+      goes_on : entered d (kept l.fn.queue) (members l.queue) (chain_behind l.rest)
+          ≡ entered d (kept l.fn.queue) (members l.fn.queue) (chain_behind l.fn.tasks);
       apart : (id : ℕ) → count_of id (members l.queue) + count_of id (chain_behind l.rest) ≤ 1;
     }
 

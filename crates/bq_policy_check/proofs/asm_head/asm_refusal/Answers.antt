@@ -1,11 +1,13 @@
 use Rattle.std.proofs.Common.{MatchOption, inr, subst}
 use Rattle.std.proofs.lemmas.Result.{IfOk-weaker}
 use Rattle.bq_policy_file.specs.declared.head.Head.{Head}
-use Rattle.bq_policy_check.specs.Disagreeing.{SaysImage}
+use Rattle.bq_policy_check.specs.Disagreeing.{GivesImage}
 use Rattle.bq_policy_check.proofs.asm_head.asm_refusal.Goals as goal
 
 pub returns-in-Some : goal.returns-in-Some
 returns-in-Some c =
     let options = c.args.options.now in
-    let says : SaysImage options c.in-Some.given = subst (λ s. MatchOption s ((h : Head) → ¬ SaysImage options h) (SaysImage options)) c.in-Some.is c.in_ok-head_of.ensures in
-    IfOk-weaker c.refusal_beside.result _ _ (λ refusal beside. inr (c.in-Some.given, says, beside)) c.refusal_beside.ensures
+    let gives : GivesImage options c.in-Some.given =
+    subst (λ s. MatchOption s ((h : Head) → ¬ GivesImage options h) (GivesImage options)) c.in-Some.is
+    c.in_ok-head_of.ensures in
+    IfOk-weaker c.refusal_beside.result _ _ (λ refusal beside. inr (c.in-Some.given, gives, beside)) c.refusal_beside.ensures

@@ -16,5 +16,6 @@ returns c =
       | in-Err-OutOfMemory w ↦ subst P (sym w.result-is) tt
       | in-Err w ↦
           let other : w.in-Err.fault ≢ OutOfMemory = search rules in
-          subst P (sym w.result-is) (IsDifference-of_fault c.args.text.now c.args.given.now w.in-Err.fault w.differing.result w.in-Err.ensures.fault other w.differing.ensures)
+          subst P (sym w.result-is) (IsDifference-of_fault c.args.text.now c.args.given.now w.in-Err.fault w.differing.result
+          w.in-Err.ensures.fault other w.differing.ensures)
     ]

@@ -11,7 +11,7 @@ returns-then-words c =
       is_verdict = e.is_verdict;
       text = c.in_ok-text.text;
       is = c.answered.ensures ∙ ap (λ accepted. answered accepted c.in_ok-text.text) c.is_accepted.ensures;
-      told = λ plain bare. elim c.then-words.branch [
+      reported = λ plain bare. elim c.then-words.branch [
         | then-words-via-then-words w ↦ let set : c.args.words.now.is_explained ≡ true = w.if-words.true in absurd (cc)
         | then-words-via-else-words+then-words-2 w ↦ let set : c.args.words.now.is_json ≡ true = w.if-words-2.true in absurd (cc)
       ];

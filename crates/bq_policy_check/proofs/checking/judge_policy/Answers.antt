@@ -8,6 +8,6 @@ returns c = record {
   is_verdict = c.in_ok-verdict.ensures;
   text = c.in_ok-line.line;
   is = c.answered.ensures ∙ ap (λ accepted. answered accepted c.in_ok-line.line) c.is_accepted.ensures;
-  told = λ plain bare. c.in_ok-line.ensures;
+  reported = λ plain bare. c.in_ok-line.ensures;
   shown = λ json. let no = c.requires in absurd (cc);
 }

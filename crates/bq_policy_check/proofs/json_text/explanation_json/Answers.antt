@@ -17,8 +17,11 @@ returns c =
     let new = members_view c.put_verdict.new.fields.entries in
     let made : new ≡ put_all (answer_members (is_accepted verdict) (string first) ++ of_verdict p verdict) old =
     c.in_ok-put_verdict.ensures ∙ ap (λ (members : Members). put_all (of_verdict p verdict) members) c.in_ok-put_answer.ensures
-    ∙ ap (λ (accepted : Bool). put_all (answer_members accepted (view c.in_ok-answer.answer) ++ of_verdict p verdict) old) c.is_accepted.ensures
+    ∙ ap (λ (accepted : Bool). put_all (answer_members accepted (view c.in_ok-answer.answer) ++ of_verdict p verdict) old)
+    c.is_accepted.ensures
     ∙ ap (λ (answer : Data). put_all (answer_members (is_accepted verdict) answer ++ of_verdict p verdict) old) c.in_ok-answer.ensures in
-    IfOk-weaker c.line_of.result (λ text. IsLineOf (object new) (string_bytes text)) (λ text. ShowsVerdict p verdict (string_bytes text))
-    (λ text line. shows_verdict p verdict first (string_bytes c.in_ok-prose.prose) (string_bytes text) old new c.in_ok-prose.ensures.begins (c.first_line.ensures ∙ ap first_line c.as_str.ensures.value) made line)
-    c.line_of.ensures
+    IfOk-weaker c.line_of.result (λ text. IsLineOf (object new) (string_bytes text))
+    (λ text. ShowsVerdict p verdict (string_bytes text))
+    (λ text line.
+    shows_verdict p verdict first (string_bytes c.in_ok-prose.prose) (string_bytes text) old new c.in_ok-prose.ensures.begins
+    (c.first_line.ensures ∙ ap first_line c.as_str.ensures.value) made line) c.line_of.ensures

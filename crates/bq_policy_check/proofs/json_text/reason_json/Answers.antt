@@ -17,4 +17,5 @@ returns c =
     c.in_ok-put_fault.ensures ∙ ap (λ (members : Members). put_all (of_fault named) members) c.in_ok-put_answer.ensures
     ∙ ap (λ (answer : Data). put_all (answer_members false answer ++ of_fault named) old) c.in_ok-answer.ensures in
     IfOk-weaker c.line_of.result (λ text. IsLineOf (object new) (string_bytes text)) (λ text. ShowsFault named (string_bytes text))
-    (λ text line. shows_fault named first c.args.prose.now (string_bytes text) old new c.requires c.first_line.ensures made line) c.line_of.ensures
+    (λ text line. shows_fault named first c.args.prose.now (string_bytes text) old new c.requires c.first_line.ensures made line)
+    c.line_of.ensures

@@ -14,4 +14,7 @@ returns c =
     let new = members_view c.put_answer.new.fields.entries in
     let nothing : view Null ≡ null = search (rules, the_lemmas) in
     IfOk-weaker c.line_of.result (λ text. IsLineOf (object new) (string_bytes text)) (λ text. ShowsNone (string_bytes text))
-    (λ text line. shows_none old new (string_bytes text) (c.in_ok-put_answer.ensures ∙ ap (λ (answer : Data). put_all (answer_members false answer) old) nothing) line) c.line_of.ensures
+    (λ text line.
+    shows_none old new (string_bytes text)
+    (c.in_ok-put_answer.ensures ∙ ap (λ (answer : Data). put_all (answer_members false answer) old) nothing) line)
+    c.line_of.ensures

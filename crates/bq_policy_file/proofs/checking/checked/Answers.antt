@@ -10,5 +10,5 @@ returns c =
     let spells : SpellsBytes c.args.hex.now c.in-Some.bytes.items = search rules in
     let unloaded : IsUnloaded c.in-Some.bytes.items c.in-Err.fault = search rules in
     let named : c.as_str.result.now ≡ fault_text c.in-Err.fault = search rules in
-    refuses_fault c.args.hex.now c.in-Some.bytes.items c.as_str.result.now c.in-Err.fault c.refused-in-Err.result spells unloaded c.in_ok-reason-in-Err.ensures.other named
-    c.refused-in-Err.ensures.text c.refused-in-Err.ensures.refused
+    refuses_fault c.args.hex.now c.in-Some.bytes.items c.as_str.result.now c.in-Err.fault c.refused-in-Err.result spells
+    unloaded c.in_ok-reason-in-Err.ensures.other named c.refused-in-Err.ensures.text c.refused-in-Err.ensures.refused

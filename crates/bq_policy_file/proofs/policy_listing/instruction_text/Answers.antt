@@ -12,10 +12,12 @@ pub returns-in-Some : goal.returns-in-Some
 returns-in-Some c =
     let insn = c.args.insn in
     let line = c.in-Some.line in
-    let cut : c.as_str.result.now ≡ line.now ++ 10 ∷ [] = strip_suffix_char 10 c.as_str.result.now (Some line) c.in-Some.ensures.cases (omega arith) in
+    let cut : c.as_str.result.now ≡ line.now ++ 10 ∷ [] =
+    strip_suffix_char 10 c.as_str.result.now (Some line) c.in-Some.ensures.cases (omega arith) in
     let whole : line.now ++ 10 ∷ [] ≡ line_body insn ++ 10 ∷ [] = sym cut ∙ c.as_str.ensures.value ∙ c.in_ok-text.ensures ∙ one_line insn in
     let same : line.now ≡ line_body insn = append_cancel_right line.now (line_body insn) (10 ∷ []) whole in
-    IfOk-weaker c.from_str.result (λ text. string_bytes text ≡ line.now) (λ text. string_bytes text ≡ line_body insn) (λ text is. is ∙ same) c.from_str.ensures.ok
+    IfOk-weaker c.from_str.result (λ text. string_bytes text ≡ line.now) (λ text. string_bytes text ≡ line_body insn)
+    (λ text is. is ∙ same) c.from_str.ensures.ok
 
 pub returns-in-None : goal.returns-in-None
 unfolding encode

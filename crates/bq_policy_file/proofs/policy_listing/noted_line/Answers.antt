@@ -10,13 +10,23 @@ use Rattle.bq_policy_file.proofs.policy_listing.noted_line.Goals as goal
 
 pub returns : goal.returns
 returns c =
-    let said = string_bytes c.in_ok-said.said in
+    let stated = string_bytes c.in_ok-stated.stated in
     let spelled = string_bytes c.in_ok-spelled.spelled in
     let slot = c.args.slot in
     let insn = c.args.insn in
-    let short : length said < 2 ^ 63 = omega (arith, c.in_ok-said.said.bytes.ok.0, c.in_ok-said.said.bytes.ok.1, c.in_ok-said.said.bytes.small) in
-    let ascii : list_all is_ascii said ≡ true = ap (list_all is_ascii) c.in_ok-said.ensures ∙ body_ascii insn (c.requires.whole, c.requires.numbers) in
-    let is_noted : noted said slot spelled ≡ noted_line slot insn = λ i. noted (c.in_ok-said.ensures i) slot (c.in_ok-spelled.ensures i) in
-    IfOk-weaker c.format.result (λ text. string_bytes text ≡ styled_text c.laid_out.result said ++ (codes "; " ++ (styled_decimal c.laid_out-2.result slot ++ (codes "  " ++ (spelled ++ codes "\n"))))) (λ text. string_bytes text ≡ noted_line slot insn)
-    (λ text is. is ∙ line_with_comment said spelled (styled_text c.laid_out.result said) (styled_decimal c.laid_out-2.result slot) slot
-    (ap (λ s. styled_text s said) c.laid_out.ensures ∙ text_padded said ascii short) (ap (λ s. styled_decimal s slot) c.laid_out-2.ensures ∙ number_padded slot) ∙ is_noted) c.format.ensures.ok
+    let short : length stated < 2 ^ 63 =
+    omega (arith, c.in_ok-stated.stated.bytes.ok.0, c.in_ok-stated.stated.bytes.ok.1, c.in_ok-stated.stated.bytes.small) in
+    let ascii : list_all is_ascii stated ≡ true =
+    ap (list_all is_ascii) c.in_ok-stated.ensures ∙ body_ascii insn (c.requires.whole, c.requires.numbers) in
+    let is_noted : noted stated slot spelled ≡ noted_line slot insn =
+    λ i. noted (c.in_ok-stated.ensures i) slot (c.in_ok-spelled.ensures i) in
+    IfOk-weaker c.format.result (λ text.
+    string_bytes text
+    ≡ styled_text c.laid_out.result stated
+    ++ (codes "; " ++ (styled_decimal c.laid_out-2.result slot ++ (codes "  " ++ (spelled ++ codes "\n")))))
+    (λ text. string_bytes text ≡ noted_line slot insn)
+    (λ text is.
+    is ∙ line_with_comment stated spelled (styled_text c.laid_out.result stated) (styled_decimal c.laid_out-2.result slot)
+    slot (ap (λ s. styled_text s stated) c.laid_out.ensures ∙ text_padded stated ascii short)
+    (ap (λ s. styled_decimal s slot) c.laid_out-2.ensures ∙ number_padded slot)
+    ∙ is_noted) c.format.ensures.ok

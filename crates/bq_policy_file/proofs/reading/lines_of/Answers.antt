@@ -1,7 +1,7 @@
 use Rattle.std.proofs.Common.{◌≡◌, ◌+◌, ◌∙◌, sym, ap, length-append, ◌∷◌, [], true, false}
 use Rattle.std.proofs.lemmas.Iterator.Splits.{YieldsList-from_lines}
 use Rattle.std.proofs.lemmas.Iterator.Consumers.{YieldsList-end}
-use Rattle.bq_asm.specs.Lines.{is_instruction, line_said}
+use Rattle.bq_asm.specs.Lines.{is_instruction, parsed_line}
 use Rattle.bq_policy_file.specs.Files.{instruction_lines}
 use Rattle.bq_policy_file.proofs.HeadLemmas.{lines_with, lines_without}
 use Rattle.bq_policy_file.proofs.reading.lines_of.Goals as goal
@@ -9,20 +9,25 @@ use Rattle.bq_policy_file.proofs.reading.lines_of.Goals as goal
 pub loop-line-preserved-in-Continue-1 : goal.loop-line-preserved-in-Continue-1
 loop-line-preserved-in-Continue-1 c =
     let yielded = c.loop-line.yielded in
-    let says : is_instruction (line_said c.in-Some.line.now) ≡ true =
-    ap (λ line. is_instruction (line_said line)) (sym c.as_bytes.ensures.value) ∙ sym c.says_instruction.ensures ∙ c.if-says_instruction.true in
+    let states : is_instruction (parsed_line c.in-Some.line.now) ≡ true =
+    ap (λ line. is_instruction (parsed_line line)) (sym c.as_bytes.ensures.value) ∙ sym c.is_instruction_line.ensures
+    ∙ c.if-is_instruction_line.true in
     record {
-      said = c.in_ok-push.ensures.items ∙ lines_with yielded c.in-Some.line c.loop-line.numbers.items c.loop-line.number c.loop-line.invariant.said c.loop-line.invariant.count says;
+      stated =
+          c.in_ok-push.ensures.items
+          ∙ lines_with yielded c.in-Some.line c.loop-line.numbers.items c.loop-line.number c.loop-line.invariant.stated
+          c.loop-line.invariant.count states;
       count = ap (λ n. n + 1) c.loop-line.invariant.count ∙ sym (length-append yielded (c.in-Some.line ∷ []));
     }
 
 pub loop-line-preserved : goal.loop-line-preserved
 loop-line-preserved c =
     let yielded = c.loop-line.yielded in
-    let says : is_instruction (line_said c.in-Some.line.now) ≡ false =
-    ap (λ line. is_instruction (line_said line)) (sym c.as_bytes.ensures.value) ∙ sym c.says_instruction.ensures ∙ c.if-says_instruction.false in
+    let states : is_instruction (parsed_line c.in-Some.line.now) ≡ false =
+    ap (λ line. is_instruction (parsed_line line)) (sym c.as_bytes.ensures.value) ∙ sym c.is_instruction_line.ensures
+    ∙ c.if-is_instruction_line.false in
     record {
-      said = lines_without yielded c.in-Some.line c.loop-line.numbers.items c.loop-line.invariant.said says;
+      stated = lines_without yielded c.in-Some.line c.loop-line.numbers.items c.loop-line.invariant.stated states;
       count = ap (λ n. n + 1) c.loop-line.invariant.count ∙ sym (length-append yielded (c.in-Some.line ∷ []));
     }
 
@@ -30,4 +35,4 @@ pub returns : goal.returns
 returns c =
     let e = YieldsList-from_lines c.args.text.now cc in
     let end = YieldsList-end e c.loop-line.yielded _ c.loop-line.yielded_by _ _ c.in-None.is c.next.ensures.steps in
-    c.loop-line.invariant.said ∙ ap (instruction_lines 1) end.0
+    c.loop-line.invariant.stated ∙ ap (instruction_lines 1) end.0

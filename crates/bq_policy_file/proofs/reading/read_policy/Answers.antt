@@ -12,5 +12,7 @@ returns-in-Some-clause-fault c =
     let result = c.from_image-in-Some.result in
     let hex : kind_of bytes ≡ kind.Hex = search rules in
     let spells : SpellsBytes bytes c.in-Some.image.items = search rules in
-    let is = subst (λ (image : List ℕ). IfErr result (IsImageFault image given)) c.as_slice.ensures.value c.from_image-in-Some.ensures.fault in
+    let is =
+    subst (λ (image : List ℕ). IfErr result (IsImageFault image given)) c.as_slice.ensures.value
+    c.from_image-in-Some.ensures.fault in
     hex_fault result bytes c.in-Some.image.items given hex spells is

@@ -8,4 +8,5 @@ use Rattle.bq_policy_run.proofs.changes.write_changes.Given as goal
 abbrev pub invariant-loop-number : goal.invariant-loop-number
 invariant-loop-number l =
     string_bytes l.text
-    ≡ string_bytes l.fn.text ++ flat_map (map_changes (with_all l.inputs.maps (map (λ v. v.items) l.before)) l.inputs.maps) (range_with_len 0 l.number)
+    ≡ string_bytes l.fn.text
+    ++ flat_map (map_changes (with_all l.inputs.maps (map (λ v. v.items) l.before)) l.inputs.maps) (range_with_len 0 l.number)

@@ -9,4 +9,6 @@ use Rattle.bq_policy_run.proofs.changes.write_map.Given as goal
 abbrev pub invariant-loop-entry : goal.invariant-loop-entry
 invariant-loop-entry l =
     string_bytes l.text
-    ≡ string_bytes l.fn.text ++ flat_map (λ k. entry_line l.number k (entry_of l.maps l.number k)) (filter (is_changed (with_all l.maps (map (λ v. v.items) l.before)) l.maps l.number) (range_with_len 0 l.entry))
+    ≡ string_bytes l.fn.text
+    ++ flat_map (λ k. entry_line l.number k (entry_of l.maps l.number k))
+    (filter (is_changed (with_all l.maps (map (λ v. v.items) l.before)) l.maps l.number) (range_with_len 0 l.entry))

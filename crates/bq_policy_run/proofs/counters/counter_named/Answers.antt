@@ -5,4 +5,6 @@ pub returns-in_err-number-clause-none : goal.returns-in_err-number-clause-none
 returns-in_err-number-clause-none c = rw c.from_residual.ensures (no_counter_uncut c.args.text.now c.in_err-number.ensures)
 
 pub returns-clause-none : goal.returns-clause-none
-returns-clause-none c = rw c.zip.ensures (no_counter_zip c.args.text.now c.in_ok-number.number.now c.in_ok-number.word.now c.decimal.result c.value.result c.in_ok-number.ensures c.decimal.ensures.none c.value.ensures.none)
+returns-clause-none c =
+    rw c.zip.ensures (no_counter_zip c.args.text.now c.in_ok-number.number.now c.in_ok-number.word.now c.decimal.result
+    c.value.result c.in_ok-number.ensures c.decimal.ensures.none c.value.ensures.none)

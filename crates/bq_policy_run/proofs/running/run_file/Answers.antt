@@ -5,7 +5,8 @@ use Rattle.bq_policy_run.proofs.running.run_file.Goals as goal
 
 pub returns-in-Ok : goal.returns-in-Ok
 returns-in-Ok g c =
-    IfOk-weaker c.run_policy.result (RunsPolicy c.args.words.now c.in-Ok.policy) (RunsFile c.args.words.now c.args.bytes.now c.args.head.now)
+    IfOk-weaker c.run_policy.result (RunsPolicy c.args.words.now c.in-Ok.policy)
+    (RunsFile c.args.words.now c.args.bytes.now c.args.head.now)
     (λ answer runs. inr (c.in-Ok.policy, c.in-Ok.ensures.policy, runs)) c.run_policy.ensures
 
 pub returns-in_ok-text-in-Err : goal.returns-in_ok-text-in-Err

@@ -3,7 +3,7 @@ use Rattle.std.proofs.lemmas.Result.{IfErr-at_err, IfOk-weaker}
 use Rattle.bq_verify.specs.Refusals.{IsOutOfMemory}
 use Rattle.bq_insn.specs.Slots.{spread}
 use Rattle.bq_policy_run.specs.Running.{IsProgramOf, RunsPolicy, RunsProgram}
-use Rattle.bq_verify.specs.Subjects.{handed_in}
+use Rattle.bq_verify.specs.Subjects.{subject_of_program}
 use Rattle.bq_explain.proofs.VerdictLemmas.{accepted_policy, refused_policy}
 use Rattle.bq_policy_run.proofs.AcceptedLemmas.{runs_accepted}
 use Rattle.bq_policy_run.proofs.running.run_policy.Goals as goal
@@ -16,7 +16,9 @@ returns-in-Ok g c =
       hook = c.in-Ok.ensures.hook ∙ c.in_ok-program.ensures.hook;
       version = c.in-Ok.ensures.version ∙ c.in_ok-program.ensures.version;
     } in
-    let accepted = accepted_policy c.args.policy.now c.in-Ok.verified of.slots of.shapes of.hook of.version c.in-Ok.ensures.faultless c.in-Ok.ensures.accepted c.in-Ok.ensures.budget in
+    let accepted =
+    accepted_policy c.args.policy.now c.in-Ok.verified of.slots of.shapes of.hook of.version c.in-Ok.ensures.faultless
+    c.in-Ok.ensures.accepted c.in-Ok.ensures.budget in
     IfOk-weaker c.run_verified.result (RunsProgram c.args.words.now c.in-Ok.verified) (RunsPolicy c.args.words.now c.args.policy.now)
     (λ answer runs. inr (runs_accepted c.args.words.now c.args.policy.now c.in-Ok.verified answer of accepted runs)) c.run_verified.ensures
 
@@ -25,10 +27,12 @@ returns-in_ok-text-in-Err-At g c =
     inl record {
       slot = c.in-Err-At.slot;
       cause = c.in-Err-At.cause;
-      refusal = refused_policy c.args.policy.now (handed_in c.in_ok-program.program) c.in-Err-At.field-0 c.in-Err-At.slot c.in-Err-At.cause c.in_ok-program.ensures.judged
+      refusal =
+          refused_policy c.args.policy.now (subject_of_program c.in_ok-program.program)
+          c.in-Err-At.field-0 c.in-Err-At.slot c.in-Err-At.cause c.in_ok-program.ensures.judged
           c.in-Err-At.field-0-is (IfErr-at_err _ c.in-Err-At.is c.verify.ensures.refused)
           (λ straight. IfErr-at_err IsOutOfMemory c.in-Err-At.is (c.verify.ensures.accepts straight));
       text = c.in_ok-text-in-Err-At.text;
       is = refl;
-      told = c.in_ok-text-in-Err-At.ensures;
+      reported = c.in_ok-text-in-Err-At.ensures;
     }

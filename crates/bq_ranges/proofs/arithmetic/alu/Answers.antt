@@ -17,10 +17,18 @@ returns-then-is_single-2-clause-and_right c = λ same.
 
 pub returns-clause-tight : goal.returns-clause-tight
 returns-clause-tight c = λ promised.
-    let within = tight_within c.args.width c.args.op c.args.a c.args.b c.low.result c.low-2.result c.low.ensures.tight_low c.low.ensures.tight_high c.low-2.ensures.tight_low c.low-2.ensures.tight_high promised in
+    let within =
+    tight_within c.args.width c.args.op c.args.a c.args.b c.low.result c.low-2.result c.low.ensures.tight_low
+    c.low.ensures.tight_high c.low-2.ensures.tight_low c.low-2.ensures.tight_high promised in
     record {
-      low = low_bits_reach c.args.width c.args.op c.args.a c.args.b _ _ _ c.low.ensures.tight_low (least_reached c.args.width c.args.op c.args.b c.low-2.result c.low-2.ensures.tight_low c.low-2.ensures.tight_high) (c.outcomes.ensures.tight_low within);
-      high = low_bits_reach c.args.width c.args.op c.args.a c.args.b _ _ _ c.low.ensures.tight_high (greatest_reached c.args.width c.args.op c.args.b c.low-2.result c.low-2.ensures.tight_low c.low-2.ensures.tight_high) (c.outcomes.ensures.tight_high within);
+      low =
+          low_bits_reach c.args.width c.args.op c.args.a c.args.b _ _ _ c.low.ensures.tight_low
+          (least_reached c.args.width c.args.op c.args.b c.low-2.result c.low-2.ensures.tight_low c.low-2.ensures.tight_high)
+          (c.outcomes.ensures.tight_low within);
+      high =
+          low_bits_reach c.args.width c.args.op c.args.a c.args.b _ _ _ c.low.ensures.tight_high
+          (greatest_reached c.args.width c.args.op c.args.b c.low-2.result c.low-2.ensures.tight_low c.low-2.ensures.tight_high)
+          (c.outcomes.ensures.tight_high within);
     }
 
 pub returns-then-is_single-2-clause-holds : goal.returns-then-is_single-2-clause-holds

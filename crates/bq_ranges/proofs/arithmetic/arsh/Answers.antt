@@ -13,7 +13,8 @@ returns-then-a-half c = λ x y p q.
 pub returns : goal.returns
 returns c = λ x y p q.
     let same : y ≡ c.args.b.lo = omega (arith, c.is_single.ensures.0 c.if-not-is_single.false) in
-    rw c.bits.ensures (sign_shifts c.args.width c.sign-half.result c.greatest-most.result c.args.a c.args.b.lo x y c.sign-half.ensures c.greatest-most.ensures (omega arith) (omega arith) same p)
+    rw c.bits.ensures (sign_shifts c.args.width c.sign-half.result c.greatest-most.result c.args.a c.args.b.lo x y
+    c.sign-half.ensures c.greatest-most.ensures (omega arith) (omega arith) same p)
 
 pub returns-then-a-half-2 : goal.returns-then-a-half-2
 returns-then-a-half-2 c = λ x y p q.

@@ -54,7 +54,8 @@ pub returns-in-Sub-clause-tight_high : goal.returns-in-Sub-clause-tight_high
 unfolding operate
 returns-in-Sub-clause-tight_high c = λ h.
     let order = rw c.in-Sub.is at h in
-    rw c.in-Sub.is (as_difference c.args.width c.sub.result.hi c.args.a.hi c.args.b.lo (c.sub.ensures.tight_high order) (omega arith) (omega arith))
+    rw c.in-Sub.is
+    (as_difference c.args.width c.sub.result.hi c.args.a.hi c.args.b.lo (c.sub.ensures.tight_high order) (omega arith) (omega arith))
 
 pub returns-in-Lsh-clause-holds : goal.returns-in-Lsh-clause-holds
 unfolding operate
@@ -62,27 +63,37 @@ returns-in-Lsh-clause-holds c = λ x y p q. rw c.in-Lsh.is (c.lsh.ensures x y p 
 
 pub returns-in-Div-clause-holds : goal.returns-in-Div-clause-holds
 unfolding operate
-returns-in-Div-clause-holds c = λ x y p q. rw c.in-Div.is (quotient_held c.args.width c.args.a c.args.b c.div.result (omega arith) c.div.ensures.zero c.div.ensures.holds x y p q)
+returns-in-Div-clause-holds c = λ x y p q.
+    rw c.in-Div.is
+    (quotient_held c.args.width c.args.a c.args.b c.div.result (omega arith) c.div.ensures.zero c.div.ensures.holds x y p q)
 
 pub returns-in-Rem-clause-holds : goal.returns-in-Rem-clause-holds
 unfolding operate
-returns-in-Rem-clause-holds c = λ x y p q. rw c.in-Rem.is (remainder_held c.args.width c.args.a c.args.b c.rem.result (omega arith) c.rem.ensures.zero c.rem.ensures.holds x y p q)
+returns-in-Rem-clause-holds c = λ x y p q.
+    rw c.in-Rem.is
+    (remainder_held c.args.width c.args.a c.args.b c.rem.result (omega arith) c.rem.ensures.zero c.rem.ensures.holds x y p q)
 
 pub returns-in-Or-clause-holds : goal.returns-in-Or-clause-holds
 unfolding operate
-returns-in-Or-clause-holds c = λ x y p q. rw c.in-Or.is (held_bits c.args.width c.or.result _ (union_between c.args.width x y (omega arith) (omega arith)).3 (c.or.ensures x y p q))
+returns-in-Or-clause-holds c = λ x y p q.
+    rw c.in-Or.is
+    (held_bits c.args.width c.or.result _ (union_between c.args.width x y (omega arith) (omega arith)).3 (c.or.ensures x y p q))
 
 pub returns-in-Xor-clause-holds : goal.returns-in-Xor-clause-holds
 unfolding operate
-returns-in-Xor-clause-holds c = λ x y p q. rw c.in-Xor.is (held_bits c.args.width c.xor.result _ (difference_between c.args.width x y (omega arith) (omega arith)).1 (c.xor.ensures x y p q))
+returns-in-Xor-clause-holds c = λ x y p q.
+    rw c.in-Xor.is
+    (held_bits c.args.width c.xor.result _ (difference_between c.args.width x y (omega arith) (omega arith)).1 (c.xor.ensures x y p q))
 
 pub returns-in-And-clause-holds : goal.returns-in-And-clause-holds
 unfolding operate
-returns-in-And-clause-holds c = λ x y p q. rw c.in-And.is (holds_low_word c.args.width c.and.result _ (omega arith) (c.and.ensures.holds x y p q))
+returns-in-And-clause-holds c =
+    λ x y p q. rw c.in-And.is (holds_low_word c.args.width c.and.result _ (omega arith) (c.and.ensures.holds x y p q))
 
 pub returns-in-Rsh-clause-holds : goal.returns-in-Rsh-clause-holds
 unfolding operate
-returns-in-Rsh-clause-holds c = λ x y p q. rw c.in-Rsh.is (holds_low_word c.args.width c.rsh.result _ (omega arith) (c.rsh.ensures.holds x y p q))
+returns-in-Rsh-clause-holds c =
+    λ x y p q. rw c.in-Rsh.is (holds_low_word c.args.width c.rsh.result _ (omega arith) (c.rsh.ensures.holds x y p q))
 
 pub returns-in-Rsh-clause-tight_low : goal.returns-in-Rsh-clause-tight_low
 unfolding operate

@@ -9,7 +9,8 @@ use Rattle.bq_ranges.proofs.narrowing.narrow.Goals as goal
 pub returns-in_default-clause-holds : goal.returns-in_default-clause-holds
 returns-in_default-clause-holds c = λ a b p q h.
     let unsigned : IsSigned c.args.cond → ⊥ = λ signed. false≢true (sym c.if-is_signed.false ∙ c.is_signed.ensures.1 signed) in
-    c.narrow_words.ensures.holds a (b % modulus c.args.width) p (c.low-y.ensures.holds b q) (sym (as_words c.args.width c.args.cond a b unsigned (omega arith)) ∙ h)
+    c.narrow_words.ensures.holds a (b % modulus c.args.width) p (c.low-y.ensures.holds b q)
+    (sym (as_words c.args.width c.args.cond a b unsigned (omega arith)) ∙ h)
 
 pub returns-in_default-clause-least : goal.returns-in_default-clause-least
 returns-in_default-clause-least c = λ whole order single.

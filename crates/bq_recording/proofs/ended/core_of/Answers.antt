@@ -16,7 +16,8 @@ contents_in_order-cpus-requires-clause-below g c =
     let tasks : NumberedInbox → List Task = λ y. y.state in
     let k = c.requires.world in
     let xs = c.args.contents.cpus.items in
-    below at state opening k.0.processors (length xs) xs (k.2.0 ∙ sym c.args.contents.many.0) (cpus_there c.args.contents.lobby xs c.args.contents.inboxes.items at state place tasks k.0 k.2.3)
+    below at state opening k.0.processors (length xs) xs (k.2.0 ∙ sym c.args.contents.many.0)
+    (cpus_there c.args.contents.lobby xs c.args.contents.inboxes.items at state place tasks k.0 k.2.3)
 
 pub contents_in_order-cpus-requires-clause-few : goal.contents_in_order-cpus-requires-clause-few
 contents_in_order-cpus-requires-clause-few g c =
@@ -34,7 +35,8 @@ contents_in_order-inboxes-requires-clause-below g c =
     let tasks : NumberedInbox → List Task = λ y. y.state in
     let k = c.requires.world in
     let ys = c.args.contents.inboxes.items in
-    below place tasks [] k.0.inboxes (length ys) ys (k.2.1 ∙ sym c.args.contents.many.1) (inboxes_there c.args.contents.lobby c.args.contents.cpus.items ys at state place tasks k.0 k.2.3)
+    below place tasks [] k.0.inboxes (length ys) ys (k.2.1 ∙ sym c.args.contents.many.1)
+    (inboxes_there c.args.contents.lobby c.args.contents.cpus.items ys at state place tasks k.0 k.2.3)
 
 pub contents_in_order-inboxes-requires-clause-few : goal.contents_in_order-inboxes-requires-clause-few
 contents_in_order-inboxes-requires-clause-few g c =
@@ -55,9 +57,15 @@ from_parts-requires g c =
     let s = c.args.contents.lobby in
     let k = c.requires.world in
     let w = k.0 in
-    let cpus = c.contents_in_order-cpus.ensures w.processors opening (k.2.0 ∙ sym c.args.contents.many.0) (cpus_there s xs ys at state place tasks w k.2.3) in
-    let inboxes = c.contents_in_order-inboxes.ensures w.inboxes [] (k.2.1 ∙ sym c.args.contents.many.1) (inboxes_there s xs ys at state place tasks w k.2.3) in
-    let is = is_world s xs ys at state place tasks w c.contents_in_order-cpus.result.items c.contents_in_order-inboxes.result.items c.args.drawn k.2.3 cpus inboxes k.2.2 in (
+    let cpus =
+    c.contents_in_order-cpus.ensures w.processors opening (k.2.0 ∙ sym c.args.contents.many.0)
+    (cpus_there s xs ys at state place tasks w k.2.3) in
+    let inboxes =
+    c.contents_in_order-inboxes.ensures w.inboxes [] (k.2.1 ∙ sym c.args.contents.many.1)
+    (inboxes_there s xs ys at state place tasks w k.2.3) in
+    let is =
+    is_world s xs ys at state place tasks w c.contents_in_order-cpus.result.items c.contents_in_order-inboxes.result.items
+    c.args.drawn k.2.3 cpus inboxes k.2.2 in (
       search rules,
       (c.requires.few, (ap length cpus ∙ k.2.0, (ap length inboxes ∙ k.2.1, subst IsOrderly (sym is) k.1))),
     )
@@ -71,6 +79,12 @@ returns g c = λ w is.
     let xs = c.args.contents.cpus.items in
     let ys = c.args.contents.inboxes.items in
     let s = c.args.contents.lobby in
-    let cpus = c.contents_in_order-cpus.ensures w.processors opening (is.0 ∙ sym c.args.contents.many.0) (cpus_there s xs ys at state place tasks w is.3) in
-    let inboxes = c.contents_in_order-inboxes.ensures w.inboxes [] (is.1 ∙ sym c.args.contents.many.1) (inboxes_there s xs ys at state place tasks w is.3) in
-    c.from_parts.ensures ∙ is_world s xs ys at state place tasks w c.contents_in_order-cpus.result.items c.contents_in_order-inboxes.result.items c.args.drawn is.3 cpus inboxes is.2
+    let cpus =
+    c.contents_in_order-cpus.ensures w.processors opening (is.0 ∙ sym c.args.contents.many.0)
+    (cpus_there s xs ys at state place tasks w is.3) in
+    let inboxes =
+    c.contents_in_order-inboxes.ensures w.inboxes [] (is.1 ∙ sym c.args.contents.many.1)
+    (inboxes_there s xs ys at state place tasks w is.3) in
+    c.from_parts.ensures
+    ∙ is_world s xs ys at state place tasks w c.contents_in_order-cpus.result.items c.contents_in_order-inboxes.result.items
+    c.args.drawn is.3 cpus inboxes is.2

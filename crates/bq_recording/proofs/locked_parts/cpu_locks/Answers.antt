@@ -10,20 +10,35 @@ use Rattle.bq_recording.proofs.locked_parts.cpu_locks.Goals as goal
 
 pub over-requires-clause-empty : goal.over-requires-clause-empty
 over-requires-clause-empty g c =
-    let e = YieldsList-from_vec {s = c.into_iter-queue-iterator.result} c.args.queues.items c.into_iter-queue-iterator.ensures.into_iter_gives.0 (c.into_iter-queue-iterator.ensures.into_iter_gives.1 ∙ c.args.queues.ok.0) in
-    let turn = YieldsList-turn e c.loop-queue.yielded c.loop-queue.queue-iterator c.loop-queue.yielded_by c.next.result c.next.new.self c.in-Some.queue c.in-Some.is c.next.ensures.steps in
+    let e =
+    YieldsList-from_vec {s = c.into_iter-queue-iterator.result}
+    c.args.queues.items c.into_iter-queue-iterator.ensures.into_iter_gives.0
+    (c.into_iter-queue-iterator.ensures.into_iter_gives.1 ∙ c.args.queues.ok.0) in
+    let turn =
+    YieldsList-turn e c.loop-queue.yielded c.loop-queue.queue-iterator c.loop-queue.yielded_by c.next.result c.next.new.self
+    c.in-Some.queue c.in-Some.is c.next.ensures.steps in
     ap g.Q.RunQueue.members turn.1 ∙ (c.requires.empty (length c.loop-queue.yielded) c.in-Some.queue turn.0).0
 
 pub over-requires-clause-mark : goal.over-requires-clause-mark
 over-requires-clause-mark g c =
-    let e = YieldsList-from_vec {s = c.into_iter-queue-iterator.result} c.args.queues.items c.into_iter-queue-iterator.ensures.into_iter_gives.0 (c.into_iter-queue-iterator.ensures.into_iter_gives.1 ∙ c.args.queues.ok.0) in
-    let turn = YieldsList-turn e c.loop-queue.yielded c.loop-queue.queue-iterator c.loop-queue.yielded_by c.next.result c.next.new.self c.in-Some.queue c.in-Some.is c.next.ensures.steps in
+    let e =
+    YieldsList-from_vec {s = c.into_iter-queue-iterator.result}
+    c.args.queues.items c.into_iter-queue-iterator.ensures.into_iter_gives.0
+    (c.into_iter-queue-iterator.ensures.into_iter_gives.1 ∙ c.args.queues.ok.0) in
+    let turn =
+    YieldsList-turn e c.loop-queue.yielded c.loop-queue.queue-iterator c.loop-queue.yielded_by c.next.result c.next.new.self
+    c.in-Some.queue c.in-Some.is c.next.ensures.steps in
     ap g.Q.RunQueue.kept_mark turn.1 ∙ (c.requires.empty (length c.loop-queue.yielded) c.in-Some.queue turn.0).1
 
 pub open-requires-clause-item : goal.open-requires-clause-item
 open-requires-clause-item g c =
-    let e = YieldsList-from_vec {s = c.into_iter-queue-iterator.result} c.args.queues.items c.into_iter-queue-iterator.ensures.into_iter_gives.0 (c.into_iter-queue-iterator.ensures.into_iter_gives.1 ∙ c.args.queues.ok.0) in
-    let turn = YieldsList-turn e c.loop-queue.yielded c.loop-queue.queue-iterator c.loop-queue.yielded_by c.next.result c.next.new.self c.in-Some.queue c.in-Some.is c.next.ensures.steps in
+    let e =
+    YieldsList-from_vec {s = c.into_iter-queue-iterator.result}
+    c.args.queues.items c.into_iter-queue-iterator.ensures.into_iter_gives.0
+    (c.into_iter-queue-iterator.ensures.into_iter_gives.1 ∙ c.args.queues.ok.0) in
+    let turn =
+    YieldsList-turn e c.loop-queue.yielded c.loop-queue.queue-iterator c.loop-queue.yielded_by c.next.result c.next.new.self
+    c.in-Some.queue c.in-Some.is c.next.ensures.steps in
     let r = c.requires.items in
     let n = length c.args.queues.items in
     let b : c.loop-queue.number < n = omega (arith, c.loop-queue.invariant.0, turn.0) in
@@ -32,14 +47,24 @@ open-requires-clause-item g c =
 
 pub overflow_add-number : goal.overflow_add-number
 overflow_add-number g c =
-    let e = YieldsList-from_vec {s = c.into_iter-queue-iterator.result} c.args.queues.items c.into_iter-queue-iterator.ensures.into_iter_gives.0 (c.into_iter-queue-iterator.ensures.into_iter_gives.1 ∙ c.args.queues.ok.0) in
-    let turn = YieldsList-turn e c.loop-queue.yielded c.loop-queue.queue-iterator c.loop-queue.yielded_by c.next.result c.next.new.self c.in-Some.queue c.in-Some.is c.next.ensures.steps in
+    let e =
+    YieldsList-from_vec {s = c.into_iter-queue-iterator.result}
+    c.args.queues.items c.into_iter-queue-iterator.ensures.into_iter_gives.0
+    (c.into_iter-queue-iterator.ensures.into_iter_gives.1 ∙ c.args.queues.ok.0) in
+    let turn =
+    YieldsList-turn e c.loop-queue.yielded c.loop-queue.queue-iterator c.loop-queue.yielded_by c.next.result c.next.new.self
+    c.in-Some.queue c.in-Some.is c.next.ensures.steps in
     omega (arith, c.loop-queue.invariant.0, turn.0, c.requires.few)
 
 pub loop-queue-preserved : goal.loop-queue-preserved
 loop-queue-preserved g c =
-    let e = YieldsList-from_vec {s = c.into_iter-queue-iterator.result} c.args.queues.items c.into_iter-queue-iterator.ensures.into_iter_gives.0 (c.into_iter-queue-iterator.ensures.into_iter_gives.1 ∙ c.args.queues.ok.0) in
-    let turn = YieldsList-turn e c.loop-queue.yielded c.loop-queue.queue-iterator c.loop-queue.yielded_by c.next.result c.next.new.self c.in-Some.queue c.in-Some.is c.next.ensures.steps in
+    let e =
+    YieldsList-from_vec {s = c.into_iter-queue-iterator.result}
+    c.args.queues.items c.into_iter-queue-iterator.ensures.into_iter_gives.0
+    (c.into_iter-queue-iterator.ensures.into_iter_gives.1 ∙ c.args.queues.ok.0) in
+    let turn =
+    YieldsList-turn e c.loop-queue.yielded c.loop-queue.queue-iterator c.loop-queue.yielded_by c.next.result c.next.new.self
+    c.in-Some.queue c.in-Some.is c.next.ensures.steps in
     let n = length c.args.queues.items in
     let b : c.loop-queue.number < n = omega (arith, c.loop-queue.invariant.0, turn.0) in (
       omega (arith, c.loop-queue.invariant.0, length-append c.loop-queue.yielded (c.in-Some.queue ∷ [])),
@@ -49,14 +74,24 @@ loop-queue-preserved g c =
 
 pub returns-clause-locks : goal.returns-clause-locks
 returns-clause-locks g c =
-    let e = YieldsList-from_vec {s = c.into_iter-queue-iterator.result} c.args.queues.items c.into_iter-queue-iterator.ensures.into_iter_gives.0 (c.into_iter-queue-iterator.ensures.into_iter_gives.1 ∙ c.args.queues.ok.0) in
-    let end = YieldsList-end e c.loop-queue.yielded c.loop-queue.queue-iterator c.loop-queue.yielded_by c.next.result c.next.new.self c.in-None.is c.next.ensures.steps in
+    let e =
+    YieldsList-from_vec {s = c.into_iter-queue-iterator.result}
+    c.args.queues.items c.into_iter-queue-iterator.ensures.into_iter_gives.0
+    (c.into_iter-queue-iterator.ensures.into_iter_gives.1 ∙ c.args.queues.ok.0) in
+    let end =
+    YieldsList-end e c.loop-queue.yielded c.loop-queue.queue-iterator c.loop-queue.yielded_by c.next.result
+    c.next.new.self c.in-None.is c.next.ensures.steps in
     c.loop-queue.invariant.1 ∙ c.loop-queue.invariant.0 ∙ end.1
 
 pub returns-clause-rest : goal.returns-clause-rest
 returns-clause-rest g c = λ rest h.
-    let e = YieldsList-from_vec {s = c.into_iter-queue-iterator.result} c.args.queues.items c.into_iter-queue-iterator.ensures.into_iter_gives.0 (c.into_iter-queue-iterator.ensures.into_iter_gives.1 ∙ c.args.queues.ok.0) in
-    let end = YieldsList-end e c.loop-queue.yielded c.loop-queue.queue-iterator c.loop-queue.yielded_by c.next.result c.next.new.self c.in-None.is c.next.ensures.steps in
+    let e =
+    YieldsList-from_vec {s = c.into_iter-queue-iterator.result}
+    c.args.queues.items c.into_iter-queue-iterator.ensures.into_iter_gives.0
+    (c.into_iter-queue-iterator.ensures.into_iter_gives.1 ∙ c.args.queues.ok.0) in
+    let end =
+    YieldsList-end e c.loop-queue.yielded c.loop-queue.queue-iterator c.loop-queue.yielded_by c.next.result
+    c.next.new.self c.in-None.is c.next.ensures.steps in
     let none : length c.args.queues.items - c.loop-queue.number ≡ 0 = omega (arith, c.loop-queue.invariant.0, end.1) in
     c.loop-queue.invariant.2 rest h ∙ ap (λ k. cpu_items c.loop-queue.number k ++ rest) none
 

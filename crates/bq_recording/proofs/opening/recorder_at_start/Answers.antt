@@ -11,7 +11,8 @@ pub open-journal-requires : goal.open-journal-requires
 open-journal-requires g c =
     let p = c.args.prepared.1 in
     let none : kept_of (opening_world p.about) ≡ record { drawn = 0; loads = c.no_loads.result } =
-    ap (λ (ls : List ℕ). record { drawn = 0; loads = ls }) (opening_loads p.about ∙ ap (λ (n : ℕ). replicate n 0) c.requires.counts.0 ∙ sym c.no_loads.ensures) in
+    ap (λ (ls : List ℕ). record { drawn = 0; loads = ls })
+    (opening_loads p.about ∙ ap (λ (n : ℕ). replicate n 0) c.requires.counts.0 ∙ sym c.no_loads.ensures) in
     record { first = ap first_of c.named-history.ensures.1 ∙ ap (λ (k : JournalState). journal_item [] k ∷ []) none }
 
 pub returns-clause-items : goal.returns-clause-items

@@ -3,4 +3,5 @@ use Rattle.std.specs.List.{All}
 use Rattle.bq_recording.proofs.queues.no_tasks.Given as goal
 
 abbrev pub invariant-queues : goal.invariant-queues
-invariant-queues g l = (vec_len l.queues ≡ l.counter) × All (λ q. (g.Q.RunQueue.members q ≡ []) × (g.Q.RunQueue.kept_mark q ≡ 2 ^ 32)) l.queues.items
+invariant-queues g l =
+    (vec_len l.queues ≡ l.counter) × All (λ q. (g.Q.RunQueue.members q ≡ []) × (g.Q.RunQueue.kept_mark q ≡ 2 ^ 32)) l.queues.items

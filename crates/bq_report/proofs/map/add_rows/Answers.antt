@@ -7,7 +7,9 @@ pub loop-init : goal.loop-init
 loop-init c = rows_none c.args.rows.now.items
 
 pub loop-preserved : goal.loop-preserved
-loop-preserved c = rows_more c.args.rows.now.items c.loop.rows.items _ c.loop.counter c.new.result c.loop.invariant c.new.ensures c.in_ok-push.ensures.items
+loop-preserved c =
+    rows_more c.args.rows.now.items c.loop.rows.items _ c.loop.counter c.new.result c.loop.invariant
+    c.new.ensures c.in_ok-push.ensures.items
 
 pub returns : goal.returns
 returns c =

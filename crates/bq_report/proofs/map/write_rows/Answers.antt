@@ -12,7 +12,9 @@ loop-number-init c = record {
   count = refl;
   within = omega arith;
   rest = λ p h. refl;
-  draws = draws_none c.args.window.now c.args.rows.now.items c.args.roster.now c.args.grid.now c.args.legend.now (string_bytes c.args.text.now);
+  draws =
+      draws_none c.args.window.now c.args.rows.now.items c.args.roster.now c.args.grid.now c.args.legend.now
+      (string_bytes c.args.text.now);
 }
 
 pub loop-number-preserved : goal.loop-number-preserved
@@ -21,29 +23,34 @@ loop-number-preserved c =
     elim c.if-shows_row.branch [
       | then-shows_row+in_ok-columns+in_ok-write_row+in_ok-note w ↦
           let inside : c.loop-number.number < length c.loop-number.rows.items = omega (arith, there, c.loop-number.invariant.count) in
-          let row : w.index_mut-row.result.now ≡ row_of c.args.rows.now.items c.loop-number.number
-          = w.index_mut-row.ensures.value ∙ get_or_default c.loop-number.rows.items c.loop-number.number w.index_mut-row.result.now empty_row inside
+          let row : w.index_mut-row.result.now ≡ row_of c.args.rows.now.items c.loop-number.number =
+          w.index_mut-row.ensures.value
+          ∙ get_or_default c.loop-number.rows.items c.loop-number.number w.index_mut-row.result.now empty_row inside
           ∙ c.loop-number.invariant.rest c.loop-number.number (omega arith) in
-          let behind = rows_behind c.args.rows.now.items c.loop-number.rows.items c.if-shows_row.rows.items c.loop-number.number _ (ap (λ rows. rows.items) w.rows-is)
-          c.loop-number.invariant.count c.loop-number.invariant.rest in
+          let behind =
+          rows_behind c.args.rows.now.items c.loop-number.rows.items c.if-shows_row.rows.items c.loop-number.number _
+          (ap (λ rows. rows.items) w.rows-is) c.loop-number.invariant.count c.loop-number.invariant.rest in
           record {
             count = behind.0;
             within = omega (arith, there);
             rest = behind.1;
-            draws = draws_at c.args.window.now c.args.rows.now.items c.args.roster.now c.args.grid.now (c.loop-number.number + 1) _ w.note.new.self c.if-shows_row.legend _ _ _
-                w.legend-is (ap string_bytes w.text-is)
-                (draws_more c.args.window.now c.args.rows.now.items c.args.roster.now c.args.grid.now c.loop-number.number _ _ _ _ _ _ w.index_mut-row.result.now
-                w.in_ok-columns.columns.items w.as_slice.result.now w.as_slice-then-shows_row.result.now c.loop-number.invariant.draws
-                (c.shows_row.ensures.0 w.if-shows_row.true) row w.in_ok-columns.ensures w.as_slice.ensures.value w.as_slice-then-shows_row.ensures.value
+            draws =
+                draws_at c.args.window.now c.args.rows.now.items c.args.roster.now c.args.grid.now (c.loop-number.number + 1)
+                _ w.note.new.self c.if-shows_row.legend _ _ _ w.legend-is (ap string_bytes w.text-is)
+                (draws_more c.args.window.now c.args.rows.now.items c.args.roster.now c.args.grid.now c.loop-number.number
+                _ _ _ _ _ _ w.index_mut-row.result.now w.in_ok-columns.columns.items w.as_slice.result.now
+                w.as_slice-then-shows_row.result.now c.loop-number.invariant.draws (c.shows_row.ensures.0 w.if-shows_row.true)
+                row w.in_ok-columns.ensures w.as_slice.ensures.value w.as_slice-then-shows_row.ensures.value
                 w.in_ok-write_row.ensures w.in_ok-note.ensures);
           }
       | else-shows_row w ↦ record {
         count = ap (λ rows. length rows.items) w.rows-is ∙ c.loop-number.invariant.count;
         within = omega (arith, there);
         rest = λ p h. ap (λ rows. row_of rows.items p) w.rows-is ∙ c.loop-number.invariant.rest p (omega (arith, h));
-        draws = draws_at c.args.window.now c.args.rows.now.items c.args.roster.now c.args.grid.now (c.loop-number.number + 1) _ c.loop-number.legend c.if-shows_row.legend _ _ _
-            w.legend-is (ap string_bytes w.text-is)
-            (draws_same c.args.window.now c.args.rows.now.items c.args.roster.now c.args.grid.now c.loop-number.number _ _ _ _ c.loop-number.invariant.draws
-            (test_fails _ _ c.shows_row.ensures w.if-shows_row.false));
+        draws =
+            draws_at c.args.window.now c.args.rows.now.items c.args.roster.now c.args.grid.now (c.loop-number.number + 1) _
+            c.loop-number.legend c.if-shows_row.legend _ _ _ w.legend-is (ap string_bytes w.text-is)
+            (draws_same c.args.window.now c.args.rows.now.items c.args.roster.now c.args.grid.now c.loop-number.number _ _ _ _
+            c.loop-number.invariant.draws (test_fails _ _ c.shows_row.ensures w.if-shows_row.false));
       }
     ]

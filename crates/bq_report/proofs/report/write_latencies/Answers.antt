@@ -8,7 +8,9 @@ loop-task-init c = record { within = omega arith; lines = lines_none _ _; rest =
 pub loop-task-preserved : goal.loop-task-preserved
 loop-task-preserved c = record {
   within = omega arith;
-  lines = latencies_more _ _ _ _ _ _ _ _ _ c.loop-task.invariant.lines (c.loop-task.invariant.rest c.loop-task.task (omega arith)) c.in_ok-write_latency_if.ensures.line;
+  lines =
+      latencies_more _ _ _ _ _ _ _ _ _ c.loop-task.invariant.lines (c.loop-task.invariant.rest c.loop-task.task (omega arith))
+      c.in_ok-write_latency_if.ensures.line;
   rest = others_kept _ _ _ _ c.loop-task.invariant.rest c.in_ok-write_latency_if.ensures.others;
 }
 

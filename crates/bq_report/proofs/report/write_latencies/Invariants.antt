@@ -8,6 +8,7 @@ use Rattle.bq_report.proofs.report.write_latencies.Given as goal
 abbrev pub invariant-loop-task : goal.invariant-loop-task
 invariant-loop-task l = record {
   within : l.task ≤ 1024;
-  lines : Adds (AreParts (λ i. IsLatencyLine l.window l.names l.schedule (latencies_of l.fn.latencies i) i) l.task) (string_bytes l.initial.text) (string_bytes l.text);
+  lines : Adds (AreParts (λ i. IsLatencyLine l.window l.names l.schedule (latencies_of l.fn.latencies i) i) l.task)
+      (string_bytes l.initial.text) (string_bytes l.text);
   rest : (other : ℕ) → l.task ≤ other → latencies_of l.latencies other ≡ latencies_of l.fn.latencies other;
 }

@@ -8,6 +8,7 @@ returns-then-not-has_task-clause-line c = adds_none _ _ _ (test_fails _ _ c.has_
 
 pub returns-clause-line : goal.returns-clause-line
 returns-clause-line c =
-    on_ok_weaker _ (latency_line_added _ _ _ _ _ _ _ _ _ _ _ _ c.has_task.ensures c.if-not-has_task.false c.text.ensures c.task-figures.ensures
-    (are_percentiles _ _ _ _ refl c.percentiles-percentiles.ensures.values c.percentiles-percentiles.ensures.sorted c.percentiles-percentiles.ensures.kept) c.still_waiting-still.ensures)
+    on_ok_weaker _ (latency_line_added _ _ _ _ _ _ _ _ _ _ _ _ c.has_task.ensures c.if-not-has_task.false c.text.ensures
+    c.task-figures.ensures (are_percentiles _ _ _ _ refl c.percentiles-percentiles.ensures.values
+    c.percentiles-percentiles.ensures.sorted c.percentiles-percentiles.ensures.kept) c.still_waiting-still.ensures)
     c.write_latency_line.ensures

@@ -11,15 +11,18 @@ loop-number-preserved c =
     elim c.if-has_hooks.branch [
       | then-has_hooks+in_ok-write_hook_head+in_ok-write_hook_lines w ↦ record {
         within = omega arith;
-        lines = hooks_at _ _ _ _ _ _ _ _ w.has_head-is (ap string_bytes w.text-is)
-            (hooks_more c.args.window.now c.args.schedule.now c.loop-number.number _ _ _ _ _ _ c.loop-number.invariant.lines c.processor-figures.ensures
-            (c.has_hooks.ensures.0 w.if-has_hooks.true) w.in_ok-write_hook_head.ensures w.in_ok-write_hook_lines.ensures);
+        lines =
+            hooks_at _ _ _ _ _ _ _ _ w.has_head-is (ap string_bytes w.text-is)
+            (hooks_more c.args.window.now c.args.schedule.now c.loop-number.number _ _ _ _ _ _ c.loop-number.invariant.lines
+            c.processor-figures.ensures (c.has_hooks.ensures.0 w.if-has_hooks.true) w.in_ok-write_hook_head.ensures
+            w.in_ok-write_hook_lines.ensures);
       }
       | else-has_hooks w ↦ record {
         within = omega arith;
-        lines = hooks_at _ _ _ _ _ _ _ _ w.has_head-is (ap string_bytes w.text-is)
-            (hooks_same c.args.window.now c.args.schedule.now c.loop-number.number _ _ _ _ c.loop-number.invariant.lines c.processor-figures.ensures
-            (test_fails _ _ c.has_hooks.ensures w.if-has_hooks.false));
+        lines =
+            hooks_at _ _ _ _ _ _ _ _ w.has_head-is (ap string_bytes w.text-is)
+            (hooks_same c.args.window.now c.args.schedule.now c.loop-number.number _ _ _ _ c.loop-number.invariant.lines
+            c.processor-figures.ensures (test_fails _ _ c.has_hooks.ensures w.if-has_hooks.false));
       }
     ]
 

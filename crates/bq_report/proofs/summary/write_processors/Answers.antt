@@ -12,14 +12,19 @@ loop-number-preserved c =
     elim c.if-has_processor.branch [
       | then-has_processor+in_ok-write_processor w ↦ record {
         within = omega arith;
-        elements = elements_at _ _ _ _ _ _ _ w.is_first-is (ap string_bytes w.text-is)
-            (elements_more (IsProcessorObject c.args.window.now c.args.schedule.now) c.loop-number.number _ _ _ _ _ c.loop-number.invariant.elements
-            (processor_there _ _ _ _ (c.has_processor.ensures.0 w.if-has_processor.true) w.processor.ensures) w.in_ok-write_processor.ensures);
+        elements =
+            elements_at _ _ _ _ _ _ _ w.is_first-is (ap string_bytes w.text-is)
+            (elements_more (IsProcessorObject c.args.window.now c.args.schedule.now)
+            c.loop-number.number _ _ _ _ _ c.loop-number.invariant.elements
+            (processor_there _ _ _ _ (c.has_processor.ensures.0 w.if-has_processor.true) w.processor.ensures)
+            w.in_ok-write_processor.ensures);
       }
       | else-has_processor w ↦ record {
         within = omega arith;
-        elements = elements_at _ _ _ _ _ _ _ w.is_first-is (ap string_bytes w.text-is)
-            (elements_same (IsProcessorObject c.args.window.now c.args.schedule.now) c.loop-number.number _ _ _ c.loop-number.invariant.elements
+        elements =
+            elements_at _ _ _ _ _ _ _ w.is_first-is (ap string_bytes w.text-is)
+            (elements_same (IsProcessorObject c.args.window.now c.args.schedule.now)
+            c.loop-number.number _ _ _ c.loop-number.invariant.elements
             (part_missing _ _ (test_fails _ _ c.has_processor.ensures w.if-has_processor.false)));
       }
     ]

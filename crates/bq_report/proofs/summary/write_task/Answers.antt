@@ -7,7 +7,7 @@ use Rattle.bq_report.proofs.summary.write_task.Goals as goal
 
 pub returns : goal.returns
 returns c =
-    on_ok_weaker _ (element_of (view c.in_ok-value.value) (task_object c.args.names.now c.args.schedule.now c.args.task c.args.percentiles.now) c.args.is_first
+    on_ok_weaker _ (element_of (view c.in_ok-value.value)
+    (task_object c.args.names.now c.args.schedule.now c.args.task c.args.percentiles.now) c.args.is_first
     (string_bytes c.args.text.now) (string_bytes c.write_element.new.text) c.in_ok-value.ensures
-    (no_float_in_task c.args.names.now c.args.schedule.now c.args.task c.args.percentiles.now))
-    c.write_element.ensures
+    (no_float_in_task c.args.names.now c.args.schedule.now c.args.task c.args.percentiles.now)) c.write_element.ensures

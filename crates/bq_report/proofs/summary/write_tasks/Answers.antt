@@ -13,21 +13,25 @@ loop-task-preserved c =
     elim c.if-has_task.branch [
       | then-has_task+in_ok-write_task w ↦ record {
         within = omega arith;
-        elements = elements_at _ _ _ _ _ _ _ w.is_first-is (ap string_bytes w.text-is)
-            (elements_more (λ i. IsTaskObject c.args.window.now c.args.names.now c.args.schedule.now (latencies_of c.args.latencies.now i) i) c.loop-task.task _ _ _ _ _
-            c.loop-task.invariant.elements
+        elements =
+            elements_at _ _ _ _ _ _ _ w.is_first-is (ap string_bytes w.text-is)
+            (elements_more
+            (λ i. IsTaskObject c.args.window.now c.args.names.now c.args.schedule.now (latencies_of c.args.latencies.now i) i)
+            c.loop-task.task _ _ _ _ _ c.loop-task.invariant.elements
             (task_there _ _ _ _ _ _ (c.has_task.ensures.0 w.if-has_task.true)
             (are_percentiles _ _ _ _ (c.loop-task.invariant.rest c.loop-task.task (omega arith)) w.percentiles-percentiles.ensures.values
-            w.percentiles-percentiles.ensures.sorted w.percentiles-percentiles.ensures.kept))
-            w.in_ok-write_task.ensures);
+            w.percentiles-percentiles.ensures.sorted w.percentiles-percentiles.ensures.kept)) w.in_ok-write_task.ensures);
         rest = others_kept _ _ _ _ c.loop-task.invariant.rest
             (λ other apart. ap (λ l. latencies_of l other) w.latencies-is ∙ w.percentiles-percentiles.ensures.others other apart);
       }
       | else-has_task w ↦ record {
         within = omega arith;
-        elements = elements_at _ _ _ _ _ _ _ w.is_first-is (ap string_bytes w.text-is)
-            (elements_same (λ i. IsTaskObject c.args.window.now c.args.names.now c.args.schedule.now (latencies_of c.args.latencies.now i) i) c.loop-task.task _ _ _
-            c.loop-task.invariant.elements (part_missing _ _ (test_fails _ _ c.has_task.ensures w.if-has_task.false)));
+        elements =
+            elements_at _ _ _ _ _ _ _ w.is_first-is (ap string_bytes w.text-is)
+            (elements_same
+            (λ i. IsTaskObject c.args.window.now c.args.names.now c.args.schedule.now (latencies_of c.args.latencies.now i) i)
+            c.loop-task.task _ _ _ c.loop-task.invariant.elements
+            (part_missing _ _ (test_fails _ _ c.has_task.ensures w.if-has_task.false)));
         rest = λ other h. ap (λ l. latencies_of l other) w.latencies-is ∙ c.loop-task.invariant.rest other (omega arith);
       }
     ]

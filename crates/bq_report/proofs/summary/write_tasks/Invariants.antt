@@ -9,6 +9,7 @@ use Rattle.bq_report.proofs.summary.write_tasks.Given as goal
 abbrev pub invariant-loop-task : goal.invariant-loop-task
 invariant-loop-task l = record {
   within : l.task ≤ 1024;
-  elements : ElementsBelow (λ i. IsTaskObject l.window l.names l.schedule (latencies_of l.fn.latencies i) i) l.task l.is_first (string_bytes l.initial.text) (string_bytes l.text);
+  elements : ElementsBelow (λ i. IsTaskObject l.window l.names l.schedule (latencies_of l.fn.latencies i) i) l.task l.is_first
+      (string_bytes l.initial.text) (string_bytes l.text);
   rest : (other : ℕ) → l.task ≤ other → latencies_of l.latencies other ≡ latencies_of l.fn.latencies other;
 }

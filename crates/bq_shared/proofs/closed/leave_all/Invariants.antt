@@ -6,5 +6,5 @@ use Rattle.bq_shared.proofs.closed.leave_all.Given as goal
 abbrev pub invariant-loop-seat : goal.invariant-loop-seat
 invariant-loop-seat g l = record {
   items : l.all ≡ l.initial.all ++ map caller_of l.yielded;
-  account : l.account ≡ account_by g.R.TellsCalls.calls l.yielded;
+  account : l.account ≡ account_by g.R.ReportsCalls.calls l.yielded;
 }

@@ -22,6 +22,10 @@ loop-number-preserved g c =
           ∙ ap (λ y. fresh 0 c.loop-number.number ++ y ∷ []) (c.next_seat.ensures.seat ∙ ap (λ (k : ℕ). (k, [])) zero_more)
           ∙ sym (fresh_more 0 c.loop-number.number)
           ∙ ap (fresh 0) one_more;
-      callers = c.next_seat.ensures.callers ∙ ap others_of (c.loop-number.invariant.callers ∙ caller_turn c.loop-number.number c.args.count b);
-      tallies = c.next_seat.ensures.tallies ∙ ap without_one c.loop-number.invariant.tallies ∙ account_turn c.loop-number.number c.args.count b;
+      callers =
+          c.next_seat.ensures.callers
+          ∙ ap others_of (c.loop-number.invariant.callers ∙ caller_turn c.loop-number.number c.args.count b);
+      tallies =
+          c.next_seat.ensures.tallies ∙ ap without_one c.loop-number.invariant.tallies
+          ∙ account_turn c.loop-number.number c.args.count b;
     }

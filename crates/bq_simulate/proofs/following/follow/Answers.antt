@@ -7,18 +7,31 @@ use Rattle.bq_simulate.proofs.OpenWellLemmas.{starts-well}
 use Rattle.bq_simulate.proofs.WellLemmas.{bound-of-endless, err-both, err-by, wants-no-end}
 use Rattle.bq_simulate.proofs.following.follow.Goals as goal
 
-pub returns-clause-told : goal.returns-clause-told
-returns-clause-told g c =
+pub returns-clause-reported : goal.returns-clause-reported
+returns-clause-reported g c =
     let s = c.in_ok-simulation.ensures in
     let w = with_seed c.args.workload.now c.args.seed in
-    let new : IsNew w _ _ = record { driver = s.driver; accounts = s.accounts; periods = s.periods; agreed = s.agrees; seed = s.seed; streams = s.streams; firsts = s.firsts } in
-    on_ok_weaker c.run.result (λ h. followed-of g.S.Sink.takes g.S.Enough.sated _ _ _ c.args.policies.now w _ _ _ c.in_ok-driver.ensures.starts new h) c.run.ensures.runs
+    let new : IsNew w _ _ = record {
+      driver = s.driver;
+      accounts = s.accounts;
+      periods = s.periods;
+      agreed = s.agrees;
+      seed = s.seed;
+      streams = s.streams;
+      firsts = s.firsts;
+    } in
+    on_ok_weaker c.run.result
+    (λ h. followed-of g.S.Sink.takes g.S.Enough.sated _ _ _ c.args.policies.now w _ _ _ c.in_ok-driver.ensures.starts new h)
+    c.run.ensures.runs
 
 pub returns-in_err-driver-clause-ends : goal.returns-in_err-driver-clause-ends
-returns-in_err-driver-clause-ends g c = λ sound. err-by c.from_residual.result c.from_residual.ensures.1 (λ e is. inl (is c.in_err-driver.ensures.fault))
+returns-in_err-driver-clause-ends g c =
+    λ sound. err-by c.from_residual.result c.from_residual.ensures.1 (λ e is. inl (is c.in_err-driver.ensures.fault))
 
 pub returns-in_err-simulation-clause-ends : goal.returns-in_err-simulation-clause-ends
-returns-in_err-simulation-clause-ends g c = λ sound. err-by c.from_residual-in_err-simulation.result c.from_residual-in_err-simulation.ensures.1 (λ e is. inl (is ∙ c.in_err-simulation.ensures.ends))
+returns-in_err-simulation-clause-ends g c = λ sound.
+    err-by c.from_residual-in_err-simulation.result c.from_residual-in_err-simulation.ensures.1
+    (λ e is. inl (is ∙ c.in_err-simulation.ensures.ends))
 
 -- nothing of it was done yet
 pub returns-clause-ends : goal.returns-clause-ends
@@ -26,23 +39,44 @@ returns-clause-ends g c = λ sound.
     let s = c.in_ok-simulation.ensures in
     let w = c.args.workload.now in
     let made = c.in_ok-driver.ensures.starts in
-    let new : IsNew (with_seed w c.args.seed) _ _ = record { driver = s.driver; accounts = s.accounts; periods = s.periods; agreed = s.agrees; seed = s.seed; streams = s.streams; firsts = s.firsts } in
-    c.run.ensures.ends (starts-well w c.args.seed _ _ made.told sound made.holds new s.counts)
+    let new : IsNew (with_seed w c.args.seed) _ _ = record {
+      driver = s.driver;
+      accounts = s.accounts;
+      periods = s.periods;
+      agreed = s.agrees;
+      seed = s.seed;
+      streams = s.streams;
+      firsts = s.firsts;
+    } in
+    c.run.ensures.ends (starts-well w c.args.seed _ _ made.reported sound made.holds new s.counts)
 
 pub returns-in_err-driver-clause-endless : goal.returns-in_err-driver-clause-endless
-returns-in_err-driver-clause-endless g c = λ sound. err-by c.from_residual.result c.from_residual.ensures.1 (λ e is ends. absurd (wants-no-end (sym (is c.in_err-driver.ensures.fault) ∙ ends)))
+returns-in_err-driver-clause-endless g c = λ sound.
+    err-by c.from_residual.result c.from_residual.ensures.1
+    (λ e is ends. absurd (wants-no-end (sym (is c.in_err-driver.ensures.fault) ∙ ends)))
 
 pub returns-in_err-simulation-clause-endless : goal.returns-in_err-simulation-clause-endless
-returns-in_err-simulation-clause-endless g c = λ sound. err-by c.from_residual-in_err-simulation.result c.from_residual-in_err-simulation.ensures.1 (λ e is ends. absurd (wants-no-end (sym (is ∙ c.in_err-simulation.ensures.ends) ∙ ends)))
+returns-in_err-simulation-clause-endless g c = λ sound.
+    err-by c.from_residual-in_err-simulation.result c.from_residual-in_err-simulation.ensures.1
+    (λ e is ends. absurd (wants-no-end (sym (is ∙ c.in_err-simulation.ensures.ends) ∙ ends)))
 
--- the bound is more than 64 bits count, and so many things have come due
+-- the bound is more than 64 bits count, and as many things have come due as 64 bits count
 pub returns-clause-endless : goal.returns-clause-endless
 returns-clause-endless g c = λ sound.
     let s = c.in_ok-simulation.ensures in
     let w = c.args.workload.now in
     let made = c.in_ok-driver.ensures.starts in
     let seeded = with_seed w c.args.seed in
-    let new : IsNew seeded _ _ = record { driver = s.driver; accounts = s.accounts; periods = s.periods; agreed = s.agrees; seed = s.seed; streams = s.streams; firsts = s.firsts } in
-    let starts = starts-well w c.args.seed _ _ made.told sound made.holds new s.counts in
-    err-both c.run.result (c.run.ensures.ends starts) (c.run.ensures.endless starts)
-    (λ e early runs is. too-long-of g.S.Sink.takes _ _ _ c.args.policies.now seeded _ _ _ made new (bound-of-endless w (subst (EndsEarly w) is early)) (runs is))
+    let new : IsNew seeded _ _ = record {
+      driver = s.driver;
+      accounts = s.accounts;
+      periods = s.periods;
+      agreed = s.agrees;
+      seed = s.seed;
+      streams = s.streams;
+      firsts = s.firsts;
+    } in
+    let starts = starts-well w c.args.seed _ _ made.reported sound made.holds new s.counts in
+    err-both c.run.result (c.run.ensures.ends starts) (c.run.ensures.endless starts) (λ e early runs is.
+    too-long-of g.S.Sink.takes _ _ _ c.args.policies.now seeded _ _ _ made new
+    (bound-of-endless w (subst (EndsEarly w) is early)) (runs is))

@@ -9,8 +9,13 @@ pub returns-then-has_enough-clause-enough : goal.returns-then-has_enough-clause-
 returns-then-has_enough-clause-enough g c =
     let sated = sym c.has_enough.ensures ∙ c.if-has_enough.true in
     let w = with_seed c.args.workload.now c.args.seed in
-    λ is. (sated, subst (λ (b : Bool). Gets g.S.Sink.takes c.args.sink.now c.follow.new.sink (IsFollowed b c.args.policies.now w)) sated c.in-Ok.ensures.told)
+    λ is. (
+      sated,
+      subst (λ (b : Bool). Gets g.S.Sink.takes c.args.sink.now c.follow.new.sink (IsFollowed b c.args.policies.now w)) sated
+          c.in-Ok.ensures.reported,
+    )
 
-pub returns-clause-told : goal.returns-clause-told
-returns-clause-told g c =
-    followed_whole g.S.Sink.takes _ _ _ c.args.policies.now (with_seed c.args.workload.now c.args.seed) (sym c.has_enough.ensures ∙ c.if-has_enough.false) c.in-Ok.ensures.told
+pub returns-clause-reported : goal.returns-clause-reported
+returns-clause-reported g c =
+    followed_whole g.S.Sink.takes _ _ _ c.args.policies.now (with_seed c.args.workload.now c.args.seed)
+    (sym c.has_enough.ensures ∙ c.if-has_enough.false) c.in-Ok.ensures.reported

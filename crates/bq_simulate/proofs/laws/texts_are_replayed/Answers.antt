@@ -1,4 +1,4 @@
-use Rattle.bq_simulate.proofs.RetellingLemmas as lemmas
+use Rattle.bq_simulate.proofs.ReplayLemmas as lemmas
 use Rattle.bq_simulate.proofs.laws.texts_are_replayed.Goals as goal
 
 pub returns : goal.returns

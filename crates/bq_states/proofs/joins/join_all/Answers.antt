@@ -10,8 +10,10 @@ loop-i-preserved c =
     record {
       left = grind (arith, common_steps);
       right = grind (arith, common_steps);
-      stands = λ s. stands_more s c.args.into.now c.loop-i.into c.args.other.now c.loop-i.i c.join.result c.index-into-i.result c.index-other-i.result
-          in_into in_other c.index-into-i.is c.index-other-i.is (c.loop-i.invariant.rest c.loop-i.i (omega arith)) (c.join.ensures.stands s) (c.loop-i.invariant.stands s);
+      stands = λ s.
+          stands_more s c.args.into.now c.loop-i.into c.args.other.now c.loop-i.i c.join.result
+          c.index-into-i.result c.index-other-i.result in_into in_other c.index-into-i.is c.index-other-i.is
+          (c.loop-i.invariant.rest c.loop-i.i (omega arith)) (c.join.ensures.stands s) (c.loop-i.invariant.stands s);
       rest = grind (arith, common_steps);
     }
 

@@ -11,4 +11,5 @@ returns c = λ stack o bytes have within has small.
     let same : c.in-Some.part.size ≡ c.args.size = search rules in
     let there : c.place_of.result < length c.args.parts.now = omega (arith, c.requires, c.place_of.ensures) in
     let known = part_known c.args.parts.now c.place_of.result _ c.in-Some.part there c.in-Some.is in
-    part_number stack c.in-Some.part o c.args.size bytes place same (subst (λ (v : Option StackPart). HasPart stack v) known (have c.place_of.result)) has
+    part_number stack c.in-Some.part o c.args.size bytes place same
+    (subst (λ (v : Option StackPart). HasPart stack v) known (have c.place_of.result)) has

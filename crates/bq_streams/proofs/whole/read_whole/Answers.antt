@@ -29,5 +29,7 @@ loop-preserved g c =
     record {
       reads = search rules;
       calls = omega arith;
-      consumed = subst (Consumes from to) (sym c.in_ok-extend_from_slice.ensures.items) (Consumes-trans _ _ _ _ _ c.loop.invariant.consumed c.in_ok-count.ensures.bytes.0);
+      consumed =
+          subst (Consumes from to) (sym c.in_ok-extend_from_slice.ensures.items)
+          (Consumes-trans _ _ _ _ _ c.loop.invariant.consumed c.in_ok-count.ensures.bytes.0);
     }

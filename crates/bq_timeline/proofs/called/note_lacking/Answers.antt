@@ -4,5 +4,7 @@ use Rattle.bq_timeline.proofs.called.note_lacking.Goals as goal
 
 pub returns : goal.returns
 returns c =
-    subst (λ (name : List ℕ). OnOk c.write.result (string_bytes c.write.new.self ≡ string_bytes c.args.notes.now ++ (codes "--tasks: no task is called " ++ (name ++ codes "\n"))))
+    subst (λ (name : List ℕ).
+    OnOk c.write.result
+    (string_bytes c.write.new.self ≡ string_bytes c.args.notes.now ++ (codes "--tasks: no task is called " ++ (name ++ codes "\n"))))
     c.in_ok-name.ensures c.write.ensures.bytes

@@ -4,6 +4,8 @@ use Rattle.bq_timeline.proofs.numbers.push_range.Goals as goal
 
 pub loop-next-preserved : goal.loop-next-preserved
 loop-next-preserved c = record {
-  so_far = range_on _ c.loop-next.tasks.items c.push.new.self.items c.loop-next.next c.args.last c.loop-next-test.true c.loop-next.invariant.so_far c.in_ok-push.ensures.items;
+  so_far =
+      range_on _ c.loop-next.tasks.items c.push.new.self.items c.loop-next.next c.args.last c.loop-next-test.true
+      c.loop-next.invariant.so_far c.in_ok-push.ensures.items;
   within = omega (arith, c.loop-next-test.true);
 }

@@ -5,7 +5,8 @@ use Rattle.bq_timeline.proofs.numbers.push_range.Given as goal
 -- the tasks so far, and behind them those that are left, are all
 abbrev pub invariant-loop-next : goal.invariant-loop-next
 invariant-loop-next l = record {
-  so_far : l.tasks.items ++ range_with_len l.next (l.last + 1 - l.next) ≡ l.initial.tasks.items ++ range_with_len l.first (l.last + 1 - l.first);
+  so_far : l.tasks.items ++ range_with_len l.next (l.last + 1 - l.next)
+      ≡ l.initial.tasks.items ++ range_with_len l.first (l.last + 1 - l.first);
   within : l.next ≤ l.last;
 }
 

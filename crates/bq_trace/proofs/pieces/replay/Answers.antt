@@ -18,7 +18,8 @@ returns-then-count-eq0-clause-ok g c =
     let nothing : take c.in_ok-count.count c.read.new.buf ≡ [] = rw c.if-count-eq0.true refl in
     let consumed : Consumes from to [] = subst (Consumes from to) nothing c.in_ok-count.ensures.bytes.0 in
     let at_end : IsAtEnd to = c.in_ok-count.ensures.bytes.1 c.if-count-eq0.true (search rules) in
-    IfOk-weaker c.finish.result _ _ (λ clean f. Underway-ends _ _ _ _ _ _ _ clean so_far consumed at_end (f so_far.rest so_far.stands)) c.finish.ensures.ok
+    IfOk-weaker c.finish.result _ _
+    (λ clean f. Underway-ends _ _ _ _ _ _ _ clean so_far consumed at_end (f so_far.rest so_far.stands)) c.finish.ensures.ok
 
 pub returns-then-count-eq0-clause-part : goal.returns-then-count-eq0-clause-part
 returns-then-count-eq0-clause-part g c =
@@ -27,12 +28,14 @@ returns-then-count-eq0-clause-part g c =
     let to = g.R.Read.remaining (inner_of c.read.new.self) in
     let nothing : take c.in_ok-count.count c.read.new.buf ≡ [] = rw c.if-count-eq0.true refl in
     let consumed : Consumes from to [] = subst (Consumes from to) nothing c.in_ok-count.ensures.bytes.0 in
-    on_err_weaker c.finish.result (λ b. Underway-breaks _ _ _ _ _ _ _ [] so_far consumed (b so_far.rest so_far.stands)) c.finish.ensures.part
+    on_err_weaker c.finish.result (λ b. Underway-breaks _ _ _ _ _ _ _ [] so_far consumed (b so_far.rest so_far.stands))
+    c.finish.ensures.part
 
 pub returns-in_err-session-clause-part : goal.returns-in_err-session-clause-part
 returns-in_err-session-clause-part g c =
     let so_far = c.loop.invariant.so_far in
-    OnErr-anyhow _ (Underway-breaks _ _ _ _ _ _ _ _ so_far c.in_ok-count.ensures.bytes.0 (c.in_err-session.ensures.part so_far.rest so_far.stands))
+    OnErr-anyhow _
+    (Underway-breaks _ _ _ _ _ _ _ _ so_far c.in_ok-count.ensures.bytes.0 (c.in_err-session.ensures.part so_far.rest so_far.stands))
 
 pub loop-preserved : goal.loop-preserved
 loop-preserved g c =

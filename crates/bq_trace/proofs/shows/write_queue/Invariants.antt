@@ -7,7 +7,8 @@ use Rattle.bq_trace.proofs.shows.write_queue.Given as goal
 -- what is written and what is still to come are the whole
 abbrev pub invariant-loop-node : goal.invariant-loop-node
 invariant-loop-node g l =
-    string_bytes l.text ++ spaced_entities (rest_after l.last l.cpu.running.queue) ≡ string_bytes l.initial.text ++ spaced_entities l.cpu.running.queue
+    string_bytes l.text ++ spaced_entities (rest_after l.last l.cpu.running.queue)
+    ≡ string_bytes l.initial.text ++ spaced_entities l.cpu.running.queue
 
 abbrev pub decreases-loop-node : goal.decreases-loop-node
 decreases-loop-node g l = length (rest_after l.last l.cpu.running.queue)

@@ -21,25 +21,27 @@ returns-then-eq-clause-accepts c = λ shapes context ready.
       | inl n ↦ (
         (c.copy.ensures.accepts n.1).0,
         λ x slot k after.
-            has_given x slot k (Alu c.args.width c.args.op c.args.dst c.args.src) c.args.state.now c.copy.new.state c.args.dst refl
-            (λ kind o r. no_pointer kind o slot k c.args.width c.args.op c.args.dst c.args.src r c.args.state.now n.0 n.1)
+            has_given x slot k (Alu c.args.width c.args.op c.args.dst c.args.src) c.args.state.now c.copy.new.state c.args.dst
+            refl (λ kind o r. no_pointer kind o slot k c.args.width c.args.op c.args.dst c.args.src r c.args.state.now n.0 n.1)
             (λ m r gives.
-            has_exact m c.args.width c.args.dst c.args.src r c.args.state.now c.copy.new.state (on_ok_at c.copy.result (c.copy.ensures.accepts n.1).0 c.copy.ensures.exact)
+            has_exact m c.args.width c.args.dst c.args.src r c.args.state.now c.copy.new.state
+            (on_ok_at c.copy.result (c.copy.ensures.accepts n.1).0 c.copy.ensures.exact)
             (subst (λ (op : Operation). GivesExact m (Alu c.args.width op c.args.dst c.args.src) r) same gives))
-            (c.copy.ensures.accepts n.1).1
-            after,
+            (c.copy.ensures.accepts n.1).1 after,
       )
       | inr either ↦
           elim either [
             | inl f ↦
-                let m : IsCopyOfFrame c.args.state.now c.args.width Mov c.args.src = record { is_copy = refl; whole = f.whole; of_frame = f.of_frame; base = f.base; stands = f.stands } in (
+                let m : IsCopyOfFrame c.args.state.now c.args.width Mov c.args.src =
+                record { is_copy = refl; whole = f.whole; of_frame = f.of_frame; base = f.base; stands = f.stands } in (
                   (c.copy.ensures.copies m).0,
                   λ x slot k after.
                       let at : After x slot k (Alu c.args.width c.args.op c.args.dst c.args.src) c.args.state.now = after in
                       let copied : After x slot k (Alu c.args.width Mov c.args.dst (Reg 10)) c.args.state.now =
                       subst (λ (src : Source). After x slot k (Alu c.args.width Mov c.args.dst src) c.args.state.now) f.of_frame
                       (subst (λ (op : Operation). After x slot k (Alu c.args.width op c.args.dst c.args.src) c.args.state.now) same at) in
-                      has_copied x slot k c.args.width c.args.dst f.base c.args.state.now c.copy.new.state f.stands (c.copy.ensures.copies m).1 copied,
+                      has_copied x slot k c.args.width c.args.dst f.base c.args.state.now c.copy.new.state f.stands
+                      (c.copy.ensures.copies m).1 copied,
                 )
             | inr f ↦ absurd (let sum : c.args.op ≡ Add = f.is_sum in let no : ⊥ = cc in no)
           ]
@@ -69,7 +71,8 @@ returns-clause-accepts c = λ shapes context ready.
                   let moved : After x slot k (Alu c.args.width Add c.args.dst (Imm f.distance)) c.args.state.now =
                   subst (λ (src : Source). After x slot k (Alu c.args.width Add c.args.dst src) c.args.state.now) f.by_distance
                   (subst (λ (op : Operation). After x slot k (Alu c.args.width op c.args.dst c.args.src) c.args.state.now) f.is_sum at) in
-                  has_moved x slot k c.args.width c.args.dst f.base f.at f.distance c.args.state.now c.operate.new.state f.stands f.at_is (c.operate.ensures.moves f).1 moved,
+                  has_moved x slot k c.args.width c.args.dst f.base f.at f.distance c.args.state.now c.operate.new.state
+                  f.stands f.at_is (c.operate.ensures.moves f).1 moved,
             )
           ]
     ]

@@ -11,6 +11,7 @@ returns c = λ s copies copied.
     let low : c.from.result < 11 = omega arith in
     let low' : c.from-2.result < 11 = omega arith in
     let from_is : s.register c.from-2.result ≡ Some is.word = subst (λ (r : ℕ). s.register r ≡ Some is.word) (sym from) is.from_is in
-    let to_is : s.register c.from.result ≡ Some is.word = subst (λ (r : ℕ). s.register r ≡ Some is.word) (sym to) (is.to_is ∙ ap (λ (n : ℕ). Some n) whole) in
+    let to_is : s.register c.from.result ≡ Some is.word =
+    subst (λ (r : ℕ). s.register r ≡ Some is.word) (sym to) (is.to_is ∙ ap (λ (n : ℕ). Some n) whole) in
     c.link.ensures s is.word copies (register_word s c.from-2.result is.word low' from_is)
     (λ m has. register_copy s c.from.result c.from-2.result is.word m low low' from_is to_is has)

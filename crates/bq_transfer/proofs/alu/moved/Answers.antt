@@ -10,12 +10,14 @@ use Rattle.bq_transfer.proofs.alu.moved.Goals as goal
 pub returns-in-W64-Add-clause-describes : goal.returns-in-W64-Add-clause-describes
 returns-in-W64-Add-clause-describes c = λ shapes x y p q.
     rw (c.in-W64-Add.is-0, c.in-W64-Add.is-1)
-    (moved_up shapes c.args.a.kind c.args.a.offset c.alu.result x y c.args.b.offset p (number_within shapes c.args.b y c.requires q) (λ u v s t. rw (← sum_is u v) (c.alu.ensures.holds u v s t)))
+    (moved_up shapes c.args.a.kind c.args.a.offset c.alu.result x y c.args.b.offset p
+    (number_within shapes c.args.b y c.requires q) (λ u v s t. rw (← sum_is u v) (c.alu.ensures.holds u v s t)))
 
 pub returns-in-W64-Sub-clause-describes : goal.returns-in-W64-Sub-clause-describes
 returns-in-W64-Sub-clause-describes c = λ shapes x y p q.
     rw (c.in-W64-Sub.is-0, c.in-W64-Sub.is-1)
-    (moved_down shapes c.args.a.kind c.args.a.offset c.sub.result x y c.args.b.offset p (number_within shapes c.args.b y c.requires q) c.sub.ensures.holds)
+    (moved_down shapes c.args.a.kind c.args.a.offset c.sub.result x y c.args.b.offset p
+    (number_within shapes c.args.b y c.requires q) c.sub.ensures.holds)
 
 pub returns-in-W64-Add-clause-moves : goal.returns-in-W64-Add-clause-moves
 returns-in-W64-Add-clause-moves c = λ base word whole sum stands is.

@@ -71,6 +71,11 @@ returns-then-helper-eq-UPDATE-clause-accepts c = λ ready.
       | inr rest ↦
           elim rest [
             | inl n ↦ absurd (other n.0)
-            | inr n ↦ ((c.update.ensures.accepts n.1 n.2).0, λ x slot k after. has_answered x slot k c.args.helper c.args.state.now c.update.new.state other (c.update.ensures.accepts n.1 n.2).1 after)
+            | inr n ↦ (
+              (c.update.ensures.accepts n.1 n.2).0,
+              λ x slot k after.
+                  has_answered x slot k c.args.helper c.args.state.now c.update.new.state other
+                  (c.update.ensures.accepts n.1 n.2).1 after,
+            )
           ]
     ]

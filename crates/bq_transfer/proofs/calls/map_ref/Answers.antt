@@ -8,7 +8,7 @@ use Rattle.bq_transfer.proofs.calls.map_ref.Goals as goal
 pub returns-clause-transfers : goal.returns-clause-transfers
 returns-clause-transfers c = λ context_length.
     let there : c.args.dst < length c.args.state.now.registers = omega (arith, c.requires.below) in
-    rw c.learn.ensures.is
+    rw c.set_register.ensures.is
     (carries_put c.args.shapes.now context_length (MapRef c.args.dst c.args.index) c.args.state.now c.args.dst _ there
     (λ f s suits contains.
     let index : c.args.index ≡ pos c.in-Some.map = omega (arith, ints, c.in-Some.ensures.index) in

@@ -22,7 +22,9 @@ pub returns-clause-asks : goal.returns-clause-asks
 returns-clause-asks c =
     let fits : SFits w32 c.in-Call.helper = search rules in
     let counter = rw c.in-Call.is at c.requires in
-    let is : c.in-Call.helper ≡ pos 101 = ⊎_elim (λ (e : c.in-Call.helper ≡ pos 100). absurd (omega (arith, ints, e))) (λ (e : c.in-Call.helper ≡ pos 101). e) counter in
+    let is : c.in-Call.helper ≡ pos 101 =
+    ⊎_elim (λ (e : c.in-Call.helper ≡ pos 100). absurd (omega (arith, ints, e)))
+    (λ (e : c.in-Call.helper ≡ pos 101). e) counter in
     on_ok_weaker c.read.result
     (λ asks.
     subst (λ (i : Insn). AsksFrom i c.args.state.now c.read.new.state) (sym c.in-Call.is)

@@ -9,22 +9,28 @@ use Rattle.bq_transfer.proofs.sides.null_check.Goals as goal
 pub returns-in-W64-Equal-true-clause-fits : goal.returns-in-W64-Equal-true-clause-fits
 returns-in-W64-Equal-true-clause-fits c = λ shapes a b p q h.
     null_side shapes c.args.right a b c.requires.right c.requires.null q
-    (equal_true a b (word_fits _ _ a p) (word_fits _ _ b q) (rw (c.in-W64-Equal-true.is-0, c.in-W64-Equal-true.is-1, c.in-W64-Equal-true.is-2) at h))
+    (equal_true a b (word_fits _ _ a p) (word_fits _ _ b q)
+    (rw (c.in-W64-Equal-true.is-0, c.in-W64-Equal-true.is-1, c.in-W64-Equal-true.is-2) at h))
 
 pub returns-in-W64-Equal-false-clause-fits : goal.returns-in-W64-Equal-false-clause-fits
 returns-in-W64-Equal-false-clause-fits c = λ shapes a b p q h.
-    entry_side shapes c.args.map c.args.left c.args.right a b c.requires.left c.requires.whole c.requires.right c.requires.null p q
-    (equal_false a b (word_fits _ _ a p) (word_fits _ _ b q) (rw (c.in-W64-Equal-false.is-0, c.in-W64-Equal-false.is-1, c.in-W64-Equal-false.is-2) at h))
+    entry_side shapes c.args.map c.args.left c.args.right a b c.requires.left c.requires.whole
+    c.requires.right c.requires.null p q
+    (equal_false a b (word_fits _ _ a p) (word_fits _ _ b q)
+    (rw (c.in-W64-Equal-false.is-0, c.in-W64-Equal-false.is-1, c.in-W64-Equal-false.is-2) at h))
 
 pub returns-in-W64-NotEqual-true-clause-fits : goal.returns-in-W64-NotEqual-true-clause-fits
 returns-in-W64-NotEqual-true-clause-fits c = λ shapes a b p q h.
-    entry_side shapes c.args.map c.args.left c.args.right a b c.requires.left c.requires.whole c.requires.right c.requires.null p q
-    (unequal_true a b (word_fits _ _ a p) (word_fits _ _ b q) (rw (c.in-W64-NotEqual-true.is-0, c.in-W64-NotEqual-true.is-1, c.in-W64-NotEqual-true.is-2) at h))
+    entry_side shapes c.args.map c.args.left c.args.right a b c.requires.left c.requires.whole
+    c.requires.right c.requires.null p q
+    (unequal_true a b (word_fits _ _ a p) (word_fits _ _ b q)
+    (rw (c.in-W64-NotEqual-true.is-0, c.in-W64-NotEqual-true.is-1, c.in-W64-NotEqual-true.is-2) at h))
 
 pub returns-in-W64-NotEqual-false-clause-fits : goal.returns-in-W64-NotEqual-false-clause-fits
 returns-in-W64-NotEqual-false-clause-fits c = λ shapes a b p q h.
     null_side shapes c.args.right a b c.requires.right c.requires.null q
-    (unequal_false a b (word_fits _ _ a p) (word_fits _ _ b q) (rw (c.in-W64-NotEqual-false.is-0, c.in-W64-NotEqual-false.is-1, c.in-W64-NotEqual-false.is-2) at h))
+    (unequal_false a b (word_fits _ _ a p) (word_fits _ _ b q)
+    (rw (c.in-W64-NotEqual-false.is-0, c.in-W64-NotEqual-false.is-1, c.in-W64-NotEqual-false.is-2) at h))
 
 pub returns-in-W64-Equal-true-clause-tested : goal.returns-in-W64-Equal-true-clause-tested
 returns-in-W64-Equal-true-clause-tested c = λ whole test zero. record {
@@ -34,10 +40,18 @@ returns-in-W64-Equal-true-clause-tested c = λ whole test zero. record {
 }
 
 pub returns-in-W64-Equal-false-clause-tested : goal.returns-in-W64-Equal-false-clause-tested
-returns-in-W64-Equal-false-clause-tested c = λ whole test zero. record { word = record { kind = Entry c.args.map; offset = c.args.left.offset }; is = refl; entry = λ found. entry_stands c.args.map c.args.left.offset zero c.requires.whole }
+returns-in-W64-Equal-false-clause-tested c = λ whole test zero. record {
+  word = record { kind = Entry c.args.map; offset = c.args.left.offset };
+  is = refl;
+  entry = λ found. entry_stands c.args.map c.args.left.offset zero c.requires.whole;
+}
 
 pub returns-in-W64-NotEqual-true-clause-tested : goal.returns-in-W64-NotEqual-true-clause-tested
-returns-in-W64-NotEqual-true-clause-tested c = λ whole test zero. record { word = record { kind = Entry c.args.map; offset = c.args.left.offset }; is = refl; entry = λ found. entry_stands c.args.map c.args.left.offset zero c.requires.whole }
+returns-in-W64-NotEqual-true-clause-tested c = λ whole test zero. record {
+  word = record { kind = Entry c.args.map; offset = c.args.left.offset };
+  is = refl;
+  entry = λ found. entry_stands c.args.map c.args.left.offset zero c.requires.whole;
+}
 
 pub returns-in-W64-NotEqual-false-clause-tested : goal.returns-in-W64-NotEqual-false-clause-tested
 returns-in-W64-NotEqual-false-clause-tested c = λ whole test zero. record {

@@ -7,11 +7,14 @@ use Rattle.bq_transfer.proofs.stores.store.Goals as goal
 
 pub returns-in-Stack-clause-stores : goal.returns-in-Stack-clause-stores
 returns-in-Stack-clause-stores c =
-    stores_if_ok c.args.shapes.now c.args.context c.args.access.base c.args.access.off c.args.access.size c.args.word c.in_ok-found.found.at c.in_ok-found.found.kind c.args.state.now c.store_on_stack.new.state c.store_on_stack.result c.store_on_stack.ensures.slot c.in-Stack.is c.in_ok-found.ensures.finds c.store_on_stack.ensures.contains
+    stores_if_ok c.args.shapes.now c.args.context c.args.access.base c.args.access.off c.args.access.size c.args.word
+    c.in_ok-found.found.at c.in_ok-found.found.kind c.args.state.now c.store_on_stack.new.state c.store_on_stack.result
+    c.store_on_stack.ensures.slot c.in-Stack.is c.in_ok-found.ensures.finds c.store_on_stack.ensures.contains
 
 pub returns-else-ne-clause-stores : goal.returns-else-ne-clause-stores
 returns-else-ne-clause-stores c =
-    stores_in_entry c.args.shapes.now c.args.context c.args.access.base c.args.access.off c.args.access.size c.args.word c.in_ok-found.found.at c.in_ok-found.found.kind _ c.args.state.now c.in-Entry.is c.in_ok-found.ensures.finds
+    stores_in_entry c.args.shapes.now c.args.context c.args.access.base c.args.access.off c.args.access.size c.args.word
+    c.in_ok-found.found.at c.in_ok-found.found.kind _ c.args.state.now c.in-Entry.is c.in_ok-found.ensures.finds
 
 pub returns-in_err-found-clause-accepts : goal.returns-in_err-found-clause-accepts
 returns-in_err-found-clause-accepts c = λ number place placed.
@@ -20,7 +23,9 @@ returns-in_err-found-clause-accepts c = λ number place placed.
 pub returns-in-Stack-clause-accepts : goal.returns-in-Stack-clause-accepts
 returns-in-Stack-clause-accepts c = λ number place placed.
     let there = c.in_ok-found.ensures.there Stack place placed in
-    let inside = stack_inside c.args.shapes.now c.args.context c.args.state.now c.args.access.size c.args.access.base c.args.access.off Stack place refl placed in
+    let inside =
+    stack_inside c.args.shapes.now c.args.context c.args.state.now c.args.access.size c.args.access.base
+    c.args.access.off Stack place refl placed in
     c.store_on_stack.ensures.accepts number place there.1 there.2 inside
 
 pub returns-else-ne-clause-accepts : goal.returns-else-ne-clause-accepts

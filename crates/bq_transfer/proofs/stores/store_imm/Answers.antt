@@ -11,7 +11,10 @@ pub returns-clause-transfers : goal.returns-clause-transfers
 returns-clause-transfers c =
     let word : AbstractValue = record { kind = Number; offset = c.single.result } in
     let is : c.word_of_imm.result ≡ word_of c.args.imm = search rules in
-    carries_imm c.args.shapes.now c.args.context c.args.access.base c.args.access.off c.args.imm c.args.access.size word c.args.state.now c.store.new.state c.in_ok-store.field-0 (λ f. describes_number f.shapes c.single.result (word_of c.args.imm) (omega (arith, is, c.single.ensures.lo), omega (arith, is, c.single.ensures.hi))) c.in_ok-store.ensures.stores
+    carries_imm c.args.shapes.now c.args.context c.args.access.base c.args.access.off c.args.imm c.args.access.size word
+    c.args.state.now c.store.new.state c.in_ok-store.field-0
+    (λ f. describes_number f.shapes c.single.result (word_of c.args.imm)
+    (omega (arith, is, c.single.ensures.lo), omega (arith, is, c.single.ensures.hi))) c.in_ok-store.ensures.stores
 
 pub returns-in_err-store-clause-accepts : goal.returns-in_err-store-clause-accepts
 returns-in_err-store-clause-accepts c = λ place placed.

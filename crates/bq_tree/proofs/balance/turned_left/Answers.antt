@@ -18,7 +18,8 @@ crown-requires-clause-knows g c =
     let all = order_from_right _ _ _ _ _ _ _ _ c.parted-left.ensures.order c.in-Some.is c.opened-inner.ensures.order in
     let turned = order_of_left _ _ _ _ _ _ all in
     let task = c.take_over.ensures.task ∙ ap task_of c.deref_mut.ensures.value in
-    c.take_over.ensures.knows _ (knows_same g.S.Summary.knows _ _ _ _ c.parted-left.ensures.knows c.deref.ensures (same_around _ _ _ _ _ _ _ turned task c.fork-low.ensures.order refl))
+    c.take_over.ensures.knows _ (knows_same g.S.Summary.knows _ _ _ _ c.parted-left.ensures.knows c.deref.ensures
+    (same_around _ _ _ _ _ _ _ turned task c.fork-low.ensures.order refl))
 
 pub returns-then-height-clause-order : goal.returns-then-height-clause-order
 returns-then-height-clause-order g c =
@@ -31,7 +32,9 @@ pub returns-then-height-clause-height : goal.returns-then-height-clause-height
 returns-then-height-clause-height g c =
     let top = sym (ap height_behind c.in-Some.is) ∙ c.parted-left.ensures.right_height in
     let sides = c.opened-inner.ensures.height ∙ same_height_swapped _ _ in
-    single_height _ _ _ _ _ _ _ _ _ _ c.requires.higher top c.parted-left.ensures.left_height sides c.height.ensures c.height-2.ensures c.if-height.true c.opened-inner.ensures.balanced.1 (c.fork-low.ensures.height ∙ same_height_swapped _ _) (c.crown.ensures.height ∙ same_height_swapped _ _)
+    single_height _ _ _ _ _ _ _ _ _ _ c.requires.higher top c.parted-left.ensures.left_height
+    sides c.height.ensures c.height-2.ensures c.if-height.true c.opened-inner.ensures.balanced.1
+    (c.fork-low.ensures.height ∙ same_height_swapped _ _) (c.crown.ensures.height ∙ same_height_swapped _ _)
 
 pub unreachable-requires-in_default-inner : goal.unreachable-requires-in_default-inner
 unreachable-requires-in_default-inner g c =
@@ -54,7 +57,8 @@ crown-requires-2-clause-knows g c =
     let all = order_from_right _ _ _ _ _ _ _ _ c.parted-left.ensures.order c.in-Some.is c.opened-inner.ensures.order in
     let cut = order_from_middle _ _ _ _ _ _ _ _ _ _ all c.in-Some-inner.is c.opened-far.ensures.order in
     let task = c.take_over-2.ensures.task ∙ ap task_of c.deref_mut-2.ensures.value in
-    c.take_over-2.ensures.knows _ (knows_same g.S.Summary.knows _ _ _ _ c.parted-left.ensures.knows c.deref-2.ensures (same_around _ _ _ _ _ _ _ cut task c.fork-before.ensures.order c.fork-after.ensures.order))
+    c.take_over-2.ensures.knows _ (knows_same g.S.Summary.knows _ _ _ _ c.parted-left.ensures.knows c.deref-2.ensures
+    (same_around _ _ _ _ _ _ _ cut task c.fork-before.ensures.order c.fork-after.ensures.order))
 
 pub returns-clause-order : goal.returns-clause-order
 returns-clause-order g c =
@@ -69,4 +73,6 @@ returns-clause-height g c =
     let sides = c.opened-inner.ensures.height ∙ same_height_swapped _ _ in
     let inner = ap height_behind c.in-Some-inner.is ∙ c.opened-far.ensures.height ∙ same_height_swapped _ _ in
     let crown = c.crown-2.ensures.height ∙ same_height_swapped _ _ in
-    double_height _ _ _ _ _ _ _ _ _ _ _ _ _ c.requires.higher top c.parted-left.ensures.left_height sides c.height.ensures c.height-2.ensures c.if-height.false c.opened-inner.ensures.balanced.0 inner (c.fork-after.ensures.height ∙ same_height_swapped _ _) (c.fork-before.ensures.height ∙ same_height_swapped _ _) crown
+    double_height _ _ _ _ _ _ _ _ _ _ _ _ _ c.requires.higher top c.parted-left.ensures.left_height
+    sides c.height.ensures c.height-2.ensures c.if-height.false c.opened-inner.ensures.balanced.0 inner
+    (c.fork-after.ensures.height ∙ same_height_swapped _ _) (c.fork-before.ensures.height ∙ same_height_swapped _ _) crown

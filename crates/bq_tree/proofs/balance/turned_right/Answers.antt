@@ -17,7 +17,8 @@ pub crown-requires-clause-knows : goal.crown-requires-clause-knows
 crown-requires-clause-knows g c =
     let all = order_from_left _ _ _ _ _ _ _ _ c.parted-left.ensures.order c.in-Some.is c.opened-outer.ensures.order in
     let task = c.take_over.ensures.task ∙ ap task_of c.deref_mut.ensures.value in
-    c.take_over.ensures.knows _ (knows_same g.S.Summary.knows _ _ _ _ c.parted-left.ensures.knows c.deref.ensures (same_around _ _ _ _ _ _ _ all task refl c.fork-low.ensures.order))
+    c.take_over.ensures.knows _ (knows_same g.S.Summary.knows _ _ _ _ c.parted-left.ensures.knows c.deref.ensures
+    (same_around _ _ _ _ _ _ _ all task refl c.fork-low.ensures.order))
 
 pub returns-then-height-clause-order : goal.returns-then-height-clause-order
 returns-then-height-clause-order g c =
@@ -28,7 +29,9 @@ returns-then-height-clause-order g c =
 pub returns-then-height-clause-height : goal.returns-then-height-clause-height
 returns-then-height-clause-height g c =
     let top = sym (ap height_behind c.in-Some.is) ∙ c.parted-left.ensures.left_height in
-    single_height _ _ _ _ _ _ _ _ _ _ c.requires.higher top c.parted-left.ensures.right_height c.opened-outer.ensures.height c.height.ensures c.height-2.ensures c.if-height.true c.opened-outer.ensures.balanced.0 c.fork-low.ensures.height c.crown.ensures.height
+    single_height _ _ _ _ _ _ _ _ _ _ c.requires.higher top c.parted-left.ensures.right_height c.opened-outer.ensures.height
+    c.height.ensures c.height-2.ensures c.if-height.true c.opened-outer.ensures.balanced.0 c.fork-low.ensures.height
+    c.crown.ensures.height
 
 pub unreachable-requires-in_default-inner : goal.unreachable-requires-in_default-inner
 unreachable-requires-in_default-inner g c =
@@ -51,7 +54,8 @@ crown-requires-2-clause-knows g c =
     let all = order_from_left _ _ _ _ _ _ _ _ c.parted-left.ensures.order c.in-Some.is c.opened-outer.ensures.order in
     let cut = order_from_middle _ _ _ _ _ _ _ _ _ _ all c.in-Some-inner.is c.opened-near.ensures.order in
     let task = c.take_over-2.ensures.task ∙ ap task_of c.deref_mut-2.ensures.value in
-    c.take_over-2.ensures.knows _ (knows_same g.S.Summary.knows _ _ _ _ c.parted-left.ensures.knows c.deref-2.ensures (same_around _ _ _ _ _ _ _ cut task c.fork-before.ensures.order c.fork-after.ensures.order))
+    c.take_over-2.ensures.knows _ (knows_same g.S.Summary.knows _ _ _ _ c.parted-left.ensures.knows c.deref-2.ensures
+    (same_around _ _ _ _ _ _ _ cut task c.fork-before.ensures.order c.fork-after.ensures.order))
 
 pub returns-clause-order : goal.returns-clause-order
 returns-clause-order g c =
@@ -64,4 +68,6 @@ pub returns-clause-height : goal.returns-clause-height
 returns-clause-height g c =
     let top = sym (ap height_behind c.in-Some.is) ∙ c.parted-left.ensures.left_height in
     let inner = ap height_behind c.in-Some-inner.is ∙ c.opened-near.ensures.height in
-    double_height _ _ _ _ _ _ _ _ _ _ _ _ _ c.requires.higher top c.parted-left.ensures.right_height c.opened-outer.ensures.height c.height.ensures c.height-2.ensures c.if-height.false c.opened-outer.ensures.balanced.1 inner c.fork-before.ensures.height c.fork-after.ensures.height c.crown-2.ensures.height
+    double_height _ _ _ _ _ _ _ _ _ _ _ _ _ c.requires.higher top c.parted-left.ensures.right_height
+    c.opened-outer.ensures.height c.height.ensures c.height-2.ensures c.if-height.false c.opened-outer.ensures.balanced.1
+    inner c.fork-before.ensures.height c.fork-after.ensures.height c.crown-2.ensures.height

@@ -19,7 +19,8 @@ earliest_from-requires t c =
     let whole : in_order_behind c.args.link.now ≡ l ++ x ∷ r = rw (c.in-Some.is, ← c.deref.ensures) s.ensures.order in
     let rising = subst IsRising whole c.requires.rising in
     let count = length-append l (x ∷ r) in
-    let trees = s.ensures.sums (subst (IsTree knows_sums) (sym c.deref.ensures) (subst (IsTreeBehind knows_sums) c.in-Some.is c.requires.tree)) in
+    let trees =
+    s.ensures.sums (subst (IsTree knows_sums) (sym c.deref.ensures) (subst (IsTreeBehind knows_sums) c.in-Some.is c.requires.tree)) in
     (omega (arith, ap length whole), (trees.0, IsRising-left l (x ∷ r) rising))
 
 pub earliest_from-requires-2 : goal.earliest_from-requires-2
@@ -31,7 +32,8 @@ earliest_from-requires-2 t c =
     let whole : in_order_behind c.args.link.now ≡ l ++ x ∷ r = rw (c.in-Some.is, ← c.deref.ensures) s.ensures.order in
     let rising = subst IsRising whole c.requires.rising in
     let count = length-append l (x ∷ r) in
-    let trees = s.ensures.sums (subst (IsTree knows_sums) (sym c.deref.ensures) (subst (IsTreeBehind knows_sums) c.in-Some.is c.requires.tree)) in
+    let trees =
+    s.ensures.sums (subst (IsTree knows_sums) (sym c.deref.ensures) (subst (IsTreeBehind knows_sums) c.in-Some.is c.requires.tree)) in
     (omega (arith, ap length whole), (trees.1, (IsRising-right l (x ∷ r) rising).1))
 
 pub returns-then-not-is_at_most_mean : goal.returns-then-not-is_at_most_mean
@@ -43,7 +45,8 @@ returns-then-not-is_at_most_mean t c =
     let whole : in_order_behind c.args.link.now ≡ l ++ x ∷ r = rw (c.in-Some.is, ← c.deref.ensures) s.ensures.order in
     let rising = subst IsRising whole c.requires.rising in
     let above : is_at_most_mean c.args.weight c.args.moment x ≡ false = cc in
-    rw whole (c.earliest_from.ensures ∙ ap (λ xs. sooner_of c.args.found (first_due xs)) (sym (passing-left c.args.weight c.args.moment l x r rising above)))
+    rw whole (c.earliest_from.ensures
+    ∙ ap (λ xs. sooner_of c.args.found (first_due xs)) (sym (passing-left c.args.weight c.args.moment l x r rising above)))
 
 pub returns : goal.returns
 returns t c =
@@ -58,7 +61,9 @@ returns t c =
     let left : c.due-2.result ≡ first_due l = c.due-2.ensures in
     let own = rw c.deref-2.ensures at c.due.ensures in
     let both = c.earliest.ensures ∙ ap (λ d. earliest_of d c.due-2.result) own ∙ ap (λ o. earliest_of (due_of x) o) left in
-    let here : c.earliest-here.result ≡ earliest_of (earliest_of (due_of x) (first_due l)) c.args.found = c.earliest-here.ensures ∙ ap (λ d. earliest_of d c.args.found) both in
+    let here : c.earliest-here.result ≡ earliest_of (earliest_of (due_of x) (first_due l)) c.args.found =
+    c.earliest-here.ensures ∙ ap (λ d. earliest_of d c.args.found) both in
     let found = c.earliest_from-2.ensures ∙ ap (λ d. Some (earliest_of d (first_due rest))) here in
     let all = ap first_due (passing-right c.args.weight c.args.moment l x r rising below) ∙ first_due-fork l x rest in
-    rw whole (found ∙ sym (sooner_of-fork (earliest_of (due_of x) (first_due l)) c.args.found (first_due rest)) ∙ ap (λ o. sooner_of c.args.found o) (sym all))
+    rw whole (found ∙ sym (sooner_of-fork (earliest_of (due_of x) (first_due l)) c.args.found (first_due rest))
+    ∙ ap (λ o. sooner_of c.args.found o) (sym all))

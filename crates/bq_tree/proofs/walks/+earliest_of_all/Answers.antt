@@ -54,7 +54,11 @@ returns t c =
     let rest = passing c.args.weight c.args.moment r in
     let left = c.earliest_of_all-found.ensures ∙ ap first_due (all_pass-before c.args.weight c.args.moment l x r rising below) in
     let own = rw c.deref-2.ensures at c.due.ensures in
-    let here = c.earliest-here.ensures ∙ ap (λ d. earliest_of d c.earliest_of_all-found.result) own ∙ ap (λ o. earliest_of (due_of x) o) left in
+    let here =
+    c.earliest-here.ensures ∙ ap (λ d. earliest_of d c.earliest_of_all-found.result) own
+    ∙ ap (λ o. earliest_of (due_of x) o) left in
     let all = ap first_due (passing-right c.args.weight c.args.moment l x r rising below) ∙ first_due-fork l x rest in
-    let found = c.earliest.ensures ∙ ap (λ d. earliest_of d c.earliest_of_all.result) here ∙ ap (λ o. earliest_of (earliest_of (due_of x) (first_due l)) o) c.earliest_of_all.ensures in
+    let found =
+    c.earliest.ensures ∙ ap (λ d. earliest_of d c.earliest_of_all.result) here
+    ∙ ap (λ o. earliest_of (earliest_of (due_of x) (first_due l)) o) c.earliest_of_all.ensures in
     rw whole (ap (λ d. Some d) found ∙ sym all)

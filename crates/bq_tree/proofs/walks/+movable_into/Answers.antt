@@ -32,8 +32,23 @@ movable_into-requires-2 t c =
     let x = task_of c.in-Some.node.value in
     let y = task_of c.deref-2.result.now in
     let whole : in_order_behind c.args.link.now ≡ l ++ x ∷ r = rw (c.in-Some.is, ← c.deref.ensures) s.ensures.order in
-    let count = length-append l (x ∷ r) in
-    (omega (arith, ap length whole), (c.requires.processor, (omega (arith, ap length whole, few_movable c.args.processor r, few_movable c.args.processor (y ∷ []), c.movable_into.ensures.count, c.add.ensures.count), c.add.ensures.fits)))
+    let count = length-append l (x ∷ r) in (
+      omega (arith, ap length whole),
+      (
+        c.requires.processor,
+        (
+          omega (
+            arith,
+            ap length whole,
+            few_movable c.args.processor r,
+            few_movable c.args.processor (y ∷ []),
+            c.movable_into.ensures.count,
+            c.add.ensures.count,
+          ),
+          c.add.ensures.fits,
+        ),
+      ),
+    )
 
 pub returns : goal.returns
 returns t c =
@@ -43,5 +58,8 @@ returns t c =
     let x = task_of c.in-Some.node.value in
     let y = task_of c.deref-2.result.now in
     let whole : in_order_behind c.args.link.now ≡ l ++ x ∷ r = rw (c.in-Some.is, ← c.deref.ensures) s.ensures.order in
-    let some = Adds-append c.args.processor (y ∷ []) r c.args.found.now c.movable_into.new.found c.add.new.self c.movable_into.ensures c.add.ensures in
-    rw (whole, ← c.deref-2.ensures) (Adds-append c.args.processor l (y ∷ r) c.args.found.now c.add.new.self c.movable_into-2.new.found some c.movable_into-2.ensures)
+    let some =
+    Adds-append c.args.processor (y ∷ []) r c.args.found.now c.movable_into.new.found c.add.new.self
+    c.movable_into.ensures c.add.ensures in
+    rw (whole, ← c.deref-2.ensures)
+    (Adds-append c.args.processor l (y ∷ r) c.args.found.now c.add.new.self c.movable_into-2.new.found some c.movable_into-2.ensures)

@@ -32,6 +32,8 @@ returns-clause-sums t c =
     let r = in_order_behind s.result.1.now in
     let x = task_of c.in-Some.node.value in
     let whole : in_order_behind c.args.link.now ≡ l ++ x ∷ r = rw (c.in-Some.is, ← c.deref.ensures) s.ensures.order in
-    let rest = c.add.ensures.sums ∙ ap (λ m. added c.totals_of_all-rest.result (task_of m)) c.deref-2.ensures ∙ ap (λ q. added q x) c.totals_of_all-rest.ensures.sums in
+    let rest =
+    c.add.ensures.sums ∙ ap (λ m. added c.totals_of_all-rest.result (task_of m)) c.deref-2.ensures
+    ∙ ap (λ q. added q x) c.totals_of_all-rest.ensures.sums in
     let both = c.join.ensures.sums ∙ ap (λ q. joined q c.add.new.self) c.totals_of_all.ensures.sums ∙ ap (λ q. joined (sums_of l) q) rest in
     rw whole (both ∙ sym (sums_of-append l (x ∷ r)))

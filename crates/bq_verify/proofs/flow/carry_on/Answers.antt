@@ -5,5 +5,8 @@ use Rattle.bq_verify.proofs.flow.carry_on.Goals as goal
 
 pub returns-clause-contains : goal.returns-clause-contains
 returns-clause-contains c = λ f s side.
-    let on = subst (λ (k : Option AbstractValue). IsOnSide f c.args.state.now c.args.told.dst c.args.told.src k c.args.told.right c.args.told.relation s) c.in-Some.is side in
-    (refl, c.tell.ensures.contains f s on.0 on.1)
+    let on =
+    subst (λ (k : Option AbstractValue).
+    IsOnSide f c.args.state.now c.args.learnt.dst c.args.learnt.src k c.args.learnt.right c.args.learnt.relation s)
+    c.in-Some.is side in
+    (refl, c.learn_branch.ensures.contains f s on.0 on.1)

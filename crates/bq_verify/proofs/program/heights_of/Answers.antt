@@ -16,11 +16,16 @@ measure-requires-clause-room c = omega (arith, ap length c.as_mut_slice.ensures.
 pub returns-clause-measured : goal.returns-clause-measured
 returns-clause-measured c =
     let n : c.in_ok-heights.heights.len ≡ length c.measure.new.heights = omega (arith, ap length c.as_mut_slice.ensures.value) in
-    let e = written c.measure.new.heights (drop (length c.measure.new.heights) c.in_ok-heights.heights.items) c.in_ok-heights.heights.len n in λ k low start.
+    let e =
+    written c.measure.new.heights (drop (length c.measure.new.heights) c.in_ok-heights.heights.items)
+    c.in_ok-heights.heights.len n in
+    λ k low start.
     subst (λ (l : List ℕ). IsGreatest (PathOut c.args.slots.now k) (slice_index l k)) (sym e) (c.measure.ensures k low start)
 
 pub returns-clause-room : goal.returns-clause-room
 returns-clause-room c =
     let n : c.in_ok-heights.heights.len ≡ length c.measure.new.heights = omega (arith, ap length c.as_mut_slice.ensures.value) in
-    let e = written c.measure.new.heights (drop (length c.measure.new.heights) c.in_ok-heights.heights.items) c.in_ok-heights.heights.len n in
+    let e =
+    written c.measure.new.heights (drop (length c.measure.new.heights) c.in_ok-heights.heights.items)
+    c.in_ok-heights.heights.len n in
     omega (arith, ap length e, c.in_ok-heights.ensures.len)

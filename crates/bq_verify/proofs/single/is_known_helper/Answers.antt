@@ -24,9 +24,12 @@ not_that : (n : ℤ) → ((h : Helper) → number_of_helper h ≢ n) → (h : He
 not_that n none h = false_from_ne_true (int_eq n (number_of_helper h)) (λ is. none h (sym ((Decides-int_eq n (number_of_helper h)).0 is)))
 
 -- the table has the numbers of the helpers, and no other
-known_by : (found : Option Helper) (n : ℤ) → MatchOption found ((h : Helper) → number_of_helper h ≢ n) (λ h. number_of_helper h ≡ n) → is_some found ≡ is_helper n
+known_by : (found : Option Helper) (n : ℤ) → MatchOption found ((h : Helper) → number_of_helper h ≢ n) (λ h. number_of_helper h ≡ n)
+    → is_some found ≡ is_helper n
 known_by (Some h) n is = subst (λ (z : ℤ). true ≡ is_helper z) is (in_table h)
-known_by None n none = let other = not_that n none in rw (other Lookup, other Update, other Now, other Processor, other AddCounter, other ReadCounter) refl
+known_by None n none =
+    let other = not_that n none in
+    rw (other Lookup, other Update, other Now, other Processor, other AddCounter, other ReadCounter) refl
 
 pub returns : goal.returns
 returns c =

@@ -7,14 +7,16 @@ use Rattle.bq_verify.proofs.waiting.join.Goals as goal
 
 pub returns-in-Some-clause-kept : goal.returns-in-Some-clause-kept
 returns-in-Some-clause-kept c = λ f s shapes inside.
-    c.join_states.ensures.left f s shapes (rw c.deref_mut.ensures.value (subst (λ (w : Option (Box AbstractState Global)). IsIn f w s) c.in-Some.is inside))
+    c.join_states.ensures.left f s shapes
+    (rw c.deref_mut.ensures.value (subst (λ (w : Option (Box AbstractState Global)). IsIn f w s) c.in-Some.is inside))
 
 pub returns-in-Some-clause-added : goal.returns-in-Some-clause-added
 returns-in-Some-clause-added c = λ f s shapes contains. c.join_states.ensures.right f s shapes contains
 
 pub returns-in-Some-clause-has : goal.returns-in-Some-clause-has
 returns-in-Some-clause-has c = λ x waiting viewed.
-    c.join_states.ensures.stands x (rw c.deref_mut.ensures.value (subst (λ (w : Option (Box AbstractState Global)). HasIn x w) c.in-Some.is waiting)) viewed
+    c.join_states.ensures.stands x
+    (rw c.deref_mut.ensures.value (subst (λ (w : Option (Box AbstractState Global)). HasIn x w) c.in-Some.is waiting)) viewed
 
 pub returns-clause-kept : goal.returns-clause-kept
 returns-clause-kept c = λ f s shapes inside. absurd (subst (λ (w : Option (Box AbstractState Global)). IsIn f w s) c.in_default.is inside)

@@ -20,12 +20,16 @@ pub returns-then-live-clause-transferred : goal.returns-then-live-clause-transfe
 returns-then-live-clause-transferred c = λ f s shapes live contains. (refl, c.join_states.ensures.left f s shapes contains)
 
 pub returns-then-live-clause-waited : goal.returns-then-live-clause-waited
-returns-then-live-clause-waited c = λ f s shapes inside.
-    (refl, c.join_states.ensures.right f s shapes (rw c.deref.ensures (subst (λ (w : Option (Box AbstractState Global)). IsIn f w s) (sym c.in-Some.ensures.value) inside)))
+returns-then-live-clause-waited c = λ f s shapes inside. (
+  refl,
+  c.join_states.ensures.right f s shapes
+      (rw c.deref.ensures (subst (λ (w : Option (Box AbstractState Global)). IsIn f w s) (sym c.in-Some.ensures.value) inside)),
+)
 
 pub returns-then-live-clause-has : goal.returns-then-live-clause-has
 returns-then-live-clause-has c = λ x transferred waiting live.
-    c.join_states.ensures.stands x (transferred c.if-live.true) (rw c.deref.ensures (subst (λ (w : Option (Box AbstractState Global)). HasIn x w) (sym c.in-Some.ensures.value) waiting))
+    c.join_states.ensures.stands x (transferred c.if-live.true)
+    (rw c.deref.ensures (subst (λ (w : Option (Box AbstractState Global)). HasIn x w) (sym c.in-Some.ensures.value) waiting))
 
 pub returns-clause-transferred : goal.returns-clause-transferred
 returns-clause-transferred c = λ f s shapes live contains. absurd (false≢true (sym c.if-live.false ∙ live))

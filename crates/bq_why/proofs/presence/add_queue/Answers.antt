@@ -8,11 +8,15 @@ use Rattle.bq_trace.proofs.QueueWalkLemmas.{rest_after, rest_after-none, rest_af
 use Rattle.bq_why.proofs.presence.add_queue.Goals as goal
 
 -- one more task is added
-adds_next : (items new : List Task) (last : Option (ℕ × ℕ)) (queue : List Task) (t : Task) (key : ℕ × ℕ) (whole : List Task) → key ≡ (t.v, t.id) → IsRising queue → HasDistinctIds queue
-    → Some t ≡ find (follows last) queue → new ≡ items ++ t ∷ [] → items ++ rest_after last queue ≡ whole → new ++ rest_after (Some key) queue ≡ whole
+adds_next : (items new : List Task) (last : Option (ℕ × ℕ)) (queue : List Task) (t : Task) (key : ℕ × ℕ) (whole : List Task)
+    → key ≡ (t.v, t.id) → IsRising queue → HasDistinctIds queue → Some t ≡ find (follows last) queue → new ≡ items ++ t ∷ []
+    → items ++ rest_after last queue ≡ whole
+    → new ++ rest_after (Some key) queue ≡ whole
 adds_next items new last queue t key whole same rising distinct found added so_far =
     ap (λ l. l ++ rest_after (Some key) queue) added ∙ append_assoc items (t ∷ []) (rest_after (Some key) queue)
-    ∙ ap (λ l. items ++ l) (ap (λ (k : ℕ × ℕ). t ∷ rest_after (Some k) queue) same ∙ sym (rest_after-next last queue t rising distinct (sym found))) ∙ so_far
+    ∙ ap (λ l. items ++ l)
+    (ap (λ (k : ℕ × ℕ). t ∷ rest_after (Some k) queue) same ∙ sym (rest_after-next last queue t rising distinct (sym found)))
+    ∙ so_far
 
 longer : (items new : List Task) (t : Task) → length items ≤ 1023 → new ≡ items ++ t ∷ [] → length new ≤ 1024
 longer items new t few added = grind (arith, common_steps)
@@ -24,7 +28,8 @@ pub returns-in_default-clause-all : goal.returns-in_default-clause-all
 returns-in_default-clause-all g c = λ few.
     let queue = c.args.cpu.now.running.queue in
     let items = c.loop-last.tasks.items in
-    sym (append-nil items) ∙ ap (λ l. items ++ l) (sym (rest_after-end c.loop-last.last queue (sym c.in_default.ensures.task))) ∙ c.loop-last.invariant.all
+    sym (append-nil items) ∙ ap (λ l. items ++ l) (sym (rest_after-end c.loop-last.last queue (sym c.in_default.ensures.task)))
+    ∙ c.loop-last.invariant.all
 
 pub loop-last-preserved : goal.loop-last-preserved
 loop-last-preserved g c =

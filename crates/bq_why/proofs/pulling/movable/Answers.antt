@@ -5,4 +5,11 @@ use Rattle.bq_why.proofs.pulling.movable.Goals as goal
 pub add-requires-clause-few : goal.add-requires-clause-few
 add-requires-clause-few c =
     let rest = drop c.loop-at.at c.args.queue.now in
-    omega (arith, c.loop-at.invariant.adds.count, few_movable c.args.processor rest, length-drop c.loop-at.at c.args.queue.now, c.new-found.ensures.count, c.requires.few)
+    omega (
+      arith,
+      c.loop-at.invariant.adds.count,
+      few_movable c.args.processor rest,
+      length-drop c.loop-at.at c.args.queue.now,
+      c.new-found.ensures.count,
+      c.requires.few,
+    )

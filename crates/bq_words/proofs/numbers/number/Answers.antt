@@ -29,4 +29,6 @@ returns-in_err-value c =
     (subst (λ b. digit_value b < c.args.base) here digit) (subst (λ b. 2 ^ 64 ≤ value * c.args.base + digit_value b) here sum))
 
 pub returns : goal.returns
-returns c = sym (number_whole c.args.base c.loop-byte.value c.loop-byte.byte-index c.args.word.now c.loop-byte.invariant.so_far (grind (arith, nat_tests)) c.loop-byte-test.false c.loop-byte.invariant.fits)
+returns c =
+    sym (number_whole c.args.base c.loop-byte.value c.loop-byte.byte-index c.args.word.now c.loop-byte.invariant.so_far
+    (grind (arith, nat_tests)) c.loop-byte-test.false c.loop-byte.invariant.fits)

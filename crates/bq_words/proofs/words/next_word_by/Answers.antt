@@ -11,4 +11,5 @@ returns g c =
     let len = c.word_len-len.result in
     let some : 0 < len = omega arith in
     let all : take (length text - len) (drop len text) ≡ drop len text = grind (arith, common_steps) in
-    sym c.without_blanks-text.ensures.same ∙ words-first p text len c.word_len-len.ensures some ∙ ap (λ r. take len text ∷ words_by p r) (sym all)
+    sym c.without_blanks-text.ensures.same ∙ words-first p text len c.word_len-len.ensures some
+    ∙ ap (λ r. take len text ∷ words_by p r) (sym all)

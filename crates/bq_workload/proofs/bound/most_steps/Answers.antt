@@ -23,8 +23,17 @@ kinds-preserved c =
     let product = c.saturating_mul.ensures ∙ ap (λ n. min (n * c.units_of.result) m) c.from-count.ensures in
     let units = more_units m _ kind.count _ _ _ _ _ c.kinds.invariant.units inner product c.saturating_add-units.ensures in
     record {
-      units = units ∙ ap (λ n. min n m) (ap (λ (k : TaskKind). steps_of_tasks kinds (take i kinds) + steps k) here ∙ sym (sum_by_more steps kinds i kind low));
-      tasks = omega (arith, c.saturating_add-tasks.ensures, c.kinds.invariant.tasks, c.from-count.ensures, ap count here, sum_by_more count kinds i kind low);
+      units =
+          units ∙ ap (λ n. min n m)
+          (ap (λ (k : TaskKind). steps_of_tasks kinds (take i kinds) + steps k) here ∙ sym (sum_by_more steps kinds i kind low));
+      tasks = omega (
+        arith,
+        c.saturating_add-tasks.ensures,
+        c.kinds.invariant.tasks,
+        c.from-count.ensures,
+        ap count here,
+        sum_by_more count kinds i kind low,
+      );
     }
 
 pub returns : goal.returns
@@ -32,8 +41,12 @@ returns c =
     let w = c.args.workload.now in
     let kinds = w.tasks.items in
     let m = 2 ^ 64 - 1 in
-    let whole : take c.kinds.kind-index kinds ≡ kinds = take_all _ kinds (omega (arith, c.kinds-test.false, ap (λ (l : List TaskKind). length l) c.deref-kind-items.ensures.value)) in
+    let whole : take c.kinds.kind-index kinds ≡ kinds =
+    take_all _ kinds (omega (arith, c.kinds-test.false, ap (λ (l : List TaskKind). length l) c.deref-kind-items.ensures.value)) in
     let units = c.kinds.invariant.units ∙ ap (λ (l : List TaskKind). min (steps_of_tasks kinds l) m) whole in
     let tasks = c.kinds.invariant.tasks ∙ ap (λ (l : List TaskKind). min (tasks_in l) m) whole in
-    let at_once = at_one_instant m (steps_of_tasks kinds kinds) (tasks_in kinds) (processors_in w.machine.size) _ _ _ _ _ _ _ units tasks (c.from-processors.ensures ∙ c.processors.ensures) c.saturating_mul-2.ensures c.saturating_add.ensures c.saturating_mul-3.ensures c.saturating_add-at_once.ensures in
+    let at_once =
+    at_one_instant m (steps_of_tasks kinds kinds) (tasks_in kinds) (processors_in w.machine.size) _ _ _ _ _ _ _ units tasks
+    (c.from-processors.ensures ∙ c.processors.ensures) c.saturating_mul-2.ensures c.saturating_add.ensures
+    c.saturating_mul-3.ensures c.saturating_add-at_once.ensures in
     all_steps m (w.machine.duration + 1) (steps_at_once w) _ _ _ c.saturating_add-2.ensures at_once c.saturating_mul-4.ensures

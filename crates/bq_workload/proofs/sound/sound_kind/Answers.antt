@@ -15,8 +15,12 @@ returns c =
     let rest = doing kind.actions.items in
     let name : has_name kind ≡ true = sym c.has_name.ensures ∙ c.if-not-has_name.false in
     let numbers : has_numbers kind ≡ true = sym c.has_numbers.ensures ∙ c.if-not-has_numbers.false in
-    let mask : allowed ≡ true = allowed-where-found c.args.processors kind.mask c.first_of_mask.result (c.is_none.ensures ∙ ap not c.if-is_none.false) c.first_of_mask.ensures.some in
+    let mask : allowed ≡ true =
+    allowed-where-found c.args.processors kind.mask c.first_of_mask.result (c.is_none.ensures ∙ ap not c.if-is_none.false)
+    c.first_of_mask.ensures.some in
     let flaws =
     ap (λ (b : Bool). unless b (Name number) ++ unless (has_numbers kind) (Kind number) ++ unless allowed (Mask number) ++ rest) name
-    ∙ ap (λ (b : Bool). unless b (Kind number) ++ unless allowed (Mask number) ++ rest) numbers ∙ ap (λ (b : Bool). unless b (Mask number) ++ rest) mask in
-    c.sound_actions.ensures ∙ ap (λ (l : List Action). slice_get (doing l) 0) c.deref.ensures.value ∙ ap (λ (l : List Unsound). slice_get l 0) (sym flaws)
+    ∙ ap (λ (b : Bool). unless b (Kind number) ++ unless allowed (Mask number) ++ rest) numbers
+    ∙ ap (λ (b : Bool). unless b (Mask number) ++ rest) mask in
+    c.sound_actions.ensures ∙ ap (λ (l : List Action). slice_get (doing l) 0) c.deref.ensures.value
+    ∙ ap (λ (l : List Unsound). slice_get l 0) (sym flaws)

@@ -9,6 +9,8 @@ invariant-kinds l =
     let w = l.workload in
     let kinds = w.tasks.items in
     record {
-      flaws : slice_get (flaws_of_kinds (processors_in w.machine.size) (length kinds) l.number (drop l.number kinds) ++ flaws_of_count kinds) 0 ≡ first_flaw w;
+      flaws : slice_get
+          (flaws_of_kinds (processors_in w.machine.size) (length kinds) l.number (drop l.number kinds) ++ flaws_of_count kinds) 0
+          ≡ first_flaw w;
       tasks : l.tasks ≡ min (tasks_in (take l.number kinds)) 65535;
     }

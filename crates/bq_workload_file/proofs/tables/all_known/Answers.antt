@@ -14,7 +14,8 @@ keys-preserved c =
     let e : Entry = (c.in-Some.key.now, c.in-Some._value.now) in
     let iter : c.keys.key-iterator ≡ e ∷ c.next.new.self = grind (arith, common_steps) in
     let known : is_one_of words (string_bytes c.in-Some.key.now) ≡ true =
-    ap (is_one_of words) (sym c.as_str.ensures.value) ∙ sym (is_one_of-lent c.args.known.now c.as_str.result.now) ∙ sym c.is_word.ensures ∙ c.if-not-is_word.false in
+    ap (is_one_of words) (sym c.as_str.ensures.value) ∙ sym (is_one_of-lent c.args.known.now c.as_str.result.now)
+    ∙ sym c.is_word.ensures ∙ c.if-not-is_word.false in
     let passed : first_unknown words (members_view (e ∷ c.next.new.self)) ≡ first_unknown words (members_view c.next.new.self) =
     ap (λ (b : Bool). cond b (first_unknown words (members_view c.next.new.self)) (Some (string_bytes c.in-Some.key.now))) known in
     (tt, tt, sym passed ∙ ap (λ (l : List Entry). first_unknown words (members_view l)) (sym iter) ∙ same)
@@ -27,10 +28,12 @@ returns-then-not-is_word c =
     let iter : c.keys.key-iterator ≡ e ∷ c.next.new.self = grind (arith, common_steps) in
     let key = string_bytes c.in-Some.key.now in
     let unknown : is_one_of words key ≡ false =
-    ap (is_one_of words) (sym c.as_str.ensures.value) ∙ sym (is_one_of-lent c.args.known.now c.as_str.result.now) ∙ sym c.is_word.ensures ∙ c.if-not-is_word.true in
+    ap (is_one_of words) (sym c.as_str.ensures.value) ∙ sym (is_one_of-lent c.args.known.now c.as_str.result.now)
+    ∙ sym c.is_word.ensures ∙ c.if-not-is_word.true in
     let found : first_unknown words (members_view (e ∷ c.next.new.self)) ≡ Some key =
     ap (λ (b : Bool). cond b (first_unknown words (members_view c.next.new.self)) (Some key)) unknown in
     let whole : Some key ≡ first_unknown words (members_view c.args.table.now.entries) =
     sym found ∙ ap (λ (l : List Entry). first_unknown words (members_view l)) (sym iter) ∙ same in
-    let told : Some (Some c.as_str-then-not-is_word.result.now) ≡ Some (Some key) = ap (λ (k : List ℕ). Some (Some k)) c.as_str-then-not-is_word.ensures.value in
-    told ∙ ap (λ (o : Option (List ℕ)). option_map (λ (k : List ℕ). Some k) o) whole
+    let reported : Some (Some c.as_str-then-not-is_word.result.now) ≡ Some (Some key) =
+    ap (λ (k : List ℕ). Some (Some k)) c.as_str-then-not-is_word.ensures.value in
+    reported ∙ ap (λ (o : Option (List ℕ)). option_map (λ (k : List ℕ). Some k) o) whole

@@ -8,4 +8,5 @@ returns-then-len-ne1 c = only-none c.args.table.now.entries (λ e. c.if-len-ne1.
 pub returns-in-Some : goal.returns-in-Some
 returns-in-Some c =
     let first : slice_get c.args.table.now.entries 0 ≡ Some (c.in-Some.key.now, c.in-Some.value.now) = search rules in
-    rw c.as_str.ensures.value (only-one c.args.table.now.entries c.in-Some.key.now c.in-Some.value.now (sym c.len.ensures.len ∙ c.if-len-ne1.false) first)
+    rw c.as_str.ensures.value
+    (only-one c.args.table.now.entries c.in-Some.key.now c.in-Some.value.now (sym c.len.ensures.len ∙ c.if-len-ne1.false) first)

@@ -16,13 +16,21 @@ loop-index-preserved c =
     let v = c.index-tables-index.result in
     let ms = table_view c.in_ok-table.table.now in
     let n = c.in_ok-from_str.field-0 in
-    let more : take (i + 1) vs ≡ take i vs ++ v ∷ [] = take_more vs i v c.loop-index-test.true ∙ ap (λ (w : Value). take i vs ++ w ∷ []) (sym c.index-tables-index.is) in
+    let more : take (i + 1) vs ≡ take i vs ++ v ∷ [] =
+    take_more vs i v c.loop-index-test.true ∙ ap (λ (w : Value). take i vs ++ w ∷ []) (sym c.index-tables-index.is) in
     let table : as_table (view v) ≡ Some ms = search rules in
     let name : option_and_then name_of (get_member (codes "name") ms) ≡ Some c.in_ok-name.name.now = search rules in
     let text : string_bytes n ≡ c.in_ok-name.name.now = search rules in
-    let named : name_in (view v) ≡ Some (string_bytes n) = ap (option_and_then (λ (t : Members). option_and_then name_of (get_member (codes "name") t))) table ∙ name ∙ ap Some (sym text) in
-    let new : named_at c.loop-index.names.items (string_bytes n) ≡ None = ap (named_at c.loop-index.names.items) text ∙ (ap (λ (ns : List (String Global)). named_at ns c.in_ok-name.name.now) (sym c.as_slice.ensures.value) ∙ (sym c.place.ensures ∙ c.in_default.is)) in
+    let named : name_in (view v) ≡ Some (string_bytes n) =
+    ap (option_and_then (λ (t : Members). option_and_then name_of (get_member (codes "name") t))) table ∙ name
+    ∙ ap Some (sym text) in
+    let new : named_at c.loop-index.names.items (string_bytes n) ≡ None =
+    ap (named_at c.loop-index.names.items) text
+    ∙ (ap (λ (ns : List (String Global)). named_at ns c.in_ok-name.name.now) (sym c.as_slice.ensures.value)
+    ∙ (sym c.place.ensures ∙ c.in_default.is)) in
     record {
-      named = rw (more, c.in_ok-push.ensures.items) (AreNames-more (take i vs) c.loop-index.names.items v n c.loop-index.invariant.named named);
+      named =
+          rw (more, c.in_ok-push.ensures.items)
+          (AreNames-more (take i vs) c.loop-index.names.items v n c.loop-index.invariant.named named);
       others = rw c.in_ok-push.ensures.items (AreOthers-more [] c.loop-index.names.items n c.loop-index.invariant.others new);
     }

@@ -16,7 +16,14 @@ returns-in-Ok-kinds-clause-describes c =
       record {
         known = c.in-Ok-outline.ensures.known;
         machine = (machine, c.in-Ok-outline.ensures.machine, c.made-machine.ensures);
-        tasks = (items_view tables.now, names, c.in-Ok-outline.ensures.tasks, c.in-Ok-names.ensures.names, c.in-Ok-names.ensures.others, kinds);
+        tasks = (
+          items_view tables.now,
+          names,
+          c.in-Ok-outline.ensures.tasks,
+          c.in-Ok-names.ensures.names,
+          c.in-Ok-names.ensures.others,
+          kinds,
+        );
         some = some-kinds names (all_of c.made-machine.result.size) tables.now tasks kinds c.in-Ok-outline.ensures.some;
         few = c.in-Ok-kinds.ensures.few;
       },

@@ -1,7 +1,7 @@
 use Rattle.std.proofs.Common.{◌∙◌, sym, ap, refl, true, false, is_some, map, subst, List, Some, ◌≡◌}
 use Rattle.indexmap.proofs.CallerLemmas.{insert_entry-new}
 use Rattle.bq_asm.specs.declared.fault.Cause.TheVariants.{LabelTwice}
-use Rattle.bq_asm.specs.Draft.{Describes, RefusesLine}
+use Rattle.bq_asm.specs.Draft.{IsDraftOf, RefusesLine}
 use Rattle.bq_asm.specs.Lines.{Line, Label}
 use Rattle.bq_asm.specs.Faults.{labels_in, cause_at}
 use Rattle.bq_asm.specs.Assembly.{places_from}
@@ -12,7 +12,7 @@ use Rattle.bq_asm.proofs.draft.Draft.set_label.Goals as goal
 pub returns-then-is_some-clause-fault : goal.returns-then-is_some-clause-fault
 returns-then-is_some-clause-fault c =
     let name = c.args.name.now in
-    let twice : (before : List Line) → Describes before c.args.self.now → cause_at before (Label name) ≡ Some LabelTwice = λ before is.
+    let twice : (before : List Line) → IsDraftOf before c.args.self.now → cause_at before (Label name) ≡ Some LabelTwice = λ before is.
     let known = label_known name c.args.self.now.labels.entries (places_from 0 before) is.labels in
     let found = sym (ap is_some c.in_ok-insert.ensures.old) ∙ sym c.is_some.ensures ∙ c.if-is_some.true in
     cause_of_label-is (labels_in before) name true (sym c.is_label.ensures ∙ c.if-not-is_label.false) (sym known ∙ found) in
@@ -24,8 +24,10 @@ returns-clause-ok c = λ before is count.
     let old = c.args.self.now in
     let known = label_known name old.labels.entries (places_from 0 before) is.labels in
     let absent = none_from_is_some c.in_ok-insert.field-0 (sym c.is_some.ensures ∙ c.if-is_some.false) in
-    let new = c.in_ok-insert.ensures.entries ∙ insert_entry-new _ old.labels c.args.name old.slots (sym c.in_ok-insert.ensures.old ∙ absent) in (
-      cause_of_label-is (labels_in before) name false (sym c.is_label.ensures ∙ c.if-not-is_label.false) (sym known ∙ sym (ap is_some c.in_ok-insert.ensures.old) ∙ ap is_some absent),
+    let new =
+    c.in_ok-insert.ensures.entries ∙ insert_entry-new _ old.labels c.args.name old.slots (sym c.in_ok-insert.ensures.old ∙ absent) in (
+      cause_of_label-is (labels_in before) name false (sym c.is_label.ensures ∙ c.if-not-is_label.false)
+          (sym known ∙ sym (ap is_some c.in_ok-insert.ensures.old) ∙ ap is_some absent),
       record {
         labels = ap (map (λ e. (e.0.now, e.1))) new ∙ draft_labels_more old.labels.entries c.args.name old.slots before is.labels is.slots;
         slots = slots_kept old.slots before (Label name) is.slots refl;

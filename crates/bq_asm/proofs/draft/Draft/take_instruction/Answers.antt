@@ -2,7 +2,7 @@ use Rattle.std.proofs.Common.{◌≡◌, ◌≤◌, ◌<◌, ◌+◌, ◌∙◌,
 use Rattle.std.specs.Prelude.{pos, Ok}
 use Rattle.bq_insn.specs.Slots.{slots_of}
 use Rattle.bq_asm.specs.declared.fault.Cause.TheVariants.{Slots}
-use Rattle.bq_asm.specs.Draft.{Describes, RefusesLine}
+use Rattle.bq_asm.specs.Draft.{IsDraftOf, RefusesLine}
 use Rattle.bq_asm.specs.Lines.{Line, Instruction}
 use Rattle.bq_asm.specs.Operands.{texts, instruction_of}
 use Rattle.bq_asm.specs.Faults.{slots_in, cause_at, cause_of_insn}
@@ -27,18 +27,25 @@ returns-clause-ok c = λ before is count.
       record {
         labels = places_kept (places_of old.labels) before line is.labels (λ s. refl);
         slots = ap (λ n. old.slots + n) (c.slots.ensures ∙ sym (ap slots_read read)) ∙ slots_more old.slots before line is.slots;
-        insns = c.in_ok-push.ensures.items ∙ ap (λ is. old.insns.items ++ is) (sym (ap insn_read read)) ∙ drafts_more old.insns.items before line is.insns;
-        jumps = c.in_ok-push_jump.ensures.ok
-            ∙ (λ i. map awaited_by old.jumps.items ++ awaited_at ((c.len-index.ensures ∙ old.insns.ok.0) i) (old.slots + c.slots.ensures i) c.args.number (c.target_of.ensures i))
+        insns =
+            c.in_ok-push.ensures.items ∙ ap (λ is. old.insns.items ++ is) (sym (ap insn_read read))
+            ∙ drafts_more old.insns.items before line is.insns;
+        jumps =
+            c.in_ok-push_jump.ensures.ok
+            ∙ (λ i.
+            map awaited_by old.jumps.items
+            ++ awaited_at ((c.len-index.ensures ∙ old.insns.ok.0) i) (old.slots + c.slots.ensures i) c.args.number
+            (c.target_of.ensures i))
             ∙ ap (λ js. map awaited_by old.jumps.items ++ js) (sym (ap (jump_read index old.slots c.args.number operands) read))
-            ∙ jumps_more (map awaited_by old.jumps.items) index old.slots c.args.number before line is.jumps (ap length is.insns) is.slots count;
+            ∙ jumps_more (map awaited_by old.jumps.items) index old.slots c.args.number before line is.jumps
+            (ap length is.insns) is.slots count;
       },
     )
 
 pub returns-in-Err-clause-fault : goal.returns-in-Err-clause-fault
 returns-in-Err-clause-fault c =
     let line = Instruction c.args.first.now (texts c.args.operands.now) in
-    let faulty : (before : List Line) → Describes before c.args.self.now → cause_at before line ≡ Some c.in-Err.cause = λ before is.
+    let faulty : (before : List Line) → IsDraftOf before c.args.self.now → cause_at before line ≡ Some c.in-Err.cause = λ before is.
     ap (cause_of_insn (slots_in before)) (sym c.instruction_of.ensures ∙ c.in-Err.is) in
     subst (RefusesLine c.args.self.now c.args.number line) (sym c.refusal.ensures) (refl, faulty)
 
@@ -46,7 +53,9 @@ pub returns-then-next-gt-SLOTS-clause-fault : goal.returns-then-next-gt-SLOTS-cl
 returns-then-next-gt-SLOTS-clause-fault c =
     let line = Instruction c.args.first.now (texts c.args.operands.now) in
     let insn = c.in-Ok.insn in
-    let full : (before : List Line) → Describes before c.args.self.now → cause_at before line ≡ Some Slots = λ before is.
-    let over : 4096 < slots_in before + slots_of insn = let same = is.slots in let size = c.slots.ensures in let more = c.if-next-gt-SLOTS.true in omega (arith, same, size, more) in
+    let full : (before : List Line) → IsDraftOf before c.args.self.now → cause_at before line ≡ Some Slots = λ before is.
+    let over : 4096 < slots_in before + slots_of insn =
+    let same = is.slots in
+    let size = c.slots.ensures in let more = c.if-next-gt-SLOTS.true in omega (arith, same, size, more) in
     insn_over (slots_in before) insn _ (sym c.instruction_of.ensures ∙ c.in-Ok.is) over in
     subst (RefusesLine c.args.self.now c.args.number line) (sym c.refusal-then-next-gt-SLOTS.ensures) (refl, full)

@@ -14,8 +14,11 @@ returns-clause-done c = λ xs _ seen.
     let s = c.in-Some-Some.stretch in
     let effect = c.effect_of-effect.result in
     let goes : effect ≡ Breaks → ⊥ = λ e. grind (arith, e, c.if-effect-eq2.false) in
-    let low : min (at_most_owed c.args.glance s) (2 ^ 64 - 1) ≤ c.in-Some-Some.greatest.difference = omega (arith, c.at_most_owed.ensures, c.if-at_most_owed-greatest.false) in
+    let low : min (at_most_owed c.args.glance s) (2 ^ 64 - 1) ≤ c.in-Some-Some.greatest.difference =
+    omega (arith, c.at_most_owed.ensures, c.if-at_most_owed-greatest.false) in
     let there = subst (λ (o : Option Stretch). IsGlance c.args.glance o xs) c.in-Some-Some.is-0 seen in
     let same = only_stretch_changes effect c.args.rise c.args.glance s l c.in-Some-Some.greatest xs goes c.in-Some-Some.is-1 low there in
-    let by = subst (λ (o : Option Stretch). lags_by effect o c.args.rise xs l ≡ c.go_on_unseen.new.self) (sym c.in-Some-Some.is-0) (same ∙ sym c.go_on_unseen.ensures) in
+    let by =
+    subst (λ (o : Option Stretch). lags_by effect o c.args.rise xs l ≡ c.go_on_unseen.new.self) (sym c.in-Some-Some.is-0)
+    (same ∙ sym c.go_on_unseen.ensures) in
     sym (subst (λ (k : Effect). lags_by k l.stretch c.args.rise xs l ≡ c.go_on_unseen.new.self) c.effect_of-effect.ensures by)

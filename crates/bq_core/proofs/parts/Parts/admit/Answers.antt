@@ -39,7 +39,9 @@ returns g c =
     let fits : FitsSigned w8 c.args.nice = search rules in
     let same = to_z-of_z w8 c.args.nice fits in
     let made : c.in-Ok.new ≡ admitted (count_in w) c.args.task c.args.nice c.args.mask c.args.slice = rw (count, same) at c.in-Ok.ensures in
-    let step = admits_at g.Q.R.Discipline.discipline w _ c.args.task c.args.nice c.args.mask c.args.slice c.in-Ok.new c.admit.result _ c.admit.new.self c.requires.fits made (ap (λ (v : World). v.lobby) c.self.view_is) c.admit.ensures.share
+    let step =
+    admits_at g.Q.R.Discipline.discipline w _ c.args.task c.args.nice c.args.mask c.args.slice c.in-Ok.new c.admit.result
+    _ c.admit.new.self c.requires.fits made (ap (λ (v : World). v.lobby) c.self.view_is) c.admit.ensures.share
     (ap (λ (v : World). record v { lobby = c.admit.new.self }) c.self.view_is) in
     record { step = step }
 
@@ -47,4 +49,9 @@ pub returns-in_default : goal.returns-in_default
 returns-in_default g c = record { step = (refl, refl, inr (tt, c.requires.fits, refl)) }
 
 pub invariant_of-self : goal.invariant_of-self
-invariant_of-self g c = (c.self.invariant.0, c.self.invariant.1, entries_admitted c.args.task c.in-Ok.new c.self.inside.lobby c.admit.new.self c.admit.result c.admit.ensures.share ∙ c.self.invariant.2)
+invariant_of-self g c = (
+  c.self.invariant.0,
+  c.self.invariant.1,
+  entries_admitted c.args.task c.in-Ok.new c.self.inside.lobby c.admit.new.self c.admit.result c.admit.ensures.share
+      ∙ c.self.invariant.2,
+)

@@ -9,13 +9,16 @@ use Rattle.bq_core.proofs.parts.Parts.block.Goals as goal
 
 pub block-requires : goal.block-requires
 block-requires g c =
-    rw (borrowed c.self.view_is c.from.ensures c.requires.inside c.index_mut-cpu.ensures.value) (ids_running c.args.self.now c.args.processor (lobby_whole c.self.view_is c.self.invariant.2) c.requires.orderly)
+    rw (borrowed c.self.view_is c.from.ensures c.requires.inside c.index_mut-cpu.ensures.value)
+    (ids_running c.args.self.now c.args.processor (lobby_whole c.self.view_is c.self.invariant.2) c.requires.orderly)
 
 pub returns : goal.returns
 returns g c =
     let w = c.args.self.now in
     let place = borrowed c.self.view_is c.from.ensures c.requires.inside c.index_mut-cpu.ensures.value in
-    let step = blocks_at g.Q.R.Discipline.discipline w _ c.args.processor c.args.now c.block.result c.block.new.self _ _ c.block.new.lobby c.requires.inside place (ap (λ (v : World). v.lobby) c.self.view_is) c.block.ensures.share
+    let step =
+    blocks_at g.Q.R.Discipline.discipline w _ c.args.processor c.args.now c.block.result c.block.new.self _ _
+    c.block.new.lobby c.requires.inside place (ap (λ (v : World). v.lobby) c.self.view_is) c.block.ensures.share
     (write_back_lobby _ w _ c.args.processor c.block.new.self c.block.new.lobby c.self.view_is c.from.ensures) in
     record { step = step }
 
@@ -26,4 +29,10 @@ pub index_mut-cpu-requires : goal.index_mut-cpu-requires
 index_mut-cpu-requires g c = in_range c.self.view_is c.from.ensures c.self.inside.cpus.ok.0 c.requires.inside
 
 pub invariant_of-self : goal.invariant_of-self
-invariant_of-self g c = (rw length-set c.self.invariant.0, c.self.invariant.1, entries_blocked g.Q.R.Discipline.discipline c.args.processor c.args.now c.index_mut-cpu.result.now c.block.new.self c.self.inside.lobby c.block.new.lobby c.block.result c.block.ensures.share ∙ c.self.invariant.2)
+invariant_of-self g c = (
+  rw length-set c.self.invariant.0,
+  c.self.invariant.1,
+  entries_blocked g.Q.R.Discipline.discipline c.args.processor c.args.now c.index_mut-cpu.result.now c.block.new.self
+      c.self.inside.lobby c.block.new.lobby c.block.result c.block.ensures.share
+      ∙ c.self.invariant.2,
+)

@@ -8,21 +8,30 @@ use Rattle.bq_core.proofs.parts.Parts.drain.Goals as goal
 pub drain-requires-clause-once : goal.drain-requires-clause-once
 drain-requires-clause-once g c =
     let place = borrowed c.self.view_is c.from-2.ensures c.requires.inside c.index_mut-cpu.ensures.value in
-    let box = borrowed_inbox c.self.view_is c.from.ensures (inbox_there c.self.view_is c.self.invariant.0 c.requires.inside) c.index_mut-inbox.ensures.value in
+    let box =
+    borrowed_inbox c.self.view_is c.from.ensures (inbox_there c.self.view_is c.self.invariant.0 c.requires.inside)
+    c.index_mut-inbox.ensures.value in
     rw (place, box) (each_once_runnable c.args.self.now c.args.processor c.requires.orderly)
 
 pub drain-requires-clause-ids : goal.drain-requires-clause-ids
 drain-requires-clause-ids g c =
     let place = borrowed c.self.view_is c.from-2.ensures c.requires.inside c.index_mut-cpu.ensures.value in
-    let box = borrowed_inbox c.self.view_is c.from.ensures (inbox_there c.self.view_is c.self.invariant.0 c.requires.inside) c.index_mut-inbox.ensures.value in
-    rw (place, box) (λ id h. none_beyond_at c.args.self.now c.args.processor id (lobby_whole c.self.view_is c.self.invariant.2) c.requires.orderly h)
+    let box =
+    borrowed_inbox c.self.view_is c.from.ensures (inbox_there c.self.view_is c.self.invariant.0 c.requires.inside)
+    c.index_mut-inbox.ensures.value in
+    rw (place, box)
+    (λ id h. none_beyond_at c.args.self.now c.args.processor id (lobby_whole c.self.view_is c.self.invariant.2) c.requires.orderly h)
 
 pub returns-clause-step : goal.returns-clause-step
 returns-clause-step g c =
     let place = borrowed c.self.view_is c.from-2.ensures c.requires.inside c.index_mut-cpu.ensures.value in
-    let box = borrowed_inbox c.self.view_is c.from.ensures (inbox_there c.self.view_is c.self.invariant.0 c.requires.inside) c.index_mut-inbox.ensures.value in
-    drains_at g.Q.R.Discipline.discipline c.args.self.now _ c.args.processor c.args.now _ _ c.drain.new.self _ _ c.requires.inside place box c.drain.ensures.share
-    (write_back_both _ c.args.self.now _ _ c.args.processor _ _ _ _ c.self.view_is c.from-2.ensures c.from.ensures refl c.drain.ensures.emptied)
+    let box =
+    borrowed_inbox c.self.view_is c.from.ensures (inbox_there c.self.view_is c.self.invariant.0 c.requires.inside)
+    c.index_mut-inbox.ensures.value in
+    drains_at g.Q.R.Discipline.discipline c.args.self.now _ c.args.processor c.args.now _ _ c.drain.new.self _ _
+    c.requires.inside place box c.drain.ensures.share
+    (write_back_both _ c.args.self.now _ _ c.args.processor _ _ _ _ c.self.view_is c.from-2.ensures
+    c.from.ensures refl c.drain.ensures.emptied)
 
 pub from-requires : goal.from-requires
 from-requires g c = tt

@@ -18,7 +18,8 @@ end_wake-requires-clause-usable g c =
     let w = c.args.self.now in
     let place = borrowed c.self.view_is c.from.ensures c.requires.inside c.index_mut-cpu.ensures.value in
     let count : c.len-count.result ≡ count_in w = counted c.self.view_is (omega arith) in
-    rw (place, count) (if_carried (processor_at w c.args.processor).hand (λ x. HasPlace (count_in w) x.task) (c.requires.orderly.places.in_hand c.args.processor))
+    rw (place, count) (if_carried (processor_at w c.args.processor).hand (λ x. HasPlace (count_in w) x.task)
+    (c.requires.orderly.places.in_hand c.args.processor))
 
 pub end_wake-requires-clause-few : goal.end_wake-requires-clause-few
 end_wake-requires-clause-few g c =
@@ -34,7 +35,8 @@ invariant_of-self g c = (rw length-set c.self.invariant.0, c.self.invariant.1, c
 pub returns-in_default-clause-step : goal.returns-in_default-clause-step
 returns-in_default-clause-step g c =
     let place = borrowed c.self.view_is c.from.ensures c.requires.inside c.index_mut-cpu.ensures.value in
-    places_none_at g.Q.R.Discipline.discipline c.args.self.now _ c.args.processor c.args.now c.len-count.result c.end_wake.new.scratch c.end_wake.new.self c.index_mut-cpu.result.now c.requires.inside place c.in_default.ensures.share
+    places_none_at g.Q.R.Discipline.discipline c.args.self.now _ c.args.processor c.args.now c.len-count.result
+    c.end_wake.new.scratch c.end_wake.new.self c.index_mut-cpu.result.now c.requires.inside place c.in_default.ensures.share
     (write_back_processor _ c.args.self.now _ c.args.processor c.end_wake.new.self c.self.view_is c.from.ensures)
 
 pub returns-in_default-clause-board : goal.returns-in_default-clause-board
@@ -57,7 +59,9 @@ push-requires g c =
     let to = c.in-Some.placed.to in
     let count : c.len-count.result ≡ count_in w = counted c.self.view_is (omega arith) in
     let below : to < count_in w = rw count at c.in-Some.ensures.below in
-    let box = borrowed_inbox c.self.view_is c.from-2.ensures (inbox_there c.self.view_is c.self.invariant.0 below) c.index_mut.ensures.value in
+    let box =
+    borrowed_inbox c.self.view_is c.from-2.ensures (inbox_there c.self.view_is c.self.invariant.0 below)
+    c.index_mut.ensures.value in
     rw box (omega (arith, few_at w to (lobby_whole c.self.view_is c.self.invariant.2) c.requires.orderly))
 
 pub invariant_of-self-2 : goal.invariant_of-self-2
@@ -70,8 +74,12 @@ returns-clause-step g c =
     let place = borrowed c.self.view_is c.from.ensures c.requires.inside c.index_mut-cpu.ensures.value in
     let count : c.len-count.result ≡ count_in w = counted c.self.view_is (omega arith) in
     let below : placed.to < count_in w = rw count at c.in-Some.ensures.below in
-    let box = borrowed_inbox c.self.view_is c.from-2.ensures (inbox_there c.self.view_is c.self.invariant.0 below) c.index_mut.ensures.value in
-    places_at g.Q.R.Discipline.discipline w _ c.args.processor c.args.now c.len-count.result c.id-id.result c.end_wake.new.scratch placed c.end_wake.new.self c.index_mut-cpu.result.now c.index_mut.result.now c.requires.inside place count c.id-id.ensures box c.in-Some.ensures.share
+    let box =
+    borrowed_inbox c.self.view_is c.from-2.ensures (inbox_there c.self.view_is c.self.invariant.0 below)
+    c.index_mut.ensures.value in
+    places_at g.Q.R.Discipline.discipline w _ c.args.processor c.args.now c.len-count.result
+    c.id-id.result c.end_wake.new.scratch placed c.end_wake.new.self c.index_mut-cpu.result.now
+    c.index_mut.result.now c.requires.inside place count c.id-id.ensures box c.in-Some.ensures.share
     (write_back_inbox _ w _ c.args.processor _ _ _ _ _ _ c.self.view_is c.from.ensures c.from-2.ensures refl c.push.ensures)
 
 pub returns-clause-board : goal.returns-clause-board

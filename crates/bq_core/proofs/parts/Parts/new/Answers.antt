@@ -20,8 +20,10 @@ filled : {X : Type 0} (xs : List X) (n p : ℕ) (x : X) → xs ≡ replicate n x
 filled xs n p x h e = ap length h ∙ length-replicate n x ∙ e
 
 -- the world of such lists
-opened : (n p many : ℕ) (cpus : List Processor) (boxes : List (List Task)) (lobby : List LobbyEntry) → cpus ≡ replicate n opening → boxes ≡ replicate n [] → lobby ≡ replicate many Absent → n ≡ p →
-    ◌≡◌ {A = World} (record { processors = cpus; inboxes = boxes; lobby = lobby; drawn = 0 }) (record { processors = replicate p opening; inboxes = replicate p []; lobby = replicate many Absent; drawn = 0 })
+opened : (n p many : ℕ) (cpus : List Processor) (boxes : List (List Task)) (lobby : List LobbyEntry)
+    → cpus ≡ replicate n opening → boxes ≡ replicate n [] → lobby ≡ replicate many Absent → n ≡ p
+    → ◌≡◌ {A = World} (record { processors = cpus; inboxes = boxes; lobby = lobby; drawn = 0 })
+    (record { processors = replicate p opening; inboxes = replicate p []; lobby = replicate many Absent; drawn = 0 })
 opened n p many cpus boxes lobby h k l e = rw (h, k, l, e) refl
 
 pub processors-init : goal.processors-init
@@ -32,8 +34,12 @@ processors-preserved g c =
     let n = c.processors.counter in
     let was = c.processors.invariant in
     record {
-      processors = one_more n opening c.new.result c.processors.cpus.items c.push.new.self.items c.in_ok-push.ensures.items c.new.ensures was.processors;
-      inboxes = one_more n [] c.new-in-processors.result c.processors.inboxes.items c.push-in-processors.new.self.items c.in_ok-push-2.ensures.items c.new-in-processors.ensures was.inboxes;
+      processors =
+          one_more n opening c.new.result c.processors.cpus.items c.push.new.self.items c.in_ok-push.ensures.items
+          c.new.ensures was.processors;
+      inboxes =
+          one_more n [] c.new-in-processors.result c.processors.inboxes.items c.push-in-processors.new.self.items
+          c.in_ok-push-2.ensures.items c.new-in-processors.ensures was.inboxes;
     }
 
 pub invariant_of-result : goal.invariant_of-result
@@ -48,4 +54,5 @@ invariant_of-result g c =
 pub returns : goal.returns
 returns g c =
     let all = at_end c.processors.counter c.args.count c.processors-test.false c.processors.auto.counter-end in
-    opened c.processors.counter c.args.count 1024 c.processors.cpus.items c.processors.inboxes.items c.in_ok-lobby.lobby c.processors.invariant.processors c.processors.invariant.inboxes c.in_ok-lobby.ensures all
+    opened c.processors.counter c.args.count 1024 c.processors.cpus.items c.processors.inboxes.items c.in_ok-lobby.lobby
+    c.processors.invariant.processors c.processors.invariant.inboxes c.in_ok-lobby.ensures all

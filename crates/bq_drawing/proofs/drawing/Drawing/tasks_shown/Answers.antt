@@ -6,8 +6,8 @@ use Rattle.bq_drawing.proofs.drawing.Drawing.tasks_shown.Goals as goal
 
 pub loop-task-preserved : goal.loop-task-preserved
 loop-task-preserved c =
-    shown_next c.args.self.now.tasks c.tasks-all.result.now c.loop-task.task-index _ _ _ _ c.loop-task-test.true c.in_ok-push_if_shown.ensures
-    c.loop-task.invariant
+    shown_next c.args.self.now.tasks c.tasks-all.result.now c.loop-task.task-index _ _ _ _ c.loop-task-test.true
+    c.in_ok-push_if_shown.ensures c.loop-task.invariant
 
 pub returns : goal.returns
 returns c =

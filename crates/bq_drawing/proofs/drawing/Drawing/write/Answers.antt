@@ -26,13 +26,20 @@ returns c =
     let held = c.args.self.now in
     drawing_whole c.args.window.now setting title rule held c.in_ok-rows.rows _ _ _ _ _ _ _
     (subst (λ (u : TimeUnit). AreDrawn c.args.window.now (record setting { unit = u }) held c.in_ok-rows.rows) unit c.in_ok-rows.ensures)
-    (c.in_ok-write.ensures ∙ ap (λ (u : TimeUnit). string_bytes c.new-text.result ++ heading_text (record setting { unit = u }) title rule) unit
+    (c.in_ok-write.ensures
+    ∙ ap (λ (u : TimeUnit). string_bytes c.new-text.result ++ heading_text (record setting { unit = u }) title rule) unit
     ∙ ap (λ (t : List ℕ). t ++ heading_text setting title rule) c.new-text.ensures.bytes)
     (c.in_ok-write_axis.ensures
-    ∙ ap (λ (u : TimeUnit). string_bytes c.write.new.text ++ axis_text (record setting { unit = u }) c.unwrap_or-step.result rows_edge edge) unit
+    ∙ ap
+    (λ (u : TimeUnit). string_bytes c.write.new.text ++ axis_text (record setting { unit = u }) c.unwrap_or-step.result rows_edge edge)
+    unit
     ∙ ap (λ n. string_bytes c.write.new.text ++ axis_text setting n rows_edge edge) step)
     (c.in_ok-push_str.ensures.bytes ∙ ap (λ t. string_bytes c.write_axis.new.text ++ t) c.as_str.ensures.value)
-    (c.in_ok-push_str-2.ensures.bytes ∙ ap (λ t. string_bytes c.push_str.new.self ++ t) c.as_str-2.ensures.value) (c.in_ok-push_str-3.ensures.bytes ∙ ap (λ t. string_bytes c.push_str-2.new.self ++ t) c.as_str-3.ensures.value)
-    (c.in_ok-push_str-4.ensures.bytes ∙ ap (λ t. string_bytes c.push_str-3.new.self ++ t) (c.as_str-4.ensures.value ∙ c.in_ok-legend.ensures.text
-    ∙ ap (λ (u : TimeUnit). legend_text (record setting { unit = u }) (tasks_shown setting.tasks held.tasks) (key_beside held.links c.in_ok-rows.rows) (legend_top edge)) unit))
-    c.in_ok-legend.ensures.height
+    (c.in_ok-push_str-2.ensures.bytes ∙ ap (λ t. string_bytes c.push_str.new.self ++ t) c.as_str-2.ensures.value)
+    (c.in_ok-push_str-3.ensures.bytes ∙ ap (λ t. string_bytes c.push_str-2.new.self ++ t) c.as_str-3.ensures.value)
+    (c.in_ok-push_str-4.ensures.bytes
+    ∙ ap (λ t. string_bytes c.push_str-3.new.self ++ t)
+    (c.as_str-4.ensures.value ∙ c.in_ok-legend.ensures.text
+    ∙ ap (λ (u : TimeUnit).
+    legend_text (record setting { unit = u }) (tasks_shown setting.tasks held.tasks)
+    (key_beside held.links c.in_ok-rows.rows) (legend_top edge)) unit)) c.in_ok-legend.ensures.height

@@ -21,11 +21,15 @@ loop-link-preserved c =
     let i = c.loop-link.link-index in
     let are : items ≡ links = search rules in
     record {
-      text = subst (λ (l : List Link). next ++ flat_map draw (drop (i + 1) l) ≡ whole) are
-          (line_written c.args.kind s items i _ c.args.rows.now c.loop-link.rows c.write_link.new.self whole c.loop-link-test.true c.loop-link.invariant.same
-          c.in_ok-write_link.ensures.text
-          (subst (λ (l : List Link). string_bytes c.loop-link.rows.links ++ flat_map draw (drop i l) ≡ whole) (sym are) c.loop-link.invariant.text));
-      same = c.write_link.ensures.same ∙ ap (λ (r : WrittenRows). record r { links = c.write_link.new.self.links }) c.loop-link.invariant.same;
+      text =
+          subst (λ (l : List Link). next ++ flat_map draw (drop (i + 1) l) ≡ whole) are
+          (line_written c.args.kind s items i _ c.args.rows.now c.loop-link.rows c.write_link.new.self whole
+          c.loop-link-test.true c.loop-link.invariant.same c.in_ok-write_link.ensures.text
+          (subst (λ (l : List Link). string_bytes c.loop-link.rows.links ++ flat_map draw (drop i l) ≡ whole)
+          (sym are) c.loop-link.invariant.text));
+      same =
+          c.write_link.ensures.same
+          ∙ ap (λ (r : WrittenRows). record r { links = c.write_link.new.self.links }) c.loop-link.invariant.same;
     }
 
 pub returns-clause-text : goal.returns-clause-text

@@ -9,7 +9,8 @@ use Rattle.bq_drawing.proofs.drawing.Drawing.write_links.Given as goal
 -- the lines that are left complete the text, and all else stays
 abbrev pub invariant-loop-link : goal.invariant-loop-link
 invariant-loop-link l = record {
-  text : string_bytes l.rows.links ++ flat_map (line_of l.kind (setting_of l.frame) (get nat_cmp l.fn.rows.bands)) (drop l.link-index l.self.links)
+  text : string_bytes l.rows.links
+      ++ flat_map (line_of l.kind (setting_of l.frame) (get nat_cmp l.fn.rows.bands)) (drop l.link-index l.self.links)
       ≡ string_bytes l.fn.rows.links ++ flat_map (line_of l.kind (setting_of l.frame) (get nat_cmp l.fn.rows.bands)) l.self.links;
   same : l.rows ≡ record l.fn.rows { links = l.rows.links };
 }

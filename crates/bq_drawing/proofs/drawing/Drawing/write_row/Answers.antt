@@ -8,7 +8,11 @@ use Rattle.bq_drawing.proofs.drawing.Drawing.write_row.Goals as goal
 
 pub returns-then-not-shows_processor : goal.returns-then-not-shows_processor
 returns-then-not-shows_processor c =
-    inr (λ (h : HasRow c.args.window.now c.args.self.now.rows c.args.number). test_fails _ _ c.shows_processor.ensures c.if-not-shows_processor.true h.shown, refl)
+    inr (
+      λ (h : HasRow c.args.window.now c.args.self.now.rows c.args.number).
+          test_fails _ _ c.shows_processor.ensures c.if-not-shows_processor.true h.shown,
+      refl,
+    )
 
 pub returns : goal.returns
 returns c =

@@ -4,8 +4,10 @@ use Rattle.bq_drawing.specs.declared.history.Arrows.{Arrows}
 use Rattle.bq_drawing.specs.Histories.{Past, no_arrows}
 use Rattle.bq_drawing.proofs.history.History.of.Goals as goal
 
-same_past : (es fs : List Arrows) (cs ds : List ℕ) (ws vs : List (Option ℕ)) (rs qs : List (Option Slice)) → es ≡ fs → cs ≡ ds → ws ≡ vs → rs ≡ qs →
-    ◌≡◌ {A = Past} (record { ends = es; counts = cs; woken = ws; runs = rs; arrows = 0 }) (record { ends = fs; counts = ds; woken = vs; runs = qs; arrows = 0 })
+same_past : (es fs : List Arrows) (cs ds : List ℕ) (ws vs : List (Option ℕ)) (rs qs : List (Option Slice))
+    → es ≡ fs → cs ≡ ds → ws ≡ vs → rs ≡ qs
+    → ◌≡◌ {A = Past} (record { ends = es; counts = cs; woken = ws; runs = rs; arrows = 0 })
+    (record { ends = fs; counts = ds; woken = vs; runs = qs; arrows = 0 })
 same_past es fs cs ds ws vs rs qs e c w r = cc
 
 pub returns : goal.returns

@@ -30,8 +30,9 @@ returns c =
     ∙ ap (λ x. drawn left begin x c.ends_at-end.result c.colour-colour.result) c.place-2.ensures
     ∙ ap (λ y. drawn left begin right y c.colour-colour.result) c.ends_at-end.ensures
     ∙ ap (λ colour. drawn left begin right end colour) c.colour-colour.ensures in
-    let line : string_bytes c.write_line.new.text ≡ old ++ drawn left begin right end (colour_of s.tasks link.task)
-    = both_added old (string_bytes c.write_halo.new.text) (string_bytes c.write_line.new.text) _ _ c.in_ok-write_halo.ensures c.in_ok-write_line.ensures
+    let line : string_bytes c.write_line.new.text ≡ old ++ drawn left begin right end (colour_of s.tasks link.task) =
+    both_added old (string_bytes c.write_halo.new.text) (string_bytes c.write_line.new.text) _ _ c.in_ok-write_halo.ensures
+    c.in_ok-write_line.ensures
     ∙ ap (λ (t : List ℕ). old ++ t) same in
     on_ok_weaker c.write_title.result
     (λ e. both_added old (string_bytes c.write_line.new.text) (string_bytes c.write_title.new.text)

@@ -12,14 +12,16 @@ pub returns : goal.returns
 returns c =
     let s = setting_of c.args.frame.now in
     let link = c.args.self.now in
-    let told : Amount → List ℕ → List ℕ
+    let reported : Amount → List ℕ → List ℕ
     = λ at name. codes " at " ++ (amount_text at.unit at.time ++ (codes " " ++ (name ++ codes "</title></g>\n"))) in
     let begun = string_bytes c.write_name_head.new.text in
     let act = act_text link.kind link.from.processor link.to.processor in
-    let when = told (record { time = link.to.at; unit = s.unit }) (unit_name s.unit) in
-    on_ok_weaker c.write.result
-    (λ e. both_added (string_bytes c.args.text.now) begun (string_bytes c.write.new.self) (name_head s link.task) (act ++ when) c.in_ok-write_name_head.ensures e)
-    (last_added c.write.result begun (string_bytes c.write_act.new.text) (string_bytes c.write.new.self) act when (told c.amount-at.result c.name-unit.result.now)
-    c.in_ok-write_act.ensures (ap (λ (at : Amount). told at c.name-unit.result.now) c.amount-at.ensures
-    ∙ ap (λ (name : List ℕ). told (record { time = link.to.at; unit = s.unit }) name) c.name-unit.ensures)
+    let when = reported (record { time = link.to.at; unit = s.unit }) (unit_name s.unit) in
+    on_ok_weaker c.write.result (λ e.
+    both_added (string_bytes c.args.text.now) begun (string_bytes c.write.new.self) (name_head s link.task)
+    (act ++ when) c.in_ok-write_name_head.ensures e)
+    (last_added c.write.result begun (string_bytes c.write_act.new.text) (string_bytes c.write.new.self) act when
+    (reported c.amount-at.result c.name-unit.result.now) c.in_ok-write_act.ensures
+    (ap (λ (at : Amount). reported at c.name-unit.result.now) c.amount-at.ensures
+    ∙ ap (λ (name : List ℕ). reported (record { time = link.to.at; unit = s.unit }) name) c.name-unit.ensures)
     c.write.ensures.bytes)

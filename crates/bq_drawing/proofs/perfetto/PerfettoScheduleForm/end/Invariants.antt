@@ -8,5 +8,6 @@ use Rattle.bq_drawing.proofs.perfetto.PerfettoScheduleForm.end.Given as goal
 abbrev pub invariant-loop-number : goal.invariant-loop-number
 invariant-loop-number l = record {
   within : l.number ≤ 64;
-  runs : Adds (AreParts (IsPerfettoRunner l.self.window l.names l.schedule l.self.history) l.number) (string_bytes l.initial.text) (string_bytes l.text);
+  runs : Adds (AreParts (IsPerfettoRunner l.self.window l.names l.schedule l.self.history) l.number)
+      (string_bytes l.initial.text) (string_bytes l.text);
 }

@@ -7,12 +7,13 @@ use Rattle.bq_drawing.proofs.picture_name.PictureName.of.Goals as goal
 
 pub loop-byte-init : goal.loop-byte-init
 loop-byte-init c =
-    ap (λ hash. fold mixed hash c.as_bytes-bytes.result.now) (c.mixed-hash.ensures ∙ ap (λ letter. mixed hash_basis letter) c.theme_letter.ensures)
+    ap (λ hash. fold mixed hash c.as_bytes-bytes.result.now)
+    (c.mixed-hash.ensures ∙ ap (λ letter. mixed hash_basis letter) c.theme_letter.ensures)
 
 pub loop-byte-preserved : goal.loop-byte-preserved
 loop-byte-preserved c =
-    hash_more c.as_bytes-bytes.result.now c.loop-byte.byte-index _ c.loop-byte.hash _ _ c.loop-byte-test.true c.mixed-hash-in-loop-byte.ensures
-    c.loop-byte.invariant
+    hash_more c.as_bytes-bytes.result.now c.loop-byte.byte-index _ c.loop-byte.hash _ _ c.loop-byte-test.true
+    c.mixed-hash-in-loop-byte.ensures c.loop-byte.invariant
 
 pub returns : goal.returns
 returns c =

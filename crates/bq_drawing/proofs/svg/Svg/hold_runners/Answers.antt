@@ -14,10 +14,12 @@ loop-number-preserved c =
     let window : c.loop-number.self.window ≡ c.args.self.now.window = ap (λ (v : Svg). v.window) c.loop-number.invariant.same in
     record {
       within = omega arith;
-      runs = runner_held c.args.self.now.window c.args.schedule.now c.loop-number.number p _ _ _ c.loop-number.invariant.runs c.processor-figures.ensures
-          (subst (λ w. HoldsRun w p.running (run_on p) c.loop-number.self.drawing c.hold_run.new.self.drawing) window
-          (subst (λ run. HoldsRun c.loop-number.self.window p.running run c.loop-number.self.drawing c.hold_run.new.self.drawing) c.run_on.ensures
-          c.in_ok-hold_run.ensures.run));
+      runs =
+          runner_held c.args.self.now.window c.args.schedule.now c.loop-number.number p _ _ _ c.loop-number.invariant.runs
+          c.processor-figures.ensures (subst
+          (λ w. HoldsRun w p.running (run_on p) c.loop-number.self.drawing c.hold_run.new.self.drawing) window
+          (subst (λ run. HoldsRun c.loop-number.self.window p.running run c.loop-number.self.drawing c.hold_run.new.self.drawing)
+          c.run_on.ensures c.in_ok-hold_run.ensures.run));
       same = c.hold_run.ensures.same ∙ ap (λ (v : Svg). record v { drawing = c.hold_run.new.self.drawing }) c.loop-number.invariant.same;
     }
 

@@ -12,8 +12,11 @@ loop-id-preserved c =
     let window : c.loop-id.self.window ≡ c.args.self.now.window = ap (λ (v : Svg). v.window) c.loop-id.invariant.same in
     record {
       within = omega arith;
-      waits = waiting_held c.args.self.now.window c.args.schedule.now c.loop-id.id c.wait_of.result _ _ _ c.loop-id.invariant.waits c.wait_of.ensures
-          (subst (λ w. HoldsWait w c.wait_of.result c.loop-id.self.drawing c.hold_wait.new.self.drawing) window c.in_ok-hold_wait.ensures.wait);
+      waits =
+          waiting_held c.args.self.now.window c.args.schedule.now c.loop-id.id c.wait_of.result _ _ _
+          c.loop-id.invariant.waits c.wait_of.ensures
+          (subst (λ w. HoldsWait w c.wait_of.result c.loop-id.self.drawing c.hold_wait.new.self.drawing) window
+          c.in_ok-hold_wait.ensures.wait);
       same = c.hold_wait.ensures.same ∙ ap (λ (v : Svg). record v { drawing = c.hold_wait.new.self.drawing }) c.loop-id.invariant.same;
     }
 

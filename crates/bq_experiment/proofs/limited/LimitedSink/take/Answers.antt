@@ -15,4 +15,5 @@ returns g c =
     let counted = c.count.new.self in
     let within = c.count.ensures.within c.if-self.false in
     let taken = subst (λ s. OnOk c.take.result (takes s c.args.number traced c.take.new.self)) c.count.ensures.sink c.take.ensures in
-    OnOk-passes takes c.args.self.now (record { sink = c.take.new.self; left = counted.left; is_over = counted.is_over }) c.args.number traced c.take.result within.1 c.if-self.false within.0 taken
+    OnOk-passes takes c.args.self.now (record { sink = c.take.new.self; left = counted.left; is_over = counted.is_over })
+    c.args.number traced c.take.result within.1 c.if-self.false within.0 taken

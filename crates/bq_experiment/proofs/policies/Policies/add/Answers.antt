@@ -1,6 +1,6 @@
 -- It is taken at the hook that was asked for.
 use Rattle.std.proofs.Common.{Some, refl}
-use Rattle.bq_experiment.proofs.TakingLemmas.{takes_at, told_of}
+use Rattle.bq_experiment.proofs.TakingLemmas.{takes_at, reported_of}
 use Rattle.bq_experiment.proofs.policies.Policies.add.Goals as goal
 
 pub returns-clause-taken : goal.returns-clause-taken
@@ -8,7 +8,7 @@ returns-clause-taken c =
     takes_at c.take.result c.args.hook _ c.args.file.now c.args.self.now c.take.new.self c.take.ensures.taken
     (record { hook_is = refl; maps = c.nothing-asked.ensures.maps; format = c.nothing-asked.ensures.format })
 
-pub returns-clause-told : goal.returns-clause-told
-returns-clause-told c =
-    told_of c.take.result (Some c.args.hook) _ c.args.file.now c.args.self.now c.take.ensures.told
+pub returns-clause-reported : goal.returns-clause-reported
+returns-clause-reported c =
+    reported_of c.take.result (Some c.args.hook) _ c.args.file.now c.args.self.now c.take.ensures.reported
     (record { hook_is = refl; maps = c.nothing-asked.ensures.maps; format = c.nothing-asked.ensures.format })

@@ -12,7 +12,8 @@ pub invariant_of-self-in-Err : goal.invariant_of-self-in-Err
 invariant_of-self-in-Err c =
     let before = c.self.inside.images in
     let images : c.truncate.new.self.items ≡ before.items =
-    c.truncate.ensures.items ∙ ap (take c.len-count.result) c.in_ok-push.ensures.items ∙ front_as_before c.len-count.result before.items ((c.args.hook, c.args.image) ∷ []) (omega arith) in
+    c.truncate.ensures.items ∙ ap (take c.len-count.result) c.in_ok-push.ensures.items
+    ∙ front_as_before c.len-count.result before.items ((c.args.hook, c.args.image) ∷ []) (omega arith) in
     rw (images, c.in-Err.ensures.items) c.self.invariant
 
 pub invariant_of-self-in_default : goal.invariant_of-self-in_default
@@ -22,5 +23,7 @@ invariant_of-self-in_default c =
     let new : Standing = standing c.push-2.new.self.items c.push.new.self.items in
     let images : new.images ≡ old.images ++ (c.args.hook, c.args.image.items) ∷ [] =
     ap (map with_bytes) c.in_ok-push.ensures.items ∙ map-append with_bytes inside.images.items ((c.args.hook, c.args.image) ∷ []) in
-    let free : image_for old.images c.args.hook ≡ None = ap (λ (s : Standing). image_for s.images c.args.hook) c.self.view_is ∙ c.requires.free in
-    AreOfTheirImages-adds c.args.hook c.args.image.items c.args.policy old new (record { loaded = c.in_default.ensures.items; images = images }) c.requires.hook free c.requires.of c.self.invariant
+    let free : image_for old.images c.args.hook ≡ None =
+    ap (λ (s : Standing). image_for s.images c.args.hook) c.self.view_is ∙ c.requires.free in
+    AreOfTheirImages-adds c.args.hook c.args.image.items c.args.policy old new
+    (record { loaded = c.in_default.ensures.items; images = images }) c.requires.hook free c.requires.of c.self.invariant

@@ -12,13 +12,16 @@ push-requires g c =
 
 pub invariant_of-self : goal.invariant_of-self
 invariant_of-self g c =
-    let is : c.push.new.self ≡ c.self.inside.chunks ++ (c.args.entry ∷ []) ∷ [] = c.push.ensures ∙ ap (λ x. c.self.inside.chunks ++ x ∷ []) c.begun-slip.ensures in
+    let is : c.push.new.self ≡ c.self.inside.chunks ++ (c.args.entry ∷ []) ∷ [] =
+    c.push.ensures ∙ ap (λ x. c.self.inside.chunks ++ x ∷ []) c.begun-slip.ensures in
     let long = c.self.invariant.1 in
     let full = c.if-place-eq0.true in
     let more = ap (λ x. length x) (joined_begun c.self.inside.chunks c.args.entry) in
     let both = length-append (joined c.self.inside.chunks) (c.args.entry ∷ []) in
-    let all = ap (λ x. length (joined x)) is in
-    (rw is (one_begun c.self.inside.chunks c.args.entry c.self.invariant.0 (omega (arith, long, full))), omega (arith, long, more, both, all))
+    let all = ap (λ x. length (joined x)) is in (
+      rw is (one_begun c.self.inside.chunks c.args.entry c.self.invariant.0 (omega (arith, long, full))),
+      omega (arith, long, more, both, all),
+    )
 
 pub append-requires : goal.append-requires
 append-requires g c =
@@ -45,4 +48,5 @@ returns-else-place-eq0 g c =
     let part = c.if-place-eq0.false in
     let l = last_open c.self.inside.chunks c.self.invariant.0 (omega (arith, long, part)) in
     let is : c.append.new.chunks ≡ l.0 ++ (l.1 ++ c.args.entry ∷ []) ∷ [] = c.append.ensures l.0 l.1 l.2 in
-    ap (λ x. joined x) is ∙ (joined_more l.0 l.1 c.args.entry ∙ ap (λ x. x ++ c.args.entry ∷ []) (ap (λ x. joined x) (sym l.2) ∙ c.self.view_is))
+    ap (λ x. joined x) is
+    ∙ (joined_more l.0 l.1 c.args.entry ∙ ap (λ x. x ++ c.args.entry ∷ []) (ap (λ x. joined x) (sym l.2) ∙ c.self.view_is))

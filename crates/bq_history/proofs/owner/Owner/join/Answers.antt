@@ -8,5 +8,7 @@ join_seat-requires g c = (
   c.other.invariant.0 ∙ sym c.self.invariant.0,
   c.other.invariant.1,
   omega (arith, c.self.invariant.1),
-  λ s k at apart there. joins g.L.Law.same (g.L.Law.good c.self.inside.table.shared.key) g.L.Law.fits s.views c.to.inside.seat.id c.other.inside.seat.id c.to.inside.seat.me.0 c.other.inside.seat.me.0 k at apart there,
+  λ s k at apart there.
+      joins g.L.Law.same (g.L.Law.good c.self.inside.table.shared.key) g.L.Law.fits s.views c.to.inside.seat.id
+      c.other.inside.seat.id c.to.inside.seat.me.0 c.other.inside.seat.me.0 k at apart there,
 )

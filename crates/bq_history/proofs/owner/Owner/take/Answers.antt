@@ -6,5 +6,7 @@ pub split_seat-seat-requires : goal.split_seat-seat-requires
 split_seat-seat-requires g c = (
   c.from.invariant.0 ∙ sym c.self.invariant.0,
   omega (arith, c.self.invariant.1),
-  λ s k at. takes g.L.Law.same (g.L.Law.good c.self.inside.table.shared.key) g.L.Law.fits s.views c.from.inside.seat.id c.from.inside.seat.me.0 k at,
+  λ s k at.
+      takes g.L.Law.same (g.L.Law.good c.self.inside.table.shared.key) g.L.Law.fits s.views c.from.inside.seat.id
+      c.from.inside.seat.me.0 k at,
 )

@@ -8,13 +8,17 @@ use Rattle.bq_import.proofs.backward.Backward.distance.Goals as goal
 pub overflow_sub-result : goal.overflow_sub-result
 overflow_sub-result c =
     let at : place_at c.args.places.now c.in-Some.to ≡ Some c.in-Some-place_at.place = sym c.place_at.ensures ∙ c.in-Some-place_at.is in
-    let inside = start_inside c.args.self.now.slots.items c.in-Some-place_at.place (c.requires.known c.in-Some.to c.in-Some-place_at.place at).start in
+    let inside =
+    start_inside c.args.self.now.slots.items c.in-Some-place_at.place
+    (c.requires.known c.in-Some.to c.in-Some-place_at.place at).start in
     omega (arith, inside)
 
 pub overflow_sub-result-2 : goal.overflow_sub-result-2
 overflow_sub-result-2 c =
     let at : place_at c.args.places.now c.in-Some.to ≡ Some c.in-Some-place_at.place = sym c.place_at.ensures ∙ c.in-Some-place_at.is in
-    let inside = start_inside c.args.self.now.slots.items c.in-Some-place_at.place (c.requires.known c.in-Some.to c.in-Some-place_at.place at).start in
+    let inside =
+    start_inside c.args.self.now.slots.items c.in-Some-place_at.place
+    (c.requires.known c.in-Some.to c.in-Some-place_at.place at).start in
     omega (arith, inside)
 
 pub returns : goal.returns

@@ -10,5 +10,6 @@ push-requires-clause-may c =
     let distance = c.distance-distance.result in
     let fits : SFits w16 c.distance-distance.result = search rules in
     let same : to_z w16 (of_z w16 distance) ≡ distance = to_z-of_z w16 distance fits in
-    subst (λ (z : ℤ). MayStand c.args.old.now c.args.self.now.slots.items c.args.self.now.origins.items c.args.slot c.args.insn z) (sym same)
-    (may_stand c.args.old.now c.args.self.now.slots.items c.args.self.now.origins.items c.args.slot c.args.insn c.args.targets c.requires.targets distance c.requires.here c.requires.front c.distance-distance.ensures)
+    subst (λ (z : ℤ). MayStand c.args.old.now c.args.self.now.slots.items c.args.self.now.origins.items c.args.slot c.args.insn z)
+    (sym same) (may_stand c.args.old.now c.args.self.now.slots.items c.args.self.now.origins.items c.args.slot c.args.insn
+    c.args.targets c.requires.targets distance c.requires.here c.requires.front c.distance-distance.ensures)

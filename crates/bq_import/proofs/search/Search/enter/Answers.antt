@@ -10,4 +10,6 @@ returns-clause-within c = elim c.requires.way [
 ]
 
 pub open-requires-clause-reached : goal.open-requires-clause-reached
-open-requires-clause-reached c = comes_next c.args.old.now c.args.self.now.stack.items c.args.from c.args.to c.requires.at.comes c.requires.top c.requires.edge
+open-requires-clause-reached c =
+    comes_next c.args.old.now c.args.self.now.stack.items c.args.from c.args.to c.requires.at.comes
+    c.requires.top c.requires.edge

@@ -40,7 +40,8 @@ returns-clause-ok c =
     let stack = before.stack.items in
     let more = c.in_ok-place.ensures.ok in
     let count : c.len.result ≡ length back' = c.len.ensures ∙ c.place.new.self.slots.ok.0 in
-    let stack_is : c.pop.new.self.items ≡ take (length stack - 1) stack = c.pop.ensures.rest ∙ ap (λ (n : ℕ). take (n - 1) stack) before.stack.ok.0 in
+    let stack_is : c.pop.new.self.items ≡ take (length stack - 1) stack =
+    c.pop.ensures.rest ∙ ap (λ (n : ℕ). take (n - 1) stack) before.stack.ok.0 in
     let origins = before.copy.origins.items in
     let start = top_starts c.args.maps old before.copy.slots.items origins places opens stack c.requires.at c.args.slot c.requires.top in
     let way = top_comes c.args.maps old before.copy.slots.items origins places opens stack c.requires.at c.args.slot c.requires.top in
@@ -49,13 +50,23 @@ returns-clause-ok c =
     let enough = share_suffices old before.copy.slots.items origins places counted c.args.slot start in
     let within = start_inside old c.args.slot start in
     let room = c.requires.at.ordered.room in
-    let longer = counted_more old before.copy.slots.items origins places counted c.args.slot start way undone c.requires.ready (length back' - 1) (omega (arith, within, room)) back' origins' more.front
+    let longer =
+    counted_more old before.copy.slots.items origins places counted c.args.slot start way undone
+    c.requires.ready (length back' - 1) (omega (arith, within, room)) back' origins' more.front
     (c.in_ok-place.ensures.grown (share old c.args.slot counted.order) enough) in
-    let at = after_leave c.args.maps old before.copy.slots.items origins places opens stack c.requires.at c.args.slot c.requires.top c.requires.ready back' origins' more longer in
-    let less = less_leave c.args.maps old before.copy.slots.items before.copy.origins.items places opens stack c.requires.at c.args.slot c.requires.top c.requires.ready back' origins' more in
+    let at =
+    after_leave c.args.maps old before.copy.slots.items origins places opens stack c.requires.at c.args.slot c.requires.top
+    c.requires.ready back' origins' more longer in
+    let less =
+    less_leave c.args.maps old before.copy.slots.items before.copy.origins.items places opens stack c.requires.at c.args.slot
+    c.requires.top c.requires.ready back' origins' more in
     record {
-      at = subst (λ (n : ℕ). IsSearching c.args.maps old back' origins' (slice_set places c.args.slot (Some (n - 1))) opens c.pop.new.self.items) (sym count)
-          (subst (λ (s : List ℕ). IsSearching c.args.maps old back' origins' (slice_set places c.args.slot (Some (length back' - 1))) opens s) (sym stack_is) at);
+      at =
+          subst
+          (λ (n : ℕ). IsSearching c.args.maps old back' origins' (slice_set places c.args.slot (Some (n - 1))) opens c.pop.new.self.items)
+          (sym count) (subst
+          (λ (s : List ℕ). IsSearching c.args.maps old back' origins' (slice_set places c.args.slot (Some (length back' - 1))) opens s)
+          (sym stack_is) at);
       keeps = λ s e. e;
       less = subst (λ (s : List ℕ). left_of opens s < left_of opens stack) (sym stack_is) less;
     }
@@ -78,8 +89,10 @@ returns-in_err-place-clause-err c =
     let undone = top_undone c.args.maps old back origins places opens stack c.requires.at c.args.slot c.requires.top in
     let counted = c.requires.at.ordered.counted in
     let one = share_suffices old back origins places counted c.args.slot start in
-    rw (p.1, p.2) (full_within old back origins places opens stack (run_at old 0) kept.own (length back + kept.own) c.in_err-place.field-0.0 c.requires.linked c.requires.within (omega (arith, all)) (omega arith)
-    (c.in_err-place.ensures.full kept.own enough) (length back + share old c.args.slot counted.order) (c.in_err-place.ensures.full (share old c.args.slot counted.order) one)
+    rw (p.1, p.2) (full_within old back origins places opens stack (run_at old 0) kept.own
+    (length back + kept.own) c.in_err-place.field-0.0 c.requires.linked c.requires.within (omega (arith, all))
+    (omega arith) (c.in_err-place.ensures.full kept.own enough) (length back + share old c.args.slot counted.order)
+    (c.in_err-place.ensures.full (share old c.args.slot counted.order) one)
     (too_long old back origins places counted c.args.slot start way undone c.requires.ready))
 
 pub returns-clause-within : goal.returns-clause-within
@@ -94,7 +107,8 @@ returns-clause-within c =
     let back' = c.place.new.self.slots.items in
     let origins' = c.place.new.self.origins.items in
     let place : ℕ = c.len.result - 1 in
-    let stack_is : c.pop.new.self.items ≡ take (length stack - 1) stack = c.pop.ensures.rest ∙ ap (λ (n : ℕ). take (n - 1) stack) before.stack.ok.0 in
+    let stack_is : c.pop.new.self.items ≡ take (length stack - 1) stack =
+    c.pop.ensures.rest ∙ ap (λ (n : ℕ). take (n - 1) stack) before.stack.ok.0 in
     let long = c.requires.top.long in
     let start = c.requires.at.starts c.requires.top.below (omega (arith, long)) in
     let within = start_inside c.args.old.now c.args.slot (subst (λ (n : ℕ). IsStart c.args.old.now n) c.requires.top.slot_is start) in
@@ -103,6 +117,7 @@ returns-clause-within c =
     λ extra budget.
     let kept = kept_top old back origins places opens stack extra budget c.args.slot c.requires.top in
     let enough = suffices old back origins places opens stack extra budget c.args.slot c.requires.top in
-    subst (λ (s : List ℕ). HasBudget c.args.old.now back' origins' (slice_set places c.args.slot (Some (c.len.result - 1))) opens s extra) (sym stack_is)
-    (left_budget old back origins places opens stack extra budget c.args.slot c.requires.top back' origins' (slice_set places c.args.slot (Some place))
-    (still_set places c.args.slot place inside) (now_set places c.args.slot place inside) c.in_ok-place.ensures.ok.front (c.in_ok-place.ensures.grown kept.own enough))
+    subst (λ (s : List ℕ). HasBudget c.args.old.now back' origins' (slice_set places c.args.slot (Some (c.len.result - 1))) opens s extra)
+    (sym stack_is) (left_budget old back origins places opens stack extra budget c.args.slot c.requires.top back' origins'
+    (slice_set places c.args.slot (Some place)) (still_set places c.args.slot place inside)
+    (now_set places c.args.slot place inside) c.in_ok-place.ensures.ok.front (c.in_ok-place.ensures.grown kept.own enough))

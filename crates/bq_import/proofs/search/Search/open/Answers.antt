@@ -19,11 +19,17 @@ returns-clause-ok c =
     let stack = before.stack.items in
     let stack_is : c.push.new.self.items ≡ stack ++ (c.args.slot ∷ []) = c.in_ok-push.ensures.items in
     record {
-      at = subst (λ (s : List ℕ). IsSearching c.args.maps old back origins places (slice_set opens c.args.slot true) s) (sym stack_is)
-          (after_open c.args.maps old back origins places opens stack c.requires.at c.args.slot c.requires.start c.requires.new (λ top is. (c.requires.edge top is).0) c.requires.reached);
-      keeps = keeps_open c.args.maps old back origins places opens stack c.requires.at c.args.slot c.requires.start c.requires.new (λ top is. (c.requires.edge top is).0);
-      less = subst (λ (s : List ℕ). left_of (slice_set opens c.args.slot true) s < left_of opens stack) (sym stack_is)
-          (less_open c.args.maps old back origins places opens stack c.requires.at c.args.slot c.requires.start c.requires.new (λ top is. (c.requires.edge top is).0));
+      at =
+          subst (λ (s : List ℕ). IsSearching c.args.maps old back origins places (slice_set opens c.args.slot true) s)
+          (sym stack_is) (after_open c.args.maps old back origins places opens stack c.requires.at c.args.slot
+          c.requires.start c.requires.new (λ top is. (c.requires.edge top is).0) c.requires.reached);
+      keeps =
+          keeps_open c.args.maps old back origins places opens stack c.requires.at c.args.slot c.requires.start c.requires.new
+          (λ top is. (c.requires.edge top is).0);
+      less =
+          subst (λ (s : List ℕ). left_of (slice_set opens c.args.slot true) s < left_of opens stack) (sym stack_is)
+          (less_open c.args.maps old back origins places opens stack c.requires.at c.args.slot c.requires.start c.requires.new
+          (λ top is. (c.requires.edge top is).0));
     }
 
 pub returns-clause-landing : goal.returns-clause-landing
@@ -39,7 +45,8 @@ returns-clause-landing c =
     let room = c.requires.at.room in
     let start = start_inside old c.args.slot c.requires.start in
     let inside : c.args.slot < length opens = omega (arith, room, start) in
-    λ landing extra budget. subst (λ (s : List ℕ). HasBudget c.args.old.now back origins places (slice_set opens c.args.slot true) s extra) (sym stack_is)
+    λ landing extra budget.
+    subst (λ (s : List ℕ). HasBudget c.args.old.now back origins places (slice_set opens c.args.slot true) s extra) (sym stack_is)
     (begun_landing old back origins places opens stack extra budget c.args.slot inside c.requires.edge c.requires.new landing)
 
 pub returns-clause-next : goal.returns-clause-next
@@ -55,7 +62,8 @@ returns-clause-next c =
     let room = c.requires.at.room in
     let start = start_inside old c.args.slot c.requires.start in
     let inside : c.args.slot < length opens = omega (arith, room, start) in
-    λ top is last extra budget. subst (λ (s : List ℕ). HasBudget c.args.old.now back origins places (slice_set opens c.args.slot true) s extra) (sym stack_is)
+    λ top is last extra budget.
+    subst (λ (s : List ℕ). HasBudget c.args.old.now back origins places (slice_set opens c.args.slot true) s extra) (sym stack_is)
     (begun_next old back origins places opens stack extra budget c.args.slot inside c.requires.edge c.requires.linked top is last)
 
 pub returns-clause-more : goal.returns-clause-more
@@ -71,5 +79,8 @@ returns-clause-more c =
     let room = c.requires.at.room in
     let start = start_inside old c.args.slot c.requires.start in
     let inside : c.args.slot < length opens = omega (arith, room, start) in
-    λ extra budget. subst (λ (s : List ℕ). HasBudget c.args.old.now back origins places (slice_set opens c.args.slot true) s (extra + run_at c.args.old.now c.args.slot)) (sym stack_is)
-    (begun_more old back origins places opens stack extra budget c.args.slot inside c.requires.edge)
+    λ extra budget.
+    subst (λ (s : List ℕ).
+    HasBudget c.args.old.now back origins places (slice_set opens c.args.slot true) s
+    (extra + run_at c.args.old.now c.args.slot))
+    (sym stack_is) (begun_more old back origins places opens stack extra budget c.args.slot inside c.requires.edge)

@@ -14,7 +14,8 @@ loop-slot-init c =
       opened.opened,
       elim c.requires.root [
         | inl landing ↦
-            budget_more old now.copy.slots.items now.copy.origins.items now.places.items now.opens.items now.stack.items 0 (run_at old 0) (omega arith) (opened.landing landing 0 c.requires.within)
+            budget_more old now.copy.slots.items now.copy.origins.items now.places.items now.opens.items now.stack.items 0
+            (run_at old 0) (omega arith) (opened.landing landing 0 c.requires.within)
         | inr first ↦
             let same : run_at old root ≡ run_at old 0 = ap (run_at old) first in
             let all : 0 + run_at old root ≡ run_at old 0 = omega (arith, same) in

@@ -9,5 +9,7 @@ pub returns-clause-maps : goal.returns-clause-maps
 returns-clause-maps c =
     let made = c.in_ok-maps.maps in
     let have = c.shapes-sizes.ensures.sizes in
-    let same : made.shapes ≡ c.args.policy.shapes = c.in_ok-maps.ensures.shapes ∙ c.shapes.ensures ∙ ap (λ (p : Accepted). p.shapes) c.program.ensures.value in
-    zero_bytes_are_zero_maps made.shapes made.bytes have.as_many have.sizes c.in_ok-maps.ensures.zero ∙ ap (λ (xs : List MapShape). map zeros_of xs) same
+    let same : made.shapes ≡ c.args.policy.shapes =
+    c.in_ok-maps.ensures.shapes ∙ c.shapes.ensures ∙ ap (λ (p : Accepted). p.shapes) c.program.ensures.value in
+    zero_bytes_are_zero_maps made.shapes made.bytes have.as_many have.sizes c.in_ok-maps.ensures.zero
+    ∙ ap (λ (xs : List MapShape). map zeros_of xs) same

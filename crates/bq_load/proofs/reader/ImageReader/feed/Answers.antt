@@ -16,6 +16,9 @@ returns-in-Some-clause-exact c = λ bytes g h fits d.
 
 pub returns-in-Err-clause-exact : goal.returns-in-Err-clause-exact
 returns-in-Err-clause-exact c = λ bytes g h fits d.
-    let held = not_failed_holds c.args.self.now c.self.inside.bytes.items c.self.inside.past c.self.inside.failed bytes c.self.view_is c.in_default.not-Some h in
-    let seen : Holds c.as_slice.result.now c.self.inside.past bytes = subst (λ (x : List ℕ). Holds x c.self.inside.past bytes) (sym c.as_slice.ensures.value) held in
+    let held =
+    not_failed_holds c.args.self.now c.self.inside.bytes.items c.self.inside.past c.self.inside.failed bytes
+    c.self.view_is c.in_default.not-Some h in
+    let seen : Holds c.as_slice.result.now c.self.inside.past bytes =
+    subst (λ (x : List ℕ). Holds x c.self.inside.past bytes) (sym c.as_slice.ensures.value) held in
     ap (λ f. Err f) (one_fault (bytes ++ c.args.piece.now) c.in-Err.fault g fits (c.in-Err.ensures.failed bytes seen).1 d.1)

@@ -23,8 +23,11 @@ commit_two-requires-clause-may g c =
     let hall = c.lobby.inside.cell.content.state in
     let b = c.block-reply in
     let k = c.deref_mut.result.now.1 in
-    let same : own.number ≡ c.args.processor = ap (λ x. x.number) (c.cpu.view_is ∙ c.look.ensures.same ∙ c.deref_mut-cpu.ensures.value) ∙ c.lock_processor-guard.ensures.own in
-    let after : kept_after k c.after_block-kept.result ≡ kept_by_block c.args.processor b.result k = rw (c.kept.ensures, c.deref.ensures, ← c.deref_mut.ensures.value) at c.after_block-kept.ensures in (
+    let same : own.number ≡ c.args.processor =
+    ap (λ x. x.number) (c.cpu.view_is ∙ c.look.ensures.same ∙ c.deref_mut-cpu.ensures.value)
+    ∙ c.lock_processor-guard.ensures.own in
+    let after : kept_after k c.after_block-kept.result ≡ kept_by_block c.args.processor b.result k =
+    rw (c.kept.ensures, c.deref.ensures, ← c.deref_mut.ensures.value) at c.after_block-kept.ensures in (
       cpu_part own.number own.state,
       lobby_part hall,
       c.cpu.invariant.0,
@@ -33,8 +36,11 @@ commit_two-requires-clause-may g c =
           (block_moves d n c.args.processor c.now-now.result own.state b.new.self hall b.new.lobby k b.result b.ensures.share),
     )
 
-pub commit_two-requires-clause-told : goal.commit_two-requires-clause-told
-commit_two-requires-clause-told g c = rw (c.draft.ensures, c.quiet-records.ensures) c.requires.tally
+pub commit_two-requires-clause-reported : goal.commit_two-requires-clause-reported
+commit_two-requires-clause-reported g c = rw (c.draft.ensures, c.quiet-records.ensures) c.requires.tally
 
 pub quiet-records-requires-clause-answer : goal.quiet-records-requires-clause-answer
-quiet-records-requires-clause-answer g c = blocks_brief g.Q.R.Discipline.discipline c.args.processor c.now-now.result c.cpu.inside.cell.content.state c.lobby.inside.cell.content.state c.block-reply.result c.block-reply.new.self c.block-reply.new.lobby c.block-reply.ensures.share
+quiet-records-requires-clause-answer g c =
+    blocks_brief g.Q.R.Discipline.discipline c.args.processor c.now-now.result c.cpu.inside.cell.content.state
+    c.lobby.inside.cell.content.state c.block-reply.result c.block-reply.new.self c.block-reply.new.lobby
+    c.block-reply.ensures.share

@@ -3,7 +3,7 @@ use Rattle.bq_shared.specs.Parts.{cpu_part, inbox_part, HasPart}
 use Rattle.bq_shared.proofs.LookLemmas.{SeenBoth, both_once, both_ids}
 use Rattle.bq_shared.proofs.CallStepLemmas.{drain_moves}
 use Rattle.bq_machine.proofs.AheadLemmas.{ahead_of}
-use Rattle.bq_shared.specs.Brief.{has_loads}
+use Rattle.bq_shared.specs.PackedReplies.{has_loads}
 use Rattle.bq_machine.proofs.locks.Machine.drain_at.Goals as goal
 
 pub drain-reply-requires-clause-once : goal.drain-reply-requires-clause-once
@@ -48,8 +48,10 @@ commit_two-requires-clause-may g c =
     let box = c.inbox.inside.cell.content in
     let here = c.cpu.view_is ∙ c.look_at_both.ensures.a in
     let there = c.inbox.view_is ∙ c.look_at_both.ensures.b in
-    let at : own.number ≡ c.args.processor = ap (λ x. x.number) (here ∙ c.deref_mut-cpu.ensures.value) ∙ c.lock_processor-guard.ensures.own in
-    let box_at : box.number ≡ c.args.processor = ap (λ x. x.number) (there ∙ c.deref_mut-inbox.ensures.value) ∙ c.lock_inbox-inbox_guard.ensures.own in
+    let at : own.number ≡ c.args.processor =
+    ap (λ x. x.number) (here ∙ c.deref_mut-cpu.ensures.value) ∙ c.lock_processor-guard.ensures.own in
+    let box_at : box.number ≡ c.args.processor =
+    ap (λ x. x.number) (there ∙ c.deref_mut-inbox.ensures.value) ∙ c.lock_inbox-inbox_guard.ensures.own in
     let k = c.deref_mut.result.now.1 in
     let t = c.drain-reply in (
       cpu_part own.number own.state,
@@ -60,11 +62,12 @@ commit_two-requires-clause-may g c =
           (drain_moves d n c.args.processor c.now-now.result own.state t.new.self box.state t.new.scratch k t.result t.ensures.share),
     )
 
-pub commit_two-requires-clause-told : goal.commit_two-requires-clause-told
-commit_two-requires-clause-told g c =
+pub commit_two-requires-clause-reported : goal.commit_two-requires-clause-reported
+commit_two-requires-clause-reported g c =
     let t = c.drain-reply in
     rw (c.draft-draft.ensures, c.of.ensures, c.hold_calls-calls.ensures.record, c.calls.ensures.value)
-    (ahead_of (λ x. x.tally) c.open_board-counter_board.result t.new.board c.args.working.now.caller.1 c.close_board.new.self.caller.1 t.new.scratch c.close_board.new.self.tally
+    (ahead_of (λ x. x.tally) c.open_board-counter_board.result t.new.board c.args.working.now.caller.1
+    c.close_board.new.self.caller.1 t.new.scratch c.close_board.new.self.tally
     (c.open_board-counter_board.ensures.counter_board ∙ c.requires.tally) t.ensures.board c.close_board.ensures.tally
     (ap (λ x. x.1) (c.close_board.ensures.caller ∙ c.open_board-counter_board.ensures.caller)))
 

@@ -6,5 +6,5 @@ commit-receipt-requires-clause-may g c =
     rw (c.draft-draft.ensures, c.quiet.ensures, c.saturating_add-generation.ensures, c.again-kept.ensures, c.kept.ensures)
     (draw_moves g.Q.R.Discipline.discipline c.args.self.now.recorder.history.about c.deref_mut-journal.result.now.1)
 
-pub commit-receipt-requires-clause-told : goal.commit-receipt-requires-clause-told
-commit-receipt-requires-clause-told g c = rw (c.draft-draft.ensures, c.quiet.ensures) c.requires.tally
+pub commit-receipt-requires-clause-reported : goal.commit-receipt-requires-clause-reported
+commit-receipt-requires-clause-reported g c = rw (c.draft-draft.ensures, c.quiet.ensures) c.requires.tally

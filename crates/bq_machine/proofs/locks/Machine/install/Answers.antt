@@ -18,7 +18,8 @@ replace-reply-requires g c =
     let generation = c.args.generation in
     let i = c.args.spare.installed in
     let below : c.args.processor < n = omega (arith, c.requires.inside, c.args.self.now.about) in
-    let fits : argument_refusal n (Install c.args.processor h generation i.policy) ≡ None = rw (lt-leb n c.args.processor below, c.requires.hook) refl in
+    let fits : argument_refusal n (Install c.args.processor h generation i.policy) ≡ None =
+    rw (lt-leb n c.args.processor below, c.requires.hook) refl in
     rw c.set_generation.ensures (install_suits n c.args.processor generation h i.policy fits)
 
 pub commit_one-requires-clause-may : goal.commit_one-requires-clause-may
@@ -33,20 +34,31 @@ commit_one-requires-clause-may g c =
     let k = c.deref_mut-journal.result.now.1 in
     let r = c.replace-reply.result in
     let q = c.replace-reply.new.self in
-    let same : own.number ≡ c.args.processor = ap (λ x. x.number) (c.cpu.view_is ∙ c.deref_mut-cpu.ensures.value) ∙ c.lock_processor-guard.ensures.own in
+    let same : own.number ≡ c.args.processor =
+    ap (λ x. x.number) (c.cpu.view_is ∙ c.deref_mut-cpu.ensures.value) ∙ c.lock_processor-guard.ensures.own in
     let below : c.args.processor < n = omega (arith, c.requires.inside, c.args.self.now.about) in
-    let fits : argument_refusal n (Install c.args.processor h generation i.policy) ≡ None = rw (lt-leb n c.args.processor below, c.requires.hook) refl in
-    let whole : s ≡ record { policy = i.policy; generation = generation; maps = fresh_maps i.policy } = c.set_generation.ensures ∙ ap (λ (m : List (List ℕ)). record { policy = i.policy; generation = generation; maps = m }) c.args.spare.fresh in
+    let fits : argument_refusal n (Install c.args.processor h generation i.policy) ≡ None =
+    rw (lt-leb n c.args.processor below, c.requires.hook) refl in
+    let whole : s ≡ record { policy = i.policy; generation = generation; maps = fresh_maps i.policy } =
+    c.set_generation.ensures
+    ∙ ap (λ (m : List (List ℕ)). record { policy = i.policy; generation = generation; maps = m }) c.args.spare.fresh in
     let had : Installs h k.drawn own.state s r q = rw c.kept.ensures at c.replace-reply.ensures.share in
     let share = subst (λ (x : Attached). Installs h k.drawn own.state x r q) whole had in (
       cpu_part own.number own.state,
       c.cpu.invariant.0,
-      rw (c.draft-draft.ensures, c.new.ensures, c.install_event.ensures, c.answer_twice.ensures.logged, c.no_calls.ensures.logged, c.args.spare.record_is, same)
-          (install_moves d n c.args.processor generation h i.policy own.state q k r fits share),
+      rw (
+        c.draft-draft.ensures,
+        c.new.ensures,
+        c.install_event.ensures,
+        c.answer_twice.ensures.logged,
+        c.no_calls.ensures.logged,
+        c.args.spare.record_is,
+        same,
+      ) (install_moves d n c.args.processor generation h i.policy own.state q k r fits share),
     )
 
-pub commit_one-requires-clause-told : goal.commit_one-requires-clause-told
-commit_one-requires-clause-told g c = rw (c.draft-draft.ensures, c.new.ensures, c.no_calls.ensures.logged) c.requires.tally
+pub commit_one-requires-clause-reported : goal.commit_one-requires-clause-reported
+commit_one-requires-clause-reported g c = rw (c.draft-draft.ensures, c.new.ensures, c.no_calls.ensures.logged) c.requires.tally
 
 pub answer_twice-requires : goal.answer_twice-requires
 answer_twice-requires g c = installs_brief c.args.hook _ _ _ c.replace-reply.result c.replace-reply.new.self c.replace-reply.ensures.share

@@ -9,7 +9,14 @@ use Rattle.bq_machine.proofs.InstallLemmas.{installs_more}
 use Rattle.bq_machine.proofs.locks.Machine.install_all.Goals as goal
 
 pub keep-requires : goal.keep-requires
-keep-requires g c = omega (arith, c.installs-test.true, c.len-number-end.ensures, c.args.self.now.counted, c.installs.invariant.made, c.installs.invariant.room)
+keep-requires g c = omega (
+  arith,
+  c.installs-test.true,
+  c.len-number-end.ensures,
+  c.args.self.now.counted,
+  c.installs.invariant.made,
+  c.installs.invariant.room,
+)
 
 pub installs-preserved : goal.installs-preserved
 installs-preserved g c =
@@ -29,16 +36,24 @@ installs-preserved g c =
     let next : x.entry.event ≡ Install (0 + at.number) c.args.loading.hook c.args.loading.generation c.args.loading.policy.now =
     subst (λ (k : ℕ). x.entry.event ≡ Install k c.args.loading.hook c.args.loading.generation c.args.loading.policy.now) zero event in
     record {
-      caller = called ∙ ap (λ (l : List (Receipt Record)). (start.0, l)) (append_assoc start.1 at.installs.items (x ∷ []) ∙ ap (λ (l : List (Receipt Record)). start.1 ++ l) (sym c.keep.ensures.items));
+      caller =
+          called ∙ ap (λ (l : List (Receipt Record)). (start.0, l))
+          (append_assoc start.1 at.installs.items (x ∷ []) ∙ ap (λ (l : List (Receipt Record)). start.1 ++ l) (sym c.keep.ensures.items));
       tally = c.install-receipt.ensures.tally;
       left = search rules;
-      same = rw c.pop.ensures.rest (All-take (λ s. s.installed.policy ≡ c.args.loading.policy.now) (vec_len at.spares - 1) at.spares.items was.same);
+      same =
+          rw c.pop.ensures.rest
+          (All-take (λ s. s.installed.policy ≡ c.args.loading.policy.now) (vec_len at.spares - 1) at.spares.items was.same);
       made = search rules;
       room = omega (arith, was.room, c.keep.ensures.capacity);
-      are = rw c.keep.ensures.items (installs_more 0 at.number c.args.loading.hook c.args.loading.generation c.args.loading.policy.now at.installs.items x was.are next);
+      are =
+          rw c.keep.ensures.items (installs_more 0 at.number c.args.loading.hook c.args.loading.generation
+          c.args.loading.policy.now at.installs.items x was.are next);
     }
 
 pub returns-clause-installs : goal.returns-clause-installs
 returns-clause-installs g c =
-    let done : c.installs.number ≡ g.row.P = omega (arith, c.installs-test.false, c.len-number-end.ensures, c.args.self.now.counted, c.installs.invariant.left) in
-    subst (λ (k : ℕ). AreInstalls 0 k c.args.loading.hook c.args.loading.generation c.args.loading.policy.now c.installs.installs.items) done c.installs.invariant.are
+    let done : c.installs.number ≡ g.row.P =
+    omega (arith, c.installs-test.false, c.len-number-end.ensures, c.args.self.now.counted, c.installs.invariant.left) in
+    subst (λ (k : ℕ). AreInstalls 0 k c.args.loading.hook c.args.loading.generation c.args.loading.policy.now c.installs.installs.items)
+    done c.installs.invariant.are

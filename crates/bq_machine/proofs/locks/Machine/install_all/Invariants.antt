@@ -2,14 +2,14 @@ use Rattle.std.proofs.Common.{◌≡◌, ◌+◌, ◌≤◌, ◌++◌, vec_len}
 use Rattle.std.specs.Prelude.{vec_capacity}
 use Rattle.std.specs.List.{All}
 use Rattle.bq_shared.specs.Calls.{account_of}
-use Rattle.bq_shared.specs.Parts.{told_calls}
+use Rattle.bq_shared.specs.Parts.{reported_calls}
 use Rattle.bq_machine.specs.Calls.{AreInstalls}
 use Rattle.bq_machine.proofs.locks.Machine.install_all.Given as goal
 
 abbrev pub invariant-installs : goal.invariant-installs
 invariant-installs g l = record {
   caller : l.working.caller ≡ (l.initial.working.caller.0, l.initial.working.caller.1 ++ l.installs.items);
-  tally : l.working.tally ≡ account_of told_calls l.working.caller.1;
+  tally : l.working.tally ≡ account_of reported_calls l.working.caller.1;
   left : vec_len l.spares + l.number ≡ g.row.P;
   same : All (λ s. s.installed.policy ≡ l.loading.policy.now) l.spares.items;
   made : vec_len l.installs ≡ l.number;

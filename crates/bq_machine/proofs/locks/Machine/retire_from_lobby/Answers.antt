@@ -22,8 +22,9 @@ commit_one-requires-clause-may g c =
       lobby_part own,
       c.lobby.invariant.0,
       rw (c.draft-draft.ensures, c.quiet.ensures)
-          (retire_moves g.Q.R.Discipline.discipline n task own c.retire-reply.new.self k c.retire-reply.result bound fits c.retire-reply.ensures.share),
+          (retire_moves g.Q.R.Discipline.discipline n task own c.retire-reply.new.self k c.retire-reply.result
+          bound fits c.retire-reply.ensures.share),
     )
 
-pub commit_one-requires-clause-told : goal.commit_one-requires-clause-told
-commit_one-requires-clause-told g c = rw (c.draft-draft.ensures, c.quiet.ensures) c.requires.tally
+pub commit_one-requires-clause-reported : goal.commit_one-requires-clause-reported
+commit_one-requires-clause-reported g c = rw (c.draft-draft.ensures, c.quiet.ensures) c.requires.tally

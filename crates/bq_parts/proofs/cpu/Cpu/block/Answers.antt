@@ -12,7 +12,9 @@ enter-requires g c =
     let d = g.Q.R.Discipline.discipline in
     let processor = c.args.processor in
     let p = charge d c.args.self.now.running c.args.now in
-    let left : Some c.in-Some.task ≡ option_map (λ t. as_it_leaves p processor t) p.current = c.in-Some.ensures.task ∙ ap (λ (x : Processor). option_map (λ t. as_it_leaves x.running processor t) x.running.current) c.charge.ensures in
+    let left : Some c.in-Some.task ≡ option_map (λ t. as_it_leaves p processor t) p.current =
+    c.in-Some.ensures.task
+    ∙ ap (λ (x : Processor). option_map (λ t. as_it_leaves x.running processor t) x.running.current) c.charge.ensures in
     let t = leaving_task_ran (λ t. as_it_leaves p processor t) p.current c.in-Some.task left in
     let below = current_id d c.args.self.now.running c.args.now t.0 c.requires t.1 in
     omega (arith, c.id-id.ensures, ap (λ (x : Task). x.id) t.2, below)

@@ -11,4 +11,8 @@ choose_preempt-preempted-requires-clause-distinct g c =
 pub choose_preempt-preempted-requires-clause-few : goal.choose_preempt-preempted-requires-clause-few
 choose_preempt-preempted-requires-clause-few g c =
     let p = c.args.self.now.running in
-    omega (arith, few_below p.queue 1024 (each_once_queue p c.requires.once) (λ id l. omega (arith, c.requires.ids id l, queue_le_present id p.current p.queue)))
+    omega (
+      arith,
+      few_below p.queue 1024 (each_once_queue p c.requires.once)
+          (λ id l. omega (arith, c.requires.ids id l, queue_le_present id p.current p.queue)),
+    )

@@ -4,7 +4,7 @@ use Rattle.bq_disc.specs.OneProcessor.{charge}
 use Rattle.bq_hooks.specs.OwnPlace.{HasPlace}
 use Rattle.bq_parts.specs.declared.carried.Carried.{Carried}
 use Rattle.bq_parts.specs.Processors.{Processor}
-use Rattle.bq_parts.specs.Choices.{Decision, SettlesPlace, policies}
+use Rattle.bq_parts.specs.Choices.{SettledChoice, SettlesPlace, by_programs}
 use Rattle.bq_parts.specs.Shares.{after_time}
 use Rattle.bq_parts.proofs.LeaveLemmas.{placed_fits}
 use Rattle.bq_parts.proofs.cpu.Cpu.end_wake.Goals as goal
@@ -17,9 +17,18 @@ returns-clause-share g c =
     let p : Processor = record (after_time d now c.args.self.now) { hand = None } in
     let carried = c.in-Some.carried in
     let placed = c.choose_place-placed in
-    let settled : Decision = record { choice = placed.result.choice; by = placed.result.by; steps = placed.result.steps; calls = placed.new.scratch; attached = placed.new.self.hooks.place } in
-    let charged : c.charge.new.self ≡ p = c.charge.ensures ∙ ap (λ (x : Processor). record x { running = charge d x.running now }) c.release.ensures.left in
-    let settles = subst (λ (x : Processor). SettlesPlace (policies d) c.args.count processor x carried settled) charged placed.ensures.settled in
+    let settled : SettledChoice = record {
+      choice = placed.result.choice;
+      by = placed.result.by;
+      steps = placed.result.steps;
+      calls = placed.new.scratch;
+      attached = placed.new.self.hooks.place;
+    } in
+    let charged : c.charge.new.self ≡ p =
+    c.charge.ensures ∙ ap (λ (x : Processor). record x { running = charge d x.running now }) c.release.ensures.left in
+    let settles =
+    subst (λ (x : Processor). SettlesPlace (by_programs d) c.args.count processor x carried settled) charged
+    placed.ensures.settled in
     let hand : c.args.self.now.hand ≡ Some carried = sym c.in-Some.ensures.carried in
     record {
       carried = carried;
@@ -42,8 +51,18 @@ returns-clause-below g c =
     let p : Processor = record (after_time d now c.args.self.now) { hand = None } in
     let carried = c.in-Some.carried in
     let placed = c.choose_place-placed in
-    let settled : Decision = record { choice = placed.result.choice; by = placed.result.by; steps = placed.result.steps; calls = placed.new.scratch; attached = placed.new.self.hooks.place } in
-    let charged : c.charge.new.self ≡ p = c.charge.ensures ∙ ap (λ (x : Processor). record x { running = charge d x.running now }) c.release.ensures.left in
-    let settles = subst (λ (x : Processor). SettlesPlace (policies d) c.args.count processor x carried settled) charged placed.ensures.settled in
+    let settled : SettledChoice = record {
+      choice = placed.result.choice;
+      by = placed.result.by;
+      steps = placed.result.steps;
+      calls = placed.new.scratch;
+      attached = placed.new.self.hooks.place;
+    } in
+    let charged : c.charge.new.self ≡ p =
+    c.charge.ensures ∙ ap (λ (x : Processor). record x { running = charge d x.running now }) c.release.ensures.left in
+    let settles =
+    subst (λ (x : Processor). SettlesPlace (by_programs d) c.args.count processor x carried settled) charged
+    placed.ensures.settled in
     let hand : c.args.self.now.hand ≡ Some carried = sym c.in-Some.ensures.carried in
-    placed_fits d c.args.count processor p carried settled (subst (λ (o : Option Carried). IfSome o (λ x. HasPlace c.args.count x.task)) hand c.requires.usable) settles
+    placed_fits d c.args.count processor p carried settled
+    (subst (λ (o : Option Carried). IfSome o (λ x. HasPlace c.args.count x.task)) hand c.requires.usable) settles

@@ -29,7 +29,8 @@ returns-in_default-take g c =
     let next = next_is_other d t p.running.queue id (rw (c.node.ensures, queue) at c.in-Some-next.ensures) in
     let absent = sym c.in_default-take.ensures.taken in
     let same = c.take.ensures.rest ∙ without-absent id _ absent in
-    rw (same, c.take.ensures.mark) (c.self.view_is ∙ ap (λ (r : Running). record p { running = r }) (sym (switched_absent d p.running t id current next (rw queue at absent))))
+    rw (same, c.take.ensures.mark) (c.self.view_is
+    ∙ ap (λ (r : Running). record p { running = r }) (sym (switched_absent d p.running t id current next (rw queue at absent))))
 
 pub insert-requires-clause-fresh : goal.insert-requires-clause-fresh
 insert-requires-clause-fresh g c =
@@ -39,7 +40,8 @@ insert-requires-clause-fresh g c =
     let current : p.current ≡ Some t = ap (λ (q : Processor). q.running.current) (sym c.self.view_is) ∙ c.in-Some.is in
     let queue = ap (λ (q : Processor). q.running.queue) c.self.view_is in
     let old : c.in-Some-replace.current ≡ t = cc in
-    rw (c.into_node.ensures.task, old, c.take.ensures.rest, queue) (current_apart_without p t _ _ c.requires.once current (rw queue at (sym n)))
+    rw (c.into_node.ensures.task, old, c.take.ensures.rest, queue)
+    (current_apart_without p t _ _ c.requires.once current (rw queue at (sym n)))
 
 pub returns-in-Some-replace : goal.returns-in-Some-replace
 returns-in-Some-replace g c =
@@ -52,6 +54,17 @@ returns-in-Some-replace g c =
     let queue = ap (λ (q : Processor). q.running.queue) c.self.view_is in
     let next = next_is_other d t p.running.queue id (rw (c.node.ensures, queue) at c.in-Some-next.ensures) in
     let old : c.in-Some-replace.current ≡ t = cc in
-    let exchanged = ap (λ (q : Processor). record q { running = record q.running { current = Some n; queue = place t (without id q.running.queue) } }) c.self.view_is in
-    rw (c.insert.ensures.members, c.into_node.ensures.task, old, c.insert.ensures.mark, c.take.ensures.rest, c.take.ensures.mark, c.replace.ensures.after, c.new.ensures)
-    (exchanged ∙ ap (λ (r : Running). record p { running = r }) (sym (switched_to d p.running t _ id current next (rw queue at c.in-Some-take.ensures.taken))))
+    let exchanged =
+    ap (λ (q : Processor). record q { running = record q.running { current = Some n; queue = place t (without id q.running.queue) } })
+    c.self.view_is in
+    rw (
+      c.insert.ensures.members,
+      c.into_node.ensures.task,
+      old,
+      c.insert.ensures.mark,
+      c.take.ensures.rest,
+      c.take.ensures.mark,
+      c.replace.ensures.after,
+      c.new.ensures,
+    ) (exchanged ∙ ap (λ (r : Running). record p { running = r })
+    (sym (switched_to d p.running t _ id current next (rw queue at c.in-Some-take.ensures.taken))))

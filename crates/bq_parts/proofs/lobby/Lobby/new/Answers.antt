@@ -5,7 +5,9 @@ use Rattle.bq_parts.specs.declared.lobby_entry.LobbyEntry.TheVariants.{Absent}
 use Rattle.bq_parts.proofs.lobby.Lobby.new.Goals as goal
 
 pub entries-preserved : goal.entries-preserved
-entries-preserved c = c.in_ok-push.ensures.items ∙ ap (λ (xs : List LobbyEntry). xs ++ Absent ∷ []) c.entries.invariant ∙ replicate_more c.entries.counter Absent
+entries-preserved c =
+    c.in_ok-push.ensures.items ∙ ap (λ (xs : List LobbyEntry). xs ++ Absent ∷ []) c.entries.invariant
+    ∙ replicate_more c.entries.counter Absent
 
 pub returns : goal.returns
 returns c =

@@ -6,7 +6,8 @@ use Rattle.bq_policy_run.proofs.inputs.Inputs.set_all_fields.Given as goal
 
 abbrev pub invariant-loop-text : goal.invariant-loop-text
 invariant-loop-text l = record {
-  made : LeadsOn (λ (t : String Global). SetsFields l.hook l.version (string_bytes t)) l.texts l.text-index l.initial.self.context.items l.self.context.items;
+  made : LeadsOn (λ (t : String Global). SetsFields l.hook l.version (string_bytes t)) l.texts l.text-index
+      l.initial.self.context.items l.self.context.items;
   env : l.self.env ≡ l.initial.self.env;
   size : length l.self.context.items ≡ length l.initial.self.context.items;
   maps : l.self.maps ≡ l.initial.self.maps;

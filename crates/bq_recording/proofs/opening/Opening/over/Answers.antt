@@ -5,7 +5,8 @@ pub part_locks-requires-clause-items : goal.part_locks-requires-clause-items
 part_locks-requires-clause-items g c = (c.args.prepared.1.callers, c.recorder_at_start-recorder.ensures.items)
 
 pub seats-requires-clause-all : goal.seats-requires-clause-all
-seats-requires-clause-all g c = c.in_ok-locks.ensures.rest c.args.seat_count (rw c.requires.counts.1 at c.recorder_at_start-recorder.ensures.items)
+seats-requires-clause-all g c =
+    c.in_ok-locks.ensures.rest c.args.seat_count (rw c.requires.counts.1 at c.recorder_at_start-recorder.ensures.items)
 
 pub invariant_of-opening : goal.invariant_of-opening
 invariant_of-opening g c =

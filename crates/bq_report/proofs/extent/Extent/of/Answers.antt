@@ -13,7 +13,8 @@ loop-number-preserved c =
     elim c.match-figures.branch [
       | in-Some+then-shows_processor b ↦ rw (b.first-is, b.last-is) (record {
         within = within;
-        read = read_shown w s l.number l.first l.last b.in-Some.reading c.processor-figures.result b.min-first.result b.max-last.result figures
+        read =
+            read_shown w s l.number l.first l.last b.in-Some.reading c.processor-figures.result b.min-first.result b.max-last.result figures
             (b.shows_processor.ensures.0 b.if-shows_processor.true) b.in-Some.is b.min-first.ensures b.max-last.ensures l.invariant.read;
       })
       | in-Some+else-shows_processor b ↦ rw (b.first-is, b.last-is) (record {
@@ -31,11 +32,17 @@ loop-number-preserved c =
 pub returns-clause-extent : goal.returns-clause-extent
 returns-clause-extent c =
     let end : c.loop-number.number ≡ 64 = omega (arith, c.loop-number.invariant.within, c.loop-number-test.false) in
-    let read = subst (λ n. Read c.args.window.now c.args.schedule.now n c.loop-number.first c.loop-number.last) end c.loop-number.invariant.read in
-    rw c.then_some.ensures ((spans_if c.args.window.now c.args.schedule.now c.loop-number.first c.loop-number.last _ c.min-to.type_inv read c.max-from.ensures c.min-to.ensures _ refl).0)
+    let read =
+    subst (λ n. Read c.args.window.now c.args.schedule.now n c.loop-number.first c.loop-number.last) end
+    c.loop-number.invariant.read in
+    rw c.then_some.ensures ((spans_if c.args.window.now c.args.schedule.now c.loop-number.first c.loop-number.last _
+    c.min-to.type_inv read c.max-from.ensures c.min-to.ensures _ refl).0)
 
 pub returns-clause-none : goal.returns-clause-none
 returns-clause-none c =
     let end : c.loop-number.number ≡ 64 = omega (arith, c.loop-number.invariant.within, c.loop-number-test.false) in
-    let read = subst (λ n. Read c.args.window.now c.args.schedule.now n c.loop-number.first c.loop-number.last) end c.loop-number.invariant.read in
-    rw c.then_some.ensures ((spans_if c.args.window.now c.args.schedule.now c.loop-number.first c.loop-number.last _ c.min-to.type_inv read c.max-from.ensures c.min-to.ensures _ refl).1)
+    let read =
+    subst (λ n. Read c.args.window.now c.args.schedule.now n c.loop-number.first c.loop-number.last) end
+    c.loop-number.invariant.read in
+    rw c.then_some.ensures ((spans_if c.args.window.now c.args.schedule.now c.loop-number.first c.loop-number.last _
+    c.min-to.type_inv read c.max-from.ensures c.min-to.ensures _ refl).1)

@@ -5,8 +5,8 @@ use Rattle.bq_report.proofs.legend.Legend.note.Goals as goal
 
 pub loop-column-preserved : goal.loop-column-preserved
 loop-column-preserved c =
-    notes_next c.args.columns.now c.loop-column.column-index _ c.args.self.now c.loop-column.self c.note_one.new.self c.loop-column-test.true
-    c.loop-column.invariant c.in_ok-note_one.ensures
+    notes_next c.args.columns.now c.loop-column.column-index _ c.args.self.now c.loop-column.self c.note_one.new.self
+    c.loop-column-test.true c.loop-column.invariant c.in_ok-note_one.ensures
 
 pub returns : goal.returns
 returns c =

@@ -4,8 +4,8 @@ use Rattle.bq_report.proofs.legend.Legend.note_one.Goals as goal
 
 pub returns-in_ok-insert-in-Task : goal.returns-in_ok-insert-in-Task
 returns-in_ok-insert-in-Task c =
-    notes_task c.args.self.now (record { tasks = c.insert.new.self; has_hidden = c.args.self.now.has_hidden }) c.args.column c.in-Task.task c.in-Task.is
-    c.in_ok-insert-in-Task.ensures.updates.0 refl
+    notes_task c.args.self.now (record { tasks = c.insert.new.self; has_hidden = c.args.self.now.has_hidden }) c.args.column
+    c.in-Task.task c.in-Task.is c.in_ok-insert-in-Task.ensures.updates.0 refl
 
 pub returns-in-Hidden : goal.returns-in-Hidden
 returns-in-Hidden c =

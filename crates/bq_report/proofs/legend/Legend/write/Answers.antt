@@ -5,6 +5,8 @@ use Rattle.bq_report.proofs.legend.Legend.write.Goals as goal
 pub returns : goal.returns
 unfolding lib.Utf8.encode
 returns c =
-    on_ok_weaker c.write_lines.result (λ lines columns known. legend_added c.args.names.now c.args.roster.now c.tasks.result.now c.args.step c.for_step-unit.result _ _ _ _ _ columns
-    c.tasks.ensures c.for_step-unit.ensures c.in_ok-write.ensures.bytes (c.in_ok-write_hidden.ensures columns known) c.in_ok-push_str.ensures.bytes (lines columns known))
-    c.write_lines.ensures
+    on_ok_weaker c.write_lines.result
+    (λ lines columns known.
+    legend_added c.args.names.now c.args.roster.now c.tasks.result.now c.args.step c.for_step-unit.result _ _ _ _ _ columns
+    c.tasks.ensures c.for_step-unit.ensures c.in_ok-write.ensures.bytes (c.in_ok-write_hidden.ensures columns known)
+    c.in_ok-push_str.ensures.bytes (lines columns known)) c.write_lines.ensures

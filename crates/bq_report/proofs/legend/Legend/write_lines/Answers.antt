@@ -20,4 +20,6 @@ loop-place-preserved c = record {
 pub returns : goal.returns
 returns c =
     let end : c.loop-place.place ≡ length c.args.tasks.now = omega (arith, c.loop-place.invariant.within, c.loop-place-test.false) in
-    λ columns known. lines_end (IsLegendLine c.args.names.now c.args.tasks.now columns) _ _ _ _ end (c.loop-place.invariant.lines columns known)
+    λ columns known.
+    lines_end (IsLegendLine c.args.names.now c.args.tasks.now columns) _ _ _ _ end
+    (c.loop-place.invariant.lines columns known)

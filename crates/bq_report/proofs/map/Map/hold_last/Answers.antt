@@ -1,5 +1,5 @@
 use Rattle.std.proofs.Common.{◌∙◌, ap, arith, refl, subst}
-use Rattle.bq_report.specs.Maps.{Holds}
+use Rattle.bq_report.specs.Maps.{RowsHold}
 use Rattle.bq_report.proofs.LegendLemmas.{last_more, last_none}
 use Rattle.bq_report.proofs.map.Map.hold_last.Goals as goal
 
@@ -15,9 +15,11 @@ loop-number-init c = record {
 pub loop-number-preserved : goal.loop-number-preserved
 loop-number-preserved c = record {
   within = omega arith;
-  rows = last_more c.args.self.now.window c.args.schedule.now c.loop-number.number _ c.loop-number.self.rows.items _ c.processor.result.run
-      c.loop-number.invariant.rows (ap (λ figures. figures.run) c.processor.ensures)
-      (subst (λ w. Holds w c.processor.result.run c.loop-number.self.rows.items c.hold.new.self.rows.items) c.loop-number.invariant.window c.in_ok-hold.ensures.ok);
+  rows =
+      last_more c.args.self.now.window c.args.schedule.now c.loop-number.number _ c.loop-number.self.rows.items _
+      c.processor.result.run c.loop-number.invariant.rows (ap (λ figures. figures.run) c.processor.ensures)
+      (subst (λ w. RowsHold w c.processor.result.run c.loop-number.self.rows.items c.hold.new.self.rows.items)
+      c.loop-number.invariant.window c.in_ok-hold.ensures.ok);
   window = c.hold.ensures.same.0 ∙ c.loop-number.invariant.window;
   width = c.hold.ensures.same.1 ∙ c.loop-number.invariant.width;
   roster = c.hold.ensures.same.2 ∙ c.loop-number.invariant.roster;

@@ -9,19 +9,19 @@ returns-in-Some c =
     (λ drawn. (
       c.hold_last.new.self.rows.items,
       c.in_ok-hold_last.ensures.rows,
-      map_of_time c.args.self.now.window c.hold_last.new.self.window c.args.names.now c.args.schedule.now c.args.self.now.roster c.hold_last.new.self.roster
-          c.args.self.now.width c.hold_last.new.self.width c.hold_last.new.self.rows.items c.in-Some.extent _ _ c.hold_last.ensures.same c.in-Some.ensures.window
+      map_of_time c.args.self.now.window c.hold_last.new.self.window c.args.names.now c.args.schedule.now
+          c.args.self.now.roster c.hold_last.new.self.roster c.args.self.now.width c.hold_last.new.self.width
+          c.hold_last.new.self.rows.items c.in-Some.extent _ _ c.hold_last.ensures.same c.in-Some.ensures.window
           c.in-Some.ensures.extent drawn,
-    ))
-    c.write_over.ensures
+    )) c.write_over.ensures
 
 pub returns-in-None : goal.returns-in-None
 returns-in-None c =
-    on_ok_weaker c.push_str.result
-    (λ says. (
+    on_ok_weaker c.push_str.result (λ shows. (
       c.hold_last.new.self.rows.items,
       c.in_ok-hold_last.ensures.rows,
-      map_of_no_time c.args.self.now.window c.hold_last.new.self.window c.args.names.now c.args.schedule.now c.args.self.now.roster c.args.self.now.width
-          c.hold_last.new.self.rows.items _ _ c.hold_last.ensures.same.0 c.in-None.ensures.none says,
-    ))
-    (pushed c.push_str.result (string_bytes c.args.text.now) (codes "no time passes in what is shown\n") (string_bytes c.push_str.new.self) c.push_str.ensures.bytes)
+      map_of_no_time c.args.self.now.window c.hold_last.new.self.window c.args.names.now c.args.schedule.now
+          c.args.self.now.roster c.args.self.now.width c.hold_last.new.self.rows.items _ _ c.hold_last.ensures.same.0
+          c.in-None.ensures.none shows,
+    )) (pushed c.push_str.result (string_bytes c.args.text.now) (codes "no time passes in what is shown\n")
+    (string_bytes c.push_str.new.self) c.push_str.ensures.bytes)

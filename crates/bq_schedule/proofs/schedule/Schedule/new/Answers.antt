@@ -12,4 +12,5 @@ pub returns : goal.returns
 returns c =
     let count : c.processors.counter ≡ c.args.processors = omega arith in
     let all : c.tasks.counter ≡ 1024 = omega arith in
-    same_figures _ _ _ _ (c.processors.invariant ∙ ap (λ n. replicate n unread) count) (c.tasks.invariant ∙ ap (λ n. replicate n unknown) all)
+    same_figures _ _ _ _ (c.processors.invariant ∙ ap (λ n. replicate n unread) count)
+    (c.tasks.invariant ∙ ap (λ n. replicate n unknown) all)

@@ -1,6 +1,6 @@
 use Rattle.std.proofs.Common.{◌<◌, ◌≤◌, refl, sym, ◌∙◌, arith}
 use Rattle.std.specs.Prelude.{slice_index}
-use Rattle.bq_bpf.specs.declared.board.Call.TheVariants.{Add}
+use Rattle.bq_bpf.specs.declared.board.CounterCall.TheVariants.{Add}
 use Rattle.atomic_table.specs.Table.{keeps}
 use Rattle.bq_shared.specs.Sums.{calling}
 use Rattle.bq_shared.proofs.KeepingLemmas.{sums_after_add}
@@ -16,7 +16,8 @@ fetch_add-requires g c =
         calling c.tally.inside.seat.me.0 (Add c.from.result c.args.amount (slice_index s.words c.from.result)),
         keeps,
         tt,
-        sums_after_add c.self.inside.table.shared.key s.words s.views c.tally.inside.seat.id c.from.result c.args.amount c.tally.inside.seat.me.0 rule at low some_seat,
+        sums_after_add c.self.inside.table.shared.key s.words s.views c.tally.inside.seat.id c.from.result c.args.amount
+            c.tally.inside.seat.me.0 rule at low some_seat,
         (refl, refl),
       ),
     )

@@ -12,7 +12,8 @@ load-requires g c =
         c.tally.inside.seat.me.0,
         keeps,
         tt,
-        sums_after_look c.self.inside.table.shared.key s.words s.views c.tally.inside.seat.id c.from.result c.tally.inside.seat.me.0 rule at low small,
+        sums_after_look c.self.inside.table.shared.key s.words s.views c.tally.inside.seat.id c.from.result
+            c.tally.inside.seat.me.0 rule at low small,
         (refl, refl),
       ),
     )

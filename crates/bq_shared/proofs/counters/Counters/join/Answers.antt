@@ -8,5 +8,7 @@ join_seat-requires g c = (
   c.other.invariant.0 ∙ sym c.self.invariant.0,
   c.other.invariant.1,
   omega (arith, c.self.invariant.1),
-  λ s rule at apart there. joins c.self.inside.table.shared.key s.words s.views c.to.inside.seat.id c.to.inside.seat.me.0 rule at c.other.inside.seat.id c.other.inside.seat.me.0 apart there,
+  λ s rule at apart there.
+      joins c.self.inside.table.shared.key s.words s.views c.to.inside.seat.id c.to.inside.seat.me.0 rule at
+      c.other.inside.seat.id c.other.inside.seat.me.0 apart there,
 )

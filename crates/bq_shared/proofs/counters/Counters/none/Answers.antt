@@ -4,4 +4,7 @@ use Rattle.bq_shared.proofs.KeepingLemmas.{sums_with_one_more}
 use Rattle.bq_shared.proofs.counters.Counters.none.Goals as goal
 
 pub load_new_seat-seat-requires : goal.load_new_seat-seat-requires
-load_new_seat-seat-requires g c = (omega (arith, c.self.invariant.1), λ s rule homes small. (spent, sums_with_one_more c.self.inside.table.shared.key s.words s.views rule, (refl, refl)))
+load_new_seat-seat-requires g c = (
+  omega (arith, c.self.invariant.1),
+  λ s rule homes small. (spent, sums_with_one_more c.self.inside.table.shared.key s.words s.views rule, (refl, refl)),
+)

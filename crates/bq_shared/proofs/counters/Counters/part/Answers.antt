@@ -8,5 +8,7 @@ split_seat-seat-requires g c =
     let none : c.from.inside.seat.me.0.calls ≡ [] = rw c.from.view_is c.requires.1 in (
       c.from.invariant.0 ∙ sym c.self.invariant.0,
       omega (arith, c.self.invariant.1),
-      λ s rule at. parts c.self.inside.table.shared.key s.words s.views c.from.inside.seat.id c.from.inside.seat.me.0 rule at some_seat none,
+      λ s rule at.
+          parts c.self.inside.table.shared.key s.words s.views c.from.inside.seat.id c.from.inside.seat.me.0
+          rule at some_seat none,
     )

@@ -1,6 +1,6 @@
 use Rattle.std.proofs.Common.{◌<◌, ◌≤◌, refl, sym, ◌∙◌, arith}
 use Rattle.std.specs.Prelude.{slice_index}
-use Rattle.bq_bpf.specs.declared.board.Call.TheVariants.{Read}
+use Rattle.bq_bpf.specs.declared.board.CounterCall.TheVariants.{Read}
 use Rattle.atomic_table.specs.Table.{keeps}
 use Rattle.bq_shared.specs.Sums.{calling}
 use Rattle.bq_shared.proofs.KeepingLemmas.{sums_after_read}
@@ -16,7 +16,8 @@ load-requires g c =
         calling c.tally.inside.seat.me.0 (Read c.from.result (slice_index s.words c.from.result)),
         keeps,
         tt,
-        sums_after_read c.self.inside.table.shared.key s.words s.views c.tally.inside.seat.id c.from.result c.tally.inside.seat.me.0 rule at low some_seat small,
+        sums_after_read c.self.inside.table.shared.key s.words s.views c.tally.inside.seat.id c.from.result
+            c.tally.inside.seat.me.0 rule at low some_seat small,
         (refl, refl),
       ),
     )

@@ -1,5 +1,5 @@
 use Rattle.std.proofs.Common.{ap, ◌∙◌}
-use Rattle.bq_shared.specs.Sums.{both}
+use Rattle.bq_shared.specs.Sums.{joined_accounts}
 use Rattle.bq_shared.specs.Calls.{account_of}
 use Rattle.bq_shared.proofs.seat.Seat.leave.Goals as goal
 
@@ -7,4 +7,6 @@ pub returns-clause-caller : goal.returns-clause-caller
 returns-clause-caller g c = rw c.self.view_is at c.join.ensures
 
 pub returns-clause-tally : goal.returns-clause-tally
-returns-clause-tally g c = c.join-2.ensures ∙ ap (both c.args.account.now) (c.self.invariant ∙ ap (λ v. account_of g.R.TellsCalls.calls v.1) c.self.view_is)
+returns-clause-tally g c =
+    c.join-2.ensures
+    ∙ ap (joined_accounts c.args.account.now) (c.self.invariant ∙ ap (λ v. account_of g.R.ReportsCalls.calls v.1) c.self.view_is)

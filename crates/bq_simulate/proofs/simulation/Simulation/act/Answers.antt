@@ -18,8 +18,12 @@ returns-clause-lived g c =
     let aim = aim_of kinds doing.before doing.action in
     let acts = IsAct processor doing.task now doing.action aim in
     let follows = Follow doing.action aim processor now in
-    let meets : (xs ys : List Deed) → acts xs → follows ys → Meet (End processor) now (xs ++ ys) = λ xs ys act follow. (doing.task, doing.action, aim, ys, ap (λ (l : List Deed). l ++ ys) act, follow) in
-    on_ok_weaker c.follow.result (λ h. Lived-join takes kinds acts follows (Meet (End processor) now) meets _ _ _ _ _ _ (Lived-silent takes kinds acts _ _ _ c.in_ok-doing.ensures.acts) (Lived-after takes kinds follows _ _ _ _ _ c.count_phase.ensures (h kinds))) c.follow.ensures.lived
+    let meets : (xs ys : List Deed) → acts xs → follows ys → Meet (End processor) now (xs ++ ys) =
+    λ xs ys act follow. (doing.task, doing.action, aim, ys, ap (λ (l : List Deed). l ++ ys) act, follow) in
+    on_ok_weaker c.follow.result (λ h.
+    Lived-join takes kinds acts follows (Meet (End processor) now) meets _ _ _ _ _ _
+    (Lived-silent takes kinds acts _ _ _ c.in_ok-doing.ensures.acts)
+    (Lived-after takes kinds follows _ _ _ _ _ c.count_phase.ensures (h kinds))) c.follow.ensures.lived
 
 -- what it has taken up can follow
 pub returns-clause-ends : goal.returns-clause-ends
@@ -31,4 +35,5 @@ returns-clause-ends g c = λ well next.
     let mid = c.take_action.new.self in
     let goes = c.in_ok-doing.ensures.acts well.drawn well.streams well.firsts in
     let follows = can_follow doing.action w doing.before now processor doing.task c.args.self.now mid well goes in
-    c.follow.ensures.ends w (can_follow_same doing.action w doing.before now processor mid c.count_phase.new.self c.count_phase.ensures follows)
+    c.follow.ensures.ends w
+    (can_follow_same doing.action w doing.before now processor mid c.count_phase.new.self c.count_phase.ensures follows)

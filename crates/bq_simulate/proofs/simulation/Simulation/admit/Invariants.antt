@@ -8,7 +8,9 @@ use Rattle.bq_simulate.proofs.simulation.Simulation.admit.Given as goal
 
 abbrev pub invariant-kinds : goal.invariant-kinds
 invariant-kinds g l = record {
-  lived : Lived g.S.Sink.takes l.workload.tasks.items (AreAllAdmitted (processors_in l.workload.machine.size) 0 0 (take l.number l.workload.tasks.items)) l.initial.sink l.initial.self l.sink l.self;
+  lived : Lived g.S.Sink.takes l.workload.tasks.items
+      (AreAllAdmitted (processors_in l.workload.machine.size) 0 0 (take l.number l.workload.tasks.items))
+      l.initial.sink l.initial.self l.sink l.self;
   tasks : length l.self.roster.by_task.items ≡ first_of l.workload.tasks.items l.number;
   streams : length l.self.streams.items ≡ first_of l.workload.tasks.items l.number;
   well : OpensWell l.workload 0 l.initial.self → OpensWell l.workload (first_of l.workload.tasks.items l.number) l.self;

@@ -22,7 +22,10 @@ pub tasks-init : goal.tasks-init
 tasks-init g c =
     let w = c.args.workload.now in
     record {
-      lived = Lived-same g.S.Sink.takes (AreAdmitted (processors_in w.machine.size) c.args.number c.args.kind.now (first_of w.tasks.items c.args.number) 0) refl _ _ _ (Same-here _) w.tasks.items;
+      lived =
+          Lived-same g.S.Sink.takes
+          (AreAdmitted (processors_in w.machine.size) c.args.number c.args.kind.now (first_of w.tasks.items c.args.number) 0)
+          refl _ _ _ (Same-here _) w.tasks.items;
       tasks = omega arith;
       streams = omega arith;
       firsts = refl;
@@ -41,27 +44,44 @@ tasks-preserved g c =
     let first = first_of kinds number in
     let task = c.tasks.self.counts.tasks in
     let home = c.in_ok-home.home in
-    let least : IsFirstAllowed c.processors-processors.result kind.mask home = subst (λ (o : Option ℕ). IfSome o (IsFirstAllowed c.processors-processors.result kind.mask)) c.in_ok-home.ensures.ok_part c.first_of_mask.ensures.some in
-    let mine : IsFirstAllowed all kind.mask home = subst (λ (n : ℕ). IsFirstAllowed n kind.mask home) c.processors-processors.ensures least in
-    let here : length c.admit_one.new.self.roster.by_task.items ≡ first + count = ap (λ (r : Roster). length r.by_task.items) c.in_ok-admit_one.ensures.by_task ∙ c.tasks.invariant.tasks ∙ ap (λ n. n + count) c.requires.first in
-    let streams : length c.admit_one.new.self.streams.items ≡ first + count = ap (λ v. length v.items) c.in_ok-admit_one.ensures.streams ∙ c.tasks.invariant.streams ∙ ap (λ n. n + count) c.requires.streams in
+    let least : IsFirstAllowed c.processors-processors.result kind.mask home =
+    subst (λ (o : Option ℕ). IfSome o (IsFirstAllowed c.processors-processors.result kind.mask)) c.in_ok-home.ensures.ok_part
+    c.first_of_mask.ensures.some in
+    let mine : IsFirstAllowed all kind.mask home =
+    subst (λ (n : ℕ). IsFirstAllowed n kind.mask home) c.processors-processors.ensures least in
+    let here : length c.admit_one.new.self.roster.by_task.items ≡ first + count =
+    ap (λ (r : Roster). length r.by_task.items) c.in_ok-admit_one.ensures.by_task ∙ c.tasks.invariant.tasks
+    ∙ ap (λ n. n + count) c.requires.first in
+    let streams : length c.admit_one.new.self.streams.items ≡ first + count =
+    ap (λ v. length v.items) c.in_ok-admit_one.ensures.streams ∙ c.tasks.invariant.streams
+    ∙ ap (λ n. n + count) c.requires.streams in
     let of = nth-of-kind kinds kind _ number count c.requires.kind here c.tasks-test.true in
-    let start : kind.start ≡ start_of kinds number = sym (ap (λ (o : Option TaskKind). option_map_or (λ (k : TaskKind). k.start) o 0) c.requires.kind) in
+    let start : kind.start ≡ start_of kinds number =
+    sym (ap (λ (o : Option TaskKind). option_map_or (λ (k : TaskKind). k.start) o 0) c.requires.kind) in
     let admits = AreJust (Admit task kind.nice kind.mask kind.slice ∷ []) in
     let joins = IsJoin number home in
     let one = IsAdmission all number kind task in
-    let joined = Lived-join takes kinds admits joins one (λ xs ys admit join. admission-of all number kind task home xs ys mine admit join) _ _ _ _ _ _ (c.in_ok-admit_one.ensures.befell kinds) (Lived-silent takes kinds joins _ _ _ (c.in_ok-join.ensures.silent kinds of start (streams ∙ sym here))) in
+    let joined =
+    Lived-join takes kinds admits joins one (λ xs ys admit join. admission-of all number kind task home xs ys mine admit join)
+    _ _ _ _ _ _ (c.in_ok-admit_one.ensures.befell kinds)
+    (Lived-silent takes kinds joins _ _ _ (c.in_ok-join.ensures.silent kinds of start (streams ∙ sym here))) in
     let begun = Lived-then takes kinds one _ _ _ _ _ joined c.count_task.ensures.same in
     let before = AreAdmitted all number kind first count in
     let after = AreAdmitted all number kind first (count + 1) in
     let next : suc count ≡ count + 1 = omega arith in
     let more : (xs ys : List Deed) → before xs → one ys → after (xs ++ ys) =
-    λ xs ys h k. subst (λ (n : ℕ). AreAdmitted all number kind first n (xs ++ ys)) next (AreAdmitted-more all number kind first count task xs ys (c.in_ok-join.ensures.number ∙ streams) h k) in
+    λ xs ys h k.
+    subst (λ (n : ℕ). AreAdmitted all number kind first n (xs ++ ys)) next
+    (AreAdmitted-more all number kind first count task xs ys (c.in_ok-join.ensures.number ∙ streams) h k) in
     record {
       lived = Lived-join takes kinds before one after more _ _ _ _ _ _ c.tasks.invariant.lived begun;
       tasks = ap (λ v. length v.items) c.count_task.ensures.by_task ∙ c.in_ok-join.ensures.tasks ∙ omega (arith, here, c.requires.first);
-      streams = ap (λ v. length v.items) c.count_task.ensures.same.stays.streams ∙ c.in_ok-join.ensures.streams ∙ omega (arith, streams, c.requires.streams);
-      firsts = c.count_task.ensures.same.stays.firsts ∙ c.in_ok-join.ensures.firsts ∙ c.in_ok-admit_one.ensures.firsts ∙ c.tasks.invariant.firsts;
+      streams =
+          ap (λ v. length v.items) c.count_task.ensures.same.stays.streams ∙ c.in_ok-join.ensures.streams
+          ∙ omega (arith, streams, c.requires.streams);
+      firsts =
+          c.count_task.ensures.same.stays.firsts ∙ c.in_ok-join.ensures.firsts ∙ c.in_ok-admit_one.ensures.firsts
+          ∙ c.tasks.invariant.firsts;
       counted = λ opens.
           let here : task ≡ first + count = c.tasks.invariant.counted opens in
           let few : task < 1024 = few_before w number kind task count opens.sound c.requires.kind here c.tasks-test.true in
@@ -76,7 +96,9 @@ returns-clause-well g c = λ opens.
     let first = first_of w.tasks.items number in
     let count = c.tasks.counter in
     let all : count ≡ kind.count = omega (arith, c.tasks-test.false, c.tasks.auto.counter-end) in
-    subst (λ (n : ℕ). OpensWell w (first + n) c.tasks.self) all (opens-well g.S.Sink.takes _ _ _ w first (first + count) _ _ (tasks-open w c.args.self.now.seed number kind first count) (c.tasks.invariant.counted opens) c.tasks.invariant.lived opens)
+    subst (λ (n : ℕ). OpensWell w (first + n) c.tasks.self) all
+    (opens-well g.S.Sink.takes _ _ _ w first (first + count) _ _ (tasks-open w c.args.self.now.seed number kind first count)
+    (c.tasks.invariant.counted opens) c.tasks.invariant.lived opens)
 
 -- a kind without a flaw may use a processor
 pub returns-in_err-home-clause-ends : goal.returns-in_err-home-clause-ends
@@ -84,7 +106,9 @@ returns-in_err-home-clause-ends g c = λ opens.
     let w = c.args.workload.now in
     let mask = (admissible_kind w c.args.number c.args.kind.now opens.sound c.requires.kind).mask in
     let nothing : c.first_of_mask.result ≡ None = c.in_err-home.ensures.ok_part in
-    let none = subst (λ (o : Option ℕ). IfNone o (allows_one c.processors-processors.result c.args.kind.now.mask ≡ false)) nothing c.first_of_mask.ensures.none in
+    let none =
+    subst (λ (o : Option ℕ). IfNone o (allows_one c.processors-processors.result c.args.kind.now.mask ≡ false)) nothing
+    c.first_of_mask.ensures.none in
     absurd (true≢false (sym mask ∙ sym (ap (λ (n : ℕ). allows_one n c.args.kind.now.mask) c.processors-processors.ensures) ∙ none))
 
 pub returns-in_err-admit_one-clause-ends : goal.returns-in_err-admit_one-clause-ends
@@ -96,13 +120,20 @@ returns-in_err-admit_one-clause-ends g c = λ opens.
     let count = c.tasks.counter in
     let task = c.tasks.self.counts.tasks in
     let home = c.in_ok-home.home in
-    let least : IsFirstAllowed c.processors-processors.result kind.mask home = subst (λ (o : Option ℕ). IfSome o (IsFirstAllowed c.processors-processors.result kind.mask)) c.in_ok-home.ensures.ok_part c.first_of_mask.ensures.some in
-    let mine : IsFirstAllowed (processors_in w.machine.size) kind.mask home = subst (λ (n : ℕ). IsFirstAllowed n kind.mask home) c.processors-processors.ensures least in
+    let least : IsFirstAllowed c.processors-processors.result kind.mask home =
+    subst (λ (o : Option ℕ). IfSome o (IsFirstAllowed c.processors-processors.result kind.mask)) c.in_ok-home.ensures.ok_part
+    c.first_of_mask.ensures.some in
+    let mine : IsFirstAllowed (processors_in w.machine.size) kind.mask home =
+    subst (λ (n : ℕ). IsFirstAllowed n kind.mask home) c.processors-processors.ensures least in
     let here : task ≡ first + count = c.tasks.invariant.counted opens in
     let few : task < 1024 = few_before w number kind task count opens.sound c.requires.kind here c.tasks-test.true in
     let numbers = (admissible_kind w number kind opens.sound c.requires.kind).numbers in
-    let well = opens-well g.S.Sink.takes _ _ _ w first (first + count) _ _ (tasks-open w c.args.self.now.seed number kind first count) here c.tasks.invariant.lived opens in
-    let wants = c.in_err-admit_one.ensures.ends w home (subst (λ (n : ℕ). OpensWell w n c.tasks.self) (sym here) well) (record { few = few; numbers = numbers; first = mine }) in
+    let well =
+    opens-well g.S.Sink.takes _ _ _ w first (first + count) _ _ (tasks-open w c.args.self.now.seed number kind first count)
+    here c.tasks.invariant.lived opens in
+    let wants =
+    c.in_err-admit_one.ensures.ends w home (subst (λ (n : ℕ). OpensWell w n c.tasks.self) (sym here) well)
+    (record { few = few; numbers = numbers; first = mine }) in
     err-by c.from_residual-in_err-admit_one.result c.from_residual-in_err-admit_one.ensures.1 (λ e is. is ∙ wants)
 
 pub returns-in_err-join-clause-ends : goal.returns-in_err-join-clause-ends
@@ -115,6 +146,8 @@ returns-in_err-join-clause-ends g c = λ opens.
     let task = c.tasks.self.counts.tasks in
     let here : task ≡ first + count = c.tasks.invariant.counted opens in
     let few : task < 1024 = few_before w number kind task count opens.sound c.requires.kind here c.tasks-test.true in
-    let streams : length c.admit_one.new.self.streams.items ≡ first + count = ap (λ v. length v.items) c.in_ok-admit_one.ensures.streams ∙ c.tasks.invariant.streams ∙ ap (λ n. n + count) c.requires.streams in
+    let streams : length c.admit_one.new.self.streams.items ≡ first + count =
+    ap (λ v. length v.items) c.in_ok-admit_one.ensures.streams ∙ c.tasks.invariant.streams
+    ∙ ap (λ n. n + count) c.requires.streams in
     let wants = c.in_err-join.ensures.ends (here ∙ sym streams) few in
     err-by c.from_residual-in_err-join.result c.from_residual-in_err-join.ensures.1 (λ e is. is ∙ wants)

@@ -20,8 +20,12 @@ returns-clause-befell g c =
     let reply = c.in_ok-admit.ensures.does.0 in
     let event = Admit c.args.task kind.nice kind.mask kind.slice in
     let fits : FitsSigned w8 kind.nice = search rules in
-    let did = subst (λ (nice : ℤ). Did takes c.args.sink.now c.args.self.now.driver (Admit c.args.task nice kind.mask kind.slice) reply c.admit.new.sink c.admit.new.self) (to_z-of_z w8 kind.nice fits) c.in_ok-admit.ensures.does.1 in
-    Lived-event takes (AreJust (event ∷ [])) _ _ _ _ event reply (reply, [], refl, refl) tt (record { agrees = λ h. h; periods = refl; seed = refl; streams = refl; firsts = refl }) did refl
+    let did =
+    subst (λ (nice : ℤ).
+    Did takes c.args.sink.now c.args.self.now.driver (Admit c.args.task nice kind.mask kind.slice)
+    reply c.admit.new.sink c.admit.new.self) (to_z-of_z w8 kind.nice fits) c.in_ok-admit.ensures.does.1 in
+    Lived-event takes (AreJust (event ∷ [])) _ _ _ _ event reply (reply, [], refl, refl) tt
+    (record { agrees = λ h. h; periods = refl; seed = refl; streams = refl; firsts = refl }) did refl
 
 pub returns-in_err-admit-clause-ends : goal.returns-in_err-admit-clause-ends
 returns-in_err-admit-clause-ends g c = λ w home opens may.
@@ -30,8 +34,15 @@ returns-in_err-admit-clause-ends g c = λ w home opens may.
     let a = accounts_of c.args.self.now.roster in
     let o = opens.opening in
     let fits : FitsSigned w8 kind.nice = search rules in
-    let allowed : IsFirstAllowed (count_in d.machine.world) kind.mask home = subst (λ (n : ℕ). IsFirstAllowed n kind.mask home) (sym o.processors_there) may.first in
-    let fails : FailsForMemory d (Admit (length a.by_task) kind.nice kind.mask kind.slice) = calls_fail_for_memory.admissions d a home kind o.agree (record { few = omega (arith, o.tasks_there, may.few); numbers = may.numbers; first = allowed }) in
-    let told = subst (λ (nice : ℤ). IsDriveFault d (Admit c.args.task nice kind.mask kind.slice) c.in_err-admit.field-0.0) (to_z-of_z w8 kind.nice fits) c.in_err-admit.ensures.fault in
-    let why = subst (λ (n : ℕ). IsDriveFault d (Admit n kind.nice kind.mask kind.slice) c.in_err-admit.field-0.0) (sym o.tasks_there) told in
+    let allowed : IsFirstAllowed (count_in d.machine.world) kind.mask home =
+    subst (λ (n : ℕ). IsFirstAllowed n kind.mask home) (sym o.processors_there) may.first in
+    let fails : FailsForMemory d (Admit (length a.by_task) kind.nice kind.mask kind.slice) =
+    calls_fail_for_memory.admissions d a home kind o.agree
+    (record { few = omega (arith, o.tasks_there, may.few); numbers = may.numbers; first = allowed }) in
+    let reported =
+    subst (λ (nice : ℤ). IsDriveFault d (Admit c.args.task nice kind.mask kind.slice) c.in_err-admit.field-0.0)
+    (to_z-of_z w8 kind.nice fits) c.in_err-admit.ensures.fault in
+    let why =
+    subst (λ (n : ℕ). IsDriveFault d (Admit n kind.nice kind.mask kind.slice) c.in_err-admit.field-0.0)
+    (sym o.tasks_there) reported in
     err-by c.from_residual.result c.from_residual.ensures.1 (λ e is. is (fails _ why))

@@ -6,4 +6,6 @@ pub returns-in-Ok-clause-silent : goal.returns-in-Ok-clause-silent
 returns-in-Ok-clause-silent c =
     let was = c.args.self.now in
     let long : length was.firsts.items ≡ c.args.number = grind (arith, c.len.ensures, c.if-len-number.false) in
-    λ kinds streams. Silent-begins kinds _ _ c.args.number long refl refl refl refl (c.in-Ok.ensures.items ∙ ap (λ (n : ℕ). was.firsts.items ++ n ∷ []) (c.in_ok-first.ensures.tasks ∙ streams))
+    λ kinds streams.
+    Silent-begins kinds _ _ c.args.number long refl refl refl refl
+    (c.in-Ok.ensures.items ∙ ap (λ (n : ℕ). was.firsts.items ++ n ∷ []) (c.in_ok-first.ensures.tasks ∙ streams))

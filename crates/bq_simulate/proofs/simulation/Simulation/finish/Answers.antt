@@ -20,11 +20,19 @@ processors-preserved g c =
     let here = accounts_of c.processors.self.roster in
     let before = last_ticks end (all_processors count) first in
     let next = last_ticks end (count ∷ []) here in
-    let events : before ++ next ≡ last_ticks end (all_processors (count + 1)) first = ap (λ (l : List Event). before ++ l) (same_tick end count first here (c.processors.invariant.others count (omega arith))) ∙ sym (ticks_more end count first) in
-    let join : (xs ys : List Deed) → AreJust before xs → AreJust next ys → AreJust (last_ticks end (all_processors (count + 1)) first) (xs ++ ys) = λ xs ys h k. subst (λ (l : List Event). AreJust l (xs ++ ys)) events (AreJust-join before next xs ys h k) in
+    let events : before ++ next ≡ last_ticks end (all_processors (count + 1)) first =
+    ap (λ (l : List Event). before ++ l) (same_tick end count first here (c.processors.invariant.others count (omega arith)))
+    ∙ sym (ticks_more end count first) in
+    let join : (xs ys : List Deed) → AreJust before xs → AreJust next ys
+    → AreJust (last_ticks end (all_processors (count + 1)) first) (xs ++ ys) =
+    λ xs ys h k. subst (λ (l : List Event). AreJust l (xs ++ ys)) events (AreJust-join before next xs ys h k) in
     record {
-      befell = λ kinds. Lived-join takes kinds (AreJust before) (AreJust next) (AreJust (last_ticks end (all_processors (count + 1)) first)) join _ _ _ _ _ _ (c.processors.invariant.befell kinds) (c.in_ok-tick_at_end.ensures.befell kinds);
-      others = λ other later. c.in_ok-tick_at_end.ensures.others other (omega (arith, later)) ∙ c.processors.invariant.others other (omega (arith, later));
+      befell = λ kinds.
+          Lived-join takes kinds (AreJust before) (AreJust next) (AreJust (last_ticks end (all_processors (count + 1)) first))
+          join _ _ _ _ _ _ (c.processors.invariant.befell kinds) (c.in_ok-tick_at_end.ensures.befell kinds);
+      others = λ other later.
+          c.in_ok-tick_at_end.ensures.others other (omega (arith, later))
+          ∙ c.processors.invariant.others other (omega (arith, later));
     }
 
 pub processors-init : goal.processors-init
@@ -36,14 +44,19 @@ returns-clause-befell g c =
     let first = accounts_of c.args.self.now.roster in
     let all : c.processors.processor ≡ c.args.processors = omega (arith, c.processors-test.false, c.processors.auto.processor-end) in
     let ticks : ℕ → List Deed → Type 0 = λ n. AreJust (last_ticks end (all_processors n) first) in
-    λ kinds. Lived-weaker g.S.Sink.takes kinds (ticks c.processors.processor) (ticks c.args.processors) (λ xs are. subst (λ (n : ℕ). ticks n xs) all are) _ _ _ _ (c.processors.invariant.befell kinds)
+    λ kinds.
+    Lived-weaker g.S.Sink.takes kinds (ticks c.processors.processor) (ticks c.args.processors)
+    (λ xs are. subst (λ (n : ℕ). ticks n xs) all are) _ _ _ _ (c.processors.invariant.befell kinds)
 
 pub returns-in_err-tick_at_end-clause-ends : goal.returns-in_err-tick_at_end-clause-ends
 returns-in_err-tick_at_end-clause-ends g c = λ w well few.
     let a = accounts_of c.args.self.now.roster in
     let processor = c.processors.processor in
-    let here = ticked-well g.S.Sink.takes _ _ w c.args.end (all_processors processor) a _ _ (c.processors.invariant.befell w.tasks.items) well in
+    let here =
+    ticked-well g.S.Sink.takes _ _ w c.args.end (all_processors processor) a _ _
+    (c.processors.invariant.befell w.tasks.items) well in
     let low : processor < length a.by_processor = omega (arith, c.processors-test.true, few) in
-    let there : slice_get c.processors.self.roster.by_processor.items processor ≢ None = λ none. within_there processor a.by_processor low (sym (c.processors.invariant.others processor (omega arith)) ∙ none) in
+    let there : slice_get c.processors.self.roster.by_processor.items processor ≢ None =
+    λ none. within_there processor a.by_processor low (sym (c.processors.invariant.others processor (omega arith)) ∙ none) in
     let wants = c.in_err-tick_at_end.ensures.ends w here there in
     err-by c.from_residual.result c.from_residual.ensures.1 (λ e is. is ∙ wants)

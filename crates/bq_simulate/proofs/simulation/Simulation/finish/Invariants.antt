@@ -7,6 +7,8 @@ use Rattle.bq_simulate.proofs.simulation.Simulation.finish.Given as goal
 
 abbrev pub invariant-processors : goal.invariant-processors
 invariant-processors g l = record {
-  befell : Befell g.S.Sink.takes (AreJust (last_ticks l.end (all_processors l.processor) (accounts_of l.initial.self.roster))) l.initial.sink l.initial.self l.sink l.self;
-  others : (other : ℕ) → l.processor ≤ other → slice_get l.self.roster.by_processor.items other ≡ slice_get l.initial.self.roster.by_processor.items other;
+  befell : Befell g.S.Sink.takes (AreJust (last_ticks l.end (all_processors l.processor) (accounts_of l.initial.self.roster)))
+      l.initial.sink l.initial.self l.sink l.self;
+  others : (other : ℕ) → l.processor ≤ other →
+      slice_get l.self.roster.by_processor.items other ≡ slice_get l.initial.self.roster.by_processor.items other;
 }

@@ -23,9 +23,13 @@ steps-preserved g c =
     let later : last ≤ now = omega (arith, c.if-now-last.false) in
     let here = c.steps.self.roster in
     let next : IsAgreed here → IsNext here.periods.end (accounts_of here) due now =
-    λ agreed. MatchOption-at_some (NothingComes here.periods.end (accounts_of here)) (λ d. IsNext here.periods.end (accounts_of here) d.1 d.0) (now, due) c.in-Some.is (c.first.ensures.next agreed) in
+    λ agreed.
+    MatchOption-at_some (NothingComes here.periods.end (accounts_of here))
+    (λ d. IsNext here.periods.end (accounts_of here) d.1 d.0) (now, due) c.in-Some.is (c.first.ensures.next agreed) in
     record {
-      lived = met-more g.S.Sink.takes c.args.workload.now.tasks.items count last now due _ _ _ _ _ _ later next c.steps.invariant.lived c.in_ok-meet.ensures.lived;
+      lived =
+          met-more g.S.Sink.takes c.args.workload.now.tasks.items count last now due _ _ _ _ _ _ later next
+          c.steps.invariant.lived c.in_ok-meet.ensures.lived;
       within = omega (arith, c.if-now-end.false);
       well = λ begins.
           let w = c.args.workload.now in
@@ -45,7 +49,9 @@ steps-init g c =
     let was = c.args.self.now in
     let kinds = c.args.workload.now.tasks.items in
     record {
-      lived = λ drawn had firsts agreed. Lived-same g.S.Sink.takes (AreAllMet kinds was.seed was.roster.periods 0 0 (book_of was drawn)) (AreMet-none kinds was.seed was.roster.periods (book_of was drawn)) _ _ _ (Same-here _) kinds drawn had firsts;
+      lived = λ drawn had firsts agreed.
+          Lived-same g.S.Sink.takes (AreAllMet kinds was.seed was.roster.periods 0 0 (book_of was drawn))
+          (AreMet-none kinds was.seed was.roster.periods (book_of was drawn)) _ _ _ (Same-here _) kinds drawn had firsts;
       within = omega arith;
       well = λ begins. begins;
       counted = λ begins many. (many, none-came c.args.workload.now was.driver (book_of was begins.drawn) begins.sound begins.kept many);
@@ -54,19 +60,23 @@ steps-init g c =
 pub returns-in_default-clause-none : goal.returns-in_default-clause-none
 returns-in_default-clause-none g c =
     let here = c.steps.self.roster in
-    λ wants agreed. MatchOption-at_none (NothingComes here.periods.end (accounts_of here)) (λ d. IsNext here.periods.end (accounts_of here) d.1 d.0) c.in_default.is (c.first.ensures.next agreed)
+    λ wants agreed.
+    MatchOption-at_none (NothingComes here.periods.end (accounts_of here))
+    (λ d. IsNext here.periods.end (accounts_of here) d.1 d.0) c.in_default.is (c.first.ensures.next agreed)
 
 pub returns-in_default-clause-lived : goal.returns-in_default-clause-lived
 returns-in_default-clause-lived g c =
     let was = c.args.self.now in
     let few : c.steps.counter ≤ c.args.most = omega (arith, c.steps-test.true) in
-    LivedFrom-within g.S.Sink.takes c.args.workload.now.tasks.items was.seed was.roster.periods c.steps.counter c.args.most c.steps.last c.args.workload.now.machine.duration _ _ _ _ few c.steps.invariant.within c.steps.invariant.lived
+    LivedFrom-within g.S.Sink.takes c.args.workload.now.tasks.items was.seed was.roster.periods c.steps.counter c.args.most
+    c.steps.last c.args.workload.now.machine.duration _ _ _ _ few c.steps.invariant.within c.steps.invariant.lived
 
 pub returns-then-has_enough-clause-lived : goal.returns-then-has_enough-clause-lived
 returns-then-has_enough-clause-lived g c =
     let was = c.args.self.now in
     let few : c.steps.counter ≤ c.args.most = omega (arith, c.steps-test.true) in
-    LivedFrom-within g.S.Sink.takes c.args.workload.now.tasks.items was.seed was.roster.periods c.steps.counter c.args.most c.steps.last c.args.workload.now.machine.duration _ _ _ _ few c.steps.invariant.within c.steps.invariant.lived
+    LivedFrom-within g.S.Sink.takes c.args.workload.now.tasks.items was.seed was.roster.periods c.steps.counter c.args.most
+    c.steps.last c.args.workload.now.machine.duration _ _ _ _ few c.steps.invariant.within c.steps.invariant.lived
 
 -- what comes next is neither past nor beyond the end
 pub returns-in_err-meet-clause-ends : goal.returns-in_err-meet-clause-ends
@@ -76,8 +86,12 @@ returns-in_err-meet-clause-ends g c = λ begins many bound.
     let due = c.in-Some.due in
     let now = c.in-Some.now in
     let well = c.steps.invariant.well begins in
-    let next = MatchOption-at_some (NothingComes here.periods.end (accounts_of here)) (λ d. IsNext here.periods.end (accounts_of here) d.1 d.0) (now, due) c.in-Some.is (c.first.ensures.next well.agreed) in
-    let wants = c.in_err-meet.ensures.ends (comes-well w c.steps.last now due c.steps.self well next).2 (subst (λ (p : Periods). IsNext p.end (accounts_of here) due now) well.periods next) in
+    let next =
+    MatchOption-at_some (NothingComes here.periods.end (accounts_of here))
+    (λ d. IsNext here.periods.end (accounts_of here) d.1 d.0) (now, due) c.in-Some.is (c.first.ensures.next well.agreed) in
+    let wants =
+    c.in_err-meet.ensures.ends (comes-well w c.steps.last now due c.steps.self well next).2
+    (subst (λ (p : Periods). IsNext p.end (accounts_of here) due now) well.periods next) in
     err-by c.from_residual.result c.from_residual.ensures.1 (λ e is. inl (is ∙ wants))
 
 pub returns-then-now-last-clause-ends : goal.returns-then-now-last-clause-ends
@@ -87,7 +101,9 @@ returns-then-now-last-clause-ends g c = λ begins many bound.
     let due = c.in-Some.due in
     let now = c.in-Some.now in
     let well = c.steps.invariant.well begins in
-    let next = MatchOption-at_some (NothingComes here.periods.end (accounts_of here)) (λ d. IsNext here.periods.end (accounts_of here) d.1 d.0) (now, due) c.in-Some.is (c.first.ensures.next well.agreed) in
+    let next =
+    MatchOption-at_some (NothingComes here.periods.end (accounts_of here))
+    (λ d. IsNext here.periods.end (accounts_of here) d.1 d.0) (now, due) c.in-Some.is (c.first.ensures.next well.agreed) in
     let comes = comes-well w c.steps.last now due c.steps.self well next in
     absurd (elim c.then-now-last.branch [
       | then-now-last-via-then-now-last v ↦ omega (arith, v.if-now-last.true, comes.0)
@@ -100,9 +116,13 @@ returns-clause-ends g c = λ begins many bound.
     let w = c.args.workload.now in
     let counted = c.steps.invariant.counted begins many in
     let all : c.args.most ≤ c.steps.counter = omega (arith, c.steps-test.false) in
-    inr (refl, bound-passed w c.steps.counter c.steps.last c.args.most (accounts_of c.steps.self.roster) c.steps.invariant.within all bound counted.1)
+    inr (
+      refl,
+      bound-passed w c.steps.counter c.steps.last c.args.most (accounts_of c.steps.self.roster) c.steps.invariant.within
+          all bound counted.1,
+    )
 
--- what wants memory is no want of an end
+-- a fault for memory is not the fault that there is no end
 pub returns-in_err-meet-clause-endless : goal.returns-in_err-meet-clause-endless
 returns-in_err-meet-clause-endless g c = λ begins.
     let w = c.args.workload.now in
@@ -110,12 +130,17 @@ returns-in_err-meet-clause-endless g c = λ begins.
     let due = c.in-Some.due in
     let now = c.in-Some.now in
     let well = c.steps.invariant.well begins in
-    let next = MatchOption-at_some (NothingComes here.periods.end (accounts_of here)) (λ d. IsNext here.periods.end (accounts_of here) d.1 d.0) (now, due) c.in-Some.is (c.first.ensures.next well.agreed) in
-    let wants = c.in_err-meet.ensures.ends (comes-well w c.steps.last now due c.steps.self well next).2 (subst (λ (p : Periods). IsNext p.end (accounts_of here) due now) well.periods next) in
+    let next =
+    MatchOption-at_some (NothingComes here.periods.end (accounts_of here))
+    (λ d. IsNext here.periods.end (accounts_of here) d.1 d.0) (now, due) c.in-Some.is (c.first.ensures.next well.agreed) in
+    let wants =
+    c.in_err-meet.ensures.ends (comes-well w c.steps.last now due c.steps.self well next).2
+    (subst (λ (p : Periods). IsNext p.end (accounts_of here) due now) well.periods next) in
     err-by c.from_residual.result c.from_residual.ensures.1 (λ e is ends. absurd (wants-no-end (sym (is ∙ wants) ∙ ends)))
 
 pub returns-clause-endless : goal.returns-clause-endless
 returns-clause-endless g c = λ begins is.
     let was = c.args.self.now in
     let all : c.steps.counter ≡ c.args.most = omega (arith, c.steps-test.false, c.steps.auto.counter-end) in
-    LivedFrom-all g.S.Sink.takes c.args.workload.now.tasks.items was.seed was.roster.periods c.steps.counter c.args.most c.steps.last c.args.workload.now.machine.duration _ _ _ _ all c.steps.invariant.within c.steps.invariant.lived
+    LivedFrom-all g.S.Sink.takes c.args.workload.now.tasks.items was.seed was.roster.periods c.steps.counter c.args.most
+    c.steps.last c.args.workload.now.machine.duration _ _ _ _ all c.steps.invariant.within c.steps.invariant.lived

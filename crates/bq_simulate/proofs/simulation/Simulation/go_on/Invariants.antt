@@ -8,8 +8,11 @@ use Rattle.bq_simulate.proofs.simulation.Simulation.go_on.Given as goal
 
 abbrev pub invariant-steps : goal.invariant-steps
 invariant-steps g l = record {
-  lived : LivedFrom g.S.Sink.takes l.workload.tasks.items (AreAllMet l.workload.tasks.items l.initial.self.seed l.initial.self.roster.periods l.counter l.last) l.initial.sink l.initial.self l.sink l.self;
+  lived : LivedFrom g.S.Sink.takes l.workload.tasks.items
+      (AreAllMet l.workload.tasks.items l.initial.self.seed l.initial.self.roster.periods l.counter l.last)
+      l.initial.sink l.initial.self l.sink l.self;
   within : l.last ≤ l.end;
   well : GoesWell l.workload 0 l.initial.self → GoesWell l.workload l.last l.self;
-  counted : GoesWell l.workload 0 l.initial.self → HasProcessors l.workload l.initial.self → HasProcessors l.workload l.self × IsCounted l.workload l.counter l.last (accounts_of l.self.roster);
+  counted : GoesWell l.workload 0 l.initial.self → HasProcessors l.workload l.initial.self →
+      HasProcessors l.workload l.self × IsCounted l.workload l.counter l.last (accounts_of l.self.roster);
 }

@@ -12,5 +12,7 @@ invariant-processors g l = record {
   streams : l.self.streams ≡ l.initial.self.streams;
   firsts : l.self.firsts ≡ l.initial.self.firsts;
   counts : l.self.counts ≡ l.initial.self.counts;
-  generations : (count : ℕ) → HasGenerations count l.initial.self.driver.machine.world → IsNewerFrom 0 l.generation l.initial.self.driver.machine.world → HasGenerations count l.self.driver.machine.world × IsNewerFrom l.processor l.generation l.self.driver.machine.world;
+  generations : (count : ℕ) → HasGenerations count l.initial.self.driver.machine.world →
+      IsNewerFrom 0 l.generation l.initial.self.driver.machine.world →
+      HasGenerations count l.self.driver.machine.world × IsNewerFrom l.processor l.generation l.self.driver.machine.world;
 }

@@ -21,5 +21,13 @@ returns-in-Ok-clause-silent c =
     let new : Roster = c.plan.new.self in
     let progress = c.new.result in
     let agrees : length was.streams.items ≡ length old.by_task.items → StaysAgreed old new =
-    λ equal. added-agreed c.args.task c.args.start progress old mid new (place ∙ equal) (ap (λ (k : TaskProgress). k.task_state) c.new.ensures) (ap (λ (k : TaskProgress). k.timer) c.new.ensures) added.by_task added.by_processor added.event_queue added.periods plan.planned plan.by_task plan.by_processor plan.periods in
-    λ kinds of first equal. Silent-joins kinds _ _ c.args.kind c.args.home (agrees equal) (plan.periods ∙ added.periods) refl refl refl (ap (λ l. l.items) plan.by_task ∙ added.by_task ∙ ap (λ (k : TaskProgress). was.roster.by_task.items ++ k ∷ []) (c.new.ensures ∙ ap (fresh c.args.kind c.args.home) first)) (ap (λ l. l.items) (plan.by_processor ∙ added.by_processor)) (c.in-Ok.ensures.items ∙ ap (λ (g : Lcg). was.streams.items ++ g ∷ []) stream) of
+    λ equal.
+    added-agreed c.args.task c.args.start progress old mid new (place ∙ equal)
+    (ap (λ (k : TaskProgress). k.task_state) c.new.ensures) (ap (λ (k : TaskProgress). k.timer) c.new.ensures) added.by_task
+    added.by_processor added.event_queue added.periods plan.planned plan.by_task plan.by_processor plan.periods in
+    λ kinds of first equal.
+    Silent-joins kinds _ _ c.args.kind c.args.home (agrees equal) (plan.periods ∙ added.periods) refl refl refl
+    (ap (λ l. l.items) plan.by_task ∙ added.by_task
+    ∙ ap (λ (k : TaskProgress). was.roster.by_task.items ++ k ∷ []) (c.new.ensures ∙ ap (fresh c.args.kind c.args.home) first))
+    (ap (λ l. l.items) (plan.by_processor ∙ added.by_processor))
+    (c.in-Ok.ensures.items ∙ ap (λ (g : Lcg). was.streams.items ++ g ∷ []) stream) of

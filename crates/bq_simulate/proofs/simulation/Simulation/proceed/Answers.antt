@@ -23,11 +23,18 @@ returns-clause-lived g c =
     let policies = c.args.policies.now in
     let installs = AreInstalled all policies in
     let opens = Opens policies all kinds in
-    let installed = Lived-weaker takes kinds (AreInstalled c.processors-processors.result policies) installs (λ xs are. subst (λ (n : ℕ). AreInstalled n policies xs) c.processors-processors.ensures are) _ _ _ _ (c.in_ok-install.ensures.befell kinds) in
-    let opened = Lived-join takes kinds installs admits opens (Opens-join policies all kinds) _ _ _ _ _ _ installed c.in_ok-admit.ensures.lived in
+    let installed =
+    Lived-weaker takes kinds (AreInstalled c.processors-processors.result policies) installs
+    (λ xs are. subst (λ (n : ℕ). AreInstalled n policies xs) c.processors-processors.ensures are) _ _ _ _
+    (c.in_ok-install.ensures.befell kinds) in
+    let opened =
+    Lived-join takes kinds installs admits opens (Opens-join policies all kinds) _ _ _ _ _ _
+    installed c.in_ok-admit.ensures.lived in
     let was = c.args.self.now in
     let mid = c.admit.new.self in
-    let met = subst (λ (n : ℕ). LivedFrom takes kinds (AreMet kinds mid.seed mid.roster.periods n end) c.admit.new.sink mid c.go_on.new.sink ended) c.most_steps.ensures c.in_ok-go_on.ensures.lived in
+    let met =
+    subst (λ (n : ℕ). LivedFrom takes kinds (AreMet kinds mid.seed mid.roster.periods n end) c.admit.new.sink mid c.go_on.new.sink ended)
+    c.most_steps.ensures c.in_ok-go_on.ensures.lived in
     Proceeds-join takes policies all kinds (most_steps w) end _ _ _ was mid ended opened met
 
 pub returns-in_err-install-clause-ends : goal.returns-in_err-install-clause-ends
@@ -38,7 +45,9 @@ returns-in_err-install-clause-ends g c = λ starts.
 pub returns-in_err-admit-clause-ends : goal.returns-in_err-admit-clause-ends
 returns-in_err-admit-clause-ends g c = λ starts.
     let w = c.args.workload.now in
-    let one = installed-well g.S.Sink.takes _ _ w c.args.policies.now _ _ _ c.processors-processors.ensures c.in_ok-install.ensures.befell c.in_ok-install.ensures.counts starts.opens in
+    let one =
+    installed-well g.S.Sink.takes _ _ w c.args.policies.now _ _ _ c.processors-processors.ensures
+    c.in_ok-install.ensures.befell c.in_ok-install.ensures.counts starts.opens in
     let none = ap (λ v. length v.items) c.in_ok-install.ensures.firsts ∙ starts.none in
     let wants = c.in_err-admit.ensures.ends one none in
     err-by c.from_residual-in_err-admit.result c.from_residual-in_err-admit.ensures.1 (λ e is. inl (is ∙ wants))
@@ -46,14 +55,18 @@ returns-in_err-admit-clause-ends g c = λ starts.
 pub returns-in_err-tasks-clause-ends : goal.returns-in_err-tasks-clause-ends
 returns-in_err-tasks-clause-ends g c = λ starts.
     let w = c.args.workload.now in
-    let one = installed-well g.S.Sink.takes _ _ w c.args.policies.now _ _ _ c.processors-processors.ensures c.in_ok-install.ensures.befell c.in_ok-install.ensures.counts starts.opens in
+    let one =
+    installed-well g.S.Sink.takes _ _ w c.args.policies.now _ _ _ c.processors-processors.ensures
+    c.in_ok-install.ensures.befell c.in_ok-install.ensures.counts starts.opens in
     let all = c.in_ok-admit.ensures.well one in
     absurd (c.in_err-tasks.ensures.stray (all.counted ∙ sym (streams-there w _ _ all)))
 
 pub returns-in_err-go_on-clause-ends : goal.returns-in_err-go_on-clause-ends
 returns-in_err-go_on-clause-ends g c = λ starts.
     let w = c.args.workload.now in
-    let one = installed-well g.S.Sink.takes _ _ w c.args.policies.now _ _ _ c.processors-processors.ensures c.in_ok-install.ensures.befell c.in_ok-install.ensures.counts starts.opens in
+    let one =
+    installed-well g.S.Sink.takes _ _ w c.args.policies.now _ _ _ c.processors-processors.ensures
+    c.in_ok-install.ensures.befell c.in_ok-install.ensures.counts starts.opens in
     let none = ap (λ v. length v.items) c.in_ok-install.ensures.firsts ∙ starts.none in
     let all = c.in_ok-admit.ensures.well one in
     let many = all.opening.agree.mirrors.processors.many ∙ all.opening.processors_there in
@@ -63,11 +76,13 @@ returns-in_err-go_on-clause-ends g c = λ starts.
 pub returns-clause-well : goal.returns-clause-well
 returns-clause-well g c = λ starts.
     let w = c.args.workload.now in
-    let one = installed-well g.S.Sink.takes _ _ w c.args.policies.now _ _ _ c.processors-processors.ensures c.in_ok-install.ensures.befell c.in_ok-install.ensures.counts starts.opens in
+    let one =
+    installed-well g.S.Sink.takes _ _ w c.args.policies.now _ _ _ c.processors-processors.ensures
+    c.in_ok-install.ensures.befell c.in_ok-install.ensures.counts starts.opens in
     let none = ap (λ v. length v.items) c.in_ok-install.ensures.firsts ∙ starts.none in
     c.in_ok-go_on.ensures.well (opened-well w _ (c.in_ok-admit.ensures.firsts none) (c.in_ok-admit.ensures.well one))
 
--- what wants memory is no want of an end
+-- a fault for memory is not the fault that there is no end
 pub returns-in_err-install-clause-endless : goal.returns-in_err-install-clause-endless
 returns-in_err-install-clause-endless g c = λ starts.
     let wants = c.in_err-install.ensures.ends c.args.workload.now starts c.processors-processors.ensures in
@@ -76,15 +91,20 @@ returns-in_err-install-clause-endless g c = λ starts.
 pub returns-in_err-admit-clause-endless : goal.returns-in_err-admit-clause-endless
 returns-in_err-admit-clause-endless g c = λ starts.
     let w = c.args.workload.now in
-    let one = installed-well g.S.Sink.takes _ _ w c.args.policies.now _ _ _ c.processors-processors.ensures c.in_ok-install.ensures.befell c.in_ok-install.ensures.counts starts.opens in
+    let one =
+    installed-well g.S.Sink.takes _ _ w c.args.policies.now _ _ _ c.processors-processors.ensures
+    c.in_ok-install.ensures.befell c.in_ok-install.ensures.counts starts.opens in
     let none = ap (λ v. length v.items) c.in_ok-install.ensures.firsts ∙ starts.none in
     let wants = c.in_err-admit.ensures.ends one none in
-    err-by c.from_residual-in_err-admit.result c.from_residual-in_err-admit.ensures.1 (λ e is ends. absurd (wants-no-end (sym (is ∙ wants) ∙ ends)))
+    err-by c.from_residual-in_err-admit.result c.from_residual-in_err-admit.ensures.1
+    (λ e is ends. absurd (wants-no-end (sym (is ∙ wants) ∙ ends)))
 
 pub returns-in_err-tasks-clause-endless : goal.returns-in_err-tasks-clause-endless
 returns-in_err-tasks-clause-endless g c = λ starts.
     let w = c.args.workload.now in
-    let one = installed-well g.S.Sink.takes _ _ w c.args.policies.now _ _ _ c.processors-processors.ensures c.in_ok-install.ensures.befell c.in_ok-install.ensures.counts starts.opens in
+    let one =
+    installed-well g.S.Sink.takes _ _ w c.args.policies.now _ _ _ c.processors-processors.ensures
+    c.in_ok-install.ensures.befell c.in_ok-install.ensures.counts starts.opens in
     let all = c.in_ok-admit.ensures.well one in
     absurd (c.in_err-tasks.ensures.stray (all.counted ∙ sym (streams-there w _ _ all)))
 
@@ -101,13 +121,23 @@ returns-in_err-go_on-clause-endless g c = λ starts.
     let policies = c.args.policies.now in
     let installs = AreInstalled all policies in
     let opens = Opens policies all kinds in
-    let installed = Lived-weaker takes kinds (AreInstalled c.processors-processors.result policies) installs (λ xs are. subst (λ (n : ℕ). AreInstalled n policies xs) c.processors-processors.ensures are) _ _ _ _ (c.in_ok-install.ensures.befell kinds) in
-    let opened = Lived-join takes kinds installs admits opens (Opens-join policies all kinds) _ _ _ _ _ _ installed c.in_ok-admit.ensures.lived in
+    let installed =
+    Lived-weaker takes kinds (AreInstalled c.processors-processors.result policies) installs
+    (λ xs are. subst (λ (n : ℕ). AreInstalled n policies xs) c.processors-processors.ensures are) _ _ _ _
+    (c.in_ok-install.ensures.befell kinds) in
+    let opened =
+    Lived-join takes kinds installs admits opens (Opens-join policies all kinds) _ _ _ _ _ _
+    installed c.in_ok-admit.ensures.lived in
     let was = c.args.self.now in
     let mid = c.admit.new.self in
-    let one = installed-well takes _ _ w policies _ _ _ c.processors-processors.ensures c.in_ok-install.ensures.befell c.in_ok-install.ensures.counts starts.opens in
+    let one =
+    installed-well takes _ _ w policies _ _ _ c.processors-processors.ensures c.in_ok-install.ensures.befell
+    c.in_ok-install.ensures.counts starts.opens in
     let none = ap (λ v. length v.items) c.in_ok-install.ensures.firsts ∙ starts.none in
     let well = opened-well w _ (c.in_ok-admit.ensures.firsts none) (c.in_ok-admit.ensures.well one) in
     err-by c.from_residual-in_err-go_on.result c.from_residual-in_err-go_on.ensures.1 (λ e is ends.
-    let met = subst (λ (n : ℕ). LivedFrom takes kinds (AreAllMet kinds mid.seed mid.roster.periods n end) c.admit.new.sink mid c.go_on.new.sink ended) c.most_steps.ensures (c.in_err-go_on.ensures.endless well (sym is ∙ ends)) in
+    let met =
+    subst
+    (λ (n : ℕ). LivedFrom takes kinds (AreAllMet kinds mid.seed mid.roster.periods n end) c.admit.new.sink mid c.go_on.new.sink ended)
+    c.most_steps.ensures (c.in_err-go_on.ensures.endless well (sym is ∙ ends)) in
     ProceedsBy-join takes policies all kinds (most_steps w) end _ _ _ was mid ended opened met)

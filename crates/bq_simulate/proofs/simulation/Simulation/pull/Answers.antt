@@ -23,8 +23,11 @@ returns-in-Some-clause-befell g c =
     let from = c.in-Some.from in
     let source = subst (λ (o : Option ℕ). IsSource was.roster.by_processor.items processor o) c.in-Some.is looks.source in
     on_ok_weaker c.pull_from.result
-    (λ h. Befell-looks g.S.Sink.takes (AreJust (Pull processor from now ∷ [])) (Meet (due.Pull processor) now) _ _ was here _ processor now (Some from) looks.due source (record { agrees = looks.agrees; periods = looks.periods; seed = refl; streams = refl; firsts = refl }) refl looks.accounts (λ deeds are. (Some from, deeds, refl, are)) h)
-    c.pull_from.ensures.befell
+    (λ h.
+    Befell-looks g.S.Sink.takes (AreJust (Pull processor from now ∷ []))
+    (Meet (due.Pull processor) now) _ _ was here _ processor now (Some from) looks.due source
+    (record { agrees = looks.agrees; periods = looks.periods; seed = refl; streams = refl; firsts = refl }) refl
+    looks.accounts (λ deeds are. (Some from, deeds, refl, are)) h) c.pull_from.ensures.befell
 
 pub returns-in-None-clause-befell : goal.returns-in-None-clause-befell
 returns-in-None-clause-befell g c =
@@ -34,14 +37,20 @@ returns-in-None-clause-befell g c =
     let processor = c.args.processor in
     let now = c.args.now in
     let source = subst (λ (o : Option ℕ). IsSource was.roster.by_processor.items processor o) c.in-None.is looks.source in
-    Befell-looks g.S.Sink.takes (AreJust []) (Meet (due.Pull processor) now) _ _ was here _ processor now None looks.due source (record { agrees = looks.agrees; periods = looks.periods; seed = refl; streams = refl; firsts = refl }) refl looks.accounts (λ deeds are. (None, deeds, refl, are)) (Lived-same g.S.Sink.takes (AreJust []) refl _ here here (Same-here here))
+    Befell-looks g.S.Sink.takes (AreJust []) (Meet (due.Pull processor) now) _ _ was here _ processor now None looks.due
+    source (record { agrees = looks.agrees; periods = looks.periods; seed = refl; streams = refl; firsts = refl })
+    refl looks.accounts (λ deeds are. (None, deeds, refl, are))
+    (Lived-same g.S.Sink.takes (AreJust []) refl _ here here (Same-here here))
 
 -- a look goes well
 pub returns-in_err-source-clause-ends : goal.returns-in_err-source-clause-ends
 returns-in_err-source-clause-ends g c =
-    λ w well next. absurd (looks w c.args.now c.args.self.now c.args.processor well (looks_now w.machine.duration c.args.processor c.args.now (accounts_of c.args.self.now.roster) next.comes) c.in_err-source.ensures.stray)
+    λ w well next.
+    absurd (looks w c.args.now c.args.self.now c.args.processor well
+    (looks_now w.machine.duration c.args.processor c.args.now (accounts_of c.args.self.now.roster) next.comes)
+    c.in_err-source.ensures.stray)
 
--- and what it finds is another processor
+-- what a look finds is another processor
 pub returns-in-Some-clause-ends : goal.returns-in-Some-clause-ends
 returns-in-Some-clause-ends g c =
     let looks = c.in_ok-source.ensures in
@@ -52,4 +61,6 @@ returns-in-Some-clause-ends g c =
     let other = pulls_from was.roster.by_processor.items processor c.in-Some.from source in
     let many = ap (λ (a : Accounts). length a.by_processor) looks.accounts ∙ changed_at-length _ was.roster.by_processor.items processor in
     let there = slice_get_within was.roster.by_processor.items processor looks.due.processor_state looks.due.at in
-    λ w well next. c.pull_from.ensures.ends w (well_looked w c.args.now was here processor well looks.periods looks.accounts looks.agrees) (omega (arith, there, many), omega (arith, other.0, many), other.1)
+    λ w well next.
+    c.pull_from.ensures.ends w (well_looked w c.args.now was here processor well looks.periods looks.accounts looks.agrees)
+    (omega (arith, there, many), omega (arith, other.0, many), other.1)

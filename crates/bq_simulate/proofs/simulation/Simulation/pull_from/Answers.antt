@@ -11,28 +11,41 @@ use Rattle.bq_simulate.proofs.simulation.Simulation.pull_from.Goals as goal
 
 pub returns-clause-befell : goal.returns-clause-befell
 returns-clause-befell g c =
-    let said = c.in_ok-moved.ensures.does in
+    let stated = c.in_ok-moved.ensures.does in
     let was = c.args.self.now.roster in
     let event = Pull c.args.processor c.args.from c.args.now in
     let moved : Option ℕ → Accounts = λ o. pulled c.args.from c.args.processor o (accounts_of was) in
-    let runs = ap (λ (r : Option ℕ). switched c.args.processor r c.args.now was.periods (moved c.in_ok-moved.moved.task)) (sym said.1) in
-    let takes = ap (λ (o : Option ℕ). switched c.args.processor (runs_now said.0) c.args.now was.periods (moved o)) (sym said.2) in
-    Lived-event g.S.Sink.takes (AreJust (event ∷ [])) _ _ _ _ event said.0 (said.0, [], refl, refl) tt (record { agrees = c.in_ok-keep_pull.ensures.agrees; periods = c.in_ok-keep_pull.ensures.periods; seed = refl; streams = refl; firsts = refl }) said.3 (c.in_ok-keep_pull.ensures.accounts ∙ runs ∙ takes)
+    let runs = ap (λ (r : Option ℕ). switched c.args.processor r c.args.now was.periods (moved c.in_ok-moved.moved.task)) (sym stated.1) in
+    let takes = ap (λ (o : Option ℕ). switched c.args.processor (runs_now stated.0) c.args.now was.periods (moved o)) (sym stated.2) in
+    Lived-event g.S.Sink.takes (AreJust (event ∷ [])) _ _ _ _ event stated.0 (stated.0, [], refl, refl) tt
+    (record {
+      agrees = c.in_ok-keep_pull.ensures.agrees;
+      periods = c.in_ok-keep_pull.ensures.periods;
+      seed = refl;
+      streams = refl;
+      firsts = refl;
+    }) stated.3 (c.in_ok-keep_pull.ensures.accounts ∙ runs ∙ takes)
 
 -- a pull fails only for memory
 pub returns-in_err-moved-clause-ends : goal.returns-in_err-moved-clause-ends
 returns-in_err-moved-clause-ends g c =
     let p = err_from_is_err_and c.from_residual.result c.from_residual.ensures.1 in
-    λ w well two. rw p.1 (p.2 (pull_fails w c.args.now c.args.self.now c.args.processor c.args.from well two.0 two.1 two.2 c.in_err-moved.field-0.0 c.in_err-moved.ensures.fault))
+    λ w well two.
+    rw p.1 (p.2 (pull_fails w c.args.now c.args.self.now c.args.processor c.args.from well two.0 two.1 two.2
+    c.in_err-moved.field-0.0 c.in_err-moved.ensures.fault))
 
--- and what came of it can be kept
+-- what came of a pull can be kept
 pub returns-in_err-keep_pull-clause-ends : goal.returns-in_err-keep_pull-clause-ends
 returns-in_err-keep_pull-clause-ends g c =
-    let said = c.in_ok-moved.ensures.does in
+    let stated = c.in_ok-moved.ensures.does in
     let was = c.args.self.now in
     let here = c.pull.new.self in
     let now = c.args.now in
     λ w well two. elim c.in_err-keep_pull.ensures.stray [
-      | inl astray ↦ absurd (pull_passes w now was here c.args.processor c.args.from c.in_ok-moved.moved.task said.0 said.3.told well two.0 two.2 said.2 said.3.holds astray.0 astray.1)
-      | inr astray ↦ absurd (pull_switches w now was here c.args.processor c.args.from c.in_ok-moved.moved.task c.in_ok-moved.moved.run said.0 said.3.told well two.0 said.1 said.2 said.3.holds astray)
+      | inl astray ↦
+          absurd (pull_passes w now was here c.args.processor c.args.from c.in_ok-moved.moved.task stated.0 stated.3.reported
+          well two.0 two.2 stated.2 stated.3.holds astray.0 astray.1)
+      | inr astray ↦
+          absurd (pull_switches w now was here c.args.processor c.args.from c.in_ok-moved.moved.task c.in_ok-moved.moved.run
+          stated.0 stated.3.reported well two.0 stated.1 stated.2 stated.3.holds astray)
     ]

@@ -29,11 +29,15 @@ returns-clause-runs g c =
       proceeds = c.in_ok-tasks.ensures.lived;
       none = c.in_ok-tasks.ensures.none (sym c.has_enough.ensures ∙ c.if-has_enough.false);
       over = sym c.is_over.ensures.over ∙ c.if-not-is_over.false;
-      ticks = Lived-weaker g.S.Sink.takes kinds _ _ (λ xs are. subst (λ (n : ℕ). ticks n xs) c.processors-processors.ensures are) _ _ _ _ (c.in_ok-finish.ensures.befell kinds);
+      ticks =
+          Lived-weaker g.S.Sink.takes kinds _ _ (λ xs are. subst (λ (n : ℕ). ticks n xs) c.processors-processors.ensures are)
+          _ _ _ _ (c.in_ok-finish.ensures.befell kinds);
     })
 
 pub returns-in_err-tasks-clause-ends : goal.returns-in_err-tasks-clause-ends
-returns-in_err-tasks-clause-ends g c = λ starts. err-by c.from_residual.result c.from_residual.ensures.1 (λ e is. subst (λ x. EndsEarly c.args.workload.now x) (sym is) (c.in_err-tasks.ensures.ends starts))
+returns-in_err-tasks-clause-ends g c = λ starts.
+    err-by c.from_residual.result c.from_residual.ensures.1
+    (λ e is. subst (λ x. EndsEarly c.args.workload.now x) (sym is) (c.in_err-tasks.ensures.ends starts))
 
 -- where nothing comes any more all is over
 pub returns-then-not-is_over-clause-ends : goal.returns-then-not-is_over-clause-ends
@@ -43,7 +47,9 @@ returns-then-not-is_over-clause-ends g c = λ starts.
     let gone = c.in_ok-tasks.ensures.well starts in
     let none = c.in_ok-tasks.ensures.none (sym c.has_enough.ensures ∙ c.if-has_enough.false) gone.well.agreed in
     let left = subst (λ (p : Periods). NothingComes p.end (accounts_of ended.roster)) gone.well.periods none in
-    let over = c.is_over.ensures.none (sound_times w gone.well.sound).duration gone.well.agreed.homes left ∙ keep_phases gone.now (accounts_of ended.roster) gone.well.kept.on_time in
+    let over =
+    c.is_over.ensures.none (sound_times w gone.well.sound).duration gone.well.agreed.homes left
+    ∙ keep_phases gone.now (accounts_of ended.roster) gone.well.kept.on_time in
     absurd (true≢false (sym over ∙ c.if-not-is_over.true))
 
 pub returns-in_err-finish-clause-ends : goal.returns-in_err-finish-clause-ends
@@ -53,13 +59,20 @@ returns-in_err-finish-clause-ends g c = λ starts.
     let gone = c.in_ok-tasks.ensures.well starts in
     let none = c.in_ok-tasks.ensures.none (sym c.has_enough.ensures ∙ c.if-has_enough.false) gone.well.agreed in
     let was = c.args.self.now in
-    let there = processors-there g.S.Sink.takes (ProceedsIn c.args.policies.now w was.seed was.roster.periods) _ _ w 0 _ _ c.in_ok-tasks.ensures.lived starts.opens in
+    let there =
+    processors-there g.S.Sink.takes (ProceedsIn c.args.policies.now w was.seed was.roster.periods) _ _ w 0 _ _
+    c.in_ok-tasks.ensures.lived starts.opens in
     let many = gone.well.kept.agrees.mirrors.processors.many in
-    let wants = c.in_err-finish.ensures.ends w (ended-well w ended none gone) (omega (arith, c.processors-processors.ensures, there, many)) in
+    let wants =
+    c.in_err-finish.ensures.ends w (ended-well w ended none gone)
+    (omega (arith, c.processors-processors.ensures, there, many)) in
     err-by c.from_residual-in_err-finish.result c.from_residual-in_err-finish.ensures.1 (λ e is. inl (is ∙ wants))
 
 pub returns-in_err-tasks-clause-endless : goal.returns-in_err-tasks-clause-endless
-returns-in_err-tasks-clause-endless g c = λ starts. err-by c.from_residual.result c.from_residual.ensures.1 (λ e is ends. c.in_err-tasks.ensures.endless starts (sym is ∙ ends))
+returns-in_err-tasks-clause-endless g c =
+    λ starts.
+    err-by c.from_residual.result c.from_residual.ensures.1
+    (λ e is ends. c.in_err-tasks.ensures.endless starts (sym is ∙ ends))
 
 pub returns-in_err-finish-clause-endless : goal.returns-in_err-finish-clause-endless
 returns-in_err-finish-clause-endless g c = λ starts.
@@ -68,7 +81,12 @@ returns-in_err-finish-clause-endless g c = λ starts.
     let gone = c.in_ok-tasks.ensures.well starts in
     let none = c.in_ok-tasks.ensures.none (sym c.has_enough.ensures ∙ c.if-has_enough.false) gone.well.agreed in
     let was = c.args.self.now in
-    let there = processors-there g.S.Sink.takes (ProceedsIn c.args.policies.now w was.seed was.roster.periods) _ _ w 0 _ _ c.in_ok-tasks.ensures.lived starts.opens in
+    let there =
+    processors-there g.S.Sink.takes (ProceedsIn c.args.policies.now w was.seed was.roster.periods) _ _ w 0 _ _
+    c.in_ok-tasks.ensures.lived starts.opens in
     let many = gone.well.kept.agrees.mirrors.processors.many in
-    let wants = c.in_err-finish.ensures.ends w (ended-well w ended none gone) (omega (arith, c.processors-processors.ensures, there, many)) in
-    err-by c.from_residual-in_err-finish.result c.from_residual-in_err-finish.ensures.1 (λ e is ends. absurd (wants-no-end (sym (is ∙ wants) ∙ ends)))
+    let wants =
+    c.in_err-finish.ensures.ends w (ended-well w ended none gone)
+    (omega (arith, c.processors-processors.ensures, there, many)) in
+    err-by c.from_residual-in_err-finish.result c.from_residual-in_err-finish.ensures.1
+    (λ e is ends. absurd (wants-no-end (sym (is ∙ wants) ∙ ends)))

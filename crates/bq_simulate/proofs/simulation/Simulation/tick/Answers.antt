@@ -11,27 +11,42 @@ use Rattle.bq_simulate.proofs.simulation.Simulation.tick.Goals as goal
 
 pub returns-clause-befell : goal.returns-clause-befell
 returns-clause-befell g c =
-    let said = c.in_ok-run.ensures.does in
+    let stated = c.in_ok-run.ensures.does in
     let was = c.args.self.now.roster in
     let event = Tick c.args.processor c.args.now in
-    let accounts = c.in_ok-switch.ensures.accounts ∙ ap (λ (r : Option ℕ). switched c.args.processor r c.args.now was.periods (accounts_of was)) (sym said.1) in
-    Lived-event g.S.Sink.takes (AreJust (event ∷ [])) _ _ _ _ event said.0 (said.0, [], refl, refl) c.requires (record { agrees = c.in_ok-switch.ensures.agrees; periods = c.in_ok-switch.ensures.periods; seed = refl; streams = refl; firsts = refl }) said.2 accounts
+    let accounts =
+    c.in_ok-switch.ensures.accounts
+    ∙ ap (λ (r : Option ℕ). switched c.args.processor r c.args.now was.periods (accounts_of was)) (sym stated.1) in
+    Lived-event g.S.Sink.takes (AreJust (event ∷ [])) _ _ _ _ event stated.0 (stated.0, [], refl, refl) c.requires
+    (record {
+      agrees = c.in_ok-switch.ensures.agrees;
+      periods = c.in_ok-switch.ensures.periods;
+      seed = refl;
+      streams = refl;
+      firsts = refl;
+    }) stated.2 accounts
 
--- only what runs at this processor may be another task
+-- after a tick only what runs at this processor may be another task
 pub returns-clause-others : goal.returns-clause-others
 returns-clause-others g c =
     let was = c.args.self.now.roster in
     let accounts = c.in_ok-switch.ensures.accounts in
-    λ other apart. ap (λ (a : Accounts). slice_get a.by_processor other) accounts ∙ switched-others c.args.processor _ c.args.now was.periods other (accounts_of was) apart
+    λ other apart.
+    ap (λ (a : Accounts). slice_get a.by_processor other) accounts
+    ∙ switched-others c.args.processor _ c.args.now was.periods other (accounts_of was) apart
 
 -- a tick fails only for memory
 pub returns-in_err-run-clause-ends : goal.returns-in_err-run-clause-ends
 returns-in_err-run-clause-ends g c =
     let p = err_from_is_err_and c.from_residual.result c.from_residual.ensures.1 in
-    λ w well. rw p.1 (p.2 (tick_fails w c.args.now c.args.self.now c.args.processor well c.requires c.in_err-run.field-0.0 c.in_err-run.ensures.fault))
+    λ w well.
+    rw p.1
+    (p.2 (tick_fails w c.args.now c.args.self.now c.args.processor well c.requires c.in_err-run.field-0.0 c.in_err-run.ensures.fault))
 
--- and no switch goes astray
+-- after a tick no switch goes astray
 pub returns-in_err-switch-clause-ends : goal.returns-in_err-switch-clause-ends
 returns-in_err-switch-clause-ends g c =
-    let said = c.in_ok-run.ensures.does in
-    λ w well. absurd (tick_switches w c.args.now c.args.self.now c.tick.new.self c.args.processor c.in_ok-run.run' said.0 said.2.told well c.requires said.1 said.2.holds c.in_err-switch.ensures.stray)
+    let stated = c.in_ok-run.ensures.does in
+    λ w well.
+    absurd (tick_switches w c.args.now c.args.self.now c.tick.new.self c.args.processor c.in_ok-run.run' stated.0
+    stated.2.reported well c.requires stated.1 stated.2.holds c.in_err-switch.ensures.stray)

@@ -14,18 +14,25 @@ returns-in-Some-clause-befell g c =
     let processor = c.args.processor in
     let end = c.args.end in
     let a = accounts_of c.args.self.now.roster in
-    let busy : is_busy a processor ≡ true = busy_at processor a c.in_ok-processor_state.processor_state c.in_ok-processor_state.ensures.there ∙ ap (λ (o : Option ℕ). is_some o) c.in-Some.is in
+    let busy : is_busy a processor ≡ true =
+    busy_at processor a c.in_ok-processor_state.processor_state c.in_ok-processor_state.ensures.there
+    ∙ ap (λ (o : Option ℕ). is_some o) c.in-Some.is in
     let events : last_ticks end (processor ∷ []) a ≡ Tick processor end ∷ [] = busy_tick end processor a busy in
-    on_ok_weaker c.tick.result (Befell-weaker g.S.Sink.takes (AreJust (Tick processor end ∷ [])) (AreJust (last_ticks end (processor ∷ []) a)) (λ xs are. subst (λ (l : List Event). AreJust l xs) (sym events) are) _ _ _ _) c.tick.ensures.befell
+    on_ok_weaker c.tick.result (Befell-weaker g.S.Sink.takes (AreJust (Tick processor end ∷ []))
+    (AreJust (last_ticks end (processor ∷ []) a)) (λ xs are. subst (λ (l : List Event). AreJust l xs) (sym events) are) _ _ _
+    _) c.tick.ensures.befell
 
 pub returns-in-None-clause-befell : goal.returns-in-None-clause-befell
 returns-in-None-clause-befell g c =
     let processor = c.args.processor in
     let end = c.args.end in
     let a = accounts_of c.args.self.now.roster in
-    let idle : is_busy a processor ≡ false = busy_at processor a c.in_ok-processor_state.processor_state c.in_ok-processor_state.ensures.there ∙ ap (λ (o : Option ℕ). is_some o) c.in-None.is in
+    let idle : is_busy a processor ≡ false =
+    busy_at processor a c.in_ok-processor_state.processor_state c.in_ok-processor_state.ensures.there
+    ∙ ap (λ (o : Option ℕ). is_some o) c.in-None.is in
     let events : last_ticks end (processor ∷ []) a ≡ [] = idle_tick end processor a idle in
-    Lived-same g.S.Sink.takes (AreJust (last_ticks end (processor ∷ []) a)) (subst (λ (l : List Event). AreJust l []) (sym events) refl) _ _ _ (Same-here _)
+    Lived-same g.S.Sink.takes (AreJust (last_ticks end (processor ∷ []) a))
+    (subst (λ (l : List Event). AreJust l []) (sym events) refl) _ _ _ (Same-here _)
 
 pub returns-in-Some-clause-ends : goal.returns-in-Some-clause-ends
 returns-in-Some-clause-ends g c = λ w well there. c.tick.ensures.ends w well

@@ -19,25 +19,33 @@ returns-in-Some-clause-befell g c =
     let processor = c.args.processor in
     let now = c.args.now in
     let tick = AreJust (Tick processor now ∷ []) in
-    on_ok_weaker c.tick.result
-    (λ h. Befell-beats g.S.Sink.takes tick (Meet (due.Tick processor) now) _ _ c.args.self.now here _ processor now beats.due (record { agrees = beats.agrees; periods = beats.periods; seed = refl; streams = refl; firsts = refl }) refl beats.accounts (λ deeds are. (deeds, refl, are)) h)
-    c.tick.ensures.befell
+    on_ok_weaker c.tick.result (λ h.
+    Befell-beats g.S.Sink.takes tick (Meet (due.Tick processor) now) _ _ c.args.self.now here _ processor now beats.due
+    (record { agrees = beats.agrees; periods = beats.periods; seed = refl; streams = refl; firsts = refl }) refl
+    beats.accounts (λ deeds are. (deeds, refl, are)) h) c.tick.ensures.befell
 
 -- a clock that beats goes well
 pub returns-in-Some-clause-ends : goal.returns-in-Some-clause-ends
 returns-in-Some-clause-ends g c =
     let beat = c.in_ok-beat.ensures in
-    λ w well next. c.tick.ensures.ends w (well_beaten w c.args.now c.args.self.now c.beat.new.self c.args.processor well beat.due beat.periods beat.accounts beat.agrees)
+    λ w well next.
+    c.tick.ensures.ends w
+    (well_beaten w c.args.now c.args.self.now c.beat.new.self c.args.processor well beat.due beat.periods beat.accounts beat.agrees)
 
--- and something runs there
+-- something runs at a processor whose clock beats
 pub returns-in-None-clause-ends : goal.returns-in-None-clause-ends
 returns-in-None-clause-ends g c =
     let beat = c.in_ok-beat.ensures in
     λ w well next.
     let runs = beaten_runs w c.args.now c.args.self.now c.beat.new.self c.args.processor well beat.due beat.accounts in
-    absurd (runs.2 (ap (λ (l : ProcessorState). l.run) (same_Some runs.0 c.in_ok-processor_state.processor_state (sym runs.1 ∙ c.in_ok-processor_state.ensures.there)) ∙ c.in-None.is))
+    absurd (runs.2 (ap (λ (l : ProcessorState). l.run)
+    (same_Some runs.0 c.in_ok-processor_state.processor_state (sym runs.1 ∙ c.in_ok-processor_state.ensures.there))
+    ∙ c.in-None.is))
 
 -- its clock beats
 pub returns-in_err-beat-clause-ends : goal.returns-in_err-beat-clause-ends
 returns-in_err-beat-clause-ends g c =
-    λ w well next. absurd (beats w c.args.now c.args.self.now c.args.processor well (ticks_now w.machine.duration c.args.processor c.args.now (accounts_of c.args.self.now.roster) next.comes) c.in_err-beat.ensures.stray)
+    λ w well next.
+    absurd (beats w c.args.now c.args.self.now c.args.processor well
+    (ticks_now w.machine.duration c.args.processor c.args.now (accounts_of c.args.self.now.roster) next.comes)
+    c.in_err-beat.ensures.stray)

@@ -12,13 +12,18 @@ use Rattle.bq_simulate.proofs.simulation.Simulation.wake.Goals as goal
 
 pub returns-clause-events : goal.returns-clause-events
 returns-clause-events g c =
-    let said = c.in_ok-entered.ensures.does in
-    (c.in_ok-to.to, Drove-join g.S.Sink.takes _ _ _ c.args.self.now.driver c.wake-2.new.self c.drain.new.self (BeginWake c.args.from c.args.task ∷ EndWake c.args.from c.args.now ∷ []) (Drain c.in_ok-to.to c.args.now ∷ []) (Drove-places g.S.Sink.takes _ _ _ _ _ _ _ _ c.in_ok-to.ensures.does) (Drove-one g.S.Sink.takes _ _ _ _ (Drain c.in_ok-to.to c.args.now) said.0 said.3))
+    let stated = c.in_ok-entered.ensures.does in (
+      c.in_ok-to.to,
+      Drove-join g.S.Sink.takes _ _ _ c.args.self.now.driver c.wake-2.new.self c.drain.new.self
+          (BeginWake c.args.from c.args.task ∷ EndWake c.args.from c.args.now ∷ [])
+          (Drain c.in_ok-to.to c.args.now ∷ []) (Drove-places g.S.Sink.takes _ _ _ _ _ _ _ _ c.in_ok-to.ensures.does)
+          (Drove-one g.S.Sink.takes _ _ _ _ (Drain c.in_ok-to.to c.args.now) stated.0 stated.3),
+    )
 
 -- the processor takes in as many as the answer says, and the task has no phase yet
 pub returns-clause-lived : goal.returns-clause-lived
 returns-clause-lived g c =
-    let said = c.in_ok-entered.ensures.does in
+    let stated = c.in_ok-entered.ensures.does in
     let to = c.in_ok-to.to in
     let now = c.args.now in
     let was = c.args.self.now.roster in
@@ -27,32 +32,48 @@ returns-clause-lived g c =
     let rest = of_task woken c.args.task (accounts_of was) in
     let costs = ap (λ (p : Periods). entered_by to entered.count entered.run now p (accounts_of woke)) c.in_ok-wake.ensures.periods in
     let rises = ap (λ (a : Accounts). entered_by to entered.count entered.run now was.periods a) c.in_ok-wake.ensures.accounts in
-    let runs = ap (λ (r : Option ℕ). entered_by to entered.count r now was.periods rest) (sym said.1) in
-    let counts = ap (λ (n : ℕ). entered_by to n (runs_now said.0) now was.periods rest) (sym said.2) in
-    Lived-wakes g.S.Sink.takes _ _ _ _ _ c.wake-2.new.self c.args.from c.args.task to now said.0 c.requires (record { agrees = λ h. c.in_ok-enter.ensures.agrees (c.in_ok-wake.ensures.agrees h); periods = c.in_ok-enter.ensures.periods ∙ c.in_ok-wake.ensures.periods; seed = refl; streams = refl; firsts = refl }) c.in_ok-to.ensures.does said.3 (c.in_ok-enter.ensures.accounts ∙ costs ∙ rises ∙ runs ∙ counts)
+    let runs = ap (λ (r : Option ℕ). entered_by to entered.count r now was.periods rest) (sym stated.1) in
+    let counts = ap (λ (n : ℕ). entered_by to n (runs_now stated.0) now was.periods rest) (sym stated.2) in
+    Lived-wakes g.S.Sink.takes _ _ _ _ _ c.wake-2.new.self c.args.from c.args.task to now stated.0 c.requires
+    (record {
+      agrees = λ h. c.in_ok-enter.ensures.agrees (c.in_ok-wake.ensures.agrees h);
+      periods = c.in_ok-enter.ensures.periods ∙ c.in_ok-wake.ensures.periods;
+      seed = refl;
+      streams = refl;
+      firsts = refl;
+    }) c.in_ok-to.ensures.does stated.3 (c.in_ok-enter.ensures.accounts ∙ costs ∙ rises ∙ runs ∙ counts)
 
 -- the task rests
 pub returns-in_err-wake-clause-ends : goal.returns-in_err-wake-clause-ends
-returns-in_err-wake-clause-ends g c = λ w well. absurd (wake_rests w c.args.now c.args.self.now c.args.from c.args.task well c.requires c.in_err-wake.ensures.stray)
+returns-in_err-wake-clause-ends g c =
+    λ w well.
+    absurd (wake_rests w c.args.now c.args.self.now c.args.from c.args.task well c.requires c.in_err-wake.ensures.stray)
 
 -- its wake fails only for memory
 pub returns-in_err-to-clause-ends : goal.returns-in_err-to-clause-ends
 returns-in_err-to-clause-ends g c =
     let p = err_from_is_err_and c.from_residual-in_err-to.result c.from_residual-in_err-to.ensures.1 in
-    λ w well. rw p.1 (p.2 (wake_fails w c.args.now c.args.self.now c.args.from c.args.task c.in_err-to.field-0.0 well c.requires c.in_err-to.ensures.fault))
+    λ w well.
+    rw p.1 (p.2
+    (wake_fails w c.args.now c.args.self.now c.args.from c.args.task c.in_err-to.field-0.0 well c.requires c.in_err-to.ensures.fault))
 
--- so does its entry where it was placed
+-- a task's entry where it was placed fails only for memory
 pub returns-in_err-entered-clause-ends : goal.returns-in_err-entered-clause-ends
 returns-in_err-entered-clause-ends g c =
     let p = err_from_is_err_and c.from_residual-in_err-entered.result c.from_residual-in_err-entered.ensures.1 in
     let placed = c.in_ok-to.ensures.does in
-    λ w well. rw p.1 (p.2 (drain_fails w c.args.now c.args.self.now c.wake-2.new.self c.args.from c.args.task c.in_ok-to.to placed.told well c.requires placed.holds c.in_err-entered.field-0.0 c.in_err-entered.ensures.fault))
+    λ w well.
+    rw p.1 (p.2 (drain_fails w c.args.now c.args.self.now c.wake-2.new.self c.args.from c.args.task c.in_ok-to.to
+    placed.reported well c.requires placed.holds c.in_err-entered.field-0.0 c.in_err-entered.ensures.fault))
 
--- and what came of it can be kept
+-- what came of a task's entry can be kept
 pub returns-in_err-enter-clause-ends : goal.returns-in_err-enter-clause-ends
 returns-in_err-enter-clause-ends g c =
     let placed = c.in_ok-to.ensures.does in
-    let said = c.in_ok-entered.ensures.does in
+    let stated = c.in_ok-entered.ensures.does in
     let entered = c.in_ok-entered.entered in
     let woke = c.in_ok-wake.ensures in
-    λ w well. absurd (wake_enters w c.args.now c.args.self.now c.wake-2.new.self c.drain.new.self c.args.from c.args.task c.in_ok-to.to entered.count entered.run placed.told said.3.told said.0 c.wake.new.self.periods (accounts_of c.wake.new.self) well c.requires placed.holds said.3.holds said.1 said.2 woke.periods woke.accounts c.in_err-enter.ensures.stray)
+    λ w well.
+    absurd (wake_enters w c.args.now c.args.self.now c.wake-2.new.self c.drain.new.self c.args.from c.args.task c.in_ok-to.to
+    entered.count entered.run placed.reported stated.3.reported stated.0 c.wake.new.self.periods (accounts_of c.wake.new.self)
+    well c.requires placed.holds stated.3.holds stated.1 stated.2 woke.periods woke.accounts c.in_err-enter.ensures.stray)

@@ -15,10 +15,11 @@ returns-in-Asleep-clause-befell g c =
     let task = c.args.task in
     let now = c.args.now in
     let met = Meet (Wake task) now in
-    on_ok_weaker c.wake.result
-    (λ h. Befell-first takes (AreWake home task now) met _ _ here here _ (Rings task now) (Stays-here here)
-    (λ kinds drawn. (c.in_ok-progress.progress, c.in_ok-progress.ensures.there, c.in-Asleep.is, c.if-progress-now.false, (refl, refl, refl))) (λ deeds are. (home, deeds, refl, are)) h)
-    c.wake.ensures.lived
+    on_ok_weaker c.wake.result (λ h.
+    Befell-first takes (AreWake home task now) met _ _ here here _ (Rings task now) (Stays-here here)
+    (λ kinds drawn.
+    (c.in_ok-progress.progress, c.in_ok-progress.ensures.there, c.in-Asleep.is, c.if-progress-now.false, (refl, refl, refl)))
+    (λ deeds are. (home, deeds, refl, are)) h) c.wake.ensures.lived
 
 -- it wakes a task that sleeps
 pub returns-in-Asleep-clause-ends : goal.returns-in-Asleep-clause-ends

@@ -5,7 +5,7 @@ use Rattle.bq_workload.specs.declared.workload.TaskKind.{TaskKind}
 use Rattle.bq_trace.specs.TraceEvents.{TraceEvent}
 use Rattle.bq_simulate.specs.Actions.{first_of}
 use Rattle.bq_simulate.specs.Chronicles.{Deed, Misses, Reaches}
-use Rattle.bq_simulate.specs.Simulations.{Befell, Goes, Lived}
+use Rattle.bq_simulate.specs.Simulations.{Befell, GoesByDeeds, Lived}
 use Rattle.bq_simulate.specs.Steps.{AreJust, AreWake, Wakes}
 use Rattle.bq_simulate.specs.declared.simulation.Simulation.{Simulation}
 use Rattle.bq_simulate.proofs.AimLemmas.{aim_counted, aim_there, first_kept}
@@ -13,11 +13,13 @@ use Rattle.bq_simulate.proofs.DeedLemmas.{Befell-first, Lived-same, Stays-here}
 use Rattle.bq_simulate.proofs.simulation.Simulation.wake_next.Goals as goal
 
 -- the task that is found by the first of its kind is the one at which the wake aims
-aimed-at : {S : Type 0} (takes : S → ℕ → TraceEvent → S → Type 0) (kinds : List TaskKind) (kind woken first target processor now : ℕ) (x y : S) (s t : Simulation) → slice_get s.firsts.items kind ≡ Some first → target ≡ first + woken
-    → Befell takes (Wakes target processor now) x s y t → Lived takes kinds (Wakes (first_of kinds kind + woken) processor now) x s y t
+aimed-at : {S : Type 0} (takes : S → ℕ → TraceEvent → S → Type 0) (kinds : List TaskKind)
+    (kind woken first target processor now : ℕ) (x y : S) (s t : Simulation)
+    → slice_get s.firsts.items kind ≡ Some first → target ≡ first + woken → Befell takes (Wakes target processor now) x s y t
+    → Lived takes kinds (Wakes (first_of kinds kind + woken) processor now) x s y t
 aimed-at takes kinds kind woken first target processor now x y s t there is befell drawn had firsts =
     let at : target ≡ first_of kinds kind + woken = is ∙ ap (λ n. n + woken) (firsts kind first there) in
-    subst (λ (n : ℕ). Goes takes kinds (Wakes n processor now) x s drawn y t) at (befell kinds drawn had firsts)
+    subst (λ (n : ℕ). GoesByDeeds takes kinds (Wakes n processor now) x s drawn y t) at (befell kinds drawn had firsts)
 
 pub returns-in-Waiting-clause-lived : goal.returns-in-Waiting-clause-lived
 returns-in-Waiting-clause-lived g c =
@@ -26,11 +28,13 @@ returns-in-Waiting-clause-lived g c =
     let processor = c.args.processor in
     let now = c.args.now in
     let wakes = Wakes target processor now in
-    on_ok_weaker c.wake.result
-    (λ h kinds. aimed-at takes kinds c.args.kind c.args.woken c.in_ok-first.first target processor now _ _ _ _ c.in_ok-first.ensures.there (rw c.in_ok-target.ensures.ok_part at c.checked_add.ensures).1
-    (Befell-first takes (AreWake processor target now) wakes _ _ c.args.self.now c.args.self.now _ (Reaches target) (Stays-here c.args.self.now)
-    (λ kinds drawn. (c.in_ok-progress.progress, c.in_ok-progress.ensures.there, c.in-Waiting.is, (refl, refl, refl))) (λ deeds are. inr (deeds, refl, are)) h))
-    c.wake.ensures.lived
+    on_ok_weaker c.wake.result (λ h kinds.
+    aimed-at takes kinds c.args.kind c.args.woken c.in_ok-first.first target processor now _ _ _ _ c.in_ok-first.ensures.there
+    (rw c.in_ok-target.ensures.ok_part at c.checked_add.ensures).1
+    (Befell-first takes (AreWake processor target now) wakes _ _ c.args.self.now
+    c.args.self.now _ (Reaches target) (Stays-here c.args.self.now)
+    (λ kinds drawn. (c.in_ok-progress.progress, c.in_ok-progress.ensures.there, c.in-Waiting.is, (refl, refl, refl)))
+    (λ deeds are. inr (deeds, refl, are)) h)) c.wake.ensures.lived
 
 pub returns-in_default-task_state-clause-lived : goal.returns-in_default-task_state-clause-lived
 returns-in_default-task_state-clause-lived g c =
@@ -38,13 +42,20 @@ returns-in_default-task_state-clause-lived g c =
     let target = c.in_ok-target.target in
     let processor = c.args.processor in
     let now = c.args.now in
-    λ kinds. aimed-at takes kinds c.args.kind c.args.woken c.in_ok-first.first target processor now _ _ _ _ c.in_ok-first.ensures.there (rw c.in_ok-target.ensures.ok_part at c.checked_add.ensures).1
-    (Befell-first takes (AreJust []) (Wakes target processor now) _ _ c.args.self.now c.args.self.now _ (Misses target) (Stays-here c.args.self.now)
-    (λ kinds drawn. (c.in_ok-progress.progress, c.in_ok-progress.ensures.there, c.in_default-task_state.not-Waiting, (refl, refl, refl))) (λ deeds none. inl (ap (λ (l : List Deed). Misses target ∷ l) none)) (Lived-same takes (AreJust []) refl _ _ _ c.miss.ensures))
+    λ kinds.
+    aimed-at takes kinds c.args.kind c.args.woken c.in_ok-first.first target processor now _ _ _ _ c.in_ok-first.ensures.there
+    (rw c.in_ok-target.ensures.ok_part at c.checked_add.ensures).1
+    (Befell-first takes (AreJust []) (Wakes target processor now) _ _
+    c.args.self.now c.args.self.now _ (Misses target) (Stays-here c.args.self.now)
+    (λ kinds drawn. (c.in_ok-progress.progress, c.in_ok-progress.ensures.there, c.in_default-task_state.not-Waiting, (refl, refl, refl)))
+    (λ deeds none. inl (ap (λ (l : List Deed). Misses target ∷ l) none))
+    (Lived-same takes (AreJust []) refl _ _ _ c.miss.ensures))
 
 -- the first task of a kind whose tasks are woken is kept
 pub returns-in_err-first-clause-ends : goal.returns-in_err-first-clause-ends
-returns-in_err-first-clause-ends g c = λ w well busy low. absurd (first_kept w c.args.now c.args.kind c.args.woken c.args.self.now well low c.in_err-first.ensures.missing)
+returns-in_err-first-clause-ends g c =
+    λ w well busy low.
+    absurd (first_kept w c.args.now c.args.kind c.args.woken c.args.self.now well low c.in_err-first.ensures.missing)
 
 -- 16 bits count the task at which the wake aims
 pub returns-in_err-target-clause-ends : goal.returns-in_err-target-clause-ends
@@ -57,8 +68,9 @@ returns-in_err-target-clause-ends g c = λ w well busy low.
 pub returns-in_err-progress-clause-ends : goal.returns-in_err-progress-clause-ends
 returns-in_err-progress-clause-ends g c = λ w well busy low.
     let at = (rw c.in_ok-target.ensures.ok_part at c.checked_add.ensures).1 in
-    absurd (aim_there w c.args.now c.args.kind c.args.woken c.in_ok-first.first c.args.self.now well low c.in_ok-first.ensures.there (ap (slice_get c.args.self.now.roster.by_task.items) (sym at) ∙ c.in_err-progress.ensures.missing))
+    absurd (aim_there w c.args.now c.args.kind c.args.woken c.in_ok-first.first c.args.self.now well low c.in_ok-first.ensures.there
+    (ap (slice_get c.args.self.now.roster.by_task.items) (sym at) ∙ c.in_err-progress.ensures.missing))
 
--- and its wake fails only for memory
+-- the wake of the next task fails only for memory
 pub returns-in-Waiting-clause-ends : goal.returns-in-Waiting-clause-ends
 returns-in-Waiting-clause-ends g c = λ w well busy low. c.wake.ensures.ends w well

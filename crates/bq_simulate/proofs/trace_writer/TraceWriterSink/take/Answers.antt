@@ -11,8 +11,10 @@ pub returns-in-Ok : goal.returns-in-Ok
 returns-in-Ok c =
     let images = image_at c.args.self.now.images in
     let old = string_bytes c.args.self.now.text in
-    subst (λ e. OnOk c.write.result ((c.args.self.now.images ≡ c.args.self.now.images) × Writes images old (event_of e) (string_bytes c.write.new.self))) (sym c.in-Skipped.is)
-    (on_ok_weaker c.write.result
+    subst (λ e.
+    OnOk c.write.result
+    ((c.args.self.now.images ≡ c.args.self.now.images) × Writes images old (event_of e) (string_bytes c.write.new.self)))
+    (sym c.in-Skipped.is) (on_ok_weaker c.write.result
     (λ e. (
       refl,
       writes_line images old (string_bytes c.write.new.self) c.in-Skipped.line.now c.in-Ok.ensures.cases.1

@@ -11,6 +11,9 @@ returns c =
       shown = stays_asked c.args.settings old.names _ _ c.in_ok-shown.ensures.form c.begin.ensures;
       tasks = cc (c.begin_near.ensures.tasks, c.in_ok-shown.ensures.tasks);
       processors = c.begin_near.ensures.processors ∙ c.form_of.ensures.processors;
-      notes = ap (λ (notes : String Global). string_bytes notes) (c.begin_near.ensures.notes ∙ c.form_of.ensures.notes) ∙ c.in_ok-note_uncalled.ensures
-          ∙ ap (λ (names : List (String Global)). string_bytes old.notes ++ uncalled_notes old.names names) c.as_slice-asked.ensures.value;
+      notes =
+          ap (λ (notes : String Global). string_bytes notes) (c.begin_near.ensures.notes ∙ c.form_of.ensures.notes)
+          ∙ c.in_ok-note_uncalled.ensures
+          ∙ ap (λ (names : List (String Global)). string_bytes old.notes ++ uncalled_notes old.names names)
+          c.as_slice-asked.ensures.value;
     }

@@ -11,7 +11,9 @@ returns-clause-form c =
         from = refl;
         to = refl;
         processors = refl;
-        tasks = c.in_ok-add_called.ensures ∙ ap (λ (names : List (String Global)). asked.tasks.items ++ tasks_for c.args.self.now.names names) c.as_slice.ensures.value;
+        tasks =
+            c.in_ok-add_called.ensures
+            ∙ ap (λ (names : List (String Global)). asked.tasks.items ++ tasks_for c.args.self.now.names names) c.as_slice.ensures.value;
       },
       c.of.ensures,
     )

@@ -8,9 +8,12 @@ pub returns-clause-notes : goal.returns-clause-notes
 returns-clause-notes c =
     let begun = c.begin.new.self in
     let screen = begun.screen in
-    let notes = λ (s : Option Figures) (n : ℕ). (string_bytes screen.notes ++ absent_notes s screen.tasks.items screen.processors) ++ last_notes s n in
+    let notes = λ (s : Option Figures) (n : ℕ).
+    (string_bytes screen.notes ++ absent_notes s screen.tasks.items screen.processors) ++ last_notes s n in
     record {
       begun = screen;
       begins = c.in_ok-begin.ensures.form;
-      notes = c.in_ok-close.ensures.notes ∙ ap (λ (s : Option Figures). notes s begun.troubles) c.begin.ensures.schedule ∙ ap (notes c.args.self.now.schedule) c.begin.ensures.troubles;
+      notes =
+          c.in_ok-close.ensures.notes ∙ ap (λ (s : Option Figures). notes s begun.troubles) c.begin.ensures.schedule
+          ∙ ap (notes c.args.self.now.schedule) c.begin.ensures.troubles;
     }

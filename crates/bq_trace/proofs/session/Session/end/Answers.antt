@@ -8,7 +8,7 @@ use Rattle.bq_trace.specs.Trace.{AnswersAll}
 use Rattle.bq_streams.specs.Writing.{AppendsPart}
 use Rattle.bq_trace.specs.Writing.{Adds}
 use Rattle.bq_trace.specs.Feeding.{BreaksOff, Finishes}
-use Rattle.bq_trace.specs.Telling.{Story}
+use Rattle.bq_trace.specs.Reporting.{Story}
 use Rattle.bq_trace.specs.declared.trace_position.TracePosition.{TracePosition}
 use Rattle.bq_trace.proofs.StoryTextLemmas.{gets_text, story_text}
 use Rattle.bq_streams.proofs.ResultLemmas.{OnErr-anyhow}
@@ -33,11 +33,13 @@ returns-in_err-write_text-clause-part g c =
     let on = c.in_ok-end.ensures in
     let all : (begun : List ℕ) → StandsFor s.begun begun → BreaksOff s begun [] old new =
     λ begun h.
-    let told : Adds (string_bytes c.clear.new.self) answers (λ l. AnswersAll s.progress (lines begun) l t.progress) = gets_text string_bytes c.clear.new.self c.end.new.sink (λ told. Story s.progress (lines begun) told t.progress) (λ l. AnswersAll s.progress (lines begun) l t.progress) (story_text s.progress t.progress (lines begun)) (on begun h) in
-    let added : Adds [] answers (λ l. AnswersAll s.progress (lines begun) l t.progress) = rw c.clear.ensures.bytes at told in
-    finishes_part s t begun answers old new added written
-    in
-    OnErr-anyhow _ (subst (λ (s : TracePosition). (begun : List ℕ) → StandsFor s.begun begun → BreaksOff s begun [] old new) c.self.view_is all)
+    let reported : Adds (string_bytes c.clear.new.self) answers (λ l. AnswersAll s.progress (lines begun) l t.progress) =
+    gets_text string_bytes c.clear.new.self c.end.new.sink (λ reported. Story s.progress (lines begun) reported t.progress)
+    (λ l. AnswersAll s.progress (lines begun) l t.progress) (story_text s.progress t.progress (lines begun)) (on begun h) in
+    let added : Adds [] answers (λ l. AnswersAll s.progress (lines begun) l t.progress) = rw c.clear.ensures.bytes at reported in
+    finishes_part s t begun answers old new added written in
+    OnErr-anyhow _
+    (subst (λ (s : TracePosition). (begun : List ℕ) → StandsFor s.begun begun → BreaksOff s begun [] old new) c.self.view_is all)
 
 pub returns-clause-ok : goal.returns-clause-ok
 returns-clause-ok g c =
@@ -50,8 +52,9 @@ returns-clause-ok g c =
     let on = c.in_ok-end.ensures in
     let all : (begun : List ℕ) → StandsFor s.begun begun → Finishes s begun old new t.progress.clean =
     λ begun h.
-    let told : Adds (string_bytes c.clear.new.self) answers (λ l. AnswersAll s.progress (lines begun) l t.progress) = gets_text string_bytes c.clear.new.self c.end.new.sink (λ told. Story s.progress (lines begun) told t.progress) (λ l. AnswersAll s.progress (lines begun) l t.progress) (story_text s.progress t.progress (lines begun)) (on begun h) in
-    let added : Adds [] answers (λ l. AnswersAll s.progress (lines begun) l t.progress) = rw c.clear.ensures.bytes at told in
-    finishes_all s t begun answers old new added written
-    in
+    let reported : Adds (string_bytes c.clear.new.self) answers (λ l. AnswersAll s.progress (lines begun) l t.progress) =
+    gets_text string_bytes c.clear.new.self c.end.new.sink (λ reported. Story s.progress (lines begun) reported t.progress)
+    (λ l. AnswersAll s.progress (lines begun) l t.progress) (story_text s.progress t.progress (lines begun)) (on begun h) in
+    let added : Adds [] answers (λ l. AnswersAll s.progress (lines begun) l t.progress) = rw c.clear.ensures.bytes at reported in
+    finishes_all s t begun answers old new added written in
     subst (λ (s : TracePosition). (begun : List ℕ) → StandsFor s.begun begun → Finishes s begun old new t.progress.clean) c.self.view_is all

@@ -6,7 +6,7 @@ use Rattle.bq_lines.specs.Kept.{StandsFor}
 use Rattle.bq_streams.specs.Writing.{AppendsPart}
 use Rattle.bq_trace.specs.Writing.{Adds}
 use Rattle.bq_trace.specs.Feeding.{Continues, Feeds, BreaksOff}
-use Rattle.bq_trace.specs.Telling.{GoesOn}
+use Rattle.bq_trace.specs.Reporting.{ReportsPiece}
 use Rattle.bq_trace.specs.declared.trace_position.TracePosition.{TracePosition}
 use Rattle.bq_trace.proofs.StoryTextLemmas.{gets_text, goes_on_text}
 use Rattle.bq_streams.proofs.ResultLemmas.{OnErr-anyhow}
@@ -17,7 +17,8 @@ pub returns-in_err-go_on-clause-part : goal.returns-in_err-go_on-clause-part
 returns-in_err-go_on-clause-part g c =
     let s = c.args.self.now in
     let w = g.W.Write.contents (inner_of c.args.out.now) in
-    let part : (begun : List ℕ) → StandsFor s.begun begun → BreaksOff s begun c.args.piece.now w w = λ begun h. feeds_none s begun c.args.piece.now w in
+    let part : (begun : List ℕ) → StandsFor s.begun begun → BreaksOff s begun c.args.piece.now w w =
+    λ begun h. feeds_none s begun c.args.piece.now w in
     OnErr-anyhow _ part
 
 pub returns-in_err-write_text-clause-part : goal.returns-in_err-write_text-clause-part
@@ -32,11 +33,13 @@ returns-in_err-write_text-clause-part g c =
     let on = c.in_ok-go_on.ensures in
     let all : (begun : List ℕ) → StandsFor s.begun begun → BreaksOff s begun piece old new =
     λ begun h.
-    let told : Adds (string_bytes c.clear.new.self) answers (λ l. Continues s begun piece l t) = gets_text string_bytes c.clear.new.self c.go_on.new.sink (λ told. GoesOn s begun piece told t) (λ l. Continues s begun piece l t) (goes_on_text s t begun piece) (on begun h) in
-    let added : Adds [] answers (λ l. Continues s begun piece l t) = rw c.clear.ensures.bytes at told in
-    feeds_part s t begun piece answers old new added written
-    in
-    OnErr-anyhow _ (subst (λ (s : TracePosition). (begun : List ℕ) → StandsFor s.begun begun → BreaksOff s begun piece old new) c.self.view_is all)
+    let reported : Adds (string_bytes c.clear.new.self) answers (λ l. Continues s begun piece l t) =
+    gets_text string_bytes c.clear.new.self c.go_on.new.sink (λ reported. ReportsPiece s begun piece reported t)
+    (λ l. Continues s begun piece l t) (goes_on_text s t begun piece) (on begun h) in
+    let added : Adds [] answers (λ l. Continues s begun piece l t) = rw c.clear.ensures.bytes at reported in
+    feeds_part s t begun piece answers old new added written in
+    OnErr-anyhow _
+    (subst (λ (s : TracePosition). (begun : List ℕ) → StandsFor s.begun begun → BreaksOff s begun piece old new) c.self.view_is all)
 
 pub returns-clause-ok : goal.returns-clause-ok
 returns-clause-ok g c =
@@ -50,8 +53,9 @@ returns-clause-ok g c =
     let on = c.in_ok-go_on.ensures in
     let all : (begun : List ℕ) → StandsFor s.begun begun → Feeds s begun piece t old new =
     λ begun h.
-    let told : Adds (string_bytes c.clear.new.self) answers (λ l. Continues s begun piece l t) = gets_text string_bytes c.clear.new.self c.go_on.new.sink (λ told. GoesOn s begun piece told t) (λ l. Continues s begun piece l t) (goes_on_text s t begun piece) (on begun h) in
-    let added : Adds [] answers (λ l. Continues s begun piece l t) = rw c.clear.ensures.bytes at told in
-    feeds_all s t begun piece answers old new added written
-    in
+    let reported : Adds (string_bytes c.clear.new.self) answers (λ l. Continues s begun piece l t) =
+    gets_text string_bytes c.clear.new.self c.go_on.new.sink (λ reported. ReportsPiece s begun piece reported t)
+    (λ l. Continues s begun piece l t) (goes_on_text s t begun piece) (on begun h) in
+    let added : Adds [] answers (λ l. Continues s begun piece l t) = rw c.clear.ensures.bytes at reported in
+    feeds_all s t begun piece answers old new added written in
     subst (λ (s : TracePosition). (begun : List ℕ) → StandsFor s.begun begun → Feeds s begun piece t old new) c.self.view_is all

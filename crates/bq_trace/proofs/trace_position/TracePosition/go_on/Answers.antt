@@ -7,4 +7,5 @@ loop-tail-init g c = λ begun h. SoFar-none g.S.Sink.takes c.args.self.now begun
 pub loop-tail-preserved : goal.loop-tail-preserved
 loop-tail-preserved g c = λ begun h.
     let before = c.loop-tail.invariant begun h in
-    SoFar-more g.S.Sink.takes _ _ _ _ _ _ _ _ _ _ before c.in-Some.ensures.found.0 c.in-Some.ensures.found.1 (c.in_ok-end_line.ensures.told before.current before.stands) c.in_ok-end_line.ensures.cleared
+    SoFar-more g.S.Sink.takes _ _ _ _ _ _ _ _ _ _ before c.in-Some.ensures.found.0 c.in-Some.ensures.found.1
+    (c.in_ok-end_line.ensures.reported before.current before.stands) c.in_ok-end_line.ensures.cleared

@@ -6,4 +6,6 @@ use Rattle.bq_tree.proofs.index.TreeTimeline.get.Goals as goal
 
 pub returns-clause-task : goal.returns-clause-task
 returns-clause-task g c =
-    Finds-id c.time_of.result c.args.id (in_order_behind c.self.inside.root) _ c.self.invariant.distinct c.time_of.ensures c.get_at.ensures ∙ ap (λ (xs : List Task). with_id c.args.id xs) c.self.view_is
+    Finds-id c.time_of.result c.args.id (in_order_behind c.self.inside.root) _ c.self.invariant.distinct
+    c.time_of.ensures c.get_at.ensures
+    ∙ ap (λ (xs : List Task). with_id c.args.id xs) c.self.view_is

@@ -37,11 +37,15 @@ invariant_of-self g c =
     let small : t.id < 2 ^ 16 = subst (λ (k : ℕ × ℕ). k.1 < 2 ^ 16) key c.key-key.ensures.small in
     let fresh : with_id t.id xs ≡ None = rw c.self.view_is c.requires.fresh in
     let few = room_for_one_more t xs s.distinct s.small fresh small in
-    let others = subst (λ (k : ℕ × ℕ). (ys : List Task) → with_id k.1 ys ≡ None → Knows c.self.inside.times ys → Knows c.remember.new.times ys) key c.remember.ensures.others in
+    let others =
+    subst (λ (k : ℕ × ℕ). (ys : List Task) → with_id k.1 ys ≡ None → Knows c.self.inside.times ys → Knows c.remember.new.times ys)
+    key c.remember.ensures.others in
     let here = subst (λ (k : ℕ × ℕ). k.1 < 1024 → slice_index c.remember.new.times k.1 ≡ k.0) key c.remember.ensures.here in
     let lesser = c.lesser.ensures.value ∙ ap (λ (k : ℕ × ℕ). lesser_of k c.self.inside.least) key in
     let high = c.lesser.ensures.high c.key-key.ensures.high s.high in
-    sound_inserted g.S.Summary.knows c.self.inside.len c.self.inside.root c.insert_into.new.link c.self.inside.least c.lesser.result c.self.inside.times c.remember.new.times t s lesser high c.insert_into.ensures.tree c.insert_into.ensures.order fresh small others here
+    sound_inserted g.S.Summary.knows c.self.inside.len c.self.inside.root c.insert_into.new.link c.self.inside.least
+    c.lesser.result c.self.inside.times c.remember.new.times t s lesser high c.insert_into.ensures.tree
+    c.insert_into.ensures.order fresh small others here
 
 pub overflow_add-self : goal.overflow_add-self
 overflow_add-self g c =

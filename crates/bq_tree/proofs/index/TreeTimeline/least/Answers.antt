@@ -8,5 +8,7 @@ use Rattle.bq_tree.proofs.index.TreeTimeline.least.Goals as goal
 
 pub returns-clause-key : goal.returns-clause-key
 returns-clause-key g c =
-    let first = head-first_by (in_order_behind c.self.inside.root) c.self.invariant.rising ∙ ap (λ (xs : List Task). first_by runs_before xs) c.self.view_is in
+    let first =
+    head-first_by (in_order_behind c.self.inside.root) c.self.invariant.rising
+    ∙ ap (λ (xs : List Task). first_by runs_before xs) c.self.view_is in
     c.self.invariant.leads ∙ ap (λ (o : Option Task). option_map key_of o) first

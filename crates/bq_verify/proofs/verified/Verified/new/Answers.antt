@@ -1,18 +1,20 @@
 use Rattle.std.proofs.Common.{refl}
 use Rattle.std.proofs.lemmas.Result.{err_from_is_err_and}
-use Rattle.bq_verify.specs.Subjects.{in_form}
+use Rattle.bq_verify.specs.Subjects.{subject_of_slots}
 use Rattle.bq_verify.proofs.VerdictLemmas.{accepted_program}
 use Rattle.bq_verify.proofs.verified.Verified.new.Goals as goal
 
 pub returns-in_err-judge-clause-stopped : goal.returns-in_err-judge-clause-stopped
 returns-in_err-judge-clause-stopped c =
     let error = err_from_is_err_and c.from_residual.result c.from_residual.ensures.1 in
-    rw (error.1, error.2) (rw (c.as_slice.ensures.value, c.as_slice-2.ensures.value, c.context_length.ensures) at c.in_err-judge.ensures.stopped)
+    rw (error.1, error.2)
+    (rw (c.as_slice.ensures.value, c.as_slice-2.ensures.value, c.context_length.ensures) at c.in_err-judge.ensures.stopped)
 
 pub returns-in_err-judge-clause-accepts : goal.returns-in_err-judge-clause-accepts
 returns-in_err-judge-clause-accepts c = λ straight.
     let error = err_from_is_err_and c.from_residual.result c.from_residual.ensures.1 in
-    rw (error.1, error.2) (c.in_err-judge.ensures.accepts (rw (c.as_slice.ensures.value, c.as_slice-2.ensures.value, c.context_length.ensures) straight))
+    rw (error.1, error.2)
+    (c.in_err-judge.ensures.accepts (rw (c.as_slice.ensures.value, c.as_slice-2.ensures.value, c.context_length.ensures) straight))
 
 pub returns-in_err-code-clause-stopped : goal.returns-in_err-code-clause-stopped
 returns-in_err-code-clause-stopped c =
@@ -28,7 +30,7 @@ pub returns-clause-accepted : goal.returns-clause-accepted
 returns-clause-accepted c =
     let passed = rw (c.as_slice.ensures.value, c.as_slice-2.ensures.value, c.context_length.ensures) at c.in_ok-judge.ensures.passed in
     let safe = rw (c.as_slice.ensures.value, c.as_slice-2.ensures.value, c.context_length.ensures) at c.in_ok-judge.ensures.safe in
-    accepted_program (in_form c.args.slots.items c.args.form) _ c.requires.passable passed safe
+    accepted_program (subject_of_slots c.args.slots.items c.args.form) _ c.requires.passable passed safe
 
 pub returns-clause-accepts : goal.returns-clause-accepts
 returns-clause-accepts c = λ straight. tt

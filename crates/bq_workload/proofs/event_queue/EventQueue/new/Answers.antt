@@ -6,8 +6,12 @@ use Rattle.bq_workload.proofs.event_queue.EventQueue.new.Goals as goal
 
 pub invariant_of-result : goal.invariant_of-result
 invariant_of-result c =
-    let is : c.in_ok-vec.field-0.items ≡ replicate 4096 never = c.in_ok-vec.ensures.items_if_clones_equal (search rules) in
-    (ap length is ∙ length-replicate 4096 never, never-minima _ is, (λ place h. inl (never-places _ is place h)), λ place _ h. never-places _ is place h)
+    let is : c.in_ok-vec.field-0.items ≡ replicate 4096 never = c.in_ok-vec.ensures.items_if_clones_equal (search rules) in (
+      ap length is ∙ length-replicate 4096 never,
+      never-minima _ is,
+      (λ place h. inl (never-places _ is place h)),
+      λ place _ h. never-places _ is place h,
+    )
 
 pub returns : goal.returns
 returns c = never-places _ (c.in_ok-vec.ensures.items_if_clones_equal (search rules))

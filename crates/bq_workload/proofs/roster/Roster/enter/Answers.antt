@@ -8,4 +8,6 @@ returns-clause-agrees c =
     let old : Roster = c.args.self.now in
     let mid : Roster = c.grow.new.self in
     let more = c.in_ok-grow.ensures in
-    on_ok_weaker c.switch.result (λ stays h. stays (grown-agreed c.args.processor c.args.count old mid more.accounts more.event_queue more.periods h)) c.switch.ensures.agrees
+    on_ok_weaker c.switch.result
+    (λ stays h. stays (grown-agreed c.args.processor c.args.count old mid more.accounts more.event_queue more.periods h))
+    c.switch.ensures.agrees

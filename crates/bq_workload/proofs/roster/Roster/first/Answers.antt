@@ -3,7 +3,10 @@ use Rattle.bq_workload.proofs.DueLemmas.{first-next, none-next}
 use Rattle.bq_workload.proofs.roster.Roster.first.Goals as goal
 
 pub returns-in-None-clause-next : goal.returns-in-None-clause-next
-returns-in-None-clause-next c = none-next c.args.self.now.periods.end (accounts_of c.args.self.now) c.args.self.now.event_queue c.in-None.ensures.none
+returns-in-None-clause-next c =
+    none-next c.args.self.now.periods.end (accounts_of c.args.self.now) c.args.self.now.event_queue c.in-None.ensures.none
 
 pub returns-in-Some-clause-next : goal.returns-in-Some-clause-next
-returns-in-Some-clause-next c = first-next c.args.self.now.periods.end (accounts_of c.args.self.now) c.args.self.now.event_queue c.in-Some.time c.in-Some.place c.at.result c.in-Some.ensures.first c.at.ensures
+returns-in-Some-clause-next c =
+    first-next c.args.self.now.periods.end (accounts_of c.args.self.now) c.args.self.now.event_queue c.in-Some.time
+    c.in-Some.place c.at.result c.in-Some.ensures.first c.at.ensures

@@ -7,7 +7,8 @@ pub processors-preserved : goal.processors-preserved
 processors-preserved c =
     let by_processor = c.args.self.now.by_processor.items in
     let count = c.processors.processor in
-    subst (λ (o : Option ℕ). HasLargest by_processor (count + 1) o) (sym c.larger-best.ensures) (largest_of_more by_processor count c.processors.best c.processors.invariant)
+    subst (λ (o : Option ℕ). HasLargest by_processor (count + 1) o) (sym c.larger-best.ensures)
+    (largest_of_more by_processor count c.processors.best c.processors.invariant)
 
 pub returns : goal.returns
 returns c =

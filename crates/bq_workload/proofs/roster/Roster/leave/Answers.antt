@@ -8,4 +8,5 @@ returns-clause-agrees c =
     let old : Roster = c.args.self.now in
     let mid : Roster = c.shrink.new.self in
     let less = c.in_ok-shrink.ensures in
-    on_ok_weaker c.switch.result (λ stays h. stays (shrunk-agreed c.args.processor old mid less.accounts less.event_queue less.periods h)) c.switch.ensures.agrees
+    on_ok_weaker c.switch.result (λ stays h. stays (shrunk-agreed c.args.processor old mid less.accounts less.event_queue less.periods h))
+    c.switch.ensures.agrees

@@ -9,4 +9,6 @@ returns-clause-agrees c =
     let new : Roster = c.set_processor_state.new.self in
     let plan = c.in_ok-plan.ensures in
     let set = c.set_processor_state.ensures in
-    looked-agreed c.args.processor c.args.now c.in_ok-next.next c.in_ok-processor_state.processor_state old mid new c.in_ok-processor_state.ensures.there c.in_ok-next.ensures.next plan.planned plan.by_task plan.by_processor plan.periods set.by_processor set.by_task set.event_queue set.periods
+    looked-agreed c.args.processor c.args.now c.in_ok-next.next c.in_ok-processor_state.processor_state old mid new
+    c.in_ok-processor_state.ensures.there c.in_ok-next.ensures.next plan.planned plan.by_task plan.by_processor plan.periods
+    set.by_processor set.by_task set.event_queue set.periods

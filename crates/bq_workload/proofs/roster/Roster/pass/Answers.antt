@@ -9,4 +9,6 @@ returns-clause-agrees c =
     let mid : Roster = c.shrink.new.self in
     let new : Roster = c.grow.new.self in
     let less = c.in_ok-shrink.ensures in
-    on_ok_weaker c.grow.result (λ is h. grown-agreed c.args.to 1 mid new is c.grow.ensures.event_queue c.grow.ensures.periods (shrunk-agreed c.args.from old mid less.accounts less.event_queue less.periods h)) c.grow.ensures.accounts
+    on_ok_weaker c.grow.result (λ is h.
+    grown-agreed c.args.to 1 mid new is c.grow.ensures.event_queue c.grow.ensures.periods
+    (shrunk-agreed c.args.from old mid less.accounts less.event_queue less.periods h)) c.grow.ensures.accounts

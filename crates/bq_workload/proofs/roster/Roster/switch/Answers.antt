@@ -18,11 +18,13 @@ returns-in-Some-clause-agrees c =
     let now = c.args.now in
     let charge = c.in_ok-charge.ensures in
     let start = c.start.ensures in
-    on_ok_weaker c.start.result
-    (λ w h.
+    on_ok_weaker c.start.result (λ w h.
     let plans = w.1 in
     subst (λ (k : Periods). Agrees k.end (accounts_of new) new.event_queue) (sym start.periods)
-    (started-agrees mid.periods p c.in-Some.task now plans.0 plans.2.0 (accounts_of mid) (accounts_of new) mid.event_queue new.event_queue (charged-agreed p now c.in_ok-processor_state.processor_state old mid c.in_ok-processor_state.ensures.there charge.accounts charge.event_queue charge.periods h) plans.1 w.0.1 w.0.0 plans.2.1 plans.2.2))
+    (started-agrees mid.periods p c.in-Some.task now plans.0 plans.2.0 (accounts_of mid)
+    (accounts_of new) mid.event_queue new.event_queue
+    (charged-agreed p now c.in_ok-processor_state.processor_state old mid c.in_ok-processor_state.ensures.there
+    charge.accounts charge.event_queue charge.periods h) plans.1 w.0.1 w.0.0 plans.2.1 plans.2.2))
     (both-ok _ _ c.start.result (both-ok _ _ c.start.result start.accounts start.rests) start.plans)
 
 pub returns-in-None-clause-agrees : goal.returns-in-None-clause-agrees
@@ -34,11 +36,12 @@ returns-in-None-clause-agrees c =
     let now = c.args.now in
     let charge = c.in_ok-charge.ensures in
     let idle = c.idle.ensures in
-    on_ok_weaker c.idle.result
-    (λ w h.
+    on_ok_weaker c.idle.result (λ w h.
     let plans = w.1 in
     subst (λ (k : Periods). Agrees k.end (accounts_of new) new.event_queue) (sym idle.periods)
-    (idled-agrees mid.periods p now plans.0 (accounts_of mid) (accounts_of new) mid.event_queue new.event_queue (charged-agreed p now c.in_ok-processor_state.processor_state old mid c.in_ok-processor_state.ensures.there charge.accounts charge.event_queue charge.periods h) plans.1 w.0 plans.2))
+    (idled-agrees mid.periods p now plans.0 (accounts_of mid) (accounts_of new) mid.event_queue new.event_queue
+    (charged-agreed p now c.in_ok-processor_state.processor_state old mid c.in_ok-processor_state.ensures.there
+    charge.accounts charge.event_queue charge.periods h) plans.1 w.0 plans.2))
     (both-ok _ _ c.idle.result idle.accounts idle.plans)
 
 pub returns-in-None-clause-plans : goal.returns-in-None-clause-plans
@@ -48,22 +51,26 @@ returns-in-None-clause-plans c =
     let new : Roster = c.idle.new.self in
     let charge = c.in_ok-charge.ensures in
     let other : is_same c.in_ok-processor_state.processor_state.run c.args.run ≡ false = search rules in
-    on_ok_weaker c.idle.result
-    (λ w. idled-plans c.args.processor c.args.now c.args.run c.in_ok-processor_state.processor_state w.0 new.by_task.items old mid new.event_queue c.in_ok-processor_state.ensures.there other c.in-None.is charge.accounts charge.event_queue charge.periods w.1 w.2)
-    c.idle.ensures.plans
+    on_ok_weaker c.idle.result (λ w.
+    idled-plans c.args.processor c.args.now c.args.run c.in_ok-processor_state.processor_state w.0 new.by_task.items
+    old mid new.event_queue c.in_ok-processor_state.ensures.there other c.in-None.is charge.accounts
+    charge.event_queue charge.periods w.1 w.2) c.idle.ensures.plans
 
 pub returns-in-Some-clause-stray : goal.returns-in-Some-clause-stray
 returns-in-Some-clause-stray c =
     let charge = c.in_ok-charge.ensures in
     let other : is_same c.in_ok-processor_state.processor_state.run c.args.run ≡ false = search rules in
     IfErr-weaker c.start.result _ _
-    (λ why astray. switched-astray c.args.processor c.args.now c.args.run (Some c.in-Some.task) c.in_ok-processor_state.processor_state c.args.self.now c.charge.new.self c.in_ok-processor_state.ensures.there other charge.accounts charge.periods c.in-Some.is astray)
-    c.start.ensures.stray
+    (λ why astray.
+    switched-astray c.args.processor c.args.now c.args.run (Some c.in-Some.task) c.in_ok-processor_state.processor_state
+    c.args.self.now c.charge.new.self c.in_ok-processor_state.ensures.there other charge.accounts charge.periods
+    c.in-Some.is astray) c.start.ensures.stray
 
 pub returns-in-None-clause-stray : goal.returns-in-None-clause-stray
 returns-in-None-clause-stray c =
     let charge = c.in_ok-charge.ensures in
     let other : is_same c.in_ok-processor_state.processor_state.run c.args.run ≡ false = search rules in
-    IfErr-weaker c.idle.result _ _
-    (λ why astray. switched-astray c.args.processor c.args.now c.args.run None c.in_ok-processor_state.processor_state c.args.self.now c.charge.new.self c.in_ok-processor_state.ensures.there other charge.accounts charge.periods c.in-None.is astray)
+    IfErr-weaker c.idle.result _ _ (λ why astray.
+    switched-astray c.args.processor c.args.now c.args.run None c.in_ok-processor_state.processor_state c.args.self.now
+    c.charge.new.self c.in_ok-processor_state.ensures.there other charge.accounts charge.periods c.in-None.is astray)
     c.idle.ensures.stray

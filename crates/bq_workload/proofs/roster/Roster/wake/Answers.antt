@@ -17,4 +17,5 @@ returns-clause-agrees c h =
     let end = old.periods.end in
     subst (λ (p : Periods). Agrees p.end (accounts_of new) new.event_queue) (sym (c.rouse.ensures.periods ∙ plan.periods))
     (subst (λ (l : List ℕ). Agrees end (accounts_of new) l) (sym c.rouse.ensures.event_queue)
-    (woken-agrees end c.args.task (accounts_of old) (accounts_of new) old.event_queue mid.event_queue c.in_ok-find_at_rest.ensures.rests (c.rouse.ensures.accounts ∙ ap (of_task woken c.args.task) here) plan.dropped h))
+    (woken-agrees end c.args.task (accounts_of old) (accounts_of new) old.event_queue mid.event_queue
+    c.in_ok-find_at_rest.ensures.rests (c.rouse.ensures.accounts ∙ ap (of_task woken c.args.task) here) plan.dropped h))

@@ -1,0 +1,23 @@
+//! A viewer below the comments that begin a trace.
+ghost use Rattle.std.specs.Prelude.{◌≡◌};
+ghost use Rattle.bq_timeline.specs.Timelines.{Keeps};
+
+use bq_timeline::viewer::Viewer;
+use bq_trace::{Sink, TraceEvent};
+use std::alloc::AllocError;
+
+/// A viewer that counts the lines of the trace from behind the comments that name the tasks: `offset` is how many of those there
+/// are.
+#[derive(Drop)]
+pub struct OffsetViewer {
+    pub viewer: Viewer,
+    pub offset: u64,
+}
+
+impl Sink for OffsetViewer {
+    ghost takes = { λ old n traced new. (new.offset ≡ old.offset) × Keeps old.viewer traced new.viewer };
+
+    fn take(&mut self, number: u64, event: &TraceEvent<'_>) -> Result<(), AllocError> {
+        self.viewer.take(number.saturating_add(self.offset), event)
+    }
+}

@@ -1,5 +1,0 @@
-use Rattle.bq_schedule.proofs.SwitchLemmas as Switches
-use Rattle.bq_schedule.proofs.laws.tells_starts.Goals as goal
-
-pub returns : goal.returns
-returns c = Switches.tells_starts

@@ -1,6 +1,0 @@
-use Rattle.bq_states.proofs.told.tell_right.Goals as goal
-
-pub returns-then-register-lt11-clause-contains : goal.returns-then-register-lt11-clause-contains
-returns-then-register-lt11-clause-contains c = λ f s contains right.
-    let found = right c.in-Reg.register c.in-Reg.is in
-    c.sharpen.ensures.contains f s found.0 contains found.1 found.2

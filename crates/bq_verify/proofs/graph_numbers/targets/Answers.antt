@@ -1,0 +1,9 @@
+use Rattle.bq_verify.specs.declared.edges.Targets.{Targets}
+use Rattle.bq_verify.proofs.EdgeLemmas.{leads_out}
+use Rattle.bq_verify.proofs.graph_numbers.targets.Goals as goal
+
+pub returns : goal.returns
+returns c =
+    let targets : Targets = record { next = c.next_slot.result; jump = c.jump_slot.result } in
+    leads_out c.args.slots.now c.args.slot c.args.insn c.requires.here targets c.next_slot.ensures
+    c.jump_slot.ensures.some c.jump_slot.ensures.none

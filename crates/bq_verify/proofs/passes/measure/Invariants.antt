@@ -1,6 +1,0 @@
-use Rattle.std.proofs.Common.{length, ◌-◌}
-use Rattle.bq_verify.specs.Passes.{Measured}
-use Rattle.bq_verify.proofs.passes.measure.Given as goal
-
-abbrev pub invariant-loop-done : goal.invariant-loop-done
-invariant-loop-done l = Measured l.slots (length l.slots - l.done) l.heights
