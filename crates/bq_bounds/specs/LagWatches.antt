@@ -7,7 +7,7 @@ use Rattle.bq_parts.specs.declared.event.Event.TheVariants.{EndWake, Drain, Tick
 use Rattle.bq_parts.specs.declared.reply.Reply.{Reply}
 use Rattle.bq_parts.specs.declared.reply.Reply.TheVariants.{Placed, Drained, Ticked, Pulled}
 use Rattle.bq_disc.specs.Tasks.{Task}
-use Rattle.bq_parts.specs.Counts.{saturating_sum}
+use Rattle.bq_disc.specs.Counts.{saturating_sum}
 use Rattle.bq_bounds.specs.declared.charge.Charge.{Charge}
 use Rattle.bq_bounds.specs.declared.stretch.Stretch.{Stretch}
 use Rattle.bq_bounds.specs.declared.lags.Effect.{Effect}

@@ -1,7 +1,7 @@
 //! What the tasks of one processor are owed under EEVDF, while no task comes or goes.
 ghost use Rattle.std.specs.Prelude.{◌≡◌, ◌≤◌, length, List, IsTrue, false, Some};
 ghost use Rattle.bq_disc.specs.Tasks.{Task};
-ghost use Rattle.bq_parts.specs.Counts.{saturating_sum};
+ghost use Rattle.bq_disc.specs.Counts.{saturating_sum};
 ghost use Rattle.bq_bounds.specs.Glances.{IsGlance};
 ghost use Rattle.bq_bounds.specs.Lags.{stretched};
 ghost use Rattle.bq_bounds.specs.LagWatches.{effect_by, effect_of, decided_in, forgotten, gone_on, lags_after, needs_no_look, unasked};

@@ -9,7 +9,7 @@ use Rattle.bq_verify.specs.Accepted.{Accepted}
 use Rattle.bq_installed.specs.Attachments.{IsFor}
 use Rattle.bq_parts.specs.declared.refusal.Refusal.TheVariants as no
 use Rattle.bq_parts.specs.Refusals.{argument_refusal, same_hook, is_for}
-use Rattle.bq_core.proofs.OrderLemmas.{not_refused_is_there, first_refusal_passed}
+use Rattle.bq_parts.proofs.RefusalLemmas.{not_refused_is_there, first_refusal_passed}
 
 -- equal hooks are one
 one_hook : (a b : Hook) → same_hook a b ≡ true → b ≡ a

@@ -1,5 +1,5 @@
 -- The laws of order: each event keeps it, by what its refusals leave and what it does; and so does each run.
-use Rattle.std.proofs.Common.{◌≡◌, ℕ, zero, suc, ◌<◌, ◌%◌, ◌^◌, Bool, true, false, cond, List, [], ◌∷◌, Option, Some, None, refl, subst, sym, leb-false}
+use Rattle.std.proofs.Common.{◌≡◌, ℕ, zero, suc, ◌%◌, ◌^◌, true, false, List, [], ◌∷◌, Option, None, refl, subst, sym}
 use Rattle.std.specs.Prelude.{ℤ, Result, Ok, Err, ◌==◌, nat_le, is_some, unwrap_or}
 use Rattle.std.proofs.lemmas.List.{length-replicate}
 use Rattle.std.proofs.lemmas.Nat.{pow_pos, mod_below}
@@ -21,13 +21,14 @@ use Rattle.bq_parts.specs.declared.refusal.Refusal.{Refusal}
 use Rattle.bq_parts.specs.declared.refusal.Refusal.TheVariants as no
 use Rattle.bq_parts.specs.Processors.{Processor, HasEachOnce, opening}
 use Rattle.bq_parts.specs.World.{World, opening_world, processor_at, entry, count_in, loads_of}
-use Rattle.bq_parts.specs.Refusals.{refusal, argument_refusal, state_refusal, either, is_absent, is_away}
-use Rattle.bq_parts.specs.Choices.{PolicySemantics, SettledChoice, by_programs, place_bytes, own_pull}
+use Rattle.bq_parts.specs.Refusals.{refusal, argument_refusal, is_absent, is_away}
+use Rattle.bq_parts.specs.Choices.{PolicySemantics, SettledChoice, by_programs, place_bytes, own_pull, under_any_answers}
 use Rattle.bq_parts.specs.Moves.{admitted}
 use Rattle.bq_parts.specs.Shares.{after_time, remarked}
 use Rattle.bq_parts.specs.Steps.{WorldStep, Performs}
 use Rattle.bq_parts.specs.StandsOnce.{IsOrderly}
-use Rattle.bq_core.specs.Laws.{OpeningIsOrderly, StepKeeps, RunKeeps, StepKeepsOrder, StepKeepsOrderAnyhow, RunKeepsOrder, HistoryIsOrderly, under_any_answers}
+use Rattle.bq_core.specs.Laws.{OpeningIsOrderly, StepKeeps, RunKeeps, StepKeepsOrder, StepKeepsOrderAnyhow, RunKeepsOrder, HistoryIsOrderly}
+use Rattle.bq_parts.proofs.RefusalLemmas.{accepted, first_refusal_passed, not_refused_is_there}
 use Rattle.bq_parts.proofs.CountLemmas.{each_once_queue}
 use Rattle.bq_parts.proofs.OnceLemmas.{each_once_running}
 use Rattle.bq_core.proofs.EachProcessorLemmas.{IsWell, AllWell, opening_well, performs_well}
@@ -41,26 +42,6 @@ opening_is_orderly n =
     let tidy : IsTidy (count_in (opening_world n)) [] (opening_world n) =
     subst (λ c. IsTidy c [] (opening_world n)) (sym (length-replicate n opening)) (opening_tidy n 1024) in
     orderly_of (opening_world n) tidy (λ processor. subst IsWell (sym (same_everywhere opening n processor)) opening_well)
-
--- of two refusals neither holds
-neither : (o p : Option Refusal) → either o p ≡ None → (o ≡ None) × (p ≡ None)
-neither None p h = (refl, h)
-neither (Some r) p h = cc
-
--- none is refused: neither by its arguments nor by the world
-pub accepted : (w : World) (e : Event) → refusal w e ≡ None → (argument_refusal (count_in w) e ≡ None) × (state_refusal w e ≡ None)
-accepted w e h = neither (argument_refusal (count_in w) e) (state_refusal w e) h
-
--- the first of some refusals doesn't hold, and none of the others does
-pub first_refusal_passed : (b : Bool) (r : Refusal) (rest : Option Refusal) → cond b (Some r) rest ≡ None → (b ≡ false) × (rest ≡ None)
-first_refusal_passed true r rest h = cc
-first_refusal_passed false r rest h = (refl, h)
-
--- a processor that is not refused is there
-pub not_refused_is_there : (count processor : ℕ) (rest : Option Refusal)
-    → cond (nat_le count processor) (Some no.NoProcessor) rest ≡ None → (processor < count) × (rest ≡ None)
-not_refused_is_there count processor rest h =
-    let f = first_refusal_passed (nat_le count processor) no.NoProcessor rest h in (leb-false count processor f.0, f.1)
 
 -- the mask of a task that is admitted has a processor of the machine
 admitted_has_place : (count id : ℕ) (nice : ℤ) (mask slice : ℕ)

@@ -9,7 +9,7 @@ use Rattle.bq_parts.specs.declared.reply.Reply.{Reply}
 use Rattle.bq_parts.specs.declared.refusal.Refusal.{Refusal}
 use Rattle.bq_parts.specs.declared.refusal.Refusal.TheVariants as no
 use Rattle.bq_parts.specs.World.{World, opening_world}
-use Rattle.bq_parts.specs.Choices.{PolicySemantics, by_programs}
+use Rattle.bq_parts.specs.Choices.{PolicySemantics, by_programs, under_any_answers}
 use Rattle.bq_parts.specs.Steps.{WorldStep, WorldRun}
 use Rattle.bq_parts.specs.StandsOnce.{IsOrderly}
 
@@ -33,10 +33,6 @@ RunKeeps s = (w : World) (es : List Event) → IsOrderly w → StaysOrderly s w 
 -- under every discipline each step keeps order
 abbrev pub StepKeepsOrder : Type 0
 StepKeepsOrder = (d : Discipline) → StepKeeps (by_programs d)
-
--- semantics under which a policy may answer anything at all, and leave any maps of its shapes, within its budget
-abbrev pub under_any_answers : Discipline → PolicySemantics
-under_any_answers d = record { discipline = d; Answers = λ policy context maps now processor r0 maps' steps calls. Unit {0} }
 
 -- each step keeps order, whatever the policies answer. This holds under all semantics (proofs/OrderLemmas.antt), but a
 -- contract cannot say so: semantics are of a higher type

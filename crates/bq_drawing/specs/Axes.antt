@@ -2,7 +2,7 @@
 use Rattle.std.specs.Prelude.{ℕ, zero, suc, ◌+◌, ◌*◌, ◌/◌, ◌^◌, ◌-◌, List, [], ◌++◌, codes, if◌then◌else◌, max, min, nat_le}
 use Rattle.std.specs.Fmt.{decimal}
 use Rattle.std.specs.Int.{div_ceil}
-use Rattle.bq_parts.specs.Counts.{saturating_sum}
+use Rattle.bq_disc.specs.Counts.{saturating_sum}
 use Rattle.bq_report.specs.declared.extent.Extent.{Extent}
 use Rattle.bq_drawing.specs.Places.{hundredths, left_edge, place_of, time_width}
 use Rattle.bq_drawing.specs.Shapes.{Setting}

@@ -3,7 +3,7 @@ use Rattle.std.specs.Prelude.{ℕ, ◌+◌, Bool, List, length}
 use Rattle.std.specs.BTreeMap.{is_at}
 use Rattle.std.specs.List.{filter, list_any}
 use Rattle.std.specs.Ordering.{nat_cmp}
-use Rattle.bq_parts.specs.Counts.{saturating_sum}
+use Rattle.bq_disc.specs.Counts.{saturating_sum}
 use Rattle.bq_drawing.specs.declared.legend.Key.{Key}
 use Rattle.bq_drawing.specs.declared.links.Link.{Link}
 use Rattle.bq_drawing.specs.declared.links.LinkKind.{LinkKind}

@@ -1,6 +1,6 @@
 //! What is drawn, and where.
 ghost use Rattle.std.specs.Prelude.{◌≡◌, ◌+◌, ◌*◌, ◌++◌, [], ◌∷◌, IfOk, OnOk, Some, flat_map, length, string_bytes};
-ghost use Rattle.bq_parts.specs.Counts.{saturating_sum};
+ghost use Rattle.bq_disc.specs.Counts.{saturating_sum};
 ghost use Rattle.std.specs.BTreeMap.{get};
 ghost use Rattle.std.specs.Ordering.{nat_cmp};
 ghost use Rattle.bq_drawing.specs.Holdings.{nothing_of, row_with_run, row_with_wait, row_with_wake, waking, with_link, with_run, with_stretch, with_wake};

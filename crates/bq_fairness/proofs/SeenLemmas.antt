@@ -29,7 +29,8 @@ use Rattle.bq_parts.specs.Shares.{Ticks, Drains, Blocks, Pulls, after_time, rema
 use Rattle.bq_parts.proofs.CountLemmas.{each_once_queue, HasDistinctIds-from_counts}
 use Rattle.bq_parts.proofs.OnceLemmas.{each_once_running}
 use Rattle.bq_parts.proofs.PermittedLemmas.{settled_permitted, own_pull_permitted, may_pull_names}
-use Rattle.bq_core.proofs.OrderLemmas.{step_tidy, step_keeps, first_refusal_passed, not_refused_is_there, accepted}
+use Rattle.bq_parts.proofs.RefusalLemmas.{first_refusal_passed, not_refused_is_there, accepted}
+use Rattle.bq_core.proofs.OrderLemmas.{step_tidy, step_keeps}
 use Rattle.bq_fairness.specs.Seen.{running_at, entry, begins, own_steps, leaving, steps_at, DecidesAlone, EventIsSteps, HistoryIsSteps}
 use Rattle.bq_fairness.proofs.PassingLemmas.{own_decision}
 

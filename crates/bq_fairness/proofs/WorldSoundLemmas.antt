@@ -25,7 +25,7 @@ use Rattle.bq_parts.specs.Choices.{PolicySemantics, SettledChoice}
 use Rattle.bq_parts.specs.Moves.{taken_from, without_task, with_pulled, started_if_idle, admitted}
 use Rattle.bq_parts.specs.Shares.{Decides, after_time, remarked}
 use Rattle.bq_parts.specs.Steps.{Performs}
-use Rattle.bq_core.proofs.OrderLemmas.{first_refusal_passed, accepted}
+use Rattle.bq_parts.proofs.RefusalLemmas.{first_refusal_passed, accepted}
 use Rattle.bq_core.proofs.EachProcessorLemmas.{at_set}
 use Rattle.bq_core.proofs.OnTheWayLemmas.{same_everywhere}
 

@@ -5,7 +5,7 @@ use Rattle.std.proofs.lemmas.Bool.{false≢true}
 use Rattle.bq_bpf.specs.declared.board.CounterCall.{CounterCall}
 use Rattle.bq_hooks.specs.Hooks.{context_length_of}
 use Rattle.bq_bpf.specs.Memory.{HaveShapes}
-use Rattle.bq_interp.specs.declared.runs.Done.{Done}
+use Rattle.bq_bpf.specs.declared.runs.Done.{Done}
 use Rattle.bq_verify.specs.Accepted.{Accepted}
 use Rattle.bq_installed.specs.Answers.{Answers, IsWithin}
 use Rattle.bq_installed.specs.Attachments.{Attached, AnswersAt, policy_in, maps_in}

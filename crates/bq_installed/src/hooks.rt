@@ -9,9 +9,8 @@ ghost use Rattle.bq_installed.specs.Standing.{WasAnswered};
 ghost use Rattle.bq_installed.specs.Attachments.{AnswersAt, none_attached, at_hook, with_attached, IsFor};
 
 use crate::{Installed, Scratch};
-use bq_bpf::Board;
+use bq_bpf::{Board, Done, Env};
 use bq_hooks::{Hook, Version};
-use bq_interp::{Done, Env};
 use std::marker::Model;
 
 /// What is installed at each hook of a processor. Nothing here was verified for another hook.

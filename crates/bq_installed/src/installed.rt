@@ -9,9 +9,9 @@ ghost use Rattle.bq_installed.specs.Standing.{IsEquipped, WasAnswered};
 ghost use Rattle.bq_installed.specs.Attachments.{AnswersAt, nothing_attached};
 
 use crate::{Policy, Scratch};
-use bq_bpf::Board;
+use bq_bpf::{Board, Done, Env};
 use bq_hooks::Version;
-use bq_interp::{Done, Env, run_into};
+use bq_interp::run_into;
 use bq_maps::Maps;
 use std::alloc::{AllocError, Global};
 use std::marker::Model;

@@ -6,3 +6,4 @@ pub mod PermittedLemmas
 pub mod LeaveLemmas
 pub mod PullingLemmas
 pub mod SendLemmas
+pub mod RefusalLemmas

@@ -33,6 +33,10 @@ pub record PolicySemantics : Type 1 where
 abbrev pub by_programs : Discipline → PolicySemantics
 by_programs d = record { discipline = d; Answers = Answers }
 
+-- semantics under which a policy may answer anything at all, and leave any maps of its shapes, within its budget
+abbrev pub under_any_answers : Discipline → PolicySemantics
+under_any_answers d = record { discipline = d; Answers = λ policy context maps now processor r0 maps' steps calls. Unit {0} }
+
 -- a choice, who made it, how many steps it took, what was asked of the counters, and what is attached to the hook afterwards
 pub record SettledChoice : Type 0 where
   pub choice : ℕ

@@ -1,6 +1,5 @@
 pub mod Processors
 pub mod World
-pub mod Counts
 pub mod Refusals
 pub mod RefusalTexts
 pub mod Choices

@@ -13,7 +13,7 @@ ghost use Rattle.bq_parts.specs.Processors.{HasEachOnce, HasLobbyIds, size_of};
 ghost use Rattle.bq_parts.specs.Choices.{by_programs, place_bytes, SettlesPlace, SettlesPreempt, SettlesPulled, decided_by, decision_of};
 
 use crate::{Carried, Cpu, Decision};
-use bq_bpf::Board;
+use bq_bpf::{Board, Done, Env};
 use bq_disc::RunQueue;
 use bq_disc::limits::{PROCESSORS, TASKS};
 use bq_hooks::place::{PLACE_LENGTH, Place, WIDE_PLACE_LENGTH, place_ctx, wide_place_ctx};
@@ -21,7 +21,6 @@ use bq_hooks::preempt::{PREEMPT_LENGTH, Preempt, preempt_ctx};
 use bq_hooks::pull::{PULL_LENGTH, Pull, pull_ctx};
 use bq_hooks::{By, Choice, Hook, Version, own_place, settle_place, settle_preempt, settle_pull};
 use bq_installed::Scratch;
-use bq_interp::{Done, Env};
 
 impl<T> Decision<T> {
     /// The discipline's own choice as a decision, with no policy asked.

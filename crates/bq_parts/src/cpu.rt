@@ -14,13 +14,13 @@ ghost use Rattle.bq_parts.specs.Processors.{opening, load_of, size_of, count_of,
 ghost use Rattle.bq_parts.specs.Moves.{taken_from, without_task, with_pulled, started_if_idle};
 
 use crate::{Carried, Inbox, Unlinked};
+use bq_bpf::Done;
 use bq_disc::clock::LATEST;
 use bq_disc::limits::PROCESSORS;
 use bq_disc::node::{self, Link};
 use bq_disc::{Entry, Node, RunQueue};
 use bq_hooks::Hook;
 use bq_installed::{Hooks, Installed};
-use bq_interp::Done;
 use std::marker::Model;
 
 /// A processor. A call whose contract has a clause `share` is the processor's share of an event. The other calls make a processor,

@@ -6,7 +6,7 @@ use Rattle.std.specs.Option.{option_zip}
 use Rattle.bq_words.specs.Numbers.{value_of}
 use Rattle.hex.specs.Hex.{decode_of}
 use Rattle.bq_maps.specs.Arrays.{Arrays, HasEntry, entries_in, first_of, value_size_of, with_bytes}
-use Rattle.bq_maps.proofs.ShapeLemmas.{length-overwrite}
+use Rattle.bq_bpf.proofs.MapLemmas.{length-overwrite}
 use Rattle.bq_bpf.specs.Memory.{overwrite}
 use Rattle.bq_bpf.specs.declared.shape.MapShape.{MapShape}
 use Rattle.bq_hooks.specs.declared.hook.Hook.{Hook}

@@ -11,7 +11,7 @@ use Rattle.bq_explain.specs.Verdicts.{IsAcceptedPolicy, IsRefusedPolicy, verdict
 use Rattle.bq_policy_run.specs.declared.inputs.Inputs.{Inputs}
 use Rattle.bq_maps.specs.Arrays.{Arrays}
 use Rattle.bq_bpf.specs.Runs.{start}
-use Rattle.bq_interp.specs.declared.env.Env.{Env}
+use Rattle.bq_bpf.specs.declared.runs.Env.{Env}
 use Rattle.bq_interp.specs.declared.traced.Snapshot.{Snapshot}
 use Rattle.bq_interp.specs.Progress.{setting_of}
 use Rattle.bq_interp.specs.Snapshots.{AreSnapshots}

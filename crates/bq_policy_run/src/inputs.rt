@@ -8,10 +8,9 @@ ghost use Rattle.bq_console.specs.Words.{GivesNone};
 ghost use Rattle.bq_policy_run.specs.Naming.{IsClean, IsContextNamed};
 
 use crate::faults::refused;
-use bq_bpf::Plain;
+use bq_bpf::{Env, Plain};
 use bq_console::WordsFault;
 use bq_hooks::context_length;
-use bq_interp::Env;
 use bq_maps::Maps;
 use bq_verify::Verified;
 use std::alloc::{AllocError, Global};

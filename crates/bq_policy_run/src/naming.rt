@@ -9,8 +9,8 @@ ghost use Rattle.bq_policy_check.specs.Given.{option_bytes};
 
 use crate::faults::refused;
 use crate::{Inputs, inputs_of};
+use bq_bpf::Env;
 use bq_console::WordsFault;
-use bq_interp::Env;
 use bq_policy_check::{RunWords, small_number};
 use bq_verify::Verified;
 use bq_words::{duration, with_32_bits, with_units};

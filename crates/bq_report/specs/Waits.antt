@@ -1,7 +1,7 @@
 -- Waits that still go on when a schedule ends.
 use Rattle.std.specs.Prelude.{ℕ, ◌-◌, Option, Some, None, option_and_then, unwrap_or, if◌then◌else◌}
 use Rattle.std.specs.Option.{option_map}
-use Rattle.bq_parts.specs.Counts.{saturating_sum}
+use Rattle.bq_disc.specs.Counts.{saturating_sum}
 use Rattle.bq_schedule.specs.Figures.{Figures, processor_of, task_of}
 use Rattle.bq_schedule.specs.Running.{running_task}
 use Rattle.bq_schedule.specs.Slices.{is_this}

@@ -19,12 +19,11 @@ use Rattle.bq_parts.specs.Processors.{Processor, opening}
 use Rattle.bq_parts.specs.World.{World, opening_world, processor_at, count_in, with_processor}
 use Rattle.bq_parts.specs.Refusals.{refusal}
 use Rattle.bq_parts.specs.Moves.{with_pulled, started_if_idle, without_task, taken_from}
-use Rattle.bq_parts.specs.Choices.{PolicySemantics}
+use Rattle.bq_parts.specs.Choices.{PolicySemantics, under_any_answers}
 use Rattle.bq_hooks.specs.Permitted.{task_numbered}
 use Rattle.bq_parts.specs.Shares.{after_time, remarked}
 use Rattle.bq_parts.specs.Steps.{Performs, WorldStep, WorldRun}
-use Rattle.bq_core.specs.Laws.{under_any_answers}
-use Rattle.bq_core.proofs.OrderLemmas.{not_refused_is_there, first_refusal_passed, accepted}
+use Rattle.bq_parts.proofs.RefusalLemmas.{not_refused_is_there, first_refusal_passed, accepted}
 use Rattle.bq_schedule.specs.Moments.{History}
 use Rattle.bq_schedule.specs.Slices.{Sight, sight, sight_of, clock_after, clock, runner_after, runner}
 use Rattle.bq_schedule.specs.Laws.{IsWithin, IsOfProcessors, grown, IsCharged}

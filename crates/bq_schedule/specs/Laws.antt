@@ -10,7 +10,7 @@ use Rattle.bq_parts.specs.declared.reply.Reply.{Reply}
 use Rattle.bq_parts.specs.declared.refusal.Refusal.{Refusal}
 use Rattle.bq_parts.specs.World.{World, opening_world, processor_at}
 use Rattle.bq_parts.specs.Steps.{WorldRun}
-use Rattle.bq_core.specs.Laws.{under_any_answers}
+use Rattle.bq_parts.specs.Choices.{under_any_answers}
 use Rattle.bq_schedule.specs.declared.slice.Slice.{Slice}
 use Rattle.bq_schedule.specs.declared.change.Start.{Start}
 use Rattle.bq_schedule.specs.declared.change.Stop.{Stop}

@@ -6,7 +6,7 @@ use Rattle.bq_schedule.specs.declared.change.Start.{Start}
 use Rattle.bq_schedule.specs.declared.change.ClockReading.{ClockReading}
 use Rattle.bq_schedule.specs.declared.figures.TaskFigures.{TaskFigures}
 use Rattle.bq_schedule.specs.declared.figures.ProcessorFigures.{ProcessorFigures}
-use Rattle.bq_parts.specs.Counts.{saturating_sum}
+use Rattle.bq_disc.specs.Counts.{saturating_sum}
 use Rattle.bq_schedule.specs.Counts.{counted_wide, parts_per_nanosecond}
 use Rattle.bq_schedule.specs.Figures.{Figures, processor_of, task_of, with_processor, with_task}
 

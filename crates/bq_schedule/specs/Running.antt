@@ -7,7 +7,7 @@ use Rattle.bq_schedule.specs.declared.change.Left.{Left}
 use Rattle.bq_schedule.specs.declared.change.Left.TheVariants.{Preempted, Blocked}
 use Rattle.bq_schedule.specs.declared.figures.TaskFigures.{TaskFigures}
 use Rattle.bq_schedule.specs.declared.figures.ProcessorFigures.{ProcessorFigures}
-use Rattle.bq_parts.specs.Counts.{saturating_sum}
+use Rattle.bq_disc.specs.Counts.{saturating_sum}
 use Rattle.bq_schedule.specs.Figures.{Figures, processor_of, task_of, with_processor, with_task}
 
 -- the task that runs at a processor

@@ -18,7 +18,7 @@ use Rattle.bq_schedule.specs.declared.change.PulledTask.{PulledTask}
 use Rattle.bq_schedule.specs.declared.change.Left.TheVariants.{Preempted, Blocked}
 use Rattle.bq_schedule.specs.declared.figures.ProcessorFigures.{ProcessorFigures}
 use Rattle.bq_schedule.specs.declared.figures.HookFigures.{HookFigures}
-use Rattle.bq_parts.specs.Counts.{saturating_sum}
+use Rattle.bq_disc.specs.Counts.{saturating_sum}
 use Rattle.bq_schedule.specs.Moments.{History}
 use Rattle.bq_schedule.specs.Figures.{Figures, opening, processor_of, task_of, with_processor, with_task}
 use Rattle.bq_schedule.specs.Passing.{reading_at, slice_at, ended_run, read_at}

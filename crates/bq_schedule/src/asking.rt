@@ -1,6 +1,6 @@
 //! How often each hook's policies were asked, and what became of their answers.
 ghost use Rattle.std.specs.Prelude.{◌≡◌, if◌then◌else◌};
-ghost use Rattle.bq_parts.specs.Counts.{saturating_sum};
+ghost use Rattle.bq_disc.specs.Counts.{saturating_sum};
 ghost use Rattle.bq_schedule.specs.Steps.{hook_asked, processor_asked, asked};
 
 use crate::change::Decision;

@@ -7,7 +7,7 @@ use Rattle.std.proofs.lemmas.Option.{none-some}
 use Rattle.bq_parts.specs.declared.event.Event.TheVariants.{Tick}
 use Rattle.bq_parts.specs.declared.reply.Reply.{Reply}
 use Rattle.bq_parts.specs.World.{World, count_in}
-use Rattle.bq_core.proofs.OrderLemmas.{accepted, not_refused_is_there}
+use Rattle.bq_parts.proofs.RefusalLemmas.{accepted, not_refused_is_there}
 use Rattle.bq_trace.specs.TraceEvents.{TraceEvent, Reported}
 use Rattle.bq_workload.specs.declared.processor_state.ProcessorState.{ProcessorState}
 use Rattle.bq_workload.specs.declared.progress.TaskProgress.{TaskProgress}

@@ -11,13 +11,13 @@ use Rattle.bq_parts.specs.declared.event.Event.TheVariants.{Draw, Install}
 use Rattle.bq_parts.specs.declared.reply.Reply.{Reply}
 use Rattle.bq_parts.specs.declared.reply.Reply.TheVariants.{Drawn}
 use Rattle.bq_parts.specs.Choices.{by_programs}
-use Rattle.bq_parts.specs.Counts.{saturating_sum}
+use Rattle.bq_disc.specs.Counts.{saturating_sum}
 use Rattle.bq_parts.specs.Processors.{Processor, opening}
 use Rattle.bq_parts.specs.Steps.{WorldStep}
 use Rattle.bq_parts.specs.World.{World, count_in, opening_world, processor_at, with_processor}
 use Rattle.bq_verify.specs.Accepted.{Accepted}
 use Rattle.bq_core.proofs.OnTheWayLemmas.{same_everywhere}
-use Rattle.bq_core.proofs.OrderLemmas.{accepted, not_refused_is_there}
+use Rattle.bq_parts.proofs.RefusalLemmas.{accepted, not_refused_is_there}
 use Rattle.bq_simulate.specs.Kept.{IsNewerFrom, WereDrawn}
 use Rattle.bq_simulate.specs.KeptLaws.{GenerationsAreNewer}
 use Rattle.bq_simulate.proofs.MirrorLemmas.{at_set_else}

@@ -18,7 +18,7 @@ use Rattle.bq_parts.specs.Steps.{WorldStep}
 use Rattle.bq_parts.specs.World.{World, processor_at, entry, count_in}
 use Rattle.bq_parts.proofs.CountLemmas.{one_self}
 use Rattle.bq_parts.proofs.OnceLemmas.{count_of-held_by, held_le}
-use Rattle.bq_core.proofs.OrderLemmas.{accepted, first_refusal_passed, not_refused_is_there}
+use Rattle.bq_parts.proofs.RefusalLemmas.{accepted, first_refusal_passed, not_refused_is_there}
 use Rattle.bq_trace.specs.Machines.{discipline_of}
 use Rattle.bq_trace.specs.TraceEvents.{Reported}
 use Rattle.bq_workload.specs.declared.action.Action.{Action}

@@ -19,7 +19,8 @@ use Rattle.bq_parts.specs.Refusals.{is_absent}
 use Rattle.bq_parts.specs.Steps.{WorldStep}
 use Rattle.bq_parts.specs.World.{World, count_in, opening_world}
 use Rattle.bq_core.proofs.OnTheWayLemmas.{same_everywhere}
-use Rattle.bq_core.proofs.OrderLemmas.{accepted, first_refusal_passed, not_refused_is_there, opening_is_orderly}
+use Rattle.bq_parts.proofs.RefusalLemmas.{accepted, first_refusal_passed, not_refused_is_there}
+use Rattle.bq_core.proofs.OrderLemmas.{opening_is_orderly}
 use Rattle.bq_core.proofs.SizeLemmas.{step_count}
 use Rattle.bq_trace.specs.Machines.{discipline_of}
 use Rattle.bq_trace.specs.TraceEvents.{Reported}

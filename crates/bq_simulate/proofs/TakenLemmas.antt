@@ -23,7 +23,7 @@ use Rattle.bq_parts.specs.declared.reply.Reply.{Reply}
 use Rattle.bq_parts.specs.declared.refusal.Refusal.TheVariants as no
 use Rattle.bq_parts.specs.Processors.{Processor, HasEachOnce, size_of}
 use Rattle.bq_parts.specs.World.{World, processor_at, entry, count_in, with_lobby, with_processor}
-use Rattle.bq_parts.specs.Counts.{saturating_sum}
+use Rattle.bq_disc.specs.Counts.{saturating_sum}
 use Rattle.bq_parts.specs.Choices.{SettledChoice, decided_by, own_pull, by_programs}
 use Rattle.bq_parts.specs.Moves.{after_leaving, as_it_leaves, taken_from, without_task}
 use Rattle.bq_parts.specs.Refusals.{either, generation_refusal, is_away, same_hook}

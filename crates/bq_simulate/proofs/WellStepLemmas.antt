@@ -10,7 +10,7 @@ use Rattle.bq_parts.specs.Choices.{by_programs}
 use Rattle.bq_parts.specs.Steps.{WorldStep}
 use Rattle.bq_parts.specs.World.{World, count_in}
 use Rattle.bq_parts.proofs.OnceLemmas.{few_at}
-use Rattle.bq_core.proofs.OrderLemmas.{accepted, not_refused_is_there}
+use Rattle.bq_parts.proofs.RefusalLemmas.{accepted, not_refused_is_there}
 use Rattle.bq_core.proofs.SizeLemmas.{step_count}
 use Rattle.bq_trace.specs.Machines.{discipline_of}
 use Rattle.bq_trace.specs.TraceEvents.{Reported}

@@ -17,7 +17,7 @@ use Rattle.bq_bpf.specs.Meaning.{word_of}
 use Rattle.bq_bpf.specs.declared.shape.MapShape.{MapShape}
 use Rattle.bq_bpf.specs.Memory.{Setting, State, Region, InStack, InEntry, IsGood, stack_with, written}
 use Rattle.bq_bpf.specs.Steps.{address_of, low_bytes, next}
-use Rattle.bq_maps.proofs.ShapeLemmas.{have_overwritten}
+use Rattle.bq_bpf.proofs.MapLemmas.{have_overwritten}
 use Rattle.bq_ranges.specs.declared.range.Range.{Range}
 use Rattle.bq_ranges.specs.Within.{Within}
 use Rattle.bq_states.specs.declared.abstract_state.ValueKind.{ValueKind}

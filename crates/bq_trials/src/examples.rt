@@ -3,9 +3,8 @@
 
 use arrayvec::ArrayVec;
 use bq_asm::assemble;
-use bq_bpf::Plain;
+use bq_bpf::{Env, Plain};
 use bq_hooks::{Hook, Version, context_length};
-use bq_interp::env::Env;
 use bq_interp::runs::{run, run_into};
 use bq_interp::stack::Stack;
 use bq_interp::traced::run_traced;

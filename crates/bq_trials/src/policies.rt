@@ -2,10 +2,9 @@
 
 use crate::asserting::{is_number, is_true};
 use bq_asm::assemble;
-use bq_bpf::{CounterCall, MapShape, Plain};
+use bq_bpf::{CounterCall, Env, MapShape, Plain};
 use bq_hooks::{Hook, Version, context_length};
 use bq_installed::{Hooks, Installed, Policy, Scratch};
-use bq_interp::Env;
 use bq_verify::{PolicyForm, Program, verify};
 use std::alloc::Global;
 use std::process::Abort;

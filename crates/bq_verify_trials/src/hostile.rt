@@ -2,9 +2,9 @@
 // contexts of zeros and of ff. That it does so on every context is proved; the test is of the code as it is built.
 
 use crate::images::COUNTING;
-use bq_bpf::Plain;
+use bq_bpf::{Env, Plain};
 use bq_hooks::context_length;
-use bq_interp::{Env, Ran, Stack, run};
+use bq_interp::{Ran, Stack, run};
 use bq_load::load;
 use bq_maps::Maps;
 use bq_verify::Verified;

@@ -1,7 +1,7 @@
 -- What is remembered of a policy that stands is an answer of that policy.
 use Rattle.std.proofs.Common.{◌≡◌, ℕ, Option, Some, None, refl, subst}
 use Rattle.bq_verify.specs.Accepted.{Accepted}
-use Rattle.bq_interp.specs.declared.runs.Done.{Done}
+use Rattle.bq_bpf.specs.declared.runs.Done.{Done}
 use Rattle.bq_installed.specs.Standing.{HasAnswered, WasAnswered}
 
 -- what is remembered of a policy that stands is an answer which it gave, in this many steps

@@ -1,5 +1,5 @@
 use Rattle.std.proofs.Common.{◌≡◌, List, ℕ, ◌++◌, ◌∙◌, ap, arith, string_bytes}
-use Rattle.bq_parts.specs.Counts.{saturating_sum}
+use Rattle.bq_disc.specs.Counts.{saturating_sum}
 use Rattle.bq_drawing.specs.Axes.{axis_name, marks_text}
 use Rattle.bq_drawing.specs.Shapes.{setting_of}
 use Rattle.bq_drawing.specs.Titles.{unit_name}

@@ -1,7 +1,7 @@
 use Rattle.std.proofs.Common.{◌≡◌, ◌++◌, ◌/◌, ◌∙◌, ap, sym, arith, true, nat_le, cond, [], string_bytes}
 use Rattle.std.proofs.lemmas.Bool.Decides.{nat_tests}
 use Rattle.std.proofs.lemmas.Result.{on_ok_weaker}
-use Rattle.bq_parts.specs.Counts.{saturating_sum}
+use Rattle.bq_disc.specs.Counts.{saturating_sum}
 use Rattle.bq_drawing.specs.Axes.{grid_count, grid_line, mark_text}
 use Rattle.bq_drawing.specs.Places.{place_of}
 use Rattle.bq_drawing.specs.Shapes.{setting_of}

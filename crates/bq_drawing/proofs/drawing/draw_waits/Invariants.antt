@@ -1,6 +1,6 @@
 use Rattle.std.proofs.Common.{◌≡◌, ◌<◌, ◌^◌, [], ◌++◌, drop}
 use Rattle.std.specs.Prelude.{string_bytes}
-use Rattle.bq_parts.specs.Counts.{saturating_sum}
+use Rattle.bq_disc.specs.Counts.{saturating_sum}
 use Rattle.bq_drawing.specs.declared.lanes.Stretch.{Stretch}
 use Rattle.bq_drawing.specs.Lanes.{lanes_after, left_out}
 use Rattle.bq_drawing.specs.Shapes.{in_lanes, setting_of, wait_in, waits_text}

@@ -1,6 +1,6 @@
 use Rattle.std.proofs.Common.{◌∙◌, ap, arith}
 use Rattle.std.proofs.lemmas.List.{drop_all}
-use Rattle.bq_parts.specs.Counts.{saturating_sum}
+use Rattle.bq_disc.specs.Counts.{saturating_sum}
 use Rattle.bq_drawing.specs.Shapes.{arrow_of, setting_of, wake_in}
 use Rattle.bq_drawing.proofs.PictureLemmas.{lanes_end, lanes_next}
 use Rattle.bq_drawing.proofs.PlacedLemmas.{left_all, left_more}

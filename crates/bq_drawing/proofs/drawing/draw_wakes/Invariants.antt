@@ -1,6 +1,6 @@
 use Rattle.std.proofs.Common.{◌≡◌, ◌<◌, ◌^◌, [], ◌++◌, drop}
 use Rattle.std.specs.Prelude.{string_bytes}
-use Rattle.bq_parts.specs.Counts.{saturating_sum}
+use Rattle.bq_disc.specs.Counts.{saturating_sum}
 use Rattle.bq_drawing.specs.Lanes.{left_out}
 use Rattle.bq_drawing.specs.Shapes.{arrow_of, in_lanes, setting_of, wake_in, wakes_text}
 use Rattle.bq_drawing.proofs.drawing.draw_wakes.Given as goal

@@ -1,7 +1,7 @@
 use Rattle.std.proofs.Common.{◌≡◌, ◌++◌, ◌∙◌, ap, length, string_bytes}
 use Rattle.std.proofs.lemmas.List.{drop_all}
 use Rattle.std.proofs.lemmas.Result.{on_ok_weaker}
-use Rattle.bq_parts.specs.Counts.{saturating_sum}
+use Rattle.bq_disc.specs.Counts.{saturating_sum}
 use Rattle.bq_drawing.specs.Legends.{entries_text, key_text, key_top, leaves_out, left_out_text, line_height, text_if}
 use Rattle.bq_drawing.specs.Shapes.{setting_of}
 use Rattle.bq_drawing.proofs.LegendLemmas.{entries_end, entries_next}

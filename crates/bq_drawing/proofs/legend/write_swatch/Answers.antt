@@ -1,5 +1,5 @@
 use Rattle.std.proofs.Common.{ap, ◌∙◌, string_bytes}
-use Rattle.bq_parts.specs.Counts.{saturating_sum}
+use Rattle.bq_disc.specs.Counts.{saturating_sum}
 use Rattle.bq_drawing.specs.Legends.{name_at}
 use Rattle.bq_drawing.proofs.PictureLemmas.{last_added}
 use Rattle.bq_drawing.proofs.legend.write_swatch.Goals as goal

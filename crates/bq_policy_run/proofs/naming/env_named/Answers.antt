@@ -1,6 +1,6 @@
 use Rattle.std.proofs.Common.{◌^◌}
 use Rattle.std.proofs.lemmas.Result.{err_from_is_err_and}
-use Rattle.bq_interp.specs.declared.env.Env.{Env}
+use Rattle.bq_bpf.specs.declared.runs.Env.{Env}
 use Rattle.bq_policy_run.specs.Running.{HasClock, IsNumberOrZero, IsTime}
 use Rattle.bq_policy_check.specs.Given.{option_bytes}
 use Rattle.bq_console.proofs.GivenLemmas.{none_whole}

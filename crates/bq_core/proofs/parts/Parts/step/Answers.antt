@@ -13,7 +13,7 @@ use Rattle.bq_parts.specs.World.{World, count_in}
 use Rattle.bq_parts.specs.Refusals.{refusal, argument_refusal, state_refusal, either}
 use Rattle.bq_parts.specs.Choices.{PolicySemantics, by_programs}
 use Rattle.bq_parts.specs.Steps.{WorldStep}
-use Rattle.bq_core.proofs.OrderLemmas.{not_refused_is_there, first_refusal_passed}
+use Rattle.bq_parts.proofs.RefusalLemmas.{not_refused_is_there, first_refusal_passed}
 use Rattle.bq_core.proofs.parts.Parts.step.Goals as goal
 
 -- where the test of the arguments found none, none of the event that it is is refused

@@ -1,6 +1,6 @@
 use Rattle.std.proofs.Common.{List, [], ℕ, length, ◌++◌, ◌∙◌, ap, refl, string_bytes, subst}
 use Rattle.std.specs.Prelude.{flat_map}
-use Rattle.bq_parts.specs.Counts.{saturating_sum}
+use Rattle.bq_disc.specs.Counts.{saturating_sum}
 use Rattle.bq_drawing.specs.declared.lanes.Stretch.{Stretch}
 use Rattle.bq_drawing.specs.declared.shapes.DrawnRun.{DrawnRun}
 use Rattle.bq_drawing.specs.Lanes.{lanes_after, left_out}

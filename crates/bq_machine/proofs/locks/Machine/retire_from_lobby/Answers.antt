@@ -2,7 +2,7 @@ use Rattle.std.proofs.Common.{◌≡◌, ◌<◌, None, leb-false}
 use Rattle.bq_parts.specs.declared.event.Event.TheVariants.{Retire}
 use Rattle.bq_parts.specs.Refusals.{argument_refusal}
 use Rattle.bq_parts.specs.declared.refusal.Refusal.TheVariants as no
-use Rattle.bq_core.proofs.OrderLemmas.{first_refusal_passed}
+use Rattle.bq_parts.proofs.RefusalLemmas.{first_refusal_passed}
 use Rattle.bq_shared.specs.Parts.{lobby_part}
 use Rattle.bq_shared.proofs.CallStepLemmas.{retire_moves}
 use Rattle.bq_machine.proofs.BriefLemmas.{retires_brief}

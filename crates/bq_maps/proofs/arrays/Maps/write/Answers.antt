@@ -2,7 +2,8 @@ use Rattle.std.proofs.Common.{◌≡◌, ℕ, ◌<◌, List, map, length, Vec, G
 use Rattle.std.proofs.lemmas.List.{length-map}
 use Rattle.bq_maps.specs.Arrays.{Arrays}
 use Rattle.bq_bpf.specs.Memory.{overwrite}
-use Rattle.bq_maps.proofs.ShapeLemmas.{have_overwritten, bytes_after}
+use Rattle.bq_bpf.proofs.MapLemmas.{have_overwritten}
+use Rattle.bq_maps.proofs.ShapeLemmas.{bytes_after}
 use Rattle.bq_maps.proofs.arrays.Maps.write.Goals as goal
 
 pub invariant_of-self : goal.invariant_of-self
