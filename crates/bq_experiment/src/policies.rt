@@ -11,7 +11,7 @@ ghost use Rattle.bq_experiment.specs.Taking.{IsFileRefusal, IsRead, IsAttachFaul
 use bq_hooks::Hook;
 use bq_installed::Policy;
 use bq_load::{LoadFault, load};
-use bq_policy_check::{HOOK_UNSAID, fault_reason};
+use bq_policy_check::{HOOK_UNNAMED, fault_reason};
 use bq_policy_file::{Head, PolicyFault, read_policy};
 use bq_simulate::Images;
 use std::alloc::{AllocError, AllocFailed, Global};
@@ -182,7 +182,7 @@ fn reported(alloc: Global, file: &[u8], fault: PolicyFault) -> AttachFault
     let why = match fault {
         PolicyFault::Disagrees(_) => return AttachFault::Hook,
         PolicyFault::OutOfMemory => return AttachFault::OutOfMemory,
-        PolicyFault::NoHook => String::from_str(alloc, HOOK_UNSAID),
+        PolicyFault::NoHook => String::from_str(alloc, HOOK_UNNAMED),
         fault => fault_reason(alloc, file, fault),
     };
     match why {

@@ -18,8 +18,8 @@ use bq_words::Near;
 use serde_json::{Map, Value, put};
 use std::alloc::{AllocError, Global};
 
-/// What is said of a text that tells no hook.
-pub const HOOK_UNSAID: &str = "the hook is not said: write a line ;@ hook place in the text's head";
+/// The reason against a text that names no hook.
+pub const HOOK_UNNAMED: &str = "no hook is named: write a line ;@ hook place in the text's head";
 
 /// The line that refuses the file. If memory ran out, that is handed on.
 pub fn fault_line(alloc: Global, fault: PolicyFault) -> Result<String, AllocError>
@@ -95,7 +95,7 @@ pub(crate) fn reason_of(
             })
         }
         PolicyFault::Disagrees(key) => Ok(whole(difference_words(alloc, key)?)),
-        PolicyFault::NoHook => Ok(whole(format!(in alloc; "{HOOK_UNSAID}, or give --hook place")?)),
+        PolicyFault::NoHook => Ok(whole(format!(in alloc; "{HOOK_UNNAMED}, or give --hook place")?)),
         PolicyFault::OutOfMemory => Err(AllocError),
     }
 }
@@ -312,6 +312,6 @@ fn head_words(cause: HeadCause) -> &'static str {
         HeadCause::Value(Key::Hook) => NO_HOOK,
         HeadCause::Value(Key::Maps) => SHAPES_FORM,
         HeadCause::Value(Key::Format) => NO_VERSION,
-        HeadCause::Twice(_) => "this was said in a line before",
+        HeadCause::Twice(_) => "an earlier line says this already",
     }
 }

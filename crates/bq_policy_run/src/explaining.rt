@@ -3,10 +3,10 @@ use bq_console::{Name, name_of};
 use bq_policy_check::PolicyWords;
 use std::alloc::{AllocError, Global};
 
-/// Says which command explains the refusal of a file: `p.s: bqsim check --explain --hook pull p.s means why`, as a line.
+/// The line that says which command explains the refusal of a file: `p.s: bqsim check --explain --hook pull p.s says why`.
 pub(crate) fn explaining_line(alloc: Global, words: &PolicyWords) -> Result<String, AllocError> {
     let file = name_of(&words.file);
-    let spelled = said_options(alloc, words)?;
+    let spelled = given_options(alloc, words)?;
     let given = match &words.file {
         Some(path) => path.as_str(),
         None => "-",
@@ -15,8 +15,8 @@ pub(crate) fn explaining_line(alloc: Global, words: &PolicyWords) -> Result<Stri
     format!(in alloc; "{file}: bqsim check --explain{spelled} {given} says why\n")
 }
 
-/// The options that say what the file does not, each after a blank, as `check` takes them too.
-fn said_options(alloc: Global, words: &PolicyWords) -> Result<String, AllocError> {
+/// The options that the caller gave beside the file, each after a blank, as `check` takes them too.
+fn given_options(alloc: Global, words: &PolicyWords) -> Result<String, AllocError> {
     let mut options = String::new(alloc);
     push_option(&mut options, "hook", &words.hook)?;
     push_option(&mut options, "maps", &words.maps)?;
