@@ -1,5 +1,5 @@
 #!/usr/bin/env python3
-"""Holds the man page and the completion for bash equal to the program's own help, and runs the examples of the help.
+"""Holds the man page and the completion for bash equal to the program's own help, runs the examples of the help, and tries the completion.
 
     tests/pages.py BQSIM            compares docs/bqsim.1 and docs/bqsim.bash with what the help of BQSIM makes; each example must end well
     tests/pages.py BQSIM --write    writes both
@@ -15,12 +15,43 @@ from pathlib import Path
 TOP = Path(__file__).resolve().parent.parent
 PAGE, COMPLETION = TOP / "docs" / "bqsim.1", TOP / "docs" / "bqsim.bash"
 FILES = ["asm", "check", "dis", "import", "replay", "run", "simulate", "timeline"]  # commands that take a file
+PATHS = {"POLICY": "none", "OUT": ""}  # what the help calls values that are files, and the words that may stand there instead
+COMPLETED = {  # what bash offers after these lines
+    "ti": "timeline",
+    "check --js": "--json",
+    "simulate --as t": "trace timehist",
+    "timeline --as t": "timehist",
+    "timeline --as=m": "map",
+    "check --hook p": "place preempt pull",
+    "par --rule ": "cfs eevdf",
+    "simulate --discipline e": "eevdf",
+    "simulate --processors 6": "64",
+    "timeline --theme ": "light dark auto",
+    "simulate --pull no": "none",
+    "simulate --as map wor": "workloads",
+    "timeline --width ": "",
+}
+DESCRIPTION = [
+    "bqsim simulates a multiprocessor scheduler under CFS or EEVDF. Its commands work on traces, workloads and policies.",
+    ("trace", "a text with one event on each line: tasks are admitted, wake and block, and clocks tick. replay answers each line, and timeline shows the schedule"),
+    ("workload", "a text in TOML that says what tasks do. simulate works out when they do it, and shows the schedule or writes it as a trace"),
+    (
+        "policy",
+        "a small BPF program that chooses in place of the scheduler: where a woken task goes (place), whether the running task gives way (preempt), or which "
+        "task another processor takes (pull). check says whether a policy is safe, and run runs it once. A trace installs policies by its lines, and simulate by its "
+        "options",
+    ),
+]
 STATUSES = [
     ("0", "all is well"),
-    ("1", "a bad line in a trace, for timeline also a refused one; what asm, dis, check, run, import or simulate refuses"),
-    ("2", "the words are refused, or ask for help; the text is on standard error"),
+    ("1", "a trace has a bad line, or, for timeline, a refused line; or asm, dis, check, run, import or simulate refuses what it read"),
+    ("2", "a command, an option or its value is wrong, or you asked for help; the text is on standard error"),
     ("3", "memory ran out"),
-    ("4", "a read or a write failed, or a file can't be opened; standard error says why"),
+    (
+        "4",
+        "a read or a write failed, a file can't be opened, or a limit is passed: 16 MiB of a file that is read whole, --max-bytes, 2^32 reads of an input, "
+        "or --max-events; standard error has the reason",
+    ),
 ]
 
 
@@ -40,6 +71,12 @@ class Help:
     def options(self):
         return [word for words, _ in self.lists.get("Options", []) for word in re.findall(r"--[a-z-]+", words)]
 
+    def values(self):
+        """Each option that takes a value, what the help calls the value, and the words of which it is one, if the help lists them."""
+        for words, what in self.lists.get("Options", []):
+            if found := re.search(r"(--[a-z-]+) <(\w+)>", words):
+                yield *found.groups(), choices(what)
+
 
 def pairs(body):
     """The words of each entry, and what they do, which may stand on lines below."""
@@ -51,6 +88,13 @@ def pairs(body):
         elif line.strip() and entries:
             entries[-1][1] = f"{entries[-1][1]} {line.strip()}".strip()
     return entries
+
+
+def choices(what):
+    """The words of a list such as `report (the default), map or svg` that begins a text, or follows its colon."""
+    word = r"\w+(?: \(the default\))?"
+    found = re.search(rf"(?:^|: )({word}(?:, {word})* or {word})(?=;| \(|$)", what)
+    return re.sub(r" \(the default\)|,| or\b", "", found[1]).split() if found else []
 
 
 def helped(bqsim, *words):
@@ -78,7 +122,13 @@ def roff(text):
 def page(program, commands):
     lines = ['.TH BQSIM 1 "" bqsim "User commands"', ".SH NAME", f"bqsim \\- {roff(program.about[0].lower() + program.about[1:])}"]
     lines += [".SH SYNOPSIS", ".B bqsim", "COMMAND [OPTIONS]"]
-    lines += [".SH COMMANDS"]
+    lines += [".SH DESCRIPTION", roff(DESCRIPTION[0])]
+    for name, what in DESCRIPTION[1:]:
+        lines += [".TP", f".I {name}", roff(what)]
+    lines += [".SH OPTIONS"]
+    for words, what in program.lists["Options"]:
+        lines += [".TP", f".B {roff(words)}", roff(what)]
+    lines += [".SH COMMANDS", ".SS bqsim help", "Prints the list of the commands, or the help of one", ".PP", "bqsim help [COMMAND]"]
     for name, told in commands.items():
         lines += [f".SS bqsim {roff(name)}", roff(told.about), ".PP", roff(told.usage)]
         for heading in ("Arguments", "Options"):
@@ -92,32 +142,56 @@ def page(program, commands):
     return "\n".join(lines) + "\n"
 
 
+def value_cases(commands):
+    """The cases of the completion for the word after an option: the options, with their commands if these differ, and what may follow."""
+    options = {}
+    for name, told in commands.items():
+        for option, value, words in told.values():
+            may = f'words="{PATHS[value]}" files=yes' if value in PATHS else f'words="{" ".join(words)}" files=no'
+            options.setdefault(option, {}).setdefault(may, []).append(name)
+    cases = {}
+    for option, ways in options.items():
+        for may, names in ways.items():
+            cases.setdefault(may, []).extend([f'*" {option}"'] if len(ways) == 1 else [f'"{name} {option}"' for name in names])
+    return "\n".join(f"            {'|'.join(after)}) {may} ;;" for may, after in cases.items())
+
+
 def completion(commands):
     cases = "\n".join(
-        f"        {name}) words=\"{' '.join(told.options())}\" ;;" for name, told in commands.items()
+        f"            {name}) words=\"{' '.join(told.options())}\" files={'yes' if name in FILES else 'no'} ;;" for name, told in commands.items()
     )
-    files = "|".join(name for name in commands if name in FILES)
+    names = " ".join(commands)
     return f"""# Completion of bqsim for bash: source this file. tests/pages.py makes it of the program's help.
 _bqsim() {{
-    local word=${{COMP_WORDS[COMP_CWORD]}} words
+    local word=${{COMP_WORDS[COMP_CWORD]}} command=${{COMP_WORDS[1]}} before=$((COMP_CWORD - 1)) words="" files=no
+    [ "$word" != = ] || word=""
+    [ "${{COMP_WORDS[before]}}" != = ] || before=$((before - 1))
     if [ "$COMP_CWORD" -eq 1 ]; then
-        mapfile -t COMPREPLY < <(compgen -W "{' '.join(commands)} help --help --version" -- "$word")
-        return
-    fi
-    case ${{COMP_WORDS[1]}} in
+        words="{names} help --help --version"
+    else
+        case $command in
 {cases}
-        help) words="{' '.join(commands)}" ;;
-        *) words="" ;;
-    esac
+            help) words="{names}" ;;
+        esac
+        # what follows an option is its value
+        case "$command ${{COMP_WORDS[before]}}" in
+{value_cases(commands)}
+        esac
+    fi
     mapfile -t COMPREPLY < <(compgen -W "$words" -- "$word")
-    case ${{COMP_WORDS[1]}} in
-        {files})
-            [[ $word == -* ]] || mapfile -t -O "${{#COMPREPLY[@]}}" COMPREPLY < <(compgen -f -- "$word")
-            ;;
-    esac
+    if [ $files = yes ] && [[ $word != -* ]]; then
+        mapfile -t -O "${{#COMPREPLY[@]}}" COMPREPLY < <(compgen -f -- "$word")
+    fi
 }}
 complete -o filenames -F _bqsim bqsim
 """
+
+
+def completed(line):
+    """What bash offers after a line, in the folder of the repository."""
+    words = re.findall(r"=|[^\s=]+|(?<=\s)$", line)
+    script = f'source "{COMPLETION}"; COMP_CWORD=$(($# - 1)) COMP_WORDS=("$@"); _bqsim; echo "${{COMPREPLY[@]}}"'
+    return subprocess.run(["bash", "-c", script, "bash", "bqsim", *words], cwd=TOP, capture_output=True, text=True).stdout.strip()
 
 
 def main():
@@ -137,6 +211,9 @@ def main():
             path.write_text(text)
         elif not path.exists() or path.read_text() != text:
             sys.exit(f"{path.relative_to(TOP)} is not what the help makes: tests/pages.py BQSIM --write")
+    for line, words in COMPLETED.items():
+        if (offered := completed(line)) != words:
+            sys.exit(f"after `bqsim {line}` bash offers {offered!r}; expected: {words!r}")
     print(f"{len(commands)} commands in {PAGE.name} and {COMPLETION.name}")
 
 
