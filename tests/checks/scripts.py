@@ -45,7 +45,7 @@ LEFT_OUT = {
     "compare_with_llvm.py": "needs LLVM 19",
     "policies_in_c.py": "needs clang 19",
     "native_policies.py": "needs clang 19",
-    "long_runs.py": "needs clang 19",
+    "long_runs.py": "needs clang",
     "fail_each_call.py": "needs a C compiler, and takes minutes",
     "hostile.py": "takes up to ten minutes",
     "objects.py": "needs clang 19",
