@@ -95,7 +95,9 @@ pub(crate) fn reason_of(
             })
         }
         PolicyFault::Disagrees(key) => Ok(whole(difference_words(alloc, key)?)),
-        PolicyFault::NoHook => Ok(whole(format!(in alloc; "{HOOK_UNNAMED}, or give --hook place")?)),
+        PolicyFault::NoHook => Ok(whole(format!(in alloc;
+            "{HOOK_UNNAMED}, or give --hook place"
+        )?)),
         PolicyFault::OutOfMemory => Err(AllocError),
     }
 }
