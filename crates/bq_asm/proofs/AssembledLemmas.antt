@@ -18,8 +18,8 @@ use Rattle.bq_asm.specs.declared.fault.Cause.{Cause}
 use Rattle.bq_asm.specs.declared.fault.Cause.TheVariants.{Word, LabelTwice, Slots}
 use Rattle.bq_asm.specs.Lines.{Line, Blank, Label, Instruction, lines_of, last_word}
 use Rattle.bq_asm.specs.Operands.{is_label, instruction_of}
-use Rattle.bq_asm.specs.Assembly.{slots_read, slots_of_line, place_at, places_from, distance_to, AssemblesFrom, AreNewLabels, Assembles}
-use Rattle.bq_asm.specs.Faults.{slots_in, labels_in, cause_of_label, cause_of_insn, cause_at, IsClean}
+use Rattle.bq_asm.specs.Assembly.{slots_read, slots_of_line, label_at, places_from, distance_to, AssemblesFrom, AreNewLabels, Assembles}
+use Rattle.bq_asm.specs.Faults.{slots_in, labels_in, cause_of_label, cause_of_insn, cause_at_line, IsClean}
 use Rattle.bq_asm.proofs.DraftLemmas.{places_from-append}
 use Rattle.bq_asm.proofs.CleanLemmas.{fault_at-is}
 use Rattle.bq_asm.proofs.WithinLemmas.{places_within}
@@ -29,7 +29,7 @@ use Rattle.bq_asm.proofs.WellFormedLemmas.{DistanceFits, instruction_fine}
 -- after other lines, no line has a fault
 abbrev pub IsCleanAfter : List Line → List Line → Type 0
 IsCleanAfter before [] = Unit {0}
-IsCleanAfter before (line ∷ lines) = (cause_at before line ≡ None) × IsCleanAfter (before ++ line ∷ []) lines
+IsCleanAfter before (line ∷ lines) = (cause_at_line before line ≡ None) × IsCleanAfter (before ++ line ∷ []) lines
 
 clean_from : (before lines : List Line) → IsClean (before ++ lines) → IsCleanAfter before lines
 clean_from before [] h = tt
@@ -39,7 +39,7 @@ clean_from before (line ∷ lines) h =
     let here = fault_at-is all (length before) Blank more in
     let first : take (length before) all ≡ before = take_at before (line ∷ lines) (length before) refl in
     let this : get_or all (length before) Blank ≡ line = get_or_at before line lines Blank (length before) refl in (
-      sym (here ∙ (λ i. cause_at (first i) (this i))) ∙ h (suc (length before)),
+      sym (here ∙ (λ i. cause_at_line (first i) (this i))) ∙ h (suc (length before)),
       clean_from (before ++ line ∷ []) lines (subst IsClean (sym (append_assoc before (line ∷ []) lines)) h),
     )
 
@@ -58,11 +58,11 @@ label_is before name h = by (is_label name) (list_any (bytes_eq name) before) h
 
 -- the labels of one line more
 pub labels_in-more : (before : List Line) (line : Line)
-    → labels_in (before ++ line ∷ []) ≡ labels_in before ++ keys_of (place_at (slots_in before) line)
+    → labels_in (before ++ line ∷ []) ≡ labels_in before ++ keys_of (label_at (slots_in before) line)
 labels_in-more before line =
     ap keys_of (places_from-append 0 before (line ∷ [])
-    ∙ ap (λ ps. places_from 0 before ++ ps) (append-nil (place_at (0 + slots_in before) line) ∙ ap (λ n. place_at n line) (omega arith)))
-    ∙ map-append (λ e. e.0) (places_from 0 before) (place_at (slots_in before) line)
+    ∙ ap (λ ps. places_from 0 before ++ ps) (append-nil (label_at (0 + slots_in before) line) ∙ ap (λ n. label_at n line) (omega arith)))
+    ∙ map-append (λ e. e.0) (places_from 0 before) (label_at (slots_in before) line)
 
 new_labels : (before lines : List Line) (slot : ℕ) → IsCleanAfter before lines
     → AreNewLabels (labels_in before) (keys_of (places_from slot lines))
@@ -189,7 +189,7 @@ insn_within slots (Ok i) h = by (nat_le (slots + slots_of i) 4096) refl h
     by false e k = absurd (let no : Some Slots ≡ None = k in cc)
 
 -- a line without a fault ends within the slots
-pub fits_from_cause : (before : List Line) (line : Line) → slots_in before ≤ 4096 → cause_at before line ≡ None
+pub fits_from_cause : (before : List Line) (line : Line) → slots_in before ≤ 4096 → cause_at_line before line ≡ None
     → slots_in before + slots_of_line line ≤ 4096
 fits_from_cause before Blank few h = omega arith
 fits_from_cause before (Label name) few h = omega arith

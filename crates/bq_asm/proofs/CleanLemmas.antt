@@ -10,7 +10,7 @@ use Rattle.bq_asm.specs.declared.fault.Cause.TheVariants.{LabelMissing}
 use Rattle.bq_asm.specs.Lines.{Line, Blank, Label, Instruction}
 use Rattle.bq_asm.specs.Operands.{instruction_of}
 use Rattle.bq_asm.specs.Assembly.{places_from}
-use Rattle.bq_asm.specs.Faults.{slots_in, labels_in, cause_of_insn, cause_at, fault_at, missing_at, IsFirst, IsClean}
+use Rattle.bq_asm.specs.Faults.{slots_in, labels_in, cause_of_insn, cause_at_line, fault_at, missing_at, IsFirstCause, IsClean}
 use Rattle.bq_asm.specs.Jumps.{Awaited, drafts_of, jumps_from, with_jumps}
 use Rattle.bq_asm.proofs.PassLemmas.{IsReadable, IsFirstMissing, Passes, readable_lines_pass}
 
@@ -18,15 +18,15 @@ read_from_cause : (slots : ℕ) (read : Result Insn Cause) → cause_of_insn slo
 read_from_cause slots (Err c) h = absurd (let no : Some c ≡ None = h in cc)
 read_from_cause slots (Ok i) h = (i, refl)
 
-readable : (before : List Line) (line : Line) → cause_at before line ≡ None → IsReadable line
+readable : (before : List Line) (line : Line) → cause_at_line before line ≡ None → IsReadable line
 readable before Blank h = tt
 readable before (Label name) h = tt
 readable before (Instruction first operands) h = read_from_cause (slots_in before) (instruction_of first operands (Some (pos 0))) h
 
 -- a line's fault is its cause by the lines before it
 pub fault_at-is : (lines : List Line) (k : ℕ) (d : Line) → k < length lines
-    → fault_at lines (suc k) ≡ cause_at (take k lines) (get_or lines k d)
-fault_at-is lines k d h = ap (option_and_then (cause_at (take k lines))) (slice_get-get_or lines k d h)
+    → fault_at lines (suc k) ≡ cause_at_line (take k lines) (get_or lines k d)
+fault_at-is lines k d h = ap (option_and_then (cause_at_line (take k lines))) (slice_get-get_or lines k d h)
 
 -- each of some lines without a fault can be read
 pub readable_from_clean : (lines : List Line) → IsClean lines → AllByRecursion IsReadable lines
@@ -36,7 +36,7 @@ readable_from_clean lines clean =
 
 -- the first jump whose label is set nowhere, its line counted from 1, is the first cause of a missing label
 pub first_from_missing : (lines : List Line) (line : ℕ) → IsFirstMissing (labels_in lines) lines 1 line
-    → IsFirst (missing_at lines) line LabelMissing
+    → IsFirstCause (missing_at lines) line LabelMissing
 first_from_missing lines line m =
     let here : line ≡ suc m.index = let at = m.at in omega arith in
     (ap (missing_at lines) here ∙ m.missing, before)

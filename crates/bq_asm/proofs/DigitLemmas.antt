@@ -9,9 +9,9 @@ use Rattle.std.specs.Str.Parse.{digits_value, AllDigits}
 use Rattle.std.proofs.lemmas.Fmt.{decimal_is_IsNumeral, decimal_by_steps, decimal_digit, decimal_step}
 use Rattle.std.proofs.lemmas.Bool.{and_from, and_parts, and_right, and_left, lt-ltb, le-leb, ne_eqb, leb-true, cases_lt}
 use Rattle.std.proofs.lemmas.Int.{ints}
-use Rattle.bq_words.specs.Numbers.{number_of, below, value_of}
+use Rattle.bq_words.specs.Numbers.{number_in_base, below, value_of}
 use Rattle.bq_words.proofs.NumberLemmas.{below-Some}
-use Rattle.bq_asm.specs.Numbers.{negative, imm_of, offset_of, distance_of, wide_of, register_of}
+use Rattle.bq_asm.specs.Numbers.{negative, imm_of, offset_of, distance_in_word, wide_of, register_named}
 use Rattle.bq_asm.specs.Text.{signed_text}
 
 -- `0` to `9`
@@ -53,7 +53,7 @@ all_below (c ∷ cs) h =
     (lt-ltb (digit_value c) 10 h.0) (all_below cs h.1)
 
 -- the decimal digits of a number below 2^64 are read as that number
-pub number_of-decimal : (n : ℕ) → n < 2 ^ 64 → number_of 10 (decimal n) ≡ Some n
+pub number_of-decimal : (n : ℕ) → n < 2 ^ 64 → number_in_base 10 (decimal n) ≡ Some n
 number_of-decimal n h =
     let is = decimal_is_IsNumeral n h in
     let some = lt-ltb 0 (length (decimal n)) is.0.0 in
@@ -79,7 +79,7 @@ no_prefix (b ∷ c ∷ bs) h =
 -- decimal digits are read as their number also where a prefix of hex digits could stand
 pub value_of-decimal : (n : ℕ) → n < 2 ^ 64 → value_of (decimal n) ≡ Some n
 value_of-decimal n h =
-    ap (λ b. if b then number_of 16 (drop 2 (decimal n)) else number_of 10 (decimal n)) (no_prefix (decimal n) (decimal_digits n h))
+    ap (λ b. if b then number_in_base 16 (drop 2 (decimal n)) else number_in_base 10 (decimal n)) (no_prefix (decimal n) (decimal_digits n h))
     ∙ number_of-decimal n h
 
 first_no_sign : (bs : List ℕ) (s : ℕ) → 0 < length bs → list_all is_digit bs ≡ true → s < 48 → starts_with nat_eq bs (s ∷ []) ≡ false
@@ -114,7 +114,7 @@ offset_of-signed (negsuc n) h =
     ap (option_map negative) (below-Some (2 ^ 15 + 1) (suc n) (value_of (decimal (suc n))) (value_of-decimal (suc n) (omega arith)) lt)
 
 -- a number of 32 bits with its sign is read as itself where a distance stands
-pub distance_of-signed : (z : ℤ) → FitsSigned w32 z → distance_of (signed_text z) ≡ Some z
+pub distance_of-signed : (z : ℤ) → FitsSigned w32 z → distance_in_word (signed_text z) ≡ Some z
 distance_of-signed (pos n) h =
     let lt : n < 2 ^ 31 = omega (arith, ints, h) in
     ap (option_map (λ n. pos n)) (below-Some (2 ^ 31) n (value_of (decimal n)) (value_of-decimal n (omega arith)) lt)
@@ -129,18 +129,18 @@ wide_of-decimal n h =
     ap (λ b. if b then below 1 (value_of (drop 1 word)) else value_of word) (decimal_no_sign n 45 h (omega arith)) ∙ value_of-decimal n h
 
 -- a register
-register_digit : (r : ℕ) → r < 10 → register_of (codes "r" ++ ((48 + r) ∷ [])) ≡ Some r
+register_digit : (r : ℕ) → r < 10 → register_named (codes "r" ++ ((48 + r) ∷ [])) ≡ Some r
 register_digit r h =
     let back : (48 + r) - 48 ≡ r = omega arith in
     ap (λ b. if b then Some ((48 + r) - 48) else None) (digit_is r h) ∙ ap (λ n. Some n) back
 
 -- the letter r and a number up to 10 in decimal are read as that register
-pub register_of-decimal : (r : ℕ) → r ≤ 10 → register_of (codes "r" ++ decimal r) ≡ Some r
+pub register_of-decimal : (r : ℕ) → r ≤ 10 → register_named (codes "r" ++ decimal r) ≡ Some r
 register_of-decimal r h =
-    ⊎_elim (λ lt. ap (λ ds. register_of (codes "r" ++ ds)) (decimal_digit r lt) ∙ register_digit r lt)
+    ⊎_elim (λ lt. ap (λ ds. register_named (codes "r" ++ ds)) (decimal_digit r lt) ∙ register_digit r lt)
     (λ ge.
     let ten : r ≡ 10 = omega arith in
     let digits : decimal 10 ≡ 49 ∷ 48 ∷ [] =
     decimal_step 10 (omega arith) (omega arith) ∙ ap (λ ds. ds ++ (48 ∷ [])) (decimal_digit 1 (omega arith)) in
-    ap (λ n. register_of (codes "r" ++ decimal n)) ten ∙ ap (λ ds. register_of (codes "r" ++ ds)) digits ∙ ap (λ n. Some n) (sym ten))
+    ap (λ n. register_named (codes "r" ++ decimal n)) ten ∙ ap (λ ds. register_named (codes "r" ++ ds)) digits ∙ ap (λ n. Some n) (sym ten))
     (cases_lt r 10)

@@ -16,11 +16,11 @@ use Rattle.bq_asm.specs.declared.mnemonic.Mnemonic.{Mnemonic}
 use Rattle.bq_asm.specs.declared.instruction.Kinds.{Kinds}
 use Rattle.bq_asm.specs.declared.instruction.Kinds.TheVariants as kinds
 use Rattle.bq_asm.specs.Named.{named}
-use Rattle.bq_asm.specs.Lines.{Line, Blank, Label, label_set, parsed, line_of}
-use Rattle.bq_asm.specs.Assembly.{slots_of_line, place_at, places_from}
+use Rattle.bq_asm.specs.Lines.{Line, Blank, Label, label_set, parsed, line_of_words}
+use Rattle.bq_asm.specs.Assembly.{slots_of_line, label_at, places_from}
 use Rattle.bq_asm.specs.declared.fault.Cause.TheVariants.{Word, LabelTwice, Slots}
-use Rattle.bq_asm.specs.Operands.{is_label, texts, kind_list, kinds_of, made, instruction_from}
-use Rattle.bq_asm.specs.Faults.{slots_in, cause_at, cause_of_label, cause_of_insn}
+use Rattle.bq_asm.specs.Operands.{is_label, word_texts, kind_list, kinds_of, made, instruction_from}
+use Rattle.bq_asm.specs.Faults.{slots_in, cause_at_line, cause_of_label, cause_of_insn}
 use Rattle.bq_asm.proofs.JumpLemmas.{lookup_places}
 use Rattle.bq_asm.proofs.CountLemmas.{count_wrong}
 use Rattle.bq_asm.specs.declared.draft.Draft.{Draft}
@@ -39,10 +39,10 @@ pub places_from-append : (slot : ℕ) (xs ys : List Line)
 places_from-append slot [] ys = ap (λ n. places_from n ys) (omega arith)
 places_from-append slot (x ∷ xs) ys =
     let same : slot + slots_of_line x + slots_in xs ≡ slot + (slots_of_line x + slots_in xs) = omega arith in
-    ap (λ ps. place_at slot x ++ ps)
+    ap (λ ps. label_at slot x ++ ps)
     (places_from-append (slot + slots_of_line x) xs ys ∙ ap (λ n. places_from (slot + slots_of_line x) xs ++ places_from n ys) same)
     ∙ sym
-    (append_assoc (place_at slot x) (places_from (slot + slots_of_line x) xs) (places_from (slot + (slots_of_line x + slots_in xs)) ys))
+    (append_assoc (label_at slot x) (places_from (slot + slots_of_line x) xs) (places_from (slot + (slots_of_line x + slots_in xs)) ys))
 
 -- the jumps of lines joined to others are those of both, the others' numbered from where the first end
 pub jumps_from-append : (index slot number : ℕ) (xs ys : List Line) → jumps_from index slot number (xs ++ ys)
@@ -141,7 +141,7 @@ jumps_kept jumps before line same none =
 
 -- a line that sets no label leaves the labels as they are
 pub places_kept : (places : List (List ℕ × ℕ)) (before : List Line) (line : Line)
-    → places ≡ places_from 0 before → ((slot : ℕ) → place_at slot line ≡ [])
+    → places ≡ places_from 0 before → ((slot : ℕ) → label_at slot line ≡ [])
     → places ≡ places_from 0 (before ++ line ∷ [])
 places_kept places before line same none =
     same ∙ sym (append-nil (places_from 0 before))
@@ -165,16 +165,16 @@ insn_over slots i read is over =
 -- a line with words says what the first of them and the others as operands say
 pub line_of-first : (words : List (Bor (List ℕ))) (d : Bor (List ℕ))
     → 1 ≤ length words
-    → line_of (texts words)
-    ≡ parsed (get_or words 0 d).now (texts (take (length words - 1) (drop 1 words)))
-    (label_set (get_or words 0 d).now (texts (take (length words - 1) (drop 1 words))))
+    → line_of_words (word_texts words)
+    ≡ parsed (get_or words 0 d).now (word_texts (take (length words - 1) (drop 1 words)))
+    (label_set (get_or words 0 d).now (word_texts (take (length words - 1) (drop 1 words))))
 line_of-first [] d h = absurd (omega arith)
 line_of-first (first ∷ operands) d h =
     let all : take (length (first ∷ operands) - 1) operands ≡ operands = take_all (length (first ∷ operands) - 1) operands (omega arith) in
-    ap (λ os. parsed first.now (texts os) (label_set first.now (texts os))) (sym all)
+    ap (λ os. parsed first.now (word_texts os) (label_set first.now (word_texts os))) (sym all)
 
 -- a line without words says nothing
-pub line_of-none : (words : List (Bor (List ℕ))) → length words < 1 → line_of (texts words) ≡ Blank
+pub line_of-none : (words : List (Bor (List ℕ))) → length words < 1 → line_of_words (word_texts words) ≡ Blank
 line_of-none [] h = refl
 line_of-none (w ∷ ws) h = absurd (omega arith)
 
@@ -191,7 +191,7 @@ many_operands (Some m) operands d h =
     ap (made m) (count_wrong (kind_list (kinds_of m)) operands d (λ e. let few = few_kinds (kinds_of m) in omega arith))
 
 -- five words and more are never a line
-pub many_words : (before : List Line) (words : List (List ℕ)) → 4 < length words → cause_at before (line_of words) ≡ Some Word
+pub many_words : (before : List Line) (words : List (List ℕ)) → 4 < length words → cause_at_line before (line_of_words words) ≡ Some Word
 many_words before [] h = absurd (omega arith)
 many_words before (first ∷ []) h = absurd (omega arith)
 many_words before (first ∷ second ∷ operands) h =

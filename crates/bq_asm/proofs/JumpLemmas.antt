@@ -12,8 +12,8 @@ use Rattle.bq_insn.specs.declared.Insn.{Insn}
 use Rattle.bq_insn.specs.declared.Insn.TheVariants.{Exit}
 use Rattle.bq_asm.specs.declared.jump.Jump.{Jump}
 use Rattle.bq_asm.specs.Lines.{last_word}
-use Rattle.bq_asm.specs.Operands.{is_label, texts}
-use Rattle.bq_asm.specs.Jumps.{is_jump, target_of, aimed, awaited_by, with_jump, with_jumps}
+use Rattle.bq_asm.specs.Operands.{is_label, word_texts}
+use Rattle.bq_asm.specs.Jumps.{is_jump, target_of, jump_aimed, awaited_by, with_jump, with_jumps}
 
 -- a map's entries by their bytes find the same
 pub lookup_places : (name : List ℕ) (es : List (Bor (List ℕ) × ℕ))
@@ -52,7 +52,7 @@ pub with_jumps_set : (places : List (List ℕ × ℕ)) (jumps : List Jump) (k : 
     (e : Insn) (slot : ℕ) (new : Insn) (z : ℤ)
     → k < length jumps → (get_or jumps k d).index < length insns
     → Some slot ≡ lookup (bytes_eq (get_or jumps k d).label.now) places
-    → new ≡ aimed (get_or insns (get_or jumps k d).index e) z → z ≡ pos slot -ℤ pos (get_or jumps k d).next
+    → new ≡ jump_aimed (get_or insns (get_or jumps k d).index e) z → z ≡ pos slot -ℤ pos (get_or jumps k d).next
     → with_jumps places (map awaited_by (drop (k + 1) jumps)) (slice_set insns (get_or jumps k d).index new)
     ≡ with_jumps places (map awaited_by (drop k jumps)) insns
 with_jumps_set places jumps k d insns e slot new z within near at made far =
@@ -61,18 +61,18 @@ with_jumps_set places jumps k d insns e slot new z within near at made far =
     (λ i. with_jumps places (map awaited_by (drop (more i) jumps)) (slice_set insns j.index (made i)))
     ∙ (λ i.
     with_jumps places (map awaited_by (drop (suc k) jumps))
-    (slice_set insns j.index (aimed (get_or_default insns j.index e Exit near i) (far i))))
+    (slice_set insns j.index (jump_aimed (get_or_default insns j.index e Exit near i) (far i))))
     ∙ sym (with_jumps_at places jumps k d insns (Some slot) within at)
 
 -- a jump's target is its last operand, where there is one and it is the name of a label
 pub target_of-jump : (i : Insn) (operands : List (Bor (List ℕ))) (found : Option (Bor (List ℕ)))
     → is_jump i ≡ true → found ≡ slice_get operands (length operands - 1)
-    → target_of i (texts operands)
+    → target_of i (word_texts operands)
     ≡ (if is_label (unwrap_or (option_map (λ w. w.now) found) []) then Some (unwrap_or (option_map (λ w. w.now) found) []) else None)
 target_of-jump i operands found jump last =
-    let word = last_word (texts operands) in
+    let word = last_word (word_texts operands) in
     ap (λ b. if b then (if is_label word then Some word else None) else None) jump
-    ∙ ap (λ n. let w = unwrap_or (slice_get (texts operands) (n - 1)) [] in if is_label w then Some w else None)
+    ∙ ap (λ n. let w = unwrap_or (slice_get (word_texts operands) (n - 1)) [] in if is_label w then Some w else None)
     (length-map operands (λ w. w.now))
     ∙ ap (λ o. let w = unwrap_or o [] in if is_label w then Some w else None)
     (slice_get-map (λ w. w.now) operands (length operands - 1) ∙ ap (option_map (λ w. w.now)) (sym last))

@@ -14,14 +14,14 @@ use Rattle.bq_insn.proofs.CountLemmas.{slot_count-cons}
 use Rattle.bq_asm.specs.declared.fault.Cause.{Cause}
 use Rattle.bq_asm.specs.declared.fault.Cause.TheVariants.{LabelMissing, Slots}
 use Rattle.bq_asm.specs.declared.mnemonic.Mnemonic.{Mnemonic}
-use Rattle.bq_asm.specs.Names.{name_of}
+use Rattle.bq_asm.specs.Names.{mnemonic_word}
 use Rattle.bq_asm.specs.Named.{named, entry_with, table}
 use Rattle.bq_asm.specs.Lines.{Line, Blank, Label, Instruction, lines_of, last_word}
 use Rattle.bq_asm.specs.Operands.{instruction_of}
 use Rattle.bq_asm.specs.Assembly.{places_from, distance_to, AssemblesFrom, AreNewLabels, Assembles}
-use Rattle.bq_asm.specs.Faults.{slots_in, labels_in, cause_at, fault_at, awaits_label, cause_of_jump, missing_at, IsFirst, IsClean, Faulty}
+use Rattle.bq_asm.specs.Faults.{slots_in, labels_in, cause_at_line, fault_at, awaits_label, cause_of_jump, missing_at, IsFirstCause, IsClean, FaultyLines}
 use Rattle.bq_asm.specs.Jumps.{drafts_of, jumps_from, with_jumps}
-use Rattle.bq_asm.specs.Laws.{OneProgram, OneFault, NoProgramIsFaulty, EachTextIsJudged, OneName}
+use Rattle.bq_asm.specs.Laws.{TextHasOneProgram, TextHasOneFault, NoAssemblyIsFaulty, EachTextIsJudged, OneName}
 use Rattle.bq_asm.proofs.DraftLemmas.{slots_in-append, insn_fits, cause_of_label-is}
 use Rattle.bq_asm.proofs.ReadingLemmas.{read_again}
 use Rattle.bq_asm.proofs.PassLemmas.{missing_in, Passes}
@@ -48,7 +48,7 @@ assembles_unique places slot (Instruction first operands ∷ lines) (i ∷ a) (j
     λ n. same n ∷ rest n
 
 -- a text stands for at most one list of instructions
-pub one_program : OneProgram
+pub one_program : TextHasOneProgram
 one_program text a b h k = assembles_unique (places_from 0 (lines_of text)) 0 (lines_of text) a b h.assembles k.assembles
 
 -- lines that say something have no fault
@@ -96,11 +96,11 @@ clean_assembled places slot before (Instruction first operands ∷ lines) (i ∷
 
 -- no line of them has a fault
 cause_none : (before lines : List Line) (k : ℕ) (d : Line) → k < length lines → IsCleanAfter before lines
-    → cause_at (before ++ take k lines) (get_or lines k d) ≡ None
+    → cause_at_line (before ++ take k lines) (get_or lines k d) ≡ None
 cause_none before [] k d lt h = absurd (omega arith)
-cause_none before (line ∷ lines) zero d lt h = ap (λ ls. cause_at ls line) (append-nil before) ∙ h.0
+cause_none before (line ∷ lines) zero d lt h = ap (λ ls. cause_at_line ls line) (append-nil before) ∙ h.0
 cause_none before (line ∷ lines) (suc k) d lt h =
-    ap (λ ls. cause_at ls (get_or lines k d)) (sym (append_assoc before (line ∷ []) (take k lines)))
+    ap (λ ls. cause_at_line ls (get_or lines k d)) (sym (append_assoc before (line ∷ []) (take k lines)))
     ∙ cause_none (before ++ line ∷ []) lines k d (omega arith) h.1
 
 clean_from_after : (lines : List Line) → IsCleanAfter [] lines → IsClean lines
@@ -156,7 +156,7 @@ missing_none text insns h zero = refl
 missing_none text insns h (suc k) = none_missing (places_from 0 (lines_of text)) 0 (lines_of text) insns h.assembles k
 
 -- a text that stands for instructions has no fault
-pub no_program_is_faulty : NoProgramIsFaulty
+pub no_program_is_faulty : NoAssemblyIsFaulty
 no_program_is_faulty text insns line c h f =
     let clean = assembled_clean text insns h in
     let count = assembles_count (places_from 0 (lines_of text)) 0 (lines_of text) insns h.assembles in
@@ -167,14 +167,14 @@ no_program_is_faulty text insns line c h f =
     (λ missing. none_is_some (missing_at (lines_of text) line) c (missing_none text insns h line) missing.2.0) whole) f
 
 -- the first is one
-one_first : (f : ℕ → Option Cause) (m n : ℕ) (c d : Cause) → IsFirst f m c → IsFirst f n d → (m ≡ n) × (c ≡ d)
+one_first : (f : ℕ → Option Cause) (m n : ℕ) (c d : Cause) → IsFirstCause f m c → IsFirstCause f n d → (m ≡ n) × (c ≡ d)
 one_first f m n c d h k = ⊎_elim
     (λ e. let both : Some c ≡ Some d = sym h.0 ∙ ap f e ∙ k.0 in (e, cc))
     (λ apart. ⊎_elim (λ lt. absurd (none_is_some (f m) c (k.1 m lt) h.0)) (λ gt. absurd (none_is_some (f n) d (h.1 n gt) k.0)) apart)
     (cases_order m n)
 
 -- a text has at most one fault: one line, and there one cause
-pub one_fault : OneFault
+pub one_fault : TextHasOneFault
 one_fault text m n c d h k =
     ⊎_elim (λ a. ⊎_elim (λ b. one_first (fault_at lines) m n c d a b)
     (λ b. absurd (⊎_elim (λ x. none_is_some (fault_at lines m) c (x.0 m) a.0) (λ x. none_is_some (fault_at lines m) c (x.0 m) a.0) b)) k)
@@ -187,9 +187,9 @@ one_fault text m n c d h k =
     lines = lines_of text
 
     whole : (IsClean (lines_of text) × (slots_in (lines_of text) ≡ 0) × (m ≡ 0) × (c ≡ Slots))
-        ⊎ (IsClean (lines_of text) × (0 < slots_in (lines_of text)) × IsFirst (missing_at (lines_of text)) m c)
+        ⊎ (IsClean (lines_of text) × (0 < slots_in (lines_of text)) × IsFirstCause (missing_at (lines_of text)) m c)
         → (IsClean (lines_of text) × (slots_in (lines_of text) ≡ 0) × (n ≡ 0) × (d ≡ Slots))
-        ⊎ (IsClean (lines_of text) × (0 < slots_in (lines_of text)) × IsFirst (missing_at (lines_of text)) n d)
+        ⊎ (IsClean (lines_of text) × (0 < slots_in (lines_of text)) × IsFirstCause (missing_at (lines_of text)) n d)
         → (m ≡ n) × (c ≡ d)
     whole (inl a) (inl b) = (a.2 ∙ sym b.2, a.3 ∙ sym b.3)
     whole (inl a) (inr b) = absurd (let none = a.1 in let some = b.1 in omega arith)
@@ -200,12 +200,12 @@ one_fault text m n c d h k =
 IsNoneBelow : (ℕ → Option Cause) → ℕ → Type 0
 IsNoneBelow f n = (k : ℕ) → k < n → f k ≡ None
 
-sought : (f : ℕ → Option Cause) (n : ℕ) → IsNoneBelow f n ⊎ ((line : ℕ) × (c : Cause) × IsFirst f line c)
+sought : (f : ℕ → Option Cause) (n : ℕ) → IsNoneBelow f n ⊎ ((line : ℕ) × (c : Cause) × IsFirstCause f line c)
 unfolding IsNoneBelow
 sought f zero = inl (λ k lt. absurd (omega arith))
 sought f (suc n) = ⊎_elim (λ none. by (f n) refl none) (λ found. inr found) (sought f n)
   where
-    by : (o : Option Cause) → f n ≡ o → IsNoneBelow f n → IsNoneBelow f (suc n) ⊎ ((line : ℕ) × (c : Cause) × IsFirst f line c)
+    by : (o : Option Cause) → f n ≡ o → IsNoneBelow f n → IsNoneBelow f (suc n) ⊎ ((line : ℕ) × (c : Cause) × IsFirstCause f line c)
     by None e none =
         inl (λ k lt.
         ⊎_elim (λ below. none k below) (λ above. let same : n ≡ k = omega arith in subst (λ m. f m ≡ None) same e)
@@ -233,12 +233,12 @@ each_text_is_judged text =
 
     passed : IsClean (lines_of text) → 0 < slots_in (lines_of text) → slots_in (lines_of text) ≤ 4096
         → (r : Result (List Insn) ℕ) → Passes (places_from 0 (lines_of text)) 0 1 [] (lines_of text) r
-        → ((insns : List Insn) × Assembles text insns) ⊎ ((line : ℕ) × (c : Cause) × Faulty (lines_of text) line c)
+        → ((insns : List Insn) × Assembles text insns) ⊎ ((line : ℕ) × (c : Cause) × FaultyLines (lines_of text) line c)
     passed h some few (Ok insns) p = inl (p.0, assembles_from text p.0 h some few p.2)
     passed h some few (Err line) p = inr (line, LabelMissing, inr (inr (h, some, first_from_missing (lines_of text) line p)))
 
     clean : IsClean (lines_of text)
-        → ((insns : List Insn) × Assembles text insns) ⊎ ((line : ℕ) × (c : Cause) × Faulty (lines_of text) line c)
+        → ((insns : List Insn) × Assembles text insns) ⊎ ((line : ℕ) × (c : Cause) × FaultyLines (lines_of text) line c)
     clean h =
         let bound = clean_few [] (lines_of text) (omega arith) (clean_after (lines_of text) h) in
         let few : slots_in (lines_of text) ≤ 4096 = omega (arith, bound) in
@@ -250,18 +250,18 @@ each_text_is_judged text =
 
 -- what the table has under a word is named by it
 entry_name : (word : List ℕ) (m : Mnemonic) (es : List (List ℕ × Mnemonic))
-    → list_all (λ e. bytes_eq e.0 (name_of e.1)) es ≡ true → entry_with word es ≡ Some m → word ≡ name_of m
+    → list_all (λ e. bytes_eq e.0 (mnemonic_word e.1)) es ≡ true → entry_with word es ≡ Some m → word ≡ mnemonic_word m
 entry_name word m [] h k = absurd (let no : None ≡ Some m = k in cc)
 entry_name word m (e ∷ es) h k =
-    let parts = and_parts (bytes_eq e.0 (name_of e.1)) (list_all (λ e. bytes_eq e.0 (name_of e.1)) es) h in
+    let parts = and_parts (bytes_eq e.0 (mnemonic_word e.1)) (list_all (λ e. bytes_eq e.0 (mnemonic_word e.1)) es) h in
     by (bytes_eq e.0 word) refl parts.0 k (entry_name word m es parts.1)
   where
-    by : (b : Bool) → bytes_eq e.0 word ≡ b → bytes_eq e.0 (name_of e.1) ≡ true
-        → (if b then Some e.1 else entry_with word es) ≡ Some m → (entry_with word es ≡ Some m → word ≡ name_of m)
-        → word ≡ name_of m
+    by : (b : Bool) → bytes_eq e.0 word ≡ b → bytes_eq e.0 (mnemonic_word e.1) ≡ true
+        → (if b then Some e.1 else entry_with word es) ≡ Some m → (entry_with word es ≡ Some m → word ≡ mnemonic_word m)
+        → word ≡ mnemonic_word m
     by true t named found rest =
         let same : e.1 ≡ m = let s : Some e.1 ≡ Some m = found in cc in
-        sym ((bytes_eq-Decides e.0 word).0 t) ∙ (bytes_eq-Decides e.0 (name_of e.1)).0 named ∙ ap name_of same
+        sym ((bytes_eq-Decides e.0 word).0 t) ∙ (bytes_eq-Decides e.0 (mnemonic_word e.1)).0 named ∙ ap mnemonic_word same
     by false t named found rest = rest found
 
 -- a first word that says something is the name of what it says

@@ -13,8 +13,8 @@ use Rattle.bq_asm.specs.declared.fault.AsmFault.{AsmFault}
 use Rattle.bq_asm.specs.declared.fault.AsmFault.TheVariants.{At, OutOfMemory}
 use Rattle.bq_asm.specs.declared.draft.Draft.{Draft}
 use Rattle.bq_asm.specs.Lines.{Line, Blank, parsed_line, lines_of}
-use Rattle.bq_asm.specs.Faults.{slots_in, cause_at, fault_at, IsClean, IsFault}
-use Rattle.bq_asm.specs.Draft.{IsDraftOf, RefusesLine, Finishes, Fails}
+use Rattle.bq_asm.specs.Faults.{slots_in, cause_at_line, fault_at, IsClean, IsAssemblyFault}
+use Rattle.bq_asm.specs.Draft.{IsDraftOf, RefusesLine, FinishesDraft, Fails}
 use Rattle.bq_asm.specs.Assembly.{Assembles}
 use Rattle.bq_asm.proofs.AssembledLemmas.{assembles_from}
 use Rattle.bq_asm.proofs.CleanLemmas.{fault_at-is}
@@ -32,7 +32,7 @@ parsed_by_bytes (line ∷ yielded) = ap (λ ls. parsed_line line.now ∷ ls) (pa
 pub next_fault : (text : List ℕ) (yielded : List (Bor (List ℕ))) (line : List ℕ)
     → map (λ l. l.now) yielded ≡ take (length yielded) (lines text) → length yielded < length (lines text)
     → line ≡ get_or (lines text) (length yielded) line
-    → fault_at (lines_of text) (suc (length yielded)) ≡ cause_at (parsed_so_far yielded) (parsed_line line)
+    → fault_at (lines_of text) (suc (length yielded)) ≡ cause_at_line (parsed_so_far yielded) (parsed_line line)
 next_fault text yielded line so_far more here =
     let n = length yielded in
     let long : n < length (lines_of text) = omega (arith, length-map (lines text) parsed_line) in
@@ -40,7 +40,7 @@ next_fault text yielded line so_far more here =
     take-map parsed_line n (lines text) ∙ ap (map parsed_line) (sym so_far) ∙ parsed_by_bytes yielded in
     let this : get_or (lines_of text) n Blank ≡ parsed_line line =
     get_or-map parsed_line (lines text) n line Blank more ∙ ap parsed_line (sym here) in
-    fault_at-is (lines_of text) n Blank long ∙ (λ i. cause_at (first i) (this i))
+    fault_at-is (lines_of text) n Blank long ∙ (λ i. cause_at_line (first i) (this i))
 
 -- lines without a fault, and one more
 pub more_clean : (all : List Line) (n : ℕ) → ((k : ℕ) → k ≤ n → fault_at all k ≡ None) → fault_at all (suc n) ≡ None
@@ -53,9 +53,9 @@ more_clean all n h here k le =
 -- the fault at the next line is the first
 pub first_fault : (text : List ℕ) (draft : Draft) (yielded : List (Bor (List ℕ))) (n : ℕ) (line : List ℕ) (e : AsmFault)
     → n ≡ length yielded → IsDraftOf (parsed_so_far yielded) draft → ((k : ℕ) → k ≤ n → fault_at (lines_of text) k ≡ None)
-    → fault_at (lines_of text) (suc (length yielded)) ≡ cause_at (parsed_so_far yielded) (parsed_line line)
+    → fault_at (lines_of text) (suc (length yielded)) ≡ cause_at_line (parsed_so_far yielded) (parsed_line line)
     → RefusesLine draft (n + 1) (parsed_line line) e
-    → IsFault text e
+    → IsAssemblyFault text e
 first_fault text draft yielded n line OutOfMemory count described clean here h = tt
 first_fault text draft yielded n line (At k c) count described clean here h =
     let is : k ≡ n + 1 = h.0 in
@@ -66,12 +66,12 @@ first_fault text draft yielded n line (At k c) count described clean here h =
 pub all_clean : (lines : List Line) (n : ℕ) → length lines ≡ n → ((k : ℕ) → k ≤ n → fault_at lines k ≡ None) → IsClean lines
 all_clean lines n whole h zero = refl
 all_clean lines n whole h (suc k) =
-    ⊎_elim (λ lt. h (suc k) (omega arith)) (λ ge. ap (option_and_then (cause_at (take k lines))) (slice_get_past lines k ge))
+    ⊎_elim (λ lt. h (suc k) (omega arith)) (λ ge. ap (option_and_then (cause_at_line (take k lines))) (slice_get_past lines k ge))
     (cases_lt k (length lines))
 
 -- what is wrong with all lines, where none has a fault by itself
 pub whole_fault : (text : List ℕ) (draft : Draft) (e : AsmFault)
-    → IsDraftOf (lines_of text) draft → IsClean (lines_of text) → Fails draft e → IsFault text e
+    → IsDraftOf (lines_of text) draft → IsClean (lines_of text) → Fails draft e → IsAssemblyFault text e
 whole_fault text draft OutOfMemory described clean h = absurd h
 whole_fault text draft (At line c) described clean h =
     ⊎_elim (λ none. inr (inl (clean, none.0, none.1, none.2))) (λ missing. inr (inr (clean, missing.0, missing.1)))
@@ -96,13 +96,13 @@ module _ (text : List ℕ) (draft : Draft) (yielded : List (Bor (List ℕ))) (nu
   few_slots : slots_in (lines_of text) ≤ 4096
   few_slots = let few = draft.few in let same = described_all.slots in omega (arith, few, same)
 
-  pub assembled : IfOk r (λ insns. Finishes draft insns.items) → IfOk r (λ insns. Assembles text insns.items)
-  assembled h = IfOk-weaker r (λ insns. Finishes draft insns.items) (λ insns. Assembles text insns.items)
+  pub assembled : IfOk r (λ insns. FinishesDraft draft insns.items) → IfOk r (λ insns. Assembles text insns.items)
+  assembled h = IfOk-weaker r (λ insns. FinishesDraft draft insns.items) (λ insns. Assembles text insns.items)
       (λ insns f. let is = f (lines_of text) described_all clean_all in assembles_from text insns.items clean_all is.0 few_slots is.1) h
 
-  pub unassembled : IfErr r (Fails draft) → IfErr r (IsFault text)
+  pub unassembled : IfErr r (Fails draft) → IfErr r (IsAssemblyFault text)
   unassembled h = by r h
     where
-      by : (r : Result (Vec Insn) AsmFault) → IfErr r (Fails draft) → IfErr r (IsFault text)
+      by : (r : Result (Vec Insn) AsmFault) → IfErr r (Fails draft) → IfErr r (IsAssemblyFault text)
       by (Ok insns) k = tt
       by (Err e) k = whole_fault text draft e described_all clean_all k

@@ -22,7 +22,7 @@ use Rattle.bq_asm.specs.declared.operand.Operand.{Operand}
 use Rattle.bq_asm.specs.declared.operand.Operand.TheVariants as operand
 use Rattle.bq_asm.specs.declared.place.OperandKind.{OperandKind}
 use Rattle.bq_asm.specs.declared.place.OperandKind.TheVariants as kind
-use Rattle.bq_asm.specs.Names.{name_of}
+use Rattle.bq_asm.specs.Names.{mnemonic_word}
 use Rattle.bq_asm.specs.Operands.{operand_of, each_operand, with_next, kind_list, kinds_of, made, instruction_of, instruction_from}
 use Rattle.bq_asm.specs.Text.{operand_text, source_operand, mnemonic_of, operands_of}
 use Rattle.bq_asm.proofs.OperandLemmas.{register_again, source_register_again, number_again, source_number_again, wide_again, near_again, far_again, memory_again}
@@ -138,7 +138,7 @@ operands_good insn.Exit h k = tt
 
 -- what an instruction is listed as says that instruction, whatever labels there are
 pub listed_again : (i : Insn) (d : Option ℤ) → is_insn i ≡ true → Fits i
-    → instruction_of (name_of (mnemonic_of i)) (map operand_text (operands_of i)) d ≡ Ok i
+    → instruction_of (mnemonic_word (mnemonic_of i)) (map operand_text (operands_of i)) d ≡ Ok i
 listed_again i d h k =
     ap (λ m. instruction_from m (map operand_text (operands_of i)) d) (named-again i h)
     ∙ ap (made (mnemonic_of i)) (each_again (kind_list (kinds_of (mnemonic_of i))) (operands_of i) d (of_kinds i) (operands_good i h k))

@@ -34,9 +34,9 @@ use Rattle.bq_asm.specs.declared.mnemonic.Mnemonic.{Mnemonic}
 use Rattle.bq_asm.specs.declared.mnemonic.Mnemonic.TheVariants as name
 use Rattle.bq_asm.specs.declared.operand.Operand.{Operand}
 use Rattle.bq_asm.specs.declared.operand.Operand.TheVariants as operand
-use Rattle.bq_asm.specs.Names.{op_name, cond_name, width_name, size_name, order_name, bits_name, name_of}
-use Rattle.bq_asm.specs.Text.{signed_text, operand_text, mnemonic_of, operands_of, after_first, operands_text, line_text, listing_text, line_body}
-use Rattle.bq_asm.specs.Lines.{Line, Instruction, is_comment, is_blank, words, line_of, parsed_line, lines_of, last_word}
+use Rattle.bq_asm.specs.Names.{op_name, cond_name, width_name, size_name, order_name, bits_name, mnemonic_word}
+use Rattle.bq_asm.specs.Text.{signed_text, operand_text, mnemonic_of, operands_of, after_first, operands_text, text_of_instruction, listing_text, line_body}
+use Rattle.bq_asm.specs.Lines.{Line, Instruction, is_comment, is_blank, words_between_blanks, line_of_words, parsed_line, lines_of, last_word}
 use Rattle.bq_asm.specs.Assembly.{slots_of_line, places_from, distance_to, AssemblesFrom, AreNewLabels}
 use Rattle.bq_asm.specs.Laws.{ListingAssembles}
 use Rattle.bq_asm.proofs.DigitLemmas.{is_digit, list_all-append, list_all-weaker, decimal_digits}
@@ -101,7 +101,7 @@ bits_some B16 = omega arith
 bits_some B32 = omega arith
 bits_some B64 = omega arith
 
-name_plain : (m : Mnemonic) → list_all is_plain (name_of m) ≡ true
+name_plain : (m : Mnemonic) → list_all is_plain (mnemonic_word m) ≡ true
 name_plain (name.Alu w o) = list_all-append is_plain (op_name o) (width_name w) (op_plain o) (width_plain w)
 name_plain (name.MovSx w b) = list_all-append is_plain (width_name w) (codes "_" ++ bits_name b) (width_plain w) (bits_plain b)
 name_plain (name.Neg w) = width_plain w
@@ -157,14 +157,14 @@ no_blank (b ∷ w) h =
     let parts = and_parts (is_plain b) (list_all is_plain w) h in
     (not-true (is_blank b) (and_parts (not (is_blank b)) (is_inner b) parts.0).0, no_blank w parts.1)
 
-first_word : (w rest : List ℕ) → IsWord w → EndsWord is_blank rest → words (w ++ rest) ≡ w ∷ words rest
+first_word : (w rest : List ℕ) → IsWord w → EndsWord is_blank rest → words_between_blanks (w ++ rest) ≡ w ∷ words_between_blanks rest
 first_word w rest h end = words-word is_blank w rest h.some (All-from_recursion (λ b. is_blank b ≡ false) w (no_blank w h.plain)) end
 
 after_ends : (os : List Operand) → EndsWord is_blank (after_first os)
 after_ends [] = tt
 after_ends (o ∷ os) = refl
 
-words_after : (os : List Operand) → AllByRecursion IsInRange os → words (after_first os) ≡ map operand_text os
+words_after : (os : List Operand) → AllByRecursion IsInRange os → words_between_blanks (after_first os) ≡ map operand_text os
 words_after [] h = refl
 words_after (o ∷ os) h =
     words-blank is_blank 44 (32 ∷ (operand_text o ++ after_first os)) refl
@@ -172,7 +172,7 @@ words_after (o ∷ os) h =
     ∙ first_word (operand_text o) (after_first os) (operand_word o h.0) (after_ends os)
     ∙ ap (λ ws. operand_text o ∷ ws) (words_after os h.1)
 
-words_operands : (os : List Operand) → AllByRecursion IsInRange os → words (operands_text os) ≡ map operand_text os
+words_operands : (os : List Operand) → AllByRecursion IsInRange os → words_between_blanks (operands_text os) ≡ map operand_text os
 words_operands [] h = refl
 words_operands (o ∷ os) h =
     words-blank is_blank 32 (operand_text o ++ after_first os) refl
@@ -183,7 +183,7 @@ operands_end : (os : List Operand) → EndsWord is_blank (operands_text os)
 operands_end [] = tt
 operands_end (o ∷ os) = refl
 
-name_some : (m : Mnemonic) → 0 < length (name_of m)
+name_some : (m : Mnemonic) → 0 < length (mnemonic_word m)
 name_some (name.Alu w o) = let sum = length-append (op_name o) (width_name w) in let two = width_some w in omega (arith, sum, two)
 name_some (name.MovSx w b) = omega arith
 name_some (name.Neg w) = omega arith
@@ -196,12 +196,12 @@ name_some (name.Branch w c) = let sum = length-append (cond_name c) (width_name 
 name_some m = omega arith
 
 words_of-body : (i : Insn) → AllByRecursion IsInRange (operands_of i)
-    → words (line_body i) ≡ name_of (mnemonic_of i) ∷ map operand_text (operands_of i)
+    → words_between_blanks (line_body i) ≡ mnemonic_word (mnemonic_of i) ∷ map operand_text (operands_of i)
 words_of-body i h =
     let m = mnemonic_of i in
-    first_word (name_of m) (operands_text (operands_of i)) (record { some = name_some m; plain = name_plain m })
+    first_word (mnemonic_word m) (operands_text (operands_of i)) (record { some = name_some m; plain = name_plain m })
     (operands_end (operands_of i))
-    ∙ ap (λ ws. name_of m ∷ ws) (words_operands (operands_of i) h)
+    ∙ ap (λ ws. mnemonic_word m ∷ ws) (words_operands (operands_of i) h)
 
 -- a line of a listing has no comment, and no line ends in it
 plain_inner : (w : List ℕ) → list_all is_plain w ≡ true → list_all is_inner w ≡ true
@@ -221,8 +221,8 @@ operands_inner (o ∷ os) h =
 
 body_inner : (i : Insn) → AllByRecursion IsInRange (operands_of i) → list_all is_inner (line_body i) ≡ true
 body_inner i h =
-    list_all-append is_inner (name_of (mnemonic_of i)) (operands_text (operands_of i))
-    (plain_inner (name_of (mnemonic_of i)) (name_plain (mnemonic_of i))) (operands_inner (operands_of i) h)
+    list_all-append is_inner (mnemonic_word (mnemonic_of i)) (operands_text (operands_of i))
+    (plain_inner (mnemonic_word (mnemonic_of i)) (name_plain (mnemonic_of i))) (operands_inner (operands_of i) h)
 
 no_comment : (bs : List ℕ) → list_all is_inner bs ≡ true → position_or_len is_comment bs ≡ length bs
 no_comment [] h = refl
@@ -237,13 +237,13 @@ without_comment bs h = ap (λ n. take n bs) (no_comment bs h) ∙ take_all (leng
 
 -- the instruction that a line says, by its words
 parsed_line-body : (i : Insn) → AllByRecursion IsInRange (operands_of i)
-    → parsed_line (line_body i) ≡ Instruction (name_of (mnemonic_of i)) (map operand_text (operands_of i))
+    → parsed_line (line_body i) ≡ Instruction (mnemonic_word (mnemonic_of i)) (map operand_text (operands_of i))
 parsed_line-body i h =
-    ap (λ bs. line_of (words bs)) (without_comment (line_body i) (body_inner i h)) ∙ ap line_of (words_of-body i h) ∙ lone i
+    ap (λ bs. line_of_words (words_between_blanks bs)) (without_comment (line_body i) (body_inner i h)) ∙ ap line_of_words (words_of-body i h) ∙ lone i
   where
     lone : (i : Insn)
-        → line_of (name_of (mnemonic_of i) ∷ map operand_text (operands_of i))
-        ≡ Instruction (name_of (mnemonic_of i)) (map operand_text (operands_of i))
+        → line_of_words (mnemonic_word (mnemonic_of i) ∷ map operand_text (operands_of i))
+        ≡ Instruction (mnemonic_word (mnemonic_of i)) (map operand_text (operands_of i))
     lone (insn.Alu w o d src) = refl
     lone (insn.MovSx w b d s) = refl
     lone (insn.Neg w d) = refl
@@ -292,17 +292,17 @@ lines-body body rest h =
     ∙ parts_more body (slice_split feed rest) more ∙ ap (λ b. b ∷ lines rest) kept
 
 abbrev listed : Insn → Line
-listed i = Instruction (name_of (mnemonic_of i)) (map operand_text (operands_of i))
+listed i = Instruction (mnemonic_word (mnemonic_of i)) (map operand_text (operands_of i))
 
 lines_of-listing : (insns : List Insn) → list_all is_insn insns ≡ true → AllFit insns → lines_of (listing_text insns) ≡ map listed insns
 lines_of-listing [] h k = refl
 lines_of-listing (i ∷ insns) h k =
     let parts = and_parts (is_insn i) (list_all is_insn insns) h in
     let good = operands_good i parts.0 k.0 in
-    let m = name_of (mnemonic_of i) in
+    let m = mnemonic_word (mnemonic_of i) in
     let os = operands_text (operands_of i) in
     let rest = listing_text insns in
-    let regrouped : line_text i ++ rest ≡ line_body i ++ 10 ∷ rest =
+    let regrouped : text_of_instruction i ++ rest ≡ line_body i ++ 10 ∷ rest =
     append_assoc m (os ++ codes "\n") rest ∙ ap (λ bs. m ++ bs) (append_assoc os (codes "\n") rest)
     ∙ sym (append_assoc m os (10 ∷ rest)) in
     ap (λ bs. map parsed_line (lines bs)) regrouped ∙ ap (map parsed_line) (lines-body (line_body i) rest (body_inner i good))

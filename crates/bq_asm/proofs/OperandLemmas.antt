@@ -9,7 +9,7 @@ use Rattle.std.proofs.lemmas.List.{take_at, drop_at, get_or_at}
 use Rattle.std.proofs.lemmas.Int.{ints}
 use Rattle.bq_asm.specs.declared.operand.Operand.TheVariants as operand
 use Rattle.bq_asm.specs.declared.place.OperandKind.TheVariants as kind
-use Rattle.bq_asm.specs.Numbers.{imm_of, offset_of, distance_of, register_of}
+use Rattle.bq_asm.specs.Numbers.{imm_of, offset_of, distance_in_word, register_named}
 use Rattle.bq_asm.specs.Operands.{number_place, register_place, source_place, is_sign, inside, based, cut_at, memory_place, is_letter, is_label_byte, is_label, label_place, operand_of}
 use Rattle.bq_asm.specs.Text.{signed_text, operand_text}
 use Rattle.bq_asm.proofs.DigitLemmas.{is_digit, decimal_digits, list_all-weaker, imm_of-signed, offset_of-signed, distance_of-signed, wide_of-decimal, register_of-decimal}
@@ -34,20 +34,20 @@ pub number_again : (z : ℤ) (d : Option ℤ) → FitsSigned w32 z
 number_again z d h = number_is z h
 
 -- what begins otherwise is no register
-no_register : (b : ℕ) (rest : List ℕ) → (b ≡ 114 → ⊥) → register_of (b ∷ rest) ≡ None
+no_register : (b : ℕ) (rest : List ℕ) → (b ≡ 114 → ⊥) → register_named (b ∷ rest) ≡ None
 no_register b [] h = refl
 no_register b (d ∷ []) h = ap (λ t. if t && (nat_le 48 d && nat_le d 57) then Some (d - 48) else None) (ne_eqb b 114 h)
 no_register b (d ∷ e ∷ []) h = ap (λ t. if t && ((d == 49) && (e == 48)) then Some 10 else None) (ne_eqb b 114 h)
 no_register b (d ∷ e ∷ f ∷ rest) h = refl
 
-digits_no_register : (ds : List ℕ) → list_all is_digit ds ≡ true → register_of ds ≡ None
+digits_no_register : (ds : List ℕ) → list_all is_digit ds ≡ true → register_named ds ≡ None
 digits_no_register [] h = refl
 digits_no_register (b ∷ ds) h =
     let first = (and_parts (is_digit b) (list_all is_digit ds) h).0 in
     let high : b ≤ 57 = leb-true b 57 (and_parts (nat_le 48 b) (nat_le b 57) first).1 in
     no_register b ds (λ e. omega arith)
 
-signed_no_register : (z : ℤ) → FitsSigned w32 z → register_of (signed_decimal z) ≡ None
+signed_no_register : (z : ℤ) → FitsSigned w32 z → register_named (signed_decimal z) ≡ None
 signed_no_register (pos n) h = digits_no_register (decimal n) (decimal_digits n (omega (arith, ints, h)))
 signed_no_register (negsuc n) h = no_register 45 (decimal (suc n)) (λ e. omega arith)
 
@@ -89,7 +89,7 @@ far_again z d h =
     ap (λ b.
     if b
     then label_place (option_map (λ z. operand.Far z) d)
-    else number_place (option_map (λ z. operand.Far z) (distance_of word)) word) (signed_no_label z)
+    else number_place (option_map (λ z. operand.Far z) (distance_in_word word)) word) (signed_no_label z)
     ∙ ap (λ o. number_place (option_map (λ z. operand.Far z) o) word) (distance_of-signed z h)
 
 -- what stands in brackets
@@ -141,7 +141,7 @@ cut_base r s ds z h sign is =
     let inner = base ++ offset in
     let some : (length offset == 0) ≡ false = ne_eqb (length offset) 0 (λ e. omega arith) in
     ap (λ o. cut_at o inner) (position_after is_sign base s ds (base_no_sign r h) sign)
-    ∙ (λ i. based (register_of (take_at base offset (length base) refl i)) (drop_at base offset (length base) refl i))
+    ∙ (λ i. based (register_named (take_at base offset (length base) refl i)) (drop_at base offset (length base) refl i))
     ∙ ap (λ o. based o offset) (register_of-decimal r h)
     ∙ ap (λ b. if b then Ok (operand.Memory r (pos 0)) else number_place (option_map (λ z. operand.Memory r z) (offset_of offset)) offset)
     some

@@ -15,7 +15,7 @@ use Rattle.bq_asm.specs.Lines.{Line, Blank, Label, Instruction, last_word}
 use Rattle.bq_asm.specs.Operands.{instruction_of}
 use Rattle.bq_asm.specs.Assembly.{slots_read, distance_to, AssemblesFrom}
 use Rattle.bq_asm.specs.Faults.{awaits_label, cause_of_jump}
-use Rattle.bq_asm.specs.Jumps.{Awaited, aimed, awaited_at, insn_read, drafts_of, jump_read, jumps_from, with_jump, with_jumps}
+use Rattle.bq_asm.specs.Jumps.{Awaited, jump_aimed, awaited_at, insn_read, drafts_of, jump_read, jumps_from, with_jump, with_jumps}
 use Rattle.bq_asm.proofs.ReadingLemmas.{IsPlain, IsAwaiting, plain_or_awaiting, jump_slots, aimed_slots}
 
 -- the line says no instruction, or one that is read
@@ -127,11 +127,11 @@ module _ (places : List (List ℕ × ℕ)) (index slot number : ℕ) (done : Lis
       (sought places operands (instruction_of first operands None) None a.unset e)
   jump a (Some at) e =
       let z = pos at -ℤ pos (slot + slots_of i) in
-      let v = aimed i z in
+      let v = jump_aimed i z in
       let all = done ++ i ∷ drafts_of lines in
       let here : slice_index_or all index insn.Exit ≡ i = get_or_at done i (drafts_of lines) insn.Exit index count in
-      let changed : slice_set all index (aimed (slice_index_or all index insn.Exit) z) ≡ done ++ v ∷ drafts_of lines =
-      ap (λ j. slice_set all index (aimed j z)) here ∙ set_at done i (drafts_of lines) v index count in
+      let changed : slice_set all index (jump_aimed (slice_index_or all index insn.Exit) z) ≡ done ++ v ∷ drafts_of lines =
+      ap (λ j. slice_set all index (jump_aimed j z)) here ∙ set_at done i (drafts_of lines) v index count in
       let one = jump_slots i a.jump in
       let distance : distance_to places slot (last_word operands) ≡ Some z =
       ap (option_map (λ at. pos at -ℤ pos (slot + 1))) e ∙ ap (λ n. Some (pos at -ℤ pos (slot + n))) (sym one) in

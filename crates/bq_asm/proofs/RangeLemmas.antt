@@ -7,8 +7,8 @@ use Rattle.std.specs.Str.Parse.{digits_value}
 use Rattle.std.specs.Char.{digit_value}
 use Rattle.std.proofs.lemmas.Bool.Decides.{nat_tests}
 use Rattle.std.proofs.lemmas.Int.{ints}
-use Rattle.bq_words.specs.Numbers.{number_of, below, value_of}
-use Rattle.bq_asm.specs.Numbers.{negative, imm_of, offset_of, distance_of, wide_of, register_of}
+use Rattle.bq_words.specs.Numbers.{number_in_base, below, value_of}
+use Rattle.bq_asm.specs.Numbers.{negative, imm_of, offset_of, distance_in_word, wide_of, register_named}
 
 below_limit : (limit : ℕ) (o : Option ℕ) → IfSome (below limit o) (λ n. n < limit)
 below_limit limit None = tt
@@ -49,7 +49,7 @@ imm_fits w =
     (mapped (λ n. n < 2 ^ 31) (FitsSigned w32) (λ n. pos n) positive_fits plain (below_limit (2 ^ 31) (value_of w)))
 
 -- what is read as a distance fits 32 bits with a sign
-pub distance_fits : (w : List ℕ) → IfSome (distance_of w) (FitsSigned w32)
+pub distance_fits : (w : List ℕ) → IfSome (distance_in_word w) (FitsSigned w32)
 distance_fits w =
     let size = value_of (drop 1 w) in
     let minus = below (2 ^ 31 + 1) size in
@@ -72,7 +72,7 @@ offset_fits w =
     (either (FitsSigned w16) (starts_with nat_eq w (codes "+")) (option_map (λ n. pos n) plus) None
     (mapped (λ n. n < 2 ^ 15) (FitsSigned w16) (λ n. pos n) near_positive_fits plus (below_limit (2 ^ 15) size)) tt)
 
-number_fits : (radix : ℕ) (w : List ℕ) → IfSome (number_of radix w) (λ n. n < 2 ^ 64)
+number_fits : (radix : ℕ) (w : List ℕ) → IfSome (number_in_base radix w) (λ n. n < 2 ^ 64)
 number_fits radix w =
     by (nat_lt 0 (length w)) (list_all (λ c. nat_lt (digit_value c) radix) w) (nat_lt (digits_value radix w) (2 ^ 64)) refl
   where
@@ -85,7 +85,7 @@ number_fits radix w =
 
 value_fits : (w : List ℕ) → IfSome (value_of w) (λ n. n < 2 ^ 64)
 value_fits w =
-    either (λ n. n < 2 ^ 64) (starts_with nat_eq w (codes "0x")) (number_of 16 (drop 2 w)) (number_of 10 w)
+    either (λ n. n < 2 ^ 64) (starts_with nat_eq w (codes "0x")) (number_in_base 16 (drop 2 w)) (number_in_base 10 w)
     (number_fits 16 (drop 2 w)) (number_fits 10 w)
 
 at_most : (o : Option ℕ) → IfSome (below 1 o) (λ n. n < 1) → IfSome (below 1 o) (λ n. n < 2 ^ 64)
@@ -101,7 +101,7 @@ wide_fits w =
     either (λ n. n < 2 ^ 64) (starts_with nat_eq w (codes "-")) (below 1 (value_of (drop 1 w))) (value_of w)
     (at_most (value_of (drop 1 w)) (below_limit 1 (value_of (drop 1 w)))) (value_fits w)
 
-one_digit : (r d : ℕ) → IfSome (register_of (r ∷ d ∷ [])) (λ n. n ≤ 10)
+one_digit : (r d : ℕ) → IfSome (register_named (r ∷ d ∷ [])) (λ n. n ≤ 10)
 one_digit r d = by (r == 114) (nat_le 48 d) (nat_le d 57) refl
   where
     by : (a b c : Bool) → nat_le d 57 ≡ c → IfSome (if a && (b && c) then Some (d - 48) else None) (λ n. n ≤ 10)
@@ -111,7 +111,7 @@ one_digit r d = by (r == 114) (nat_le 48 d) (nat_le d 57) refl
     by false b c e = tt
 
 -- what is read as a register is one of r0 to r10
-pub register_fits : (w : List ℕ) → IfSome (register_of w) (λ r. r ≤ 10)
+pub register_fits : (w : List ℕ) → IfSome (register_named w) (λ r. r ≤ 10)
 register_fits (r ∷ d ∷ []) = one_digit r d
 register_fits (r ∷ d ∷ e ∷ []) = either (λ r. r ≤ 10) ((r == 114) && ((d == 49) && (e == 48))) (Some 10) None (omega arith) tt
 register_fits w = tt

@@ -20,8 +20,8 @@ use Rattle.bq_asm.specs.declared.place.OperandKind.TheVariants as kind
 use Rattle.bq_asm.specs.Named.{named}
 use Rattle.bq_asm.specs.Lines.{last_word}
 use Rattle.bq_asm.specs.Operands.{is_label, operand_of, number_place, label_place, each_operand, with_next, kind_list, kinds_of, insn_from, made, lesser, register_place, source_place, instruction_of, instruction_from}
-use Rattle.bq_asm.specs.Numbers.{register_of, offset_of, distance_of}
-use Rattle.bq_asm.specs.Jumps.{is_jump, target_of, aimed}
+use Rattle.bq_asm.specs.Numbers.{register_named, offset_of, distance_in_word}
+use Rattle.bq_asm.specs.Jumps.{is_jump, target_of, jump_aimed}
 use Rattle.bq_asm.proofs.CountLemmas.{count_wrong}
 
 -- whether a first word says a jump
@@ -115,7 +115,7 @@ pub record IsSteady (m : Mnemonic) (operands : List (List ℕ)) : Type 0 where
 
 -- what is read, with this distance where it is a jump
 abbrev pub aimed_by : ℤ → Result Insn Cause → Result Insn Cause
-aimed_by z (Ok i) = Ok (aimed i z)
+aimed_by z (Ok i) = Ok (jump_aimed i z)
 aimed_by z (Err c) = Err c
 
 -- a label stands in the target's place
@@ -161,10 +161,10 @@ near w d b e =
     e
 
 far : (w : List ℕ) (d : Option ℤ) (b : Bool) → is_label w ≡ b → operand_of kind.Far w d
-    ≡ (if b then label_place (option_map (λ z. operand.Far z) d) else number_place (option_map (λ z. operand.Far z) (distance_of w)) w)
+    ≡ (if b then label_place (option_map (λ z. operand.Far z) d) else number_place (option_map (λ z. operand.Far z) (distance_in_word w)) w)
 far w d b e =
     ap
-    (λ b. if b then label_place (option_map (λ z. operand.Far z) d) else number_place (option_map (λ z. operand.Far z) (distance_of w)) w)
+    (λ b. if b then label_place (option_map (λ z. operand.Far z) d) else number_place (option_map (λ z. operand.Far z) (distance_in_word w)) w)
     e
 
 goto : (w : List ℕ) (b : Bool) → is_label w ≡ b → IsSteady name.Goto (w ∷ []) ⊎ IsAimed name.Goto (w ∷ [])
@@ -229,13 +229,13 @@ module _ (width : Width) (cond : Condition) where
       → IsSteady (name.Branch width cond) (a ∷ b ∷ w ∷ []) ⊎ IsAimed (name.Branch width cond) (a ∷ b ∷ w ∷ [])
   unfolding branch
   branch_depends a b w false e =
-      let first = register_place (register_of a) in
-      let second = source_place (register_of b) b in
+      let first = register_place (register_named a) in
+      let second = source_place (register_named b) b in
       let at = λ (d : Option ℤ). ap (branch first second) (near w d false e) in
       inl (record { same = λ d f. at d ∙ sym (at f); none = λ i h. no_label i (a ∷ b ∷ w ∷ []) e })
   branch_depends a b w true e =
-      let first = register_place (register_of a) in
-      let second = source_place (register_of b) b in
+      let first = register_place (register_named a) in
+      let second = source_place (register_named b) b in
       let at = λ (d : Option ℤ). ap (branch first second) (near w d true e) in
       inr (record {
         label = e;
@@ -271,7 +271,7 @@ pub record IsAwaiting (first : List ℕ) (operands : List (List ℕ)) (i : Insn)
   pub jump : is_jump i ≡ true
   pub target : target_of i operands ≡ Some (last_word operands)
   pub unset : instruction_of first operands None ≡ Err cause.LabelMissing
-  pub set : (z : ℤ) → instruction_of first operands (Some z) ≡ Ok (aimed i z)
+  pub set : (z : ℤ) → instruction_of first operands (Some z) ≡ Ok (jump_aimed i z)
 
 -- an instruction that is read is one or the other
 pub plain_or_awaiting : (first : List ℕ) (operands : List (List ℕ)) (i : Insn)
@@ -345,7 +345,7 @@ jump_slots (insn.Branch w c d src off) h = refl
 jump_slots i h = absurd (false≢true h)
 
 -- a jump takes the same slots whatever its distance, and other instructions do not change
-pub aimed_slots : (i : Insn) (z : ℤ) → slots_of (aimed i z) ≡ slots_of i
+pub aimed_slots : (i : Insn) (z : ℤ) → slots_of (jump_aimed i z) ≡ slots_of i
 aimed_slots (insn.Goto off) z = refl
 aimed_slots (insn.Goto32 n) z = refl
 aimed_slots (insn.Branch w c d src off) z = refl

@@ -16,7 +16,7 @@ use Rattle.bq_insn.specs.declared.Insn.{Insn}
 use Rattle.bq_insn.specs.declared.Insn.TheVariants as insn
 use Rattle.bq_insn.specs.Spelling.{is_insn}
 use Rattle.bq_asm.specs.declared.mnemonic.Mnemonic.TheVariants as name
-use Rattle.bq_asm.specs.Names.{name_of}
+use Rattle.bq_asm.specs.Names.{mnemonic_word}
 use Rattle.bq_asm.specs.Named.{named}
 use Rattle.bq_asm.specs.Text.{mnemonic_of, operands_of}
 use Rattle.bq_asm.specs.Operands.{insn_from}
@@ -31,18 +31,18 @@ insn_from-parts (insn.Load size false d s off) = refl
 insn_from-parts (insn.Load size true d s off) = refl
 insn_from-parts i = refl
 
-named-alu : (w : Width) (o : Operation) → named (name_of (name.Alu w o)) ≡ Some (name.Alu w o)
+named-alu : (w : Width) (o : Operation) → named (mnemonic_word (name.Alu w o)) ≡ Some (name.Alu w o)
 named-alu W32 op.Add = refl
 named-alu W64 op.Add = refl
-named-alu W32 o = elim o as (λ x. named (name_of (name.Alu W32 x)) ≡ Some (name.Alu W32 x)) [ op.Add ↦ refl | _ ↦ refl ]
-named-alu W64 o = elim o as (λ x. named (name_of (name.Alu W64 x)) ≡ Some (name.Alu W64 x)) [ op.Add ↦ refl | _ ↦ refl ]
+named-alu W32 o = elim o as (λ x. named (mnemonic_word (name.Alu W32 x)) ≡ Some (name.Alu W32 x)) [ op.Add ↦ refl | _ ↦ refl ]
+named-alu W64 o = elim o as (λ x. named (mnemonic_word (name.Alu W64 x)) ≡ Some (name.Alu W64 x)) [ op.Add ↦ refl | _ ↦ refl ]
 
-named-branch : (w : Width) (c : Condition) → named (name_of (name.Branch w c)) ≡ Some (name.Branch w c)
-named-branch W32 c = elim c as (λ x. named (name_of (name.Branch W32 x)) ≡ Some (name.Branch W32 x)) [ cond.Equal ↦ refl | _ ↦ refl ]
-named-branch W64 c = elim c as (λ x. named (name_of (name.Branch W64 x)) ≡ Some (name.Branch W64 x)) [ cond.Equal ↦ refl | _ ↦ refl ]
+named-branch : (w : Width) (c : Condition) → named (mnemonic_word (name.Branch w c)) ≡ Some (name.Branch w c)
+named-branch W32 c = elim c as (λ x. named (mnemonic_word (name.Branch W32 x)) ≡ Some (name.Branch W32 x)) [ cond.Equal ↦ refl | _ ↦ refl ]
+named-branch W64 c = elim c as (λ x. named (mnemonic_word (name.Branch W64 x)) ≡ Some (name.Branch W64 x)) [ cond.Equal ↦ refl | _ ↦ refl ]
 
 -- the first word of an instruction in range is read as that
-pub named-again : (i : Insn) → is_insn i ≡ true → named (name_of (mnemonic_of i)) ≡ Some (mnemonic_of i)
+pub named-again : (i : Insn) → is_insn i ≡ true → named (mnemonic_word (mnemonic_of i)) ≡ Some (mnemonic_of i)
 named-again (insn.Alu w o d src) h = named-alu w o
 named-again (insn.Branch w c d src off) h = named-branch w c
 named-again (insn.Neg W32 d) h = refl

@@ -22,7 +22,7 @@ use Rattle.bq_asm.specs.declared.operand.Operand.TheVariants as operand
 use Rattle.bq_asm.specs.declared.place.OperandKind.{OperandKind}
 use Rattle.bq_asm.specs.declared.place.OperandKind.TheVariants as kind
 use Rattle.bq_asm.specs.Named.{named, entry_with, table}
-use Rattle.bq_asm.specs.Numbers.{imm_of, offset_of, distance_of, wide_of, register_of, begins_number}
+use Rattle.bq_asm.specs.Numbers.{imm_of, offset_of, distance_in_word, wide_of, register_named, begins_number}
 use Rattle.bq_asm.specs.Operands.{number_place, register_place, source_place, is_sign, inside, based, cut_at, memory_place, is_label, label_place, operand_of, each_operand, with_next, kind_list, kinds_of, insn_from, made, instruction_of, instruction_from}
 use Rattle.bq_asm.proofs.RangeLemmas.{imm_fits, offset_fits, distance_fits, wide_fits, register_fits}
 use Rattle.bq_asm.proofs.ReadingLemmas.{made_from}
@@ -83,8 +83,8 @@ based_good (Some r) rest h = by (length rest == 0)
         (mapped (FitsSigned w16) (λ z. operand.Memory r z) (λ z k. (h, k)) (offset_of rest) (offset_fits rest))
 
 cut_good : (at : Option ℕ) (inner : List ℕ) → IfOk (cut_at at inner) IsInRange
-cut_good None inner = based_good (register_of inner) [] (register_fits inner)
-cut_good (Some i) inner = based_good (register_of (take i inner)) (drop i inner) (register_fits (take i inner))
+cut_good None inner = based_good (register_named inner) [] (register_fits inner)
+cut_good (Some i) inner = based_good (register_named (take i inner)) (drop i inner) (register_fits (take i inner))
 
 memory_good : (o : Option (List ℕ)) → IfOk (memory_place o) IsInRange
 memory_good None = tt
@@ -114,16 +114,16 @@ far_good w d h = by (is_label w)
   where
     by : (b : Bool)
         → IfOk
-        (if b then label_place (option_map (λ z. operand.Far z) d) else number_place (option_map (λ z. operand.Far z) (distance_of w)) w)
+        (if b then label_place (option_map (λ z. operand.Far z) d) else number_place (option_map (λ z. operand.Far z) (distance_in_word w)) w)
         IsInRange
     by true = label_good (option_map (λ z. operand.Far z) d) (mapped (FitsSigned w16) (λ z. operand.Far z) (λ z k. wider z k) d h)
     by false =
-        number_good (option_map (λ z. operand.Far z) (distance_of w)) w
-        (mapped (FitsSigned w32) (λ z. operand.Far z) (λ z k. k) (distance_of w) (distance_fits w))
+        number_good (option_map (λ z. operand.Far z) (distance_in_word w)) w
+        (mapped (FitsSigned w32) (λ z. operand.Far z) (λ z k. k) (distance_in_word w) (distance_fits w))
 
 operand_good : (k : OperandKind) (w : List ℕ) (d : Option ℤ) → DistanceFits d → IfOk (operand_of k w d) IsInRange
-operand_good kind.Register w d h = register_good (register_of w) (register_fits w)
-operand_good kind.Source w d h = source_good (register_of w) w (register_fits w)
+operand_good kind.Register w d h = register_good (register_named w) (register_fits w)
+operand_good kind.Source w d h = source_good (register_named w) w (register_fits w)
 operand_good kind.Number w d h = number_good (option_map (λ z. operand.Number z) (imm_of w)) w (imm_good w)
 operand_good kind.Wide w d h =
     number_good (option_map (λ n. operand.Wide n) (wide_of w)) w

@@ -21,14 +21,14 @@ slots_of_line (Instruction first operands) = slots_read (instruction_of first op
 slots_of_line line = 0
 
 -- the label that a line sets, with the slot that the next instruction takes
-abbrev pub place_at : ℕ → Line → List (List ℕ × ℕ)
-place_at slot (Label name) = (name, slot) ∷ []
-place_at slot line = []
+abbrev pub label_at : ℕ → Line → List (List ℕ × ℕ)
+label_at slot (Label name) = (name, slot) ∷ []
+label_at slot line = []
 
 -- the labels that lines set, each with its slot, if the lines begin at this slot
 abbrev pub places_from : ℕ → List Line → List (List ℕ × ℕ)
 places_from slot [] = []
-places_from slot (line ∷ lines) = place_at slot line ++ places_from (slot + slots_of_line line) lines
+places_from slot (line ∷ lines) = label_at slot line ++ places_from (slot + slots_of_line line) lines
 
 -- how far a label is from the slot after this one; none if the label is set nowhere
 abbrev pub distance_to : List (List ℕ × ℕ) → ℕ → List ℕ → Option ℤ

@@ -32,15 +32,15 @@ cause_of_insn slots (Err c) = Some c
 cause_of_insn slots (Ok insn) = if nat_le (slots + slots_of insn) 4096 then None else Some Slots
 
 -- the least cause at a line, after the lines before it; whether the label of a jump is set does not matter yet
-abbrev pub cause_at : List Line → Line → Option Cause
-cause_at before Blank = None
-cause_at before (Label name) = cause_of_label (labels_in before) name
-cause_at before (Instruction first operands) = cause_of_insn (slots_in before) (instruction_of first operands (Some (pos 0)))
+abbrev pub cause_at_line : List Line → Line → Option Cause
+cause_at_line before Blank = None
+cause_at_line before (Label name) = cause_of_label (labels_in before) name
+cause_at_line before (Instruction first operands) = cause_of_insn (slots_in before) (instruction_of first operands (Some (pos 0)))
 
 -- the least cause at the line of this number, counted from 1
 abbrev pub fault_at : List Line → ℕ → Option Cause
 fault_at lines zero = None
-fault_at lines (suc k) = option_and_then (cause_at (take k lines)) (slice_get lines k)
+fault_at lines (suc k) = option_and_then (cause_at_line (take k lines)) (slice_get lines k)
 
 -- with no label set, the instruction is refused only because it names one as its target
 abbrev pub awaits_label : Result Insn Cause → Bool
@@ -59,8 +59,8 @@ missing_at lines zero = None
 missing_at lines (suc k) = option_and_then (cause_of_jump (labels_in lines)) (slice_get lines k)
 
 -- this is the first line with a cause, and this is its cause
-abbrev pub IsFirst : (ℕ → Option Cause) → ℕ → Cause → Type 0
-IsFirst cause_of line cause = (cause_of line ≡ Some cause) × ((k : ℕ) → k < line → cause_of k ≡ None)
+abbrev pub IsFirstCause : (ℕ → Option Cause) → ℕ → Cause → Type 0
+IsFirstCause cause_of line cause = (cause_of line ≡ Some cause) × ((k : ℕ) → k < line → cause_of k ≡ None)
 
 -- no line has a fault by itself
 abbrev pub IsClean : List Line → Type 0
@@ -68,13 +68,13 @@ IsClean lines = (k : ℕ) → fault_at lines k ≡ None
 
 -- the fault of a text: the first line with a fault by itself; else line 0, if there is no instruction; else the first
 -- jump whose label is set nowhere
-abbrev pub Faulty : List Line → ℕ → Cause → Type 0
-Faulty lines line cause =
-    IsFirst (fault_at lines) line cause
+abbrev pub FaultyLines : List Line → ℕ → Cause → Type 0
+FaultyLines lines line cause =
+    IsFirstCause (fault_at lines) line cause
     ⊎ (IsClean lines × (slots_in lines ≡ 0) × (line ≡ 0) × (cause ≡ Slots))
-    ⊎ (IsClean lines × (0 < slots_in lines) × IsFirst (missing_at lines) line cause)
+    ⊎ (IsClean lines × (0 < slots_in lines) × IsFirstCause (missing_at lines) line cause)
 
 -- the text has this fault; if memory ran out, nothing is said about it
-abbrev pub IsFault : List ℕ → AsmFault → Type 0
-IsFault text OutOfMemory = Unit {0}
-IsFault text (At line cause) = Faulty (lines_of text) line cause
+abbrev pub IsAssemblyFault : List ℕ → AsmFault → Type 0
+IsAssemblyFault text OutOfMemory = Unit {0}
+IsAssemblyFault text (At line cause) = FaultyLines (lines_of text) line cause

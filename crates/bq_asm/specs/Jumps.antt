@@ -28,11 +28,11 @@ abbrev pub target_of : Insn → List (List ℕ) → Option (List ℕ)
 target_of i operands = if is_jump i then (if is_label (last_word operands) then Some (last_word operands) else None) else None
 
 -- the jump with its distance replaced by this one; any other instruction stays
-abbrev pub aimed : Insn → ℤ → Insn
-aimed (insn.Goto off) z = insn.Goto z
-aimed (insn.Goto32 n) z = insn.Goto32 z
-aimed (insn.Branch w c d src off) z = insn.Branch w c d src z
-aimed i z = i
+abbrev pub jump_aimed : Insn → ℤ → Insn
+jump_aimed (insn.Goto off) z = insn.Goto z
+jump_aimed (insn.Goto32 n) z = insn.Goto32 z
+jump_aimed (insn.Branch w c d src off) z = insn.Branch w c d src z
+jump_aimed i z = i
 
 -- a jump that waits for its label: its place among the instructions, the slot after it, its line and the label
 pub record Awaited : Type 0 where
@@ -91,7 +91,7 @@ places_of m = map (λ e. (e.0.now, e.1)) m.entries
 -- sets the distance of this jump and goes on with the others, or answers the line of the jump if its label has no place
 abbrev pub with_jump : Awaited → List Insn → (List Insn → Result (List Insn) ℕ) → Option ℕ → Result (List Insn) ℕ
 with_jump j insns others None = Err j.line
-with_jump j insns others (Some at) = others (slice_set insns j.index (aimed (slice_index_or insns j.index insn.Exit) (pos at -ℤ pos j.next)))
+with_jump j insns others (Some at) = others (slice_set insns j.index (jump_aimed (slice_index_or insns j.index insn.Exit) (pos at -ℤ pos j.next)))
 
 -- the instructions with the distances of all these jumps set, or the line of the first jump whose label has no place
 abbrev pub with_jumps : List (List ℕ × ℕ) → List Awaited → List Insn → Result (List Insn) ℕ

@@ -15,8 +15,8 @@ abbrev pub is_blank : ℕ → Bool
 is_blank b = (b == 32) || ((b == 9) || (b == 44))
 
 -- the words of a text: what is between blanks
-abbrev pub words : List ℕ → List (List ℕ)
-words text = words_by is_blank text
+abbrev pub words_between_blanks : List ℕ → List (List ℕ)
+words_between_blanks text = words_by is_blank text
 
 -- what a line says: nothing, a label that it sets, or an instruction by its first word and its operands
 pub data Line : Type 0 where
@@ -39,13 +39,13 @@ parsed first operands None = Instruction first operands
 parsed first operands (Some name) = Label name
 
 -- what the words of a line say
-abbrev pub line_of : List (List ℕ) → Line
-line_of [] = Blank
-line_of (first ∷ operands) = parsed first operands (label_set first operands)
+abbrev pub line_of_words : List (List ℕ) → Line
+line_of_words [] = Blank
+line_of_words (first ∷ operands) = parsed first operands (label_set first operands)
 
 -- what one line of the text says
 abbrev pub parsed_line : List ℕ → Line
-parsed_line line = line_of (words (before_first is_comment line))
+parsed_line line = line_of_words (words_between_blanks (before_first is_comment line))
 
 -- whether a line says an instruction
 abbrev pub is_instruction : Line → Bool

@@ -72,19 +72,19 @@ bits_name B32 = codes "32"
 bits_name B64 = codes "64"
 
 -- the word that a mnemonic is written as
-abbrev pub name_of : Mnemonic → List ℕ
-name_of (name.Alu w o) = op_name o ++ width_name w
-name_of (name.MovSx w b) = codes "movsx" ++ (width_name w ++ (codes "_" ++ bits_name b))
-name_of (name.Neg w) = codes "neg" ++ width_name w
-name_of (name.End order b) = order_name order ++ bits_name b
-name_of (name.Load size) = codes "ldx" ++ size_name size
-name_of (name.LoadSigned size) = codes "ldxs" ++ size_name size
-name_of (name.StoreImm size) = codes "st" ++ size_name size
-name_of (name.StoreReg size) = codes "stx" ++ size_name size
-name_of name.Imm64 = codes "lddw"
-name_of name.MapRef = codes "ldmap"
-name_of name.Goto = codes "ja"
-name_of name.Goto32 = codes "ja32"
-name_of (name.Branch w c) = cond_name c ++ width_name w
-name_of name.Call = codes "call"
-name_of name.Exit = codes "exit"
+abbrev pub mnemonic_word : Mnemonic → List ℕ
+mnemonic_word (name.Alu w o) = op_name o ++ width_name w
+mnemonic_word (name.MovSx w b) = codes "movsx" ++ (width_name w ++ (codes "_" ++ bits_name b))
+mnemonic_word (name.Neg w) = codes "neg" ++ width_name w
+mnemonic_word (name.End order b) = order_name order ++ bits_name b
+mnemonic_word (name.Load size) = codes "ldx" ++ size_name size
+mnemonic_word (name.LoadSigned size) = codes "ldxs" ++ size_name size
+mnemonic_word (name.StoreImm size) = codes "st" ++ size_name size
+mnemonic_word (name.StoreReg size) = codes "stx" ++ size_name size
+mnemonic_word name.Imm64 = codes "lddw"
+mnemonic_word name.MapRef = codes "ldmap"
+mnemonic_word name.Goto = codes "ja"
+mnemonic_word name.Goto32 = codes "ja32"
+mnemonic_word (name.Branch w c) = cond_name c ++ width_name w
+mnemonic_word name.Call = codes "call"
+mnemonic_word name.Exit = codes "exit"

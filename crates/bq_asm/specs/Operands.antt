@@ -19,7 +19,7 @@ use Rattle.bq_asm.specs.declared.instruction.Kinds.{Kinds}
 use Rattle.bq_asm.specs.declared.instruction.Kinds.TheVariants as kinds
 use Rattle.bq_asm.specs.Named.{named}
 use Rattle.std.specs.Option.{ok_or}
-use Rattle.bq_asm.specs.Numbers.{imm_of, offset_of, distance_of, wide_of, register_of, begins_number}
+use Rattle.bq_asm.specs.Numbers.{imm_of, offset_of, distance_in_word, wide_of, register_named, begins_number}
 
 -- the operand in a number's place, or a cause: Number if the word begins as a number, else Word
 abbrev pub number_place : Option Operand → List ℕ → Result Operand Cause
@@ -53,8 +53,8 @@ based (Some r) rest =
 
 -- the place in memory that is written inside the brackets, cut into register and offset at the first sign
 abbrev pub cut_at : Option ℕ → List ℕ → Result Operand Cause
-cut_at None inner = based (register_of inner) []
-cut_at (Some i) inner = based (register_of (take i inner)) (drop i inner)
+cut_at None inner = based (register_named inner) []
+cut_at (Some i) inner = based (register_named (take i inner)) (drop i inner)
 
 -- the operand in a memory place: a register and an offset in brackets
 abbrev pub memory_place : Option (List ℕ) → Result Operand Cause
@@ -80,15 +80,15 @@ label_place (Some o) = Ok o
 
 -- the operand of this kind that a word writes; a label in the place of a target stands for `distance`
 abbrev pub operand_of : OperandKind → List ℕ → Option ℤ → Result Operand Cause
-operand_of kind.Register word distance = register_place (register_of word)
-operand_of kind.Source word distance = source_place (register_of word) word
+operand_of kind.Register word distance = register_place (register_named word)
+operand_of kind.Source word distance = source_place (register_named word) word
 operand_of kind.Number word distance = number_place (option_map (λ z. operand.Number z) (imm_of word)) word
 operand_of kind.Wide word distance = number_place (option_map (λ n. operand.Wide n) (wide_of word)) word
 operand_of kind.Memory word distance = memory_place (inside word)
 operand_of kind.Near word distance =
     if is_label word then label_place (option_map (λ z. operand.Near z) distance) else number_place (option_map (λ z. operand.Near z) (offset_of word)) word
 operand_of kind.Far word distance =
-    if is_label word then label_place (option_map (λ z. operand.Far z) distance) else number_place (option_map (λ z. operand.Far z) (distance_of word)) word
+    if is_label word then label_place (option_map (λ z. operand.Far z) distance) else number_place (option_map (λ z. operand.Far z) (distance_in_word word)) word
 
 -- the kinds of operands that follow a first word
 abbrev pub kinds_of : Mnemonic → Kinds
@@ -124,9 +124,9 @@ with_next (Err c) (Ok rest) = Err c
 with_next (Err c) (Err d) = Err (lesser c d)
 
 -- two operands as a list
-abbrev pub both : Result (Operand × Operand) Cause → Result (List Operand) Cause
-both (Err c) = Err c
-both (Ok p) = Ok (p.0 ∷ p.1 ∷ [])
+abbrev pub both_operands : Result (Operand × Operand) Cause → Result (List Operand) Cause
+both_operands (Err c) = Err c
+both_operands (Ok p) = Ok (p.0 ∷ p.1 ∷ [])
 
 -- the operands that words write, or the least cause among them
 abbrev pub each_operand : List OperandKind → List (List ℕ) → Option ℤ → Result (List Operand) Cause
@@ -142,12 +142,12 @@ kind_list (kinds.Two a b) = a ∷ b ∷ []
 kind_list (kinds.Three a b c) = a ∷ b ∷ c ∷ []
 
 -- the operands that follow, as a list
-abbrev pub listed : Result Operands Cause → Result (List Operand) Cause
-listed (Err c) = Err c
-listed (Ok Zero) = Ok []
-listed (Ok (One a)) = Ok (a ∷ [])
-listed (Ok (Two a b)) = Ok (a ∷ b ∷ [])
-listed (Ok (Three a b c)) = Ok (a ∷ b ∷ c ∷ [])
+abbrev pub listed_operands : Result Operands Cause → Result (List Operand) Cause
+listed_operands (Err c) = Err c
+listed_operands (Ok Zero) = Ok []
+listed_operands (Ok (One a)) = Ok (a ∷ [])
+listed_operands (Ok (Two a b)) = Ok (a ∷ b ∷ [])
+listed_operands (Ok (Three a b c)) = Ok (a ∷ b ∷ c ∷ [])
 
 -- the instruction of a first word and operands; none if they do not fit
 abbrev pub insn_from : Mnemonic → List Operand → Option Insn
@@ -185,5 +185,5 @@ abbrev pub instruction_of : List ℕ → List (List ℕ) → Option ℤ → Resu
 instruction_of first words distance = instruction_from (named first) words distance
 
 -- the bytes of each word
-abbrev pub texts : List (Bor (List ℕ)) → List (List ℕ)
-texts words = map (λ w. w.now) words
+abbrev pub word_texts : List (Bor (List ℕ)) → List (List ℕ)
+word_texts words = map (λ w. w.now) words

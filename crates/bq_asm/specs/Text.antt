@@ -12,7 +12,7 @@ use Rattle.bq_asm.specs.declared.operand.Operand.{Operand}
 use Rattle.bq_asm.specs.declared.operand.Operands.{Operands}
 use Rattle.bq_asm.specs.declared.operand.Operands.TheVariants.{Zero, One, Two, Three}
 use Rattle.bq_asm.specs.declared.operand.Operand.TheVariants.{Register, Number, Wide, Memory, Near, Far}
-use Rattle.bq_asm.specs.Names.{name_of}
+use Rattle.bq_asm.specs.Names.{mnemonic_word}
 
 -- a number that always has its sign, a `+` or a `-`
 abbrev pub signed_text : ℤ → List ℕ
@@ -80,15 +80,15 @@ operands_text (o ∷ rest) = codes " " ++ (operand_text o ++ after_first rest)
 
 -- the line of an instruction, without its end
 abbrev pub line_body : Insn → List ℕ
-line_body insn = name_of (mnemonic_of insn) ++ operands_text (operands_of insn)
+line_body insn = mnemonic_word (mnemonic_of insn) ++ operands_text (operands_of insn)
 
 -- the line of an instruction, with its line feed
-abbrev pub line_text : Insn → List ℕ
-line_text insn = name_of (mnemonic_of insn) ++ (operands_text (operands_of insn) ++ codes "\n")
+abbrev pub text_of_instruction : Insn → List ℕ
+text_of_instruction insn = mnemonic_word (mnemonic_of insn) ++ (operands_text (operands_of insn) ++ codes "\n")
 
 -- the canonical text of a program
 abbrev pub listing_text : List Insn → List ℕ
-listing_text insns = flat_map line_text insns
+listing_text insns = flat_map text_of_instruction insns
 
 -- the operands as a list
 abbrev pub list_of : Operands → List Operand

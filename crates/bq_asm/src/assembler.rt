@@ -3,7 +3,7 @@ ghost use Rattle.std.specs.Prelude.{◌≡◌, true, IfOk, IfErr};
 ghost use Rattle.bq_insn.specs.Spelling.{is_well_formed};
 ghost use Rattle.bq_insn.specs.Laws.{AllFit};
 ghost use Rattle.bq_asm.specs.Assembly.{Assembles};
-ghost use Rattle.bq_asm.specs.Faults.{IsFault};
+ghost use Rattle.bq_asm.specs.Faults.{IsAssemblyFault};
 
 use crate::draft::Draft;
 use crate::fault::AsmFault;
@@ -27,7 +27,7 @@ pub fn assemble(alloc: Global, text: &str) -> Result<Vec<Insn>, AsmFault>
     ensures assembles { IfOk result (λ insns. Assembles text.now insns.items) }
     ensures well_formed { IfOk result (λ insns. is_well_formed insns.items ≡ true) }
     ensures numbers { IfOk result (λ insns. AllFit insns.items) }
-    ensures fault { IfErr result (IsFault text.now) }
+    ensures fault { IfErr result (IsAssemblyFault text.now) }
 {
     let mut draft = Draft::new(alloc);
     let mut number: usize = 0;

@@ -1,7 +1,7 @@
 //! The canonical text of instructions.
 ghost use Rattle.std.specs.Prelude.{◌≡◌, Some, IfOk};
 ghost use Rattle.std.specs.String.{string_bytes};
-ghost use Rattle.bq_asm.specs.Text.{mnemonic_of, operands_of, list_of, source_operand, line_text, listing_text};
+ghost use Rattle.bq_asm.specs.Text.{mnemonic_of, operands_of, list_of, source_operand, text_of_instruction, listing_text};
 
 use crate::mnemonic::Mnemonic;
 use crate::operand::{Operand, Operands};
@@ -28,9 +28,9 @@ pub fn listing(alloc: Global, insns: &[Insn]) -> Result<String, AllocError>
 struct Written(Insn);
 
 impl fmt::Display for Written {
-    ghost use Rattle.bq_asm.specs.Text.{line_text};
+    ghost use Rattle.bq_asm.specs.Text.{text_of_instruction};
 
-    ghost output = { λ written. Some (line_text written.0) };
+    ghost output = { λ written. Some (text_of_instruction written.0) };
 
     fn fmt<W: fmt::Write>(&self, f: &mut fmt::Formatter<W>) -> fmt::Result {
         let mnemonic = mnemonic_of(self.0);

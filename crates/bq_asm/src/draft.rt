@@ -1,7 +1,7 @@
 //! What is known of the lines that have been read: labels, instructions, and jumps that wait for their labels.
 ghost use Rattle.std.specs.Prelude.{◌≡◌, ◌≤◌, ◌<◌, ◌+◌, [], Some, option_map, IfOk, IfErr, OnOk, List};
-ghost use Rattle.bq_asm.specs.Lines.{Line, label_set, line_of, parsed_line, Instruction, Label};
-ghost use Rattle.bq_asm.specs.Operands.{texts};
+ghost use Rattle.bq_asm.specs.Lines.{Line, label_set, line_of_words, parsed_line, Instruction, Label};
+ghost use Rattle.bq_asm.specs.Operands.{word_texts};
 
 use crate::fault::{AsmFault, Cause, refusal};
 use crate::instruction::instruction_of;
@@ -26,7 +26,7 @@ pub struct Draft<'a> {
 }
 
 impl<'a> Draft<'a> {
-    ghost use Rattle.bq_asm.specs.Draft.{IsDraftOf, TakesLine, RefusesLine, Finishes, Fails};
+    ghost use Rattle.bq_asm.specs.Draft.{IsDraftOf, TakesLine, RefusesLine, FinishesDraft, Fails};
 
     /// The draft of no lines.
     pub fn new(alloc: Global) -> Self
@@ -55,7 +55,7 @@ impl<'a> Draft<'a> {
     /// a whole: no instruction, or a jump to a label that is set nowhere.
     pub fn finish(self) -> Result<Vec<Insn>, AsmFault>
         requires { (lines : List Line) × IsDraftOf lines self }
-        ensures ok { IfOk result (λ insns. Finishes self.entry insns.items) }
+        ensures ok { IfOk result (λ insns. FinishesDraft self.entry insns.items) }
         ensures fault { IfErr result (Fails self.entry) }
     {
         if self.slots == 0 {
@@ -74,8 +74,8 @@ impl<'a> Draft<'a> {
     }
 
     fn take_words(&mut self, number: usize, words: &[&'a [u8]]) -> Result<(), AsmFault>
-        ensures ok { OnOk result (TakesLine self.old self.new number (line_of (texts words.entry.now))) }
-        ensures fault { IfErr result (RefusesLine self.old number (line_of (texts words.entry.now))) }
+        ensures ok { OnOk result (TakesLine self.old self.new number (line_of_words (word_texts words.entry.now))) }
+        ensures fault { IfErr result (RefusesLine self.old number (line_of_words (word_texts words.entry.now))) }
     {
         let [first, operands @ ..] = words else {
             return Ok(());
@@ -105,8 +105,8 @@ impl<'a> Draft<'a> {
         first: &[u8],
         operands: &[&'a [u8]],
     ) -> Result<(), AsmFault>
-        ensures ok { OnOk result (TakesLine self.old self.new number (Instruction first.now (texts operands.entry.now))) }
-        ensures fault { IfErr result (RefusesLine self.old number (Instruction first.now (texts operands.entry.now))) }
+        ensures ok { OnOk result (TakesLine self.old self.new number (Instruction first.now (word_texts operands.entry.now))) }
+        ensures fault { IfErr result (RefusesLine self.old number (Instruction first.now (word_texts operands.entry.now))) }
     {
         let insn = match instruction_of(first, operands) {
             Ok(insn) => insn,
@@ -132,7 +132,7 @@ impl<'a> Draft<'a> {
 
 /// The label that a line of these words sets, if it sets one.
 pub fn label_set<'a>(first: &'a [u8], operands: &[&'a [u8]]) -> Option<&'a [u8]>
-    ensures { option_map (λ name. name.now) result ≡ label_set first.entry.now (texts operands.entry.now) }
+    ensures { option_map (λ name. name.now) result ≡ label_set first.entry.now (word_texts operands.entry.now) }
 {
     if operands.is_empty() {
         return first.strip_suffix(b":");

@@ -1,6 +1,6 @@
 //! Why a text is refused.
 ghost use Rattle.std.specs.Prelude.{◌≡◌};
-ghost use Rattle.bq_asm.specs.Causes.{cause_number};
+ghost use Rattle.bq_asm.specs.Causes.{assembly_cause_number};
 
 use std::alloc::{AllocError, AllocFailed};
 use std::error::Error;
@@ -25,7 +25,7 @@ pub enum Cause {
 impl Cause {
     /// The number of the cause, as texts name it after the letter A.
     pub fn number(self) -> u8
-        ensures { result ≡ cause_number self }
+        ensures { result ≡ assembly_cause_number self }
     {
         match self {
             Cause::Word => 1,
@@ -51,9 +51,9 @@ pub enum AsmFault {
 /// The text of a fault, such as `A1 3`: the number of the cause, then the line.
 impl fmt::Display for AsmFault {
     ghost use Rattle.std.specs.Prelude.{Some};
-    ghost use Rattle.bq_asm.specs.Causes.{fault_text};
+    ghost use Rattle.bq_asm.specs.Causes.{assembly_fault_text};
 
-    ghost output = { λ fault. Some (fault_text fault) };
+    ghost output = { λ fault. Some (assembly_fault_text fault) };
 
     fn fmt<W: fmt::Write>(&self, f: &mut fmt::Formatter<W>) -> fmt::Result {
         match *self {

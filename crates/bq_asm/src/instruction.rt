@@ -1,6 +1,6 @@
 //! The instruction that a first word and its operands say.
 ghost use Rattle.std.specs.Prelude.{◌≡◌, [], ◌∷◌, length, Some, pos};
-ghost use Rattle.bq_asm.specs.Operands.{kinds_of, lesser, with_next, both, listed, each_operand, kind_list, texts, insn_from, instruction_of};
+ghost use Rattle.bq_asm.specs.Operands.{kinds_of, lesser, with_next, both_operands, listed_operands, each_operand, kind_list, word_texts, insn_from, instruction_of};
 ghost use Rattle.bq_asm.specs.Text.{list_of};
 
 use crate::fault::Cause;
@@ -22,7 +22,7 @@ pub enum Kinds {
 /// The instruction that a first word and its operands say, or the least cause why they say none. A label in the place
 /// of a target stands for the distance 0.
 pub fn instruction_of(first: &[u8], words: &[&[u8]]) -> Result<Insn, Cause>
-    ensures { result ≡ instruction_of first.now (texts words.now) (Some (pos 0)) }
+    ensures { result ≡ instruction_of first.now (word_texts words.now) (Some (pos 0)) }
 {
     let Some(mnemonic) = named(first) else {
         return Err(Cause::Word);
@@ -67,7 +67,7 @@ pub fn kinds_of(mnemonic: Mnemonic) -> Kinds
 
 /// The operands that the words write, or the least cause among them.
 fn operands_of(kinds: Kinds, words: &[&[u8]]) -> Result<Operands, Cause>
-    ensures { listed result ≡ each_operand (kind_list kinds) (texts words.now) (Some (pos 0)) }
+    ensures { listed_operands result ≡ each_operand (kind_list kinds) (word_texts words.now) (Some (pos 0)) }
 {
     if words.len() != count_of(kinds) {
         return Err(Cause::Word);
@@ -77,7 +77,7 @@ fn operands_of(kinds: Kinds, words: &[&[u8]]) -> Result<Operands, Cause>
 
 fn each_of(kinds: Kinds, words: &[&[u8]]) -> Result<Operands, Cause>
     requires { length words.now ≡ length (kind_list kinds) }
-    ensures { listed result ≡ each_operand (kind_list kinds) (texts words.now) (Some (pos 0)) }
+    ensures { listed_operands result ≡ each_operand (kind_list kinds) (word_texts words.now) (Some (pos 0)) }
 {
     match kinds {
         Kinds::Zero => Ok(Operands::Zero),
@@ -104,13 +104,13 @@ fn count_of(kinds: Kinds) -> usize
 }
 
 fn one_of(only: Result<Operand, Cause>) -> Result<Operands, Cause>
-    ensures { listed result ≡ with_next only (Ok []) }
+    ensures { listed_operands result ≡ with_next only (Ok []) }
 {
     Ok(Operands::One(only?))
 }
 
 fn two_of(pair: Result<(Operand, Operand), Cause>) -> Result<Operands, Cause>
-    ensures { listed result ≡ both pair }
+    ensures { listed_operands result ≡ both_operands pair }
 {
     let (a, b) = pair?;
     Ok(Operands::Two(a, b))
@@ -123,7 +123,7 @@ fn pair_of(
     words: &[&[u8]],
 ) -> Result<(Operand, Operand), Cause>
     requires { length words.now ≡ 2 }
-    ensures { both result ≡ each_operand (first ∷ second ∷ []) (texts words.now) (Some (pos 0)) }
+    ensures { both_operands result ≡ each_operand (first ∷ second ∷ []) (word_texts words.now) (Some (pos 0)) }
 {
     match (operand_of(first, words[0]), operand_of(second, words[1])) {
         (Ok(a), Ok(b)) => Ok((a, b)),
@@ -136,7 +136,7 @@ fn three_of(
     first: Result<Operand, Cause>,
     others: Result<(Operand, Operand), Cause>,
 ) -> Result<Operands, Cause>
-    ensures { listed result ≡ with_next first (both others) }
+    ensures { listed_operands result ≡ with_next first (both_operands others) }
 {
     match (first, others) {
         (Ok(a), Ok((b, c))) => Ok(Operands::Three(a, b, c)),

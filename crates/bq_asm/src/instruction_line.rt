@@ -1,7 +1,7 @@
 //! Which lines of a text say an instruction.
 ghost use Rattle.std.specs.Prelude.{◌≡◌};
-ghost use Rattle.bq_asm.specs.Lines.{is_instruction, line_of, parsed_line};
-ghost use Rattle.bq_asm.specs.Operands.{texts};
+ghost use Rattle.bq_asm.specs.Lines.{is_instruction, line_of_words, parsed_line};
+ghost use Rattle.bq_asm.specs.Operands.{word_texts};
 
 use crate::draft::label_set;
 use crate::line::{without_comment, words};
@@ -19,7 +19,7 @@ pub fn is_instruction_line(line: &[u8]) -> bool
 
 /// Whether these words of a line say an instruction: there is at least one word, and the line sets no label.
 fn has_instruction(words: &[&[u8]]) -> bool
-    ensures { result ≡ is_instruction (line_of (texts words.now)) }
+    ensures { result ≡ is_instruction (line_of_words (word_texts words.now)) }
 {
     match words {
         [] => false,

@@ -2,8 +2,8 @@
 ghost use Rattle.std.specs.Prelude.{◌≡◌, ◌≤◌, ◌<◌, ◌+◌, pos, length, map, option_map, OnOk, IfErr, ◌++◌, Ok, Err, All, IfSome, ◌-ℤ◌};
 ghost use Rattle.std.specs.Map.{lookup};
 ghost use Rattle.std.specs.Str.{bytes_eq};
-ghost use Rattle.bq_asm.specs.Operands.{texts};
-ghost use Rattle.bq_asm.specs.Jumps.{is_jump, target_of, aimed, awaited_by, awaited_at, with_jumps, places_of};
+ghost use Rattle.bq_asm.specs.Operands.{word_texts};
+ghost use Rattle.bq_asm.specs.Jumps.{is_jump, target_of, jump_aimed, awaited_by, awaited_at, with_jumps, places_of};
 
 use crate::fault::AsmFault;
 use crate::line::is_label;
@@ -24,7 +24,7 @@ pub struct Jump<'a> {
 
 /// The label that a jump names as its target, if it names one.
 pub fn target_of<'a>(insn: Insn, operands: &[&'a [u8]]) -> Option<&'a [u8]>
-    ensures { option_map (λ word. word.now) result ≡ target_of insn (texts operands.entry.now) }
+    ensures { option_map (λ word. word.now) result ≡ target_of insn (word_texts operands.entry.now) }
 {
     if !is_jump(insn) {
         return None;
@@ -106,7 +106,7 @@ fn is_jump(insn: Insn) -> bool
 
 /// The jump with this distance, from the slot after the jump to its target.
 fn aimed(insn: Insn, distance: i16) -> Insn
-    ensures { result ≡ aimed insn distance }
+    ensures { result ≡ jump_aimed insn distance }
 {
     match insn {
         Insn::Goto { .. } => Insn::Goto { off: distance },

@@ -1,5 +1,5 @@
 //! Laws of assembly. Each law is a theorem over its definitions; the function of a law does nothing.
-ghost use Rattle.bq_asm.specs.Laws.{ListingAssembles, OneProgram, OneFault, NoProgramIsFaulty, EachTextIsJudged, ProgramsAreWellFormed, OneName};
+ghost use Rattle.bq_asm.specs.Laws.{ListingAssembles, TextHasOneProgram, TextHasOneFault, NoAssemblyIsFaulty, EachTextIsJudged, ProgramsAreWellFormed, OneName};
 
 /// The listing of a program assembles to that program.
 pub fn listing_assembles()
@@ -8,17 +8,17 @@ pub fn listing_assembles()
 
 /// A text stands for at most one list of instructions.
 pub fn one_program()
-    ensures { OneProgram }
+    ensures { TextHasOneProgram }
 {}
 
 /// A text has at most one fault, with one line and one cause.
 pub fn one_fault()
-    ensures { OneFault }
+    ensures { TextHasOneFault }
 {}
 
 /// A text that stands for instructions has no fault.
 pub fn no_program_is_faulty()
-    ensures { NoProgramIsFaulty }
+    ensures { NoAssemblyIsFaulty }
 {}
 
 /// Each text stands for instructions or has a fault.

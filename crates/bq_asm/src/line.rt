@@ -1,8 +1,8 @@
 //! The words of a line, and which words are names of labels.
 ghost use Rattle.std.specs.Prelude.{◌≡◌, ◌<◌, length, position, MatchOption};
 ghost use Rattle.std.specs.List.{list_all, before_first};
-ghost use Rattle.bq_asm.specs.Lines.{is_comment, is_blank, words};
-ghost use Rattle.bq_asm.specs.Operands.{is_letter, is_label_byte, is_label, texts};
+ghost use Rattle.bq_asm.specs.Lines.{is_comment, is_blank, words_between_blanks};
+ghost use Rattle.bq_asm.specs.Operands.{is_letter, is_label_byte, is_label, word_texts};
 
 use arrayvec::ArrayVec;
 use bq_words::{Blank, next_word_by};
@@ -39,7 +39,7 @@ fn comment_at(line: &[u8]) -> Option<usize>
 
 /// The words of a text without comments, or `None` if there are more than four.
 pub fn words(text: &[u8]) -> Option<ArrayVec<&[u8], WORDS>>
-    ensures { MatchOption result (4 < length (words text.now)) (λ found. texts found.items ≡ words text.now) }
+    ensures { MatchOption result (4 < length (words_between_blanks text.now)) (λ found. word_texts found.items ≡ words_between_blanks text.now) }
 {
     let mut found = ArrayVec::new();
     let mut rest = text;

@@ -1,6 +1,6 @@
 //! The first words of instructions.
 ghost use Rattle.std.specs.Prelude.{◌≡◌, ◌++◌, Some};
-ghost use Rattle.bq_asm.specs.Names.{op_name, cond_name, width_name, size_name, order_name, bits_name, name_of};
+ghost use Rattle.bq_asm.specs.Names.{op_name, cond_name, width_name, size_name, order_name, bits_name, mnemonic_word};
 
 use bq_insn::{Bits, Condition, Operation, Order, Size, Width};
 use std::fmt;
@@ -107,7 +107,7 @@ fn bits_name(bits: Bits) -> &'static str
 
 /// The two halves of a first word: what the instruction does, and the width or size on which it works.
 fn halves(mnemonic: Mnemonic) -> (&'static str, &'static str)
-    ensures { result.0.now ++ result.1.now ≡ name_of mnemonic }
+    ensures { result.0.now ++ result.1.now ≡ mnemonic_word mnemonic }
 {
     match mnemonic {
         Mnemonic::Alu(width, op) => (op_name(op), width_name(width)),
@@ -130,9 +130,9 @@ fn halves(mnemonic: Mnemonic) -> (&'static str, &'static str)
 }
 
 impl fmt::Display for Mnemonic {
-    ghost use Rattle.bq_asm.specs.Names.{name_of};
+    ghost use Rattle.bq_asm.specs.Names.{mnemonic_word};
 
-    ghost output = { λ m. Some (name_of m) };
+    ghost output = { λ m. Some (mnemonic_word m) };
 
     fn fmt<W: fmt::Write>(&self, f: &mut fmt::Formatter<W>) -> fmt::Result {
         let (stem, ending) = halves(*self);

@@ -1,7 +1,7 @@
 //! The numbers and registers that words write.
 ghost use Rattle.std.specs.Prelude.{◌≡◌, ◌+◌, ◌^◌, option_map, pos};
 ghost use Rattle.bq_words.specs.Numbers.{below, value_of};
-ghost use Rattle.bq_asm.specs.Numbers.{negative, imm_of, offset_of, distance_of, wide_of, register_of, begins_number};
+ghost use Rattle.bq_asm.specs.Numbers.{negative, imm_of, offset_of, distance_in_word, wide_of, register_named, begins_number};
 
 use bq_words::value;
 
@@ -50,7 +50,7 @@ pub fn offset_of(word: &[u8]) -> Option<i16>
 
 /// The number that a word writes with a sign, from -2^31 to 2^31 - 1; `None` if it writes none.
 pub fn distance_of(word: &[u8]) -> Option<i32>
-    ensures { result ≡ distance_of word.now }
+    ensures { result ≡ distance_in_word word.now }
 {
     match word.strip_prefix(b"-") {
         Some(digits) => below_zero(digits),
@@ -76,7 +76,7 @@ pub fn wide_of(word: &[u8]) -> Option<u64>
 
 /// The register that a word names, `r0` to `r10`; `None` if it names none.
 pub fn register_of(word: &[u8]) -> Option<u8>
-    ensures { result ≡ register_of word.now }
+    ensures { result ≡ register_named word.now }
 {
     match word {
         [r, d] => {

@@ -7,9 +7,9 @@ use Rattle.bq_disc.specs.Orders.{Contains-later}
 use Rattle.bq_disc.specs.Totals.{total_weight}
 use Rattle.bq_disc.specs.OneProcessor.{Running, present_at, reading, charge, rise}
 use Rattle.bq_disc.proofs.SetLemmas.{with_id-Contains}
-use Rattle.bq_cfs.specs.Spread.{IsSound}
+use Rattle.bq_cfs.specs.Spread.{AreTasksSound}
 use Rattle.bq_eevdf.specs.Eevdf.{eevdf}
-use Rattle.bq_fairness.specs.Steps.{Step, Pass, Decide, Enter, Leave, Mark, stepped, after, DecidesWithin, EntersNew}
+use Rattle.bq_fairness.specs.Steps.{ProcessorStep, Pass, Decide, Enter, Leave, Mark, stepped, after_steps, DecidesWithin, EntersNew}
 use Rattle.bq_fairness.proofs.SoundLemmas.{IsWellFormed, well_formed}
 use Rattle.bq_fairness.proofs.StepLemmas.{well_formed_stepped}
 use Rattle.bq_bounds.specs.declared.charge.Charge.{Charge}
@@ -18,34 +18,34 @@ use Rattle.bq_bounds.specs.declared.lags.Effect.TheVariants.{Passes, Decides}
 use Rattle.bq_bounds.specs.declared.lags.Lags.{Lags}
 use Rattle.bq_bounds.specs.declared.stretch.Stretch.{Stretch}
 use Rattle.bq_bounds.specs.Watches.{greater}
-use Rattle.bq_bounds.specs.Lags.{mean_at, owed, allowed, beginning, stretched, lag_by, most_owed_by, most_owed}
+use Rattle.bq_bounds.specs.Lags.{mean_at, owed, owed_at_most, beginning, stretched, lag_by, most_owed_by, most_owed}
 use Rattle.bq_bounds.specs.LagWatches.{decided_in, owing, gone_on, lags_by, lags_after}
-use Rattle.bq_bounds.specs.Owing.{Keeps, KeepsAll}
+use Rattle.bq_bounds.specs.Owing.{KeepsTasks, KeepsAll}
 use Rattle.bq_bounds.specs.Measures.{KeepsItsBound, stretch_by, stretch_after, AreLagsOf, LagsWithin}
 use Rattle.bq_bounds.proofs.MeasureLemmas.{greater_within}
 use Rattle.bq_bounds.proofs.OwedLemmas.{eevdf_owes_within}
 
 -- What a stretch keeps
 
-ahead_by : (p : Running) (x : Step) (s : Stretch) → (stretch_by p x s).ahead ≡ s.ahead
+ahead_by : (p : Running) (x : ProcessorStep) (s : Stretch) → (stretch_by p x s).ahead ≡ s.ahead
 ahead_by p (Pass now) s = refl
 ahead_by p Decide s = refl
 ahead_by p (Enter t) s = refl
 ahead_by p (Leave id) s = refl
 ahead_by p Mark s = refl
 
-ahead_stays : (p : Running) (ss : List Step) (s : Stretch) → (stretch_after p ss s).ahead ≡ s.ahead
+ahead_stays : (p : Running) (ss : List ProcessorStep) (s : Stretch) → (stretch_after p ss s).ahead ≡ s.ahead
 ahead_stays p [] s = refl
 ahead_stays p (x ∷ ss) s = ahead_stays (stepped eevdf p x) ss (stretch_by p x s) ∙ ahead_by p x s
 
-most_by : (p : Running) (x : Step) (s : Stretch) → s.most ≤ (stretch_by p x s).most
+most_by : (p : Running) (x : ProcessorStep) (s : Stretch) → s.most ≤ (stretch_by p x s).most
 most_by p (Pass now) s = omega arith
 most_by p Decide s = omega arith
 most_by p (Enter t) s = omega arith
 most_by p (Leave id) s = omega arith
 most_by p Mark s = omega arith
 
-most_grows : (p : Running) (ss : List Step) (s : Stretch) → s.most ≤ (stretch_after p ss s).most
+most_grows : (p : Running) (ss : List ProcessorStep) (s : Stretch) → s.most ≤ (stretch_after p ss s).most
 most_grows p [] s = omega arith
 most_grows p (x ∷ ss) s = omega (arith, most_by p x s, most_grows (stepped eevdf p x) ss (stretch_by p x s))
 
@@ -55,7 +55,7 @@ room_left : (n last now : ℕ) → n + (2 ^ 48 - 1 - last) ≤ 2 ^ 48 - 1
     → (n + (reading last now - last)) + (2 ^ 48 - 1 - reading last now) ≤ 2 ^ 48 - 1
 room_left n last now h = omega arith
 
-decides_within : (p : Running) (ss : List Step) (s : Stretch) (n r : ℕ)
+decides_within : (p : Running) (ss : List ProcessorStep) (s : Stretch) (n r : ℕ)
     → s.since ≡ n → n ≤ s.most → n + (2 ^ 48 - 1 - p.last) ≤ 2 ^ 48 - 1 → KeepsAll ss → (stretch_after p ss s).most ≤ r
     → DecidesWithin r eevdf n p ss
 decides_within p [] s n r e le room k h = tt
@@ -75,14 +75,14 @@ decides_within p (Leave id ∷ ss) s n r e le room k h = absurd k.0
 
 -- A processor where none comes or goes
 
-enters : (p : Running) (x : Step) → Keeps x → EntersNew p x
+enters : (p : Running) (x : ProcessorStep) → KeepsTasks x → EntersNew p x
 enters p (Pass now) k = tt
 enters p Decide k = tt
 enters p (Enter t) k = absurd k
 enters p (Leave id) k = tt
 enters p Mark k = tt
 
-formed_after : (p : Running) (ss : List Step) → IsWellFormed p → KeepsAll ss → IsWellFormed (after eevdf p ss)
+formed_after : (p : Running) (ss : List ProcessorStep) → IsWellFormed p → KeepsAll ss → IsWellFormed (after_steps eevdf p ss)
 formed_after p [] w k = w
 formed_after p (x ∷ ss) w k = formed_after (stepped eevdf p x) ss (well_formed_stepped eevdf p x w (enters p x k.0)) k.1
 
@@ -101,17 +101,17 @@ most_within f (t ∷ xs) h =
 held : (x y z : ℕ) → x ≤ y → z ≡ y → min x (2 ^ 64 - 1) ≤ min z (2 ^ 64 - 1)
 held x y z h e = omega arith
 
-lag_bound : (s : Stretch) (a mean n W : ℕ) (t : Task) → s.ahead ≡ a → owed mean t ≤ allowed a s.most n W t.weight
+lag_bound : (s : Stretch) (a mean n W : ℕ) (t : Task) → s.ahead ≡ a → owed mean t ≤ owed_at_most a s.most n W t.weight
     → KeepsItsBound (lag_by s mean n W t)
 lag_bound s a mean n W t e h =
-    held (owed mean t) (allowed a s.most n W t.weight) (allowed s.ahead s.most n W t.weight) h (ap (λ x. allowed x s.most n W t.weight) e)
+    held (owed mean t) (owed_at_most a s.most n W t.weight) (owed_at_most s.ahead s.most n W t.weight) h (ap (λ x. owed_at_most x s.most n W t.weight) e)
 
-most_keeps : (p : Running) (ss : List Step) → IsSound p → KeepsAll ss
-    → IfSome (most_owed (stretch_after p ss (beginning (present_at p))) (present_at (after eevdf p ss))) KeepsItsBound
+most_keeps : (p : Running) (ss : List ProcessorStep) → AreTasksSound p → KeepsAll ss
+    → IfSome (most_owed (stretch_after p ss (beginning (present_at p))) (present_at (after_steps eevdf p ss))) KeepsItsBound
 most_keeps p ss sound k =
     let start = beginning (present_at p) in
     let s = stretch_after p ss start in
-    let xs = present_at (after eevdf p ss) in
+    let xs = present_at (after_steps eevdf p ss) in
     let formed = formed_after p ss (well_formed p sound) k in
     let within = decides_within p ss start 0 s.most refl (omega arith) (omega arith) k (omega arith) in
     most_within (lag_by s (mean_at xs) (length xs) (total_weight xs)) xs (λ t c.
@@ -121,23 +121,23 @@ most_keeps p ss sound k =
 
 -- More steps
 
-after_more : (p : Running) (ss more : List Step) → after eevdf p (ss ++ more) ≡ after eevdf (after eevdf p ss) more
+after_more : (p : Running) (ss more : List ProcessorStep) → after_steps eevdf p (ss ++ more) ≡ after_steps eevdf (after_steps eevdf p ss) more
 after_more p [] more = refl
 after_more p (x ∷ ss) more = after_more (stepped eevdf p x) ss more
 
-stretch_more : (p : Running) (ss more : List Step) (s : Stretch)
-    → stretch_after p (ss ++ more) s ≡ stretch_after (after eevdf p ss) more (stretch_after p ss s)
+stretch_more : (p : Running) (ss more : List ProcessorStep) (s : Stretch)
+    → stretch_after p (ss ++ more) s ≡ stretch_after (after_steps eevdf p ss) more (stretch_after p ss s)
 stretch_more p [] more s = refl
 stretch_more p (x ∷ ss) more s = stretch_more (stepped eevdf p x) ss more (stretch_by p x s)
 
-keeps_more : (ss more : List Step) → KeepsAll ss → KeepsAll more → KeepsAll (ss ++ more)
+keeps_more : (ss more : List ProcessorStep) → KeepsAll ss → KeepsAll more → KeepsAll (ss ++ more)
 keeps_more [] more k h = h
 keeps_more (x ∷ ss) more k h = (k.0, keeps_more ss more k.1 h)
 
 -- what is owed most after some more steps
-most_keeps_more : (p : Running) (ss more : List Step) → IsSound p → KeepsAll ss → KeepsAll more
-    → (let q = after eevdf p ss in
-    IfSome (most_owed (stretch_after q more (stretch_after p ss (beginning (present_at p)))) (present_at (after eevdf q more)))
+most_keeps_more : (p : Running) (ss more : List ProcessorStep) → AreTasksSound p → KeepsAll ss → KeepsAll more
+    → (let q = after_steps eevdf p ss in
+    IfSome (most_owed (stretch_after q more (stretch_after p ss (beginning (present_at p)))) (present_at (after_steps eevdf q more)))
     KeepsItsBound)
 most_keeps_more p ss more sound k h =
     let start = beginning (present_at p) in
@@ -150,37 +150,37 @@ owing_within : (o : Option Charge) (l : Lags) → IfSome l.greatest KeepsItsBoun
 owing_within None l h k = h
 owing_within (Some c) l h k = greater_within l.greatest c h k
 
-gone_within : (c : Effect) (rise : ℕ) (xs : List Task) (s : Stretch) (p : Running) (ss : List Step) (l : Lags)
+gone_within : (c : Effect) (rise : ℕ) (xs : List Task) (s : Stretch) (p : Running) (ss : List ProcessorStep) (l : Lags)
     → stretch_after p ss (beginning (present_at p)) ≡ decided_in c (stretched rise s) → IfSome l.greatest KeepsItsBound
     → IfSome (most_owed (stretched rise s) xs) KeepsItsBound
     → AreLagsOf p ss (gone_on c rise xs s l)
 gone_within c rise xs s p ss l e h k =
     record { stretch = ap (λ (z : Stretch). Some z) (sym e); greatest = owing_within (most_owed (stretched rise s) xs) l h k }
 
-passes : (p : Running) (ss : List Step) (now : ℕ) (l : Lags) → IsSound p → KeepsAll ss → AreLagsOf p ss l
-    → (let q = after eevdf p ss in
+passes : (p : Running) (ss : List ProcessorStep) (now : ℕ) (l : Lags) → AreTasksSound p → KeepsAll ss → AreLagsOf p ss l
+    → (let q = after_steps eevdf p ss in
     AreLagsOf p (ss ++ Pass now ∷ []) (lags_after Passes (rise q now) (present_at (stepped eevdf q (Pass now))) l))
 passes p ss now l sound k are =
-    let q = after eevdf p ss in
-    let more : List Step = Pass now ∷ [] in
+    let q = after_steps eevdf p ss in
+    let more : List ProcessorStep = Pass now ∷ [] in
     let start = beginning (present_at p) in
     let s = stretch_after p ss start in
-    let xs = present_at (after eevdf q more) in
+    let xs = present_at (after_steps eevdf q more) in
     let P : Option Stretch → Type 0 = λ o. AreLagsOf p (ss ++ more) (lags_by Passes o (rise q now) xs l) in
     subst P (sym are.stretch) (gone_within Passes (rise q now) xs s p (ss ++ more) l (stretch_more p ss more start)
     are.greatest (most_keeps_more p ss more sound k (tt, tt)))
 
-decides : (p : Running) (ss : List Step) (now : ℕ) (l : Lags)
-    → IsSound p → KeepsAll ss → AreLagsOf p ss l
-    → (let q = after eevdf p ss in
+decides : (p : Running) (ss : List ProcessorStep) (now : ℕ) (l : Lags)
+    → AreTasksSound p → KeepsAll ss → AreLagsOf p ss l
+    → (let q = after_steps eevdf p ss in
     AreLagsOf p (ss ++ Pass now ∷ Decide ∷ [])
-    (lags_after Decides (rise q now) (present_at (after eevdf q (Pass now ∷ Decide ∷ []))) l))
+    (lags_after Decides (rise q now) (present_at (after_steps eevdf q (Pass now ∷ Decide ∷ []))) l))
 decides p ss now l sound k are =
-    let q = after eevdf p ss in
-    let more : List Step = Pass now ∷ Decide ∷ [] in
+    let q = after_steps eevdf p ss in
+    let more : List ProcessorStep = Pass now ∷ Decide ∷ [] in
     let start = beginning (present_at p) in
     let s = stretch_after p ss start in
-    let xs = present_at (after eevdf q more) in
+    let xs = present_at (after_steps eevdf q more) in
     let P : Option Stretch → Type 0 = λ o. AreLagsOf p (ss ++ more) (lags_by Decides o (rise q now) xs l) in
     subst P (sym are.stretch) (gone_within Decides (rise q now) xs s p (ss ++ more) l (stretch_more p ss more start)
     are.greatest (most_keeps_more p ss more sound k (tt, (tt, tt))))

@@ -9,10 +9,10 @@ use Rattle.bq_disc.specs.Discipline.{Discipline, charged}
 use Rattle.bq_disc.specs.OneProcessor.{Running, present_at, reading, charge, own_preempt, rise}
 use Rattle.bq_disc.proofs.SetLemmas.{with_id-Contains}
 use Rattle.bq_cfs.specs.Cfs.{cfs}
-use Rattle.bq_cfs.specs.Spread.{IsSound}
+use Rattle.bq_cfs.specs.Spread.{AreTasksSound}
 use Rattle.bq_eevdf.specs.Eevdf.{eevdf}
 use Rattle.bq_fairness.specs.Histories.{task_at}
-use Rattle.bq_fairness.specs.Steps.{Decide, Pass, stepped, after}
+use Rattle.bq_fairness.specs.Steps.{Decide, Pass, stepped, after_steps}
 use Rattle.bq_fairness.proofs.DecideLemmas.{keeps_present}
 use Rattle.bq_fairness.proofs.PlaceLemmas.{current_present}
 use Rattle.bq_fairness.proofs.SoundLemmas.{well_formed}
@@ -25,9 +25,9 @@ use Rattle.bq_words.specs.declared.rule.Rule.TheVariants.{Cfs, Eevdf}
 use Rattle.bq_bounds.specs.declared.charge.Charge.{Charge}
 use Rattle.bq_bounds.specs.declared.running_task.RunningTask.{RunningTask}
 use Rattle.bq_bounds.specs.declared.watch.Watch.{Watch}
-use Rattle.bq_bounds.specs.Charges.{least_waiting, charge_from, charge_of}
+use Rattle.bq_bounds.specs.Charges.{least_waiting, charge_from, measured_charge}
 use Rattle.bq_bounds.specs.RunningTasks.{IsRunningTask}
-use Rattle.bq_bounds.specs.Watches.{greater, risen, measured_if, charged as charged_by, decided_by_event, decided, pulled}
+use Rattle.bq_bounds.specs.Watches.{greater, risen, measured_if, watch_charged as charged_by, decided_by_event, watch_decided, watch_pulled}
 use Rattle.bq_bounds.specs.Nearness.{runs_on, risen_since}
 use Rattle.bq_bounds.specs.Measures.{KeepsItsBound, MeasureWithin, MeasuresWithin, IsWatchOf, WatchWithin, WatchesWithin}
 use Rattle.bq_bounds.proofs.NearnessLemmas.{cfs_stays_near, eevdf_stays_near}
@@ -36,31 +36,31 @@ use Rattle.bq_bounds.proofs.NearnessLemmas.{cfs_stays_near, eevdf_stays_near}
 
 -- a reading more is a charge
 after_read : (d : Discipline) (p : Running) (nows : List ℕ) (now : ℕ)
-    → after d p (map Pass (nows ++ now ∷ [])) ≡ charge d (after d p (map Pass nows)) now
+    → after_steps d p (map Pass (nows ++ now ∷ [])) ≡ charge d (after_steps d p (map Pass nows)) now
 after_read d p [] now = refl
 after_read d p (n ∷ nows) now = after_read d (charge d p n) nows now
 
 -- readings leave the queue
-queue_stays : (d : Discipline) (p : Running) (nows : List ℕ) → (after d p (map Pass nows)).queue ≡ p.queue
+queue_stays : (d : Discipline) (p : Running) (nows : List ℕ) → (after_steps d p (map Pass nows)).queue ≡ p.queue
 queue_stays d p [] = refl
 queue_stays d p (n ∷ nows) = queue_stays d (charge d p n) nows
 
 -- the clock does not fall, nor does it come further than it goes
 clock_goes : (d : Discipline) (p : Running) (nows : List ℕ)
-    → (p.last ≤ (after d p (map Pass nows)).last) × ((after d p (map Pass nows)).last ≤ max p.last (2 ^ 48 - 1))
+    → (p.last ≤ (after_steps d p (map Pass nows)).last) × ((after_steps d p (map Pass nows)).last ≤ max p.last (2 ^ 48 - 1))
 clock_goes d p [] = (omega arith, omega arith)
 clock_goes d p (n ∷ nows) = let rest = clock_goes d (charge d p n) nows in (omega (arith, rest.0), omega (arith, rest.1))
 
 -- where nothing runs, nothing runs after them
-none_runs : (d : Discipline) (p : Running) (nows : List ℕ) → p.current ≡ None → (after d p (map Pass nows)).current ≡ None
+none_runs : (d : Discipline) (p : Running) (nows : List ℕ) → p.current ≡ None → (after_steps d p (map Pass nows)).current ≡ None
 none_runs d p [] e = e
 none_runs d p (n ∷ nows) e = none_runs d (charge d p n) nows (ap (option_map (λ (t : Task). charged d t (reading p.last n - p.last))) e)
 
-none_ran : (d : Discipline) (p : Running) (nows : List ℕ) (u : Task) → p.current ≡ None → (after d p (map Pass nows)).current ≡ Some u → ⊥
+none_ran : (d : Discipline) (p : Running) (nows : List ℕ) (u : Task) → p.current ≡ None → (after_steps d p (map Pass nows)).current ≡ Some u → ⊥
 none_ran d p nows u e f = let none = none_runs d p nows e in cc
 
 ran_by : (d : Discipline) (p : Running) (nows : List ℕ) (u : Task) (o : Option Task)
-    → p.current ≡ o → (after d p (map Pass nows)).current ≡ Some u → (a : Task) × (p.current ≡ Some a)
+    → p.current ≡ o → (after_steps d p (map Pass nows)).current ≡ Some u → (a : Task) × (p.current ≡ Some a)
 ran_by d p nows u None e f = absurd (none_ran d p nows u e f)
 ran_by d p nows u (Some a) e f = (a, e)
 
@@ -92,7 +92,7 @@ record Runs (d : Discipline) (p : Running) (nows : List ℕ) (now : ℕ) (s : Ru
   waiting : (b : Task) → Contains (runs_on d p nows).queue b → task_at b.id p ≡ Some b
 
 runs_by : (d : Discipline) (p : Running) (nows : List ℕ) (now : ℕ) (s : RunningTask)
-    → IsSound p → IsRunningTask (runs_on d p nows).current (runs_on d p nows).queue (Some s)
+    → AreTasksSound p → IsRunningTask (runs_on d p nows).current (runs_on d p nows).queue (Some s)
     → Runs d p nows now s
 runs_by d p nows now s sound h =
     let start = stepped d p Decide in
@@ -219,15 +219,15 @@ watch_within rule d law p nows now (Some s) w sound is h =
     let counted = counts d p nows now w is in
     let P : Option ℕ → Type 0 = λ o. IsWatchOf d p (nows ++ now ∷ []) (charged_by rule s r mean o next) in
     subst P (sym counted.since) (measured_by d p (nows ++ now ∷ [])
-    (charge_of rule s r (risen_since d p (nows ++ now ∷ [])) mean) next (law p nows now s sound h) counted)
+    (measured_charge rule s r (risen_since d p (nows ++ now ∷ [])) mean) next (law p nows now s sound h) counted)
 
 -- who decides changes nothing of what is kept
 
-decided_leaves : (by : By) (w : Watch) → (decided by w).greatest ≡ w.greatest
+decided_leaves : (by : By) (w : Watch) → (watch_decided by w).greatest ≡ w.greatest
 decided_leaves who.Discipline w = refl
 decided_leaves who.Policy w = refl
 
-pulled_leaves : (task : Option ℕ) (busy : Bool) (w : Watch) → (pulled task busy w).greatest ≡ w.greatest
+pulled_leaves : (task : Option ℕ) (busy : Bool) (w : Watch) → (watch_pulled task busy w).greatest ≡ w.greatest
 pulled_leaves task false w = refl
 pulled_leaves None true w = refl
 pulled_leaves (Some id) true w = refl

@@ -12,7 +12,7 @@ use Rattle.bq_cfs.specs.Cfs.{cfs}
 use Rattle.bq_cfs.proofs.MoveLemmas.{each-with_id}
 use Rattle.bq_cfs.proofs.SpreadStayLemmas.{busy_processor}
 use Rattle.bq_eevdf.specs.Eevdf.{eevdf, is_eligible}
-use Rattle.bq_fairness.specs.Steps.{Decide, Pass, stepped, after}
+use Rattle.bq_fairness.specs.Steps.{Decide, Pass, stepped, after_steps}
 use Rattle.bq_fairness.proofs.ListLemmas.{of_some}
 use Rattle.bq_fairness.proofs.CfsFairLemmas.{IsNearEach, runs_near_each}
 use Rattle.bq_fairness.proofs.EligibleLemmas.{IsEarliestOf, runs_earliest, earliest_is_eligible}
@@ -38,7 +38,7 @@ more w x y s W v M e h le = omega (arith, mul-le-mul_left w le)
 
 mean : (q : List Task) (kept : ℕ) (a : Task) (last v now : ℕ) (nows : List ℕ)
     → 15 ≤ a.weight → a.v ≤ 2 ^ 62 → total_weight (a ∷ q) * v ≤ weighted_sum (a ∷ q)
-    → v ≤ (after eevdf (busy_processor q kept a last) (map Pass (now ∷ nows))).kept
+    → v ≤ (after_steps eevdf (busy_processor q kept a last) (map Pass (now ∷ nows))).kept
 mean q kept a last v now [] low ends h =
     let b = charged eevdf a (reading last now - last) in
     let up : a.v ≤ b.v = omega arith in
@@ -53,11 +53,11 @@ mean q kept a last v now (next ∷ nows) low ends h =
 
 mean_at : (p : Running) (a : Task) (v now : ℕ) (nows : List ℕ)
     → p.current ≡ Some a → 15 ≤ a.weight → a.v ≤ 2 ^ 62 → total_weight (present_at p) * v ≤ weighted_sum (present_at p)
-    → v ≤ (after eevdf p (map Pass (now ∷ nows))).kept
+    → v ≤ (after_steps eevdf p (map Pass (now ∷ nows))).kept
 mean_at p a v now nows e low ends =
     let P : Option Task → Type 0 = λ o.
     total_weight (present o p.queue) * v ≤ weighted_sum (present o p.queue) →
-    v ≤ (after eevdf (record p { current = o }) (map Pass (now ∷ nows))).kept in
+    v ≤ (after_steps eevdf (record p { current = o }) (map Pass (now ∷ nows))).kept in
     subst P (sym e) (mean p.queue p.kept a p.last v now nows low ends)
 
 -- a task that is eligible is at most at the mean

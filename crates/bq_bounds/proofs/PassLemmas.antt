@@ -5,16 +5,16 @@ use Rattle.bq_disc.specs.Tasks.{Task}
 use Rattle.bq_disc.specs.Discipline.{Discipline, charged}
 use Rattle.bq_disc.specs.OneProcessor.{Running, reading}
 use Rattle.bq_cfs.proofs.SpreadStayLemmas.{busy_processor}
-use Rattle.bq_fairness.specs.Steps.{Pass, after}
+use Rattle.bq_fairness.specs.Steps.{Pass, after_steps}
 use Rattle.bq_fairness.proofs.SoundLemmas.{vdelta_of-le, vdelta_of-add}
 
 -- a task that ran before the readings runs after them, by no more than the rise takes at its weight
 pub record Ran (d : Discipline) (p : Running) (a : Task) (nows : List ℕ) : Type 0 where
   pub task : Task
-  pub runs : (after d p (map Pass nows)).current ≡ Some task
+  pub runs : (after_steps d p (map Pass nows)).current ≡ Some task
   pub weight : task.weight ≡ a.weight
-  pub v : task.v ≤ a.v + vdelta_of ((after d p (map Pass nows)).last - p.last) a.weight
-  pub later : p.last ≤ (after d p (map Pass nows)).last
+  pub v : task.v ≤ a.v + vdelta_of ((after_steps d p (map Pass nows)).last - p.last) a.weight
+  pub later : p.last ≤ (after_steps d p (map Pass nows)).last
 
 split : (last at end w v x u : ℕ) → 15 ≤ w → last ≤ at → at ≤ end → x ≤ v + vdelta_of (at - last) w
     → u ≤ x + vdelta_of (end - at) w
@@ -31,7 +31,7 @@ ran d q kept a last (now ∷ nows) low =
     let at = reading last now in
     let b = charged d a (at - last) in
     let rest = ran d q (d.mark kept (b ∷ q)) b at nows low in
-    let end = (after d (busy_processor q (d.mark kept (b ∷ q)) b at) (map Pass nows)).last in
+    let end = (after_steps d (busy_processor q (d.mark kept (b ∷ q)) b at) (map Pass nows)).last in
     let first : b.v ≤ a.v + vdelta_of (at - last) a.weight = omega arith in
     let up : last ≤ at = omega arith in
     record {

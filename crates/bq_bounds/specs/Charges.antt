@@ -20,6 +20,6 @@ abbrev pub charge_from : ℕ → ℕ → ℕ → ℕ → ℕ → ℕ → Charge
 charge_from base allowance v weight rise since = record { difference = advance_of v rise weight - base; bound = min (allowance + vdelta_of since weight) (2 ^ 64 - 1) }
 
 -- CFS measures from the least v that waits and allows the granularity; EEVDF measures from the mean
-abbrev pub charge_of : Rule → RunningTask → ℕ → ℕ → ℕ → Option Charge
-charge_of Cfs s rise since mean = option_map (λ least. charge_from least GRANULARITY s.v s.weight rise since) s.least
-charge_of Eevdf s rise since mean = Some (charge_from mean 0 s.v s.weight rise since)
+abbrev pub measured_charge : Rule → RunningTask → ℕ → ℕ → ℕ → Option Charge
+measured_charge Cfs s rise since mean = option_map (λ least. charge_from least GRANULARITY s.v s.weight rise since) s.least
+measured_charge Eevdf s rise since mean = Some (charge_from mean 0 s.v s.weight rise since)

@@ -19,8 +19,8 @@ use Rattle.bq_bounds.specs.Lags.{beginning, stretched, most_owed}
 use Rattle.bq_bounds.specs.Watches.{greater}
 
 -- lags before the first event
-abbrev pub unasked : Lags
-unasked = record { stretch = None; measured = 0; left_out = 0; greatest = None }
+abbrev pub no_lags : Lags
+no_lags = record { stretch = None; measured = 0; left_out = 0; greatest = None }
 
 -- the effect of a decision: the discipline's keeps the stretch, a policy's breaks it
 abbrev pub effect_by : By → Effect
@@ -88,7 +88,7 @@ lags_after c rise xs l = lags_by c l.stretch rise xs l
 
 -- the lags of a processor
 abbrev pub lags_of : List Lags → ℕ → Lags
-lags_of ls processor = slice_index_or ls processor unasked
+lags_of ls processor = slice_index_or ls processor no_lags
 
 -- a pull ends the stretch of the processor that it takes a task from
 abbrev pub source_forgotten : Event → Reply → List Lags → List Lags

@@ -25,8 +25,8 @@ owed mean t = time_of (mean - t.v) t.weight
 -- What one of n tasks may be owed. Its weight is w, and W is the weight of all. At the start no task was further ahead than a, and the
 -- clock rises by at most r between two decisions. The bound is n - 2 rises, its own share of one rise, and the
 -- time that a takes at the weight of the other tasks
-abbrev pub allowed : ℕ → ℕ → ℕ → ℕ → ℕ → ℕ
-allowed a r n W w = (n - 2) * r + ((W - w) * a * W + 1024 * r * w) / (1024 * W)
+abbrev pub owed_at_most : ℕ → ℕ → ℕ → ℕ → ℕ → ℕ
+owed_at_most a r n W w = (n - 2) * r + ((W - w) * a * W + 1024 * r * w) / (1024 * W)
 
 -- the greatest weight of some tasks
 abbrev pub heaviest : List Task → ℕ
@@ -43,7 +43,7 @@ stretched rise s = let since = saturating_sum s.since rise in record s { since =
 
 -- what a task is owed in a stretch, and what it may be owed, among n tasks of this mean and of weight W together
 abbrev pub lag_by : Stretch → ℕ → ℕ → ℕ → Task → Charge
-lag_by s mean n W t = record { difference = min (owed mean t) (2 ^ 64 - 1); bound = min (allowed s.ahead s.most n W t.weight) (2 ^ 64 - 1) }
+lag_by s mean n W t = record { difference = min (owed mean t) (2 ^ 64 - 1); bound = min (owed_at_most s.ahead s.most n W t.weight) (2 ^ 64 - 1) }
 
 -- the greatest of what some tasks are owed, the first of equal ones
 abbrev pub most_owed_by : (Task → Charge) → List Task → Option Charge

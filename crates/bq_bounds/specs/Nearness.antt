@@ -10,13 +10,13 @@ use Rattle.bq_disc.specs.OneProcessor.{Running, present_at}
 use Rattle.bq_cfs.specs.Cfs.{cfs}
 use Rattle.bq_eevdf.specs.Eevdf.{eevdf}
 use Rattle.bq_fairness.specs.Histories.{task_at}
-use Rattle.bq_fairness.specs.Steps.{Decide, Pass, stepped, after}
+use Rattle.bq_fairness.specs.Steps.{Decide, Pass, stepped, after_steps}
 use Rattle.bq_bounds.specs.declared.charge.Charge.{Charge}
 use Rattle.bq_bounds.specs.Watches.{greatest_of}
 
 -- a processor at which the discipline has decided and whose clock was read a few times since, while no task came or went
 abbrev pub runs_on : Discipline → Running → List ℕ → Running
-runs_on d p nows = after d (stepped d p Decide) (map Pass nows)
+runs_on d p nows = after_steps d (stepped d p Decide) (map Pass nows)
 
 -- how far the clock has risen since that decision
 abbrev pub risen_since : Discipline → Running → List ℕ → ℕ

@@ -13,7 +13,7 @@ use Rattle.bq_disc.specs.Counts.{saturating_sum}
 use Rattle.bq_bounds.specs.declared.running_task.RunningTask.{RunningTask}
 use Rattle.bq_bounds.specs.declared.charge.Charge.{Charge}
 use Rattle.bq_bounds.specs.declared.watch.Watch.{Watch}
-use Rattle.bq_bounds.specs.Charges.{charge_of}
+use Rattle.bq_bounds.specs.Charges.{measured_charge}
 
 -- a watch before the first event
 abbrev pub unwatched : Watch
@@ -38,36 +38,36 @@ measured_if None w = w
 measured_if (Some c) w = measured c w
 
 -- the running task is charged: the charge is measured if the discipline decided last and nothing has disturbed that since
-abbrev pub charged : Rule → RunningTask → ℕ → ℕ → Option ℕ → Watch → Watch
-charged rule s rise mean None w = record w { left_out = saturating_sum w.left_out 1 }
-charged rule s rise mean (Some since) w = measured_if (charge_of rule s rise since mean) w
+abbrev pub watch_charged : Rule → RunningTask → ℕ → ℕ → Option ℕ → Watch → Watch
+watch_charged rule s rise mean None w = record w { left_out = saturating_sum w.left_out 1 }
+watch_charged rule s rise mean (Some since) w = measured_if (measured_charge rule s rise since mean) w
 
 -- the watch after the running task was charged, if one ran
 abbrev pub charged_if : Rule → Option RunningTask → ℕ → ℕ → Watch → Watch
 charged_if rule None rise mean w = w
-charged_if rule (Some s) rise mean w = charged rule s rise mean w.since w
+charged_if rule (Some s) rise mean w = watch_charged rule s rise mean w.since w
 
 -- the watch after a decision: the discipline's starts the count, a policy's ends it
-abbrev pub decided : By → Watch → Watch
-decided who.Discipline w = record w { since = Some 0 }
-decided who.Policy w = record w { since = None }
+abbrev pub watch_decided : By → Watch → Watch
+watch_decided who.Discipline w = record w { since = Some 0 }
+watch_decided who.Policy w = record w { since = None }
 
 -- the watch after a task came or went that the discipline did not see
 abbrev pub disturbed : Watch → Watch
 disturbed w = record w { since = None }
 
 -- a pull decides if nothing ran before, and disturbs if something ran and a task comes
-abbrev pub pulled : Option ℕ → Bool → Watch → Watch
-pulled task false w = decided who.Discipline w
-pulled None true w = w
-pulled (Some id) true w = disturbed w
+abbrev pub watch_pulled : Option ℕ → Bool → Watch → Watch
+watch_pulled task false w = watch_decided who.Discipline w
+watch_pulled None true w = w
+watch_pulled (Some id) true w = disturbed w
 
 -- the watch after an event, by who decided at it, if anyone did
 abbrev pub decided_by_event : Event → Reply → Bool → Watch → Watch
-decided_by_event (Tick processor now) (Ticked run by steps) busy w = decided by w
-decided_by_event (Drain processor now) (Drained count run by steps) busy w = decided by w
-decided_by_event (Block processor now) (Blocked task run) busy w = decided who.Discipline w
-decided_by_event (Pull processor from now) (Pulled task run by steps) busy w = pulled task busy w
+decided_by_event (Tick processor now) (Ticked run by steps) busy w = watch_decided by w
+decided_by_event (Drain processor now) (Drained count run by steps) busy w = watch_decided by w
+decided_by_event (Block processor now) (Blocked task run) busy w = watch_decided who.Discipline w
+decided_by_event (Pull processor from now) (Pulled task run by steps) busy w = watch_pulled task busy w
 decided_by_event e r busy w = w
 
 -- a reading of the clock: the clock has risen, and the running task is charged

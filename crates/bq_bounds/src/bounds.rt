@@ -1,7 +1,7 @@
 //! All processors of a machine, watched.
 ghost use Rattle.std.specs.Prelude.{◌≡◌, ◌≤◌, length, IfOk, replicate, slice_get, List, IsTrue, false};
 ghost use Rattle.bq_disc.specs.Tasks.{Task};
-ghost use Rattle.bq_bounds.specs.LagWatches.{LagsByGlance, all_lags_after, effect_of, lags_of, needs_no_look, source_forgotten, unasked};
+ghost use Rattle.bq_bounds.specs.LagWatches.{LagsByGlance, all_lags_after, effect_of, lags_of, needs_no_look, source_forgotten, no_lags};
 ghost use Rattle.bq_bounds.specs.Watches.{unwatched, source_disturbed, watches_after};
 
 use crate::glance::Glance;
@@ -29,7 +29,7 @@ impl Bounds {
     pub fn new(alloc: Global, rule: Rule, processors: usize) -> Result<Bounds, AllocError>
         ensures rule { IfOk result (λ b. b.rule ≡ rule) }
         ensures watches { IfOk result (λ b. b.watches.items ≡ replicate processors unwatched) }
-        ensures lags { IfOk result (λ b. b.lags.items ≡ replicate processors unasked) }
+        ensures lags { IfOk result (λ b. b.lags.items ≡ replicate processors no_lags) }
     {
         let watches = vec![in alloc; Watch::new(); processors]?;
         let lags = vec![in alloc; Lags::new(); processors]?;

@@ -1,7 +1,7 @@
 //! One charge, as the laws of fairness measure it.
 ghost use Rattle.std.specs.Prelude.{◌≡◌, ◌-◌, ◌^◌, min};
 ghost use Rattle.bq_weights.specs.VirtualTime.{IsWeight, vdelta_of};
-ghost use Rattle.bq_bounds.specs.Charges.{charge_of, charge_from};
+ghost use Rattle.bq_bounds.specs.Charges.{measured_charge, charge_from};
 
 use crate::running_task::RunningTask;
 use bq_cfs::GRANULARITY;
@@ -20,7 +20,7 @@ impl RunningTask {
     /// The charge for a rise of the clock. `since` is how far the clock has risen since the discipline decided who runs. CFS measures
     /// from the least virtual runtime that waits, and answers `None` if no task waits. EEVDF measures from the mean after the charge.
     pub fn charge(&self, rule: Rule, rise: u64, since: u64, mean: u64) -> Option<Charge>
-        ensures { result ≡ charge_of rule self.now rise since mean }
+        ensures { result ≡ measured_charge rule self.now rise since mean }
     {
         match rule {
             Rule::Cfs => match self.least {

@@ -4,7 +4,7 @@ ghost use Rattle.bq_disc.specs.Tasks.{Task};
 ghost use Rattle.bq_disc.specs.Counts.{saturating_sum};
 ghost use Rattle.bq_bounds.specs.Glances.{IsGlance};
 ghost use Rattle.bq_bounds.specs.Lags.{stretched};
-ghost use Rattle.bq_bounds.specs.LagWatches.{effect_by, effect_of, decided_in, forgotten, gone_on, lags_after, needs_no_look, unasked};
+ghost use Rattle.bq_bounds.specs.LagWatches.{effect_by, effect_of, decided_in, forgotten, gone_on, lags_after, needs_no_look, no_lags};
 
 use crate::charge::Charge;
 use crate::glance::Glance;
@@ -42,7 +42,7 @@ pub struct Lags {
 impl Lags {
     /// Lags before the first event.
     pub fn new() -> Lags
-        ensures { result ≡ unasked }
+        ensures { result ≡ no_lags }
     {
         Lags {
             stretch: None,

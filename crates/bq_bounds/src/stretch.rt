@@ -2,7 +2,7 @@
 ghost use Rattle.std.specs.Prelude.{◌≡◌, ◌≤◌, ◌-◌, ◌^◌, length, min};
 ghost use Rattle.bq_weights.specs.VirtualTime.{IsWeight};
 ghost use Rattle.bq_bounds.specs.Glances.{at_most_owed};
-ghost use Rattle.bq_bounds.specs.Lags.{allowed, beginning, furthest, heaviest, lag_by, most_owed, stretched};
+ghost use Rattle.bq_bounds.specs.Lags.{owed_at_most, beginning, furthest, heaviest, lag_by, most_owed, stretched};
 
 use crate::charge::Charge;
 use crate::glance::Glance;
@@ -117,7 +117,7 @@ impl Stretch {
         requires weight { IsWeight weight }
         requires least { 1 ≤ group.now.weight }
         requires most { group.now.weight ≤ 2 ^ 27 }
-        ensures { result ≡ min (allowed self.now.ahead self.now.most group.now.count group.now.weight weight) (2 ^ 64 - 1) }
+        ensures { result ≡ min (owed_at_most self.now.ahead self.now.most group.now.count group.now.weight weight) (2 ^ 64 - 1) }
     {
         let whole = u128::from(group.weight);
         let rises = u128::from(group.count.saturating_sub(2)) * u128::from(self.most);

@@ -1,6 +1,6 @@
 //! The charges of one processor, while only its discipline decides who runs there.
 ghost use Rattle.std.specs.Prelude.{◌≡◌};
-ghost use Rattle.bq_bounds.specs.Watches.{unwatched, risen, measured, decided, disturbed, charged, greater, watch_after, decided_by_event};
+ghost use Rattle.bq_bounds.specs.Watches.{unwatched, risen, measured, watch_decided, disturbed, watch_charged, greater, watch_after, decided_by_event};
 
 use crate::charge::Charge;
 use crate::running_task::RunningTask;
@@ -66,7 +66,7 @@ impl Watch {
 
     /// The task that ran is charged.
     fn charge(&mut self, rule: Rule, running: &RunningTask, rise: u64, mean: u64)
-        ensures { self.new ≡ charged rule running.now rise mean self.old.since self.old }
+        ensures { self.new ≡ watch_charged rule running.now rise mean self.old.since self.old }
     {
         match self.since {
             Some(since) => {
@@ -122,7 +122,7 @@ impl Watch {
 
     /// Notes who decided which task runs.
     fn decide(&mut self, by: By)
-        ensures { self.new ≡ decided by self.old }
+        ensures { self.new ≡ watch_decided by self.old }
     {
         self.since = match by {
             By::Discipline => Some(0),

@@ -9,7 +9,7 @@ use Rattle.bq_disc.specs.Tasks.{Task}
 use Rattle.bq_disc.specs.Discipline.{charged}
 use Rattle.bq_disc.specs.OneProcessor.{Running, present_at}
 use Rattle.bq_cfs.specs.Cfs.{cfs}
-use Rattle.bq_cfs.specs.Spread.{bound, IsSound, IsWithin}
+use Rattle.bq_cfs.specs.Spread.{bound, AreTasksSound, IsSpreadWithin}
 use Rattle.bq_cfs.proofs.BoundLemmas.{IsNear, bound-near}
 
 -- a shorter time at a greater weight takes no more
@@ -44,7 +44,7 @@ level_of V d n (x ∷ xs) near reach weight ends = (
 )
 
 -- the tasks of a processor that is within its bound
-pub within_bound_is_level : (V d : ℕ) (p : Running) → IsSound p → IsWithin V d p
+pub within_bound_is_level : (V d : ℕ) (p : Running) → AreTasksSound p → IsSpreadWithin V d p
     → AllByRecursion (IsLevel V d (bound V (present_at p))) (present_at p)
 within_bound_is_level V d p s w =
     let xs = present_at p in

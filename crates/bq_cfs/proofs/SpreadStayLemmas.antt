@@ -11,10 +11,10 @@ use Rattle.bq_disc.specs.Queues.{HasDistinctIds}
 use Rattle.bq_disc.specs.Discipline.{charged, next_of}
 use Rattle.bq_disc.specs.Orders.{first_by-member}
 use Rattle.bq_disc.specs.Totals.{NoneBelow}
-use Rattle.bq_disc.specs.OneProcessor.{Running, present_at, charge, start, run_id, switched, exchanged, decided, own_preempt, rise}
+use Rattle.bq_disc.specs.OneProcessor.{Running, present_at, charge, choice_started, run_id, switched, exchanged, decided, own_preempt, rise}
 use Rattle.bq_disc.proofs.SetLemmas.{with_id-Contains}
 use Rattle.bq_cfs.specs.Cfs.{cfs, least}
-use Rattle.bq_cfs.specs.Spread.{bound, IsSound, IsWithin, Event, Tick, Block, read_at, passed, StaysWithin, HistoryStaysWithin}
+use Rattle.bq_cfs.specs.Spread.{bound, AreTasksSound, IsSpreadWithin, Event, Tick, Block, event_time, processor_passed, StaysWithin, HistoryStaysWithin}
 use Rattle.bq_cfs.proofs.BoundLemmas.{weaker_of_each, IsNear, at_most_bound, none_below_least}
 use Rattle.bq_cfs.proofs.MoveLemmas.{each-without, each-place, each-with_id, distinct-started, distinct-exchanged}
 use Rattle.bq_cfs.proofs.LevelLemmas.{IsLevel, IsLevel-charged, within_bound_is_level}
@@ -43,7 +43,7 @@ each_within V d n (x ∷ xs) h =
 
 -- the processor keeps what the law promises
 abbrev Stays : ℕ → ℕ → Running → Type 0
-Stays V d p = IsSound p × IsWithin V d p
+Stays V d p = AreTasksSound p × IsSpreadWithin V d p
 
 -- it does so where what was known of each task holds of those that are left, and the task that runs is near them
 stays : (V d n : ℕ) (p : Running) → HasDistinctIds (present_at p) → AllByRecursion (IsLevel V d n) (present_at p)
@@ -89,7 +89,7 @@ started_stays V d n kept last q m found distinct h none =
     ))
 
 start_stays : (V d n kept last : ℕ) (q : List Task) → HasDistinctIds q → AllByRecursion (IsLevel V d n) q
-    → Stays V d (start cfs (idle_processor q kept last))
+    → Stays V d (choice_started cfs (idle_processor q kept last))
 start_stays V d n kept last [] distinct h = stays V d n (idle_processor [] kept last) tt tt tt
 start_stays V d n kept last (x ∷ xs) distinct h =
     started_stays V d n kept last (x ∷ xs) (former runs_before x (least xs)) (least_is_found x xs distinct) distinct h
@@ -165,7 +165,7 @@ decided_stays V d n kept last q u false e distinct h = kept_stays V d n kept las
 -- an event keeps a processor, given by its parts, within its bound
 event_stays : (V d : ℕ) (q : List Task) (kept : ℕ) (o : Option Task) (last : ℕ) (e : Event)
     → (let p : Running = record { queue = q; kept = kept; current = o; last = last } in
-    IsSound p → IsWithin V d p → rise p (read_at e) ≤ d → Stays V d (passed p e))
+    AreTasksSound p → IsSpreadWithin V d p → rise p (event_time e) ≤ d → Stays V d (processor_passed p e))
 event_stays V d q kept None last (Tick now) s w le =
     let p = idle_processor q kept last in
     let c = charge cfs p now in
@@ -193,4 +193,4 @@ pub history_stays_within : HistoryStaysWithin
 history_stays_within V d p [] s w rises = (s, w)
 history_stays_within V d p (e ∷ es) s w rises =
     let after = stays_within V d p e s w rises.0 in
-    history_stays_within V d (passed p e) es after.0 after.1 rises.1
+    history_stays_within V d (processor_passed p e) es after.0 after.1 rises.1

@@ -6,12 +6,12 @@ use Rattle.bq_cfs.specs.declared.discipline.TheConstants.{GRANULARITY}
 use Rattle.bq_weights.specs.VirtualTime.{IsWeight, vdelta_of}
 use Rattle.bq_disc.specs.Tasks.{Task}
 use Rattle.bq_disc.specs.Queues.{HasDistinctIds}
-use Rattle.bq_disc.specs.OneProcessor.{Running, present_at, charge, start, rise, ticked}
+use Rattle.bq_disc.specs.OneProcessor.{Running, present_at, charge, choice_started, rise, ticked}
 use Rattle.bq_cfs.specs.Cfs.{cfs, least}
 
 -- what every processor keeps true of the tasks that are present: their ids differ, their weights are in the table's range,
 -- and their virtual times are at most 2^62
-pub record IsSound (p : Running) : Type 0 where
+pub record AreTasksSound (p : Running) : Type 0 where
   pub distinct : HasDistinctIds (present_at p)
   pub weights : All (λ t. IsWeight t.weight) (present_at p)
   pub ends : All (λ t. t.v ≤ 2 ^ 62) (present_at p)
@@ -21,7 +21,7 @@ abbrev pub bound : ℕ → List Task → ℕ
 bound V xs = option_map_or (λ (t : Task). max V (t.v + GRANULARITY)) (least xs) V
 
 -- the running task is not beyond the bound, and no task present is beyond it by more than time d takes at the least weight
-pub record IsWithin (V d : ℕ) (p : Running) : Type 0 where
+pub record IsSpreadWithin (V d : ℕ) (p : Running) : Type 0 where
   pub current : IfSome p.current (λ t. t.v ≤ bound V (present_at p))
   pub each : All (λ t. t.v ≤ bound V (present_at p) + vdelta_of d 15) (present_at p)
 
@@ -31,40 +31,40 @@ pub data Event : Type 0 where
   Block : ℕ → Event
 
 -- the reading at which an event comes
-abbrev pub read_at : Event → ℕ
-read_at (Tick now) = now
-read_at (Block now) = now
+abbrev pub event_time : Event → ℕ
+event_time (Tick now) = now
+event_time (Block now) = now
 
 -- Block: the current task goes, and the queue's choice runs; if nothing runs, the Block is refused and nothing changes
 abbrev pub departed : Running → ℕ → Option Task → Running
 departed p now None = p
-departed p now (Some t) = start cfs (record (charge cfs p now) { current = None })
+departed p now (Some t) = choice_started cfs (record (charge cfs p now) { current = None })
 
 -- the processor after an event, if only the rule decides whether the current task gives way
-abbrev pub passed : Running → Event → Running
-passed p (Tick now) = ticked cfs p now
-passed p (Block now) = departed p now p.current
+abbrev pub processor_passed : Running → Event → Running
+processor_passed p (Tick now) = ticked cfs p now
+processor_passed p (Block now) = departed p now p.current
 
 -- the processor after some events, one after another
 abbrev pub passed_all : Running → List Event → Running
 passed_all p [] = p
-passed_all p (e ∷ es) = passed_all (passed p e) es
+passed_all p (e ∷ es) = passed_all (processor_passed p e) es
 
 -- the clock rises by at most d at each of the events
-abbrev pub RisesByAtMost : ℕ → Running → List Event → Type 0
-RisesByAtMost d p [] = Unit {0}
-RisesByAtMost d p (e ∷ es) = (rise p (read_at e) ≤ d) × RisesByAtMost d (passed p e) es
+abbrev pub EventsRiseByAtMost : ℕ → Running → List Event → Type 0
+EventsRiseByAtMost d p [] = Unit {0}
+EventsRiseByAtMost d p (e ∷ es) = (rise p (event_time e) ≤ d) × EventsRiseByAtMost d (processor_passed p e) es
 
 -- if no v present is beyond V, the processor is within V and d
 abbrev pub BeginsWithin : Type 0
-BeginsWithin = (V d : ℕ) (p : Running) → All (λ t. t.v ≤ V) (present_at p) → IsWithin V d p
+BeginsWithin = (V d : ℕ) (p : Running) → All (λ t. t.v ≤ V) (present_at p) → IsSpreadWithin V d p
 
 -- an event at which the clock rises by at most d keeps the processor within V and d
 abbrev pub StaysWithin : Type 0
 StaysWithin =
-    (V d : ℕ) (p : Running) (e : Event) → IsSound p → IsWithin V d p → rise p (read_at e) ≤ d → IsSound (passed p e) × IsWithin V d (passed p e)
+    (V d : ℕ) (p : Running) (e : Event) → AreTasksSound p → IsSpreadWithin V d p → rise p (event_time e) ≤ d → AreTasksSound (processor_passed p e) × IsSpreadWithin V d (processor_passed p e)
 
 -- any number of such events keep the processor within V and d
 abbrev pub HistoryStaysWithin : Type 0
 HistoryStaysWithin =
-    (V d : ℕ) (p : Running) (es : List Event) → IsSound p → IsWithin V d p → RisesByAtMost d p es → IsSound (passed_all p es) × IsWithin V d (passed_all p es)
+    (V d : ℕ) (p : Running) (es : List Event) → AreTasksSound p → IsSpreadWithin V d p → EventsRiseByAtMost d p es → AreTasksSound (passed_all p es) × IsSpreadWithin V d (passed_all p es)

@@ -5,17 +5,17 @@ use Rattle.std.specs.Io.KnownBytes.{Appends}
 use Rattle.std.proofs.KnownBytes.{Keeps-refl}
 use Rattle.bq_streams.specs.Writing.{AppendsPart}
 use Rattle.bq_streams.specs.Reading.{GivesAll, GivesSome}
-use Rattle.bq_cli.specs.Filtering.{AnswersAll, BreaksOff}
+use Rattle.bq_cli.specs.Filtering.{FiltersAll, FilteringBreaksOff}
 
 module _ (Writes : List ℕ → Bool → List ℕ → Type 0) (from to old : Option (List ℕ)) where
   -- nothing was written
-  pub broken_before : GivesSome from to → BreaksOff Writes from to old old
+  pub broken_before : GivesSome from to → FilteringBreaksOff Writes from to old old
   broken_before gave = inl (gave, Keeps-refl old)
 
   -- all was read, and its answer is the whole of what was written
   pub answered : (new : Option (List ℕ)) (items input output : List ℕ) (accepted ended : Bool)
       → GivesAll from to items → input ≡ items → Writes input accepted output → (ended ≡ accepted) × Appends old new output
-      → AnswersAll Writes from to old new ended
+      → FiltersAll Writes from to old new ended
   answered new items input output accepted ended gave same answers wrote = record {
     input = input;
     output = output;
@@ -27,7 +27,7 @@ module _ (Writes : List ℕ → Bool → List ℕ → Type 0) (from to old : Opt
   -- all was read, and a beginning of its answer was written
   pub broken_in : (new : Option (List ℕ)) (items input output : List ℕ) (accepted : Bool)
       → GivesAll from to items → input ≡ items → Writes input accepted output → AppendsPart old new output
-      → BreaksOff Writes from to old new
+      → FilteringBreaksOff Writes from to old new
   broken_in new items input output accepted gave same answers wrote = inr record {
     input = input;
     output = output;

@@ -3,7 +3,7 @@ use Rattle.std.proofs.Common.{◌≡◌, ◌∙◌, ℕ, List, Option, Result, O
 use Rattle.std.specs.Prelude.{IfOk, option_map, codes, slice_index_or}
 use Rattle.std.proofs.lemmas.Option.{same_Some}
 use Rattle.clap.specs.Words.{Row, Text}
-use Rattle.bq_cli.specs.Commands.{HasValues, name_of}
+use Rattle.bq_cli.specs.Commands.{HasValues, command_name}
 use Rattle.bq_cli.specs.Words.{IsParallel}
 use Rattle.bq_cli.specs.declared.command.Command.{Command}
 use Rattle.bq_cli.specs.declared.command.Command.TheVariants.{Asm, Check, Dis, Import, Par, Replay, Run, Simulate, Timeline}
@@ -29,7 +29,7 @@ name_and_rows_of_entry (Some x) f g word name rows rows' a b e =
 
 -- only `par` has its name
 pub only_par_has_its_name : (rows rows' : List Row) (c : Command) (Out : Type 0)
-    → name_of c ≡ codes "par" → rows ≡ rows' → HasValues rows c → ((p : Parallel) → IsParallel rows' p → Out)
+    → command_name c ≡ codes "par" → rows ≡ rows' → HasValues rows c → ((p : Parallel) → IsParallel rows' p → Out)
     → Out
 only_par_has_its_name rows rows' (Asm w) Out is same given k = let letters : 97 ≡ 112 = ap first is in absurd (omega (arith, letters))
 only_par_has_its_name rows rows' (Check w) Out is same given k = let letters : 99 ≡ 112 = ap first is in absurd (omega (arith, letters))

@@ -7,16 +7,16 @@ use Rattle.bq_cli.specs.declared.command.Command.{Command}
 use Rattle.bq_cli.specs.declared.command.Command.TheVariants.{Asm, Check, Dis, Import, Par, Replay, Run, Simulate, Timeline}
 
 -- the name of a command
-abbrev pub name_of : Command → Text
-name_of (Asm w) = codes "asm"
-name_of (Check w) = codes "check"
-name_of (Dis w) = codes "dis"
-name_of (Run w) = codes "run"
-name_of (Import w) = codes "import"
-name_of (Par p) = codes "par"
-name_of (Replay w) = codes "replay"
-name_of (Timeline w) = codes "timeline"
-name_of (Simulate w) = codes "simulate"
+abbrev pub command_name : Command → Text
+command_name (Asm w) = codes "asm"
+command_name (Check w) = codes "check"
+command_name (Dis w) = codes "dis"
+command_name (Run w) = codes "run"
+command_name (Import w) = codes "import"
+command_name (Par p) = codes "par"
+command_name (Replay w) = codes "replay"
+command_name (Timeline w) = codes "timeline"
+command_name (Simulate w) = codes "simulate"
 
 -- the command's values are those that were found for its options
 abbrev pub HasValues : List Row → Command → Type 0
@@ -32,7 +32,7 @@ HasValues rows (Simulate w) = AreSimulateWords rows w
 
 -- the command and its values are those that were found
 abbrev pub IsCommandIn : Option (Text × List Row) → Command → Type 0
-IsCommandIn found c = (rows : List Row) × (found ≡ Some (name_of c, rows)) × HasValues rows c
+IsCommandIn found c = (rows : List Row) × (found ≡ Some (command_name c, rows)) × HasValues rows c
 
 -- the command and its values are those that clap finds in the words
 abbrev pub IsCommand : List Text → Command → Type 0

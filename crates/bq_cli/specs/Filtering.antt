@@ -6,7 +6,7 @@ use Rattle.bq_streams.specs.Writing.{AppendsPart}
 use Rattle.bq_policy_file.specs.Asm.{AsmWrites}
 use Rattle.bq_policy_file.specs.Check.{CheckWrites}
 use Rattle.bq_policy_file.specs.Dis.{DisWrites}
-use Rattle.bq_policy_file.specs.Forms.{AsksFor, RefusesOptions}
+use Rattle.bq_policy_file.specs.Forms.{AsksForForm, RefusesOptions}
 use Rattle.bq_policy_file.specs.declared.form.ProgramForm.{ProgramForm}
 use Rattle.bq_policy_file.specs.declared.options.Options.{Options}
 use Rattle.bq_cli.specs.declared.filter.Filter.{Filter}
@@ -19,7 +19,7 @@ FilterWrites Check = CheckWrites
 FilterWrites Dis = DisWrites
 
 -- The reader gave these bytes and has no more, and the writer got their answer.
-pub record AnswersAll (Writes : List ℕ → Bool → List ℕ → Type 0) (from to old new : Option (List ℕ)) (accepted : Bool) : Type 0 where
+pub record FiltersAll (Writes : List ℕ → Bool → List ℕ → Type 0) (from to old new : Option (List ℕ)) (accepted : Bool) : Type 0 where
   pub input : List ℕ
   pub output : List ℕ
   pub gave : GivesAll from to input
@@ -36,14 +36,14 @@ pub record AnswersPart (Writes : List ℕ → Bool → List ℕ → Type 0) (fro
   pub answers : Writes input accepted output
 
 -- The writer got nothing until now, or a beginning of the answer to all that the reader had.
-abbrev pub BreaksOff : (List ℕ → Bool → List ℕ → Type 0) → Option (List ℕ) → Option (List ℕ) → Option (List ℕ) → Option (List ℕ) → Type 0
-BreaksOff Writes from to old new = (GivesSome from to × Keeps old new) ⊎ AnswersPart Writes from to old new
+abbrev pub FilteringBreaksOff : (List ℕ → Bool → List ℕ → Type 0) → Option (List ℕ) → Option (List ℕ) → Option (List ℕ) → Option (List ℕ) → Type 0
+FilteringBreaksOff Writes from to old new = (GivesSome from to × Keeps old new) ⊎ AnswersPart Writes from to old new
 
 -- The options ask for a form, and the writer got the answer in it to all that the reader had.
 pub record AnswersInForm (o : Options) (from to old new : Option (List ℕ)) (accepted : Bool) : Type 0 where
   pub form : ProgramForm
-  pub asks : AsksFor o form
-  pub answers : AnswersAll (AsmWrites form) from to old new accepted
+  pub asks : AsksForForm o form
+  pub answers : FiltersAll (AsmWrites form) from to old new accepted
 
 -- Nothing was read, and the writer got the line that refuses the options.
 pub record RefusesUnread (o : Options) (from to old new : Option (List ℕ)) (accepted : Bool) : Type 0 where
@@ -56,8 +56,8 @@ pub record RefusesUnread (o : Options) (from to old new : Option (List ℕ)) (ac
 -- The options ask for a form, and the writer got nothing until now, or a beginning of the answer in that form.
 pub record BreaksOffInForm (o : Options) (from to old new : Option (List ℕ)) : Type 0 where
   pub form : ProgramForm
-  pub asks : AsksFor o form
-  pub breaks : BreaksOff (AsmWrites form) from to old new
+  pub asks : AsksForForm o form
+  pub breaks : FilteringBreaksOff (AsmWrites form) from to old new
 
 -- Nothing was read, and the writer got a beginning of the line that refuses the options.
 pub record RefusesInPart (o : Options) (from to old new : Option (List ℕ)) : Type 0 where

@@ -10,15 +10,15 @@ use Rattle.bq_policy_check.specs.declared.words.PolicyWords.{PolicyWords}
 use Rattle.bq_policy_file.specs.declared.head.Head.{Head}
 
 -- the shapes of maps, none if they are not named
-abbrev pub shapes_in : Option (Vec MapShape Global) → List MapShape
-shapes_in None = []
-shapes_in (Some shapes) = shapes.items
+abbrev pub shapes_or_none : Option (Vec MapShape Global) → List MapShape
+shapes_or_none None = []
+shapes_or_none (Some shapes) = shapes.items
 
 -- the words say a hook, and maybe maps and a version; without them there are no maps, and the version is the first
-pub record AskFor (w : PolicyWords) (s : ImportSettings) : Type 0 where
+pub record AskToImport (w : PolicyWords) (s : ImportSettings) : Type 0 where
   pub head : Head
   pub gives : GivesHead w head
   pub hook : head.hook ≡ Some s.form.hook
-  pub maps : shapes_in head.maps ≡ s.form.shapes.items
+  pub maps : shapes_or_none head.maps ≡ s.form.shapes.items
   pub version : unwrap_or head.format First ≡ s.form.version
   pub text : option_bytes s.maps ≡ option_bytes w.maps

@@ -8,11 +8,11 @@ use Rattle.bq_cli.specs.declared.simulate.Shown.TheVariants.{Figures, Run}
 use Rattle.bq_cli.specs.declared.simulate.AskedSimulation.{AskedSimulation}
 
 -- the words ask for this comparison; or for none, and for a run that is shown so
-abbrev pub IsShown : StudyWords → Shown → Type 0
-IsShown words (Figures asked) = AskFor words (Some asked)
-IsShown words (Run shown) = AskFor words None × AskToShow words shown
+abbrev pub AskForStudy : StudyWords → Shown → Type 0
+AskForStudy words (Figures asked) = AskFor words (Some asked)
+AskForStudy words (Run shown) = AskFor words None × AskToShow words shown
 
 -- the words ask for a simulation: what is shown of it, and the changes of the workload's machine
 pub record AskToSimulate (words : StudyWords) (s : AskedSimulation) : Type 0 where
-  pub shown : IsShown words s.shown
+  pub shown : AskForStudy words s.shown
   pub changes : AskForChanges words.machine s.changes

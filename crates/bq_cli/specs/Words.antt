@@ -8,7 +8,7 @@ use Rattle.bq_hooks.specs.Hooks.{hook_of, version_of}
 use Rattle.bq_hooks.specs.declared.hook.Hook.{Hook}
 use Rattle.bq_hooks.specs.declared.hook.Version.{Version}
 use Rattle.bq_console.specs.Words.{GivesWord}
-use Rattle.bq_words.specs.Quantities.{size_of, decimal_of}
+use Rattle.bq_words.specs.Quantities.{size_in_word, decimal_of}
 use Rattle.bq_policy_check.specs.Given.{option_bytes}
 use Rattle.bq_policy_check.specs.declared.words.CheckWords.{CheckWords}
 use Rattle.bq_policy_check.specs.declared.words.LimitWords.{LimitWords}
@@ -16,7 +16,7 @@ use Rattle.bq_policy_check.specs.declared.words.ListWords.{ListWords}
 use Rattle.bq_policy_check.specs.declared.words.PolicyWords.{PolicyWords}
 use Rattle.bq_policy_check.specs.declared.words.RunWords.{RunWords}
 use Rattle.bq_policy_check.specs.declared.words.ReportWords.{ReportWords}
-use Rattle.bq_policy_file.specs.Forms.{maps_text}
+use Rattle.bq_policy_file.specs.Forms.{maps_option_text}
 use Rattle.bq_experiment.specs.declared.words.HookWords.{HookWords}
 use Rattle.bq_experiment.specs.declared.words.MachineWords.{MachineWords}
 use Rattle.bq_experiment.specs.declared.words.StudyWords.{StudyWords}
@@ -31,8 +31,8 @@ use Rattle.bq_cli.specs.declared.simulate.SimulateWords.{SimulateWords}
 use Rattle.bq_cli.specs.declared.timeline.TimelineWords.{TimelineWords}
 
 -- the word is the first that was found for the option
-abbrev pub IsFirst : Text → List Row → Option (String Global) → Type 0
-IsFirst option rows word = option_bytes word ≡ first_of option rows
+abbrev pub IsFirstWord : Text → List Row → Option (String Global) → Type 0
+IsFirstWord option rows word = option_bytes word ≡ first_of option rows
 
 -- the flag was found
 abbrev pub IsSet : Text → List Row → Bool → Type 0
@@ -52,28 +52,28 @@ GivesVersion = GivesWord (λ word version. version_of word ≡ Some version)
 
 -- the values of `asm`: the hook and the version that the words name, and the text of the maps as it is
 pub record AreAsmWords (rows : List Row) (w : AsmWords) : Type 0 where
-  pub file : IsFirst (codes "file") rows w.file
-  pub max_bytes : IsFirst (codes "max-bytes") rows w.max_bytes
+  pub file : IsFirstWord (codes "file") rows w.file
+  pub max_bytes : IsFirstWord (codes "max-bytes") rows w.max_bytes
   pub hook : GivesHook (first_of (codes "hook") rows) w.options.hook
-  pub maps : maps_text w.options ≡ first_of (codes "maps") rows
+  pub maps : maps_option_text w.options ≡ first_of (codes "maps") rows
   pub format : GivesVersion (first_of (codes "format") rows) w.options.format
 
 -- a policy's file, and what is said beside it; also the values of `import`
 pub record ArePolicyWords (rows : List Row) (w : PolicyWords) : Type 0 where
-  pub file : IsFirst (codes "file") rows w.file
-  pub hook : IsFirst (codes "hook") rows w.hook
-  pub maps : IsFirst (codes "maps") rows w.maps
-  pub format : IsFirst (codes "format") rows w.format
-  pub max_bytes : IsFirst (codes "max-bytes") rows w.max_bytes
+  pub file : IsFirstWord (codes "file") rows w.file
+  pub hook : IsFirstWord (codes "hook") rows w.hook
+  pub maps : IsFirstWord (codes "maps") rows w.maps
+  pub format : IsFirstWord (codes "format") rows w.format
+  pub max_bytes : IsFirstWord (codes "max-bytes") rows w.max_bytes
 
 -- the keeper's own limits
 pub record AreLimitWords (rows : List Row) (w : LimitWords) : Type 0 where
-  pub steps : IsFirst (codes "max-steps") rows w.steps
-  pub helpers : IsFirst (codes "helpers") rows w.helpers
-  pub hooks : IsFirst (codes "hooks") rows w.hooks
-  pub maps : IsFirst (codes "max-maps") rows w.maps
-  pub map_bytes : IsFirst (codes "max-map-bytes") rows w.map_bytes
-  pub counters : IsFirst (codes "max-counters") rows w.counters
+  pub steps : IsFirstWord (codes "max-steps") rows w.steps
+  pub helpers : IsFirstWord (codes "helpers") rows w.helpers
+  pub hooks : IsFirstWord (codes "hooks") rows w.hooks
+  pub maps : IsFirstWord (codes "max-maps") rows w.maps
+  pub map_bytes : IsFirstWord (codes "max-map-bytes") rows w.map_bytes
+  pub counters : IsFirstWord (codes "max-counters") rows w.counters
 
 -- the values of `check`
 pub record AreCheckWords (rows : List Row) (w : CheckWords) : Type 0 where
@@ -82,7 +82,7 @@ pub record AreCheckWords (rows : List Row) (w : CheckWords) : Type 0 where
   pub explained : IsSet (codes "explain") rows w.is_explained
   pub json : IsSet (codes "json") rows w.is_json
   pub limits : AreLimitWords rows w.limits
-  pub image : IsFirst (codes "image") rows w.image
+  pub image : IsFirstWord (codes "image") rows w.image
 
 -- the values of `dis`
 pub record AreListWords (rows : List Row) (w : ListWords) : Type 0 where
@@ -92,18 +92,18 @@ pub record AreListWords (rows : List Row) (w : ListWords) : Type 0 where
 -- how a run is reported
 pub record AreReportWords (rows : List Row) (w : ReportWords) : Type 0 where
   pub traced : IsSet (codes "trace") rows w.is_traced
-  pub repeat : IsFirst (codes "repeat") rows w.repeat
+  pub repeat : IsFirstWord (codes "repeat") rows w.repeat
 
 -- the values of `run`
 pub record AreRunWords (rows : List Row) (w : RunWords) : Type 0 where
   pub policy : ArePolicyWords rows w.policy
   pub report : AreReportWords rows w.report
-  pub context : IsFirst (codes "ctx") rows w.context
+  pub context : IsFirstWord (codes "ctx") rows w.context
   pub fields : AreAll (codes "set") rows w.fields.items
   pub entries : AreAll (codes "map") rows w.entries.items
   pub counters : AreAll (codes "counter") rows w.counters.items
-  pub time : IsFirst (codes "time") rows w.time
-  pub processor : IsFirst (codes "processor") rows w.processor
+  pub time : IsFirstWord (codes "time") rows w.time
+  pub processor : IsFirstWord (codes "processor") rows w.processor
 
 -- a number of ticks
 abbrev pub ticks_of : List ℕ → Option ℕ
@@ -112,48 +112,48 @@ ticks_of word = below (MOST_TICKS + 1) (decimal_of word)
 -- the values of `par`
 pub record IsParallel (rows : List Row) (p : Parallel) : Type 0 where
   pub rule : option_and_then rule_of (first_of (codes "rule") rows) ≡ Some p.rule
-  pub size : option_and_then size_of (first_of (codes "processors") rows) ≡ Some p.size
+  pub size : option_and_then size_in_word (first_of (codes "processors") rows) ≡ Some p.size
   pub ticks : option_and_then ticks_of (first_of (codes "ticks") rows) ≡ Some p.ticks
 
 -- the values of `replay`
 pub record AreReplayWords (rows : List Row) (w : ReplayWords) : Type 0 where
-  pub file : IsFirst (codes "file") rows w.file
-  pub max_bytes : IsFirst (codes "max-bytes") rows w.max_bytes
+  pub file : IsFirstWord (codes "file") rows w.file
+  pub max_bytes : IsFirstWord (codes "max-bytes") rows w.max_bytes
 
 -- a file, and how it is shown
 pub record AreShownWords (rows : List Row) (w : Words) : Type 0 where
-  pub file : IsFirst (codes "file") rows w.file
-  pub form : IsFirst (codes "as") rows w.form
-  pub from : IsFirst (codes "from") rows w.from
-  pub to : IsFirst (codes "to") rows w.to
-  pub cpus : IsFirst (codes "cpus") rows w.cpus
-  pub tasks : IsFirst (codes "tasks") rows w.tasks
-  pub width : IsFirst (codes "width") rows w.width
-  pub theme : IsFirst (codes "theme") rows w.theme
-  pub title : IsFirst (codes "title") rows w.title
+  pub file : IsFirstWord (codes "file") rows w.file
+  pub form : IsFirstWord (codes "as") rows w.form
+  pub from : IsFirstWord (codes "from") rows w.from
+  pub to : IsFirstWord (codes "to") rows w.to
+  pub cpus : IsFirstWord (codes "cpus") rows w.cpus
+  pub tasks : IsFirstWord (codes "tasks") rows w.tasks
+  pub width : IsFirstWord (codes "width") rows w.width
+  pub theme : IsFirstWord (codes "theme") rows w.theme
+  pub title : IsFirstWord (codes "title") rows w.title
 
 -- the values of `timeline`
 pub record AreTimelineWords (rows : List Row) (w : TimelineWords) : Type 0 where
   pub shown : AreShownWords rows w.shown
-  pub max_bytes : IsFirst (codes "max-bytes") rows w.max_bytes
+  pub max_bytes : IsFirstWord (codes "max-bytes") rows w.max_bytes
 
 -- the words that replace parts of a workload's own machine
 pub record AreMachineWords (rows : List Row) (w : MachineWords) : Type 0 where
-  pub discipline : IsFirst (codes "discipline") rows w.discipline
-  pub processors : IsFirst (codes "processors") rows w.processors
-  pub duration : IsFirst (codes "duration") rows w.duration
-  pub seed : IsFirst (codes "seed") rows w.seed
+  pub discipline : IsFirstWord (codes "discipline") rows w.discipline
+  pub processors : IsFirstWord (codes "processors") rows w.processors
+  pub duration : IsFirstWord (codes "duration") rows w.duration
+  pub seed : IsFirstWord (codes "seed") rows w.seed
 
 -- the policies at the hooks
 pub record AreHookWords (rows : List Row) (w : HookWords) : Type 0 where
-  pub place : IsFirst (codes "place") rows w.place
-  pub preempt : IsFirst (codes "preempt") rows w.preempt
-  pub pull : IsFirst (codes "pull") rows w.pull
+  pub place : IsFirstWord (codes "place") rows w.place
+  pub preempt : IsFirstWord (codes "preempt") rows w.preempt
+  pub pull : IsFirstWord (codes "pull") rows w.pull
 
 -- a simulation, and how it is shown
 pub record AreStudyWords (rows : List Row) (w : StudyWords) : Type 0 where
   pub machine : AreMachineWords rows w.machine
-  pub seeds : IsFirst (codes "seeds") rows w.seeds
+  pub seeds : IsFirstWord (codes "seeds") rows w.seeds
   pub hooks : AreHookWords rows w.hooks
   pub against : AreAll (codes "against") rows w.against.items
   pub shown : AreShownWords rows w.shown
@@ -161,8 +161,8 @@ pub record AreStudyWords (rows : List Row) (w : StudyWords) : Type 0 where
 -- the values of `simulate`
 pub record AreSimulateWords (rows : List Row) (w : SimulateWords) : Type 0 where
   pub study : AreStudyWords rows w.study
-  pub max_bytes : IsFirst (codes "max-bytes") rows w.max_bytes
-  pub max_events : IsFirst (codes "max-events") rows w.max_events
+  pub max_bytes : IsFirstWord (codes "max-bytes") rows w.max_bytes
+  pub max_events : IsFirstWord (codes "max-events") rows w.max_events
 
 -- no word names a file, a hook, maps, a format or a number of bytes
 abbrev pub name_nothing : PolicyWords → Bool

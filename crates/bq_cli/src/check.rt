@@ -1,7 +1,7 @@
 //! `check`: whether policies are accepted, and why not.
 ghost use Rattle.std.specs.Prelude.{◌≡◌, IfOk, false};
 ghost use Rattle.clap.specs.Words.{found_of, rows_of};
-ghost use Rattle.bq_cli.specs.Status.{EndsBy, status_of};
+ghost use Rattle.bq_cli.specs.Status.{EndsBy, answer_status};
 ghost use Rattle.bq_cli.specs.Words.{AreCheckWords, AreLimitWords, is_among, is_plain_check, limit_nothing, replaces_policy};
 
 use crate::answer::exit_status_of;
@@ -186,7 +186,7 @@ fn answer_of(
     name: Option<&str>,
     answer: &Result<Answered, AllocError>,
 ) -> u8
-    ensures { EndsBy (status_of answer.now) result }
+    ensures { EndsBy (answer_status answer.now) result }
 {
     let status = exit_status_of(answer);
     match answer {

@@ -2,10 +2,10 @@
 ghost use Rattle.std.specs.Prelude.{◌≡◌, IfOk, IfErr, OnOk, OnErr};
 ghost use Rattle.std.specs.String.{string_bytes};
 ghost use Rattle.std.specs.Io.KnownBytes.{Appends};
-ghost use Rattle.bq_streams.specs.Counts.{inner_of, calls_of, failures_of};
+ghost use Rattle.bq_streams.specs.Counts.{counted_inner, call_count, failures_of};
 ghost use Rattle.bq_streams.specs.Writing.{AppendsPart};
-ghost use Rattle.bq_streams.specs.Faults.{IsFault, IsWriteFault};
-ghost use Rattle.bq_cli.specs.Filtering.{AnswersAll, AsmFilters, AsmFiltersInPart, BreaksOff, FilterWrites};
+ghost use Rattle.bq_streams.specs.Faults.{IsStreamFault, IsWriteFault};
+ghost use Rattle.bq_cli.specs.Filtering.{FiltersAll, AsmFilters, AsmFiltersInPart, FilteringBreaksOff, FilterWrites};
 
 use bq_policy_file::{
     Answer, Options, ProgramForm, assembled, checked, disassembled, refused_options,
@@ -45,14 +45,14 @@ pub(crate) fn answer_all<R: Read, W: Write>(
     input: &mut Counted<R>,
     output: &mut Counted<W>,
 ) -> Result<bool, StreamFault>
-    ensures ok { IfOk result (AnswersAll (FilterWrites filter.now) (R.remaining (inner_of input.old)) (R.remaining (inner_of input.new))
-        (W.contents (inner_of output.old)) (W.contents (inner_of output.new))) }
+    ensures ok { IfOk result (FiltersAll (FilterWrites filter.now) (R.remaining (counted_inner input.old)) (R.remaining (counted_inner input.new))
+        (W.contents (counted_inner output.old)) (W.contents (counted_inner output.new))) }
     ensures reads { OnOk result (failures_of input.new ≡ failures_of input.old) }
     ensures writes { OnOk result (failures_of output.new ≡ failures_of output.old) }
-    ensures part { OnErr result (BreaksOff (FilterWrites filter.now) (R.remaining (inner_of input.old)) (R.remaining (inner_of input.new))
-        (W.contents (inner_of output.old)) (W.contents (inner_of output.new))) }
-    ensures fault { IfErr result (λ e. IsFault e (failures_of input.old) (failures_of input.new)
-        (failures_of output.old) (failures_of output.new) (calls_of input.old) (calls_of input.new)) }
+    ensures part { OnErr result (FilteringBreaksOff (FilterWrites filter.now) (R.remaining (counted_inner input.old)) (R.remaining (counted_inner input.new))
+        (W.contents (counted_inner output.old)) (W.contents (counted_inner output.new))) }
+    ensures fault { IfErr result (λ e. IsStreamFault e (failures_of input.old) (failures_of input.new)
+        (failures_of output.old) (failures_of output.new) (call_count input.old) (call_count input.new)) }
 {
     let whole = read_whole(alloc, input)?;
     let answer = filter.answer(alloc, whole.as_slice())?;
@@ -67,14 +67,14 @@ pub(crate) fn filter_asm<R: Read, W: Write>(
     input: &mut Counted<R>,
     output: &mut Counted<W>,
 ) -> Result<bool, StreamFault>
-    ensures ok { IfOk result (AsmFilters options.now (R.remaining (inner_of input.old)) (R.remaining (inner_of input.new))
-        (W.contents (inner_of output.old)) (W.contents (inner_of output.new))) }
+    ensures ok { IfOk result (AsmFilters options.now (R.remaining (counted_inner input.old)) (R.remaining (counted_inner input.new))
+        (W.contents (counted_inner output.old)) (W.contents (counted_inner output.new))) }
     ensures reads { OnOk result (failures_of input.new ≡ failures_of input.old) }
     ensures writes { OnOk result (failures_of output.new ≡ failures_of output.old) }
-    ensures part { OnErr result (AsmFiltersInPart options.now (R.remaining (inner_of input.old)) (R.remaining (inner_of input.new))
-        (W.contents (inner_of output.old)) (W.contents (inner_of output.new))) }
-    ensures fault { IfErr result (λ e. IsFault e (failures_of input.old) (failures_of input.new)
-        (failures_of output.old) (failures_of output.new) (calls_of input.old) (calls_of input.new)) }
+    ensures part { OnErr result (AsmFiltersInPart options.now (R.remaining (counted_inner input.old)) (R.remaining (counted_inner input.new))
+        (W.contents (counted_inner output.old)) (W.contents (counted_inner output.new))) }
+    ensures fault { IfErr result (λ e. IsStreamFault e (failures_of input.old) (failures_of input.new)
+        (failures_of output.old) (failures_of output.new) (call_count input.old) (call_count input.new)) }
 {
     match options.form(alloc) {
         Ok(form) => answer_all(alloc, &Filter::Asm(form), input, output),
@@ -88,9 +88,9 @@ pub(crate) fn filter_asm<R: Read, W: Write>(
 /// Writes an answer. True if it accepts the input.
 fn write_answer<W: Write>(answer: &Answer, output: &mut Counted<W>) -> Result<bool, StreamFault>
     ensures ok { IfOk result (λ accepted. (accepted ≡ answer.now.accepted)
-        × Appends (W.contents (inner_of output.old)) (W.contents (inner_of output.new)) (string_bytes answer.now.text)) }
+        × Appends (W.contents (counted_inner output.old)) (W.contents (counted_inner output.new)) (string_bytes answer.now.text)) }
     ensures kept { OnOk result (failures_of output.new ≡ failures_of output.old) }
-    ensures part { OnErr result (AppendsPart (W.contents (inner_of output.old)) (W.contents (inner_of output.new)) (string_bytes answer.now.text)) }
+    ensures part { OnErr result (AppendsPart (W.contents (counted_inner output.old)) (W.contents (counted_inner output.new)) (string_bytes answer.now.text)) }
     ensures fault { IfErr result (λ e. IsWriteFault e (failures_of output.old) (failures_of output.new)) }
 {
     output.write_text(answer.text.as_bytes())?;

@@ -3,7 +3,7 @@ ghost use Rattle.std.specs.Prelude.{IfErr, IfOk};
 ghost use Rattle.clap.specs.Words.{found_of, rows_of};
 ghost use Rattle.bq_console.specs.Words.{GivesNone};
 ghost use Rattle.bq_cli.specs.Words.{ArePolicyWords};
-ghost use Rattle.bq_cli.specs.Importing.{AskFor};
+ghost use Rattle.bq_cli.specs.Importing.{AskToImport};
 
 use crate::policy_words::{most_bytes, policy_words};
 use bq_complain::{TextKind, kind_of_text};
@@ -34,8 +34,8 @@ pub(crate) fn import_words(
 
 /// What the words ask for. They are refused only if they say no hook, no maps or no format.
 pub fn import_settings(alloc: Global, words: &PolicyWords) -> Result<ImportSettings, WordsFault>
-    ensures asked { IfOk result (AskFor words.now) }
-    ensures none { IfErr result (GivesNone (AskFor words.now)) }
+    ensures asked { IfOk result (AskToImport words.now) }
+    ensures none { IfErr result (GivesNone (AskToImport words.now)) }
 {
     let Head { hook, maps, format } = match given_head(alloc, words) {
         Ok(head) => head,

@@ -5,9 +5,9 @@ ghost use Rattle.clap.specs.Words.{found_of, rows_of};
 ghost use Rattle.bq_words.specs.Sizes.{rule_of, processors_in};
 ghost use Rattle.bq_words.specs.declared.rule.Rule.{Rule as Way};
 ghost use Rattle.bq_words.specs.declared.processor_count.ProcessorCount.{ProcessorCount as Many};
-ghost use Rattle.bq_words.specs.Quantities.{size_of};
-ghost use Rattle.bq_par.specs.Summaries.{IsSummary};
-ghost use Rattle.bq_streams.specs.Counts.{inner_of, failures_of};
+ghost use Rattle.bq_words.specs.Quantities.{size_in_word};
+ghost use Rattle.bq_par.specs.Summaries.{IsHistorySummary};
+ghost use Rattle.bq_streams.specs.Counts.{counted_inner, failures_of};
 ghost use Rattle.bq_streams.specs.Faults.{IsWriteFault};
 ghost use Rattle.bq_trace.specs.Machines.{discipline_of};
 ghost use Rattle.bq_cli.specs.declared.par.Parallel.{Parallel as Asked};
@@ -85,8 +85,8 @@ fn rule_in(alloc: Global, word: Option<&str>) -> Result<Rule, WordsFault>
 
 /// The number of processors that a word names.
 fn size_in(alloc: Global, word: Option<&str>) -> Result<ProcessorCount, WordsFault>
-    ensures ok { IfOk result (λ s. option_and_then size_of (option_map (λ (w : Bor (List ℕ)). w.now) word.entry) ≡ Some s) }
-    ensures taken { IfErr result (λ e. (s : Many) → option_and_then size_of (option_map (λ (w : Bor (List ℕ)). w.now) word.entry) ≡ Some s → e ≡ WordsFault.OutOfMemory) }
+    ensures ok { IfOk result (λ s. option_and_then size_in_word (option_map (λ (w : Bor (List ℕ)). w.now) word.entry) ≡ Some s) }
+    ensures taken { IfErr result (λ e. (s : Many) → option_and_then size_in_word (option_map (λ (w : Bor (List ℕ)). w.now) word.entry) ≡ Some s → e ≡ WordsFault.OutOfMemory) }
 {
     let Some(word) = word else {
         return Err(refused_value(alloc, "processors", "", SIZE, ""));
@@ -129,9 +129,9 @@ pub(crate) fn perform_par<T: Threads + Wait + Sync, W: Write>(
     parallel: &Parallel,
     output: &mut Counted<W>,
 ) -> Result<bool, StreamFault>
-    ensures ok { IfOk result (λ done. (done ≡ true) × WritesPar parallel.now (W.contents (inner_of output.old)) (W.contents (inner_of output.new))) }
+    ensures ok { IfOk result (λ done. (done ≡ true) × WritesPar parallel.now (W.contents (counted_inner output.old)) (W.contents (counted_inner output.new))) }
     ensures kept { OnOk result (failures_of output.new ≡ failures_of output.old) }
-    ensures part { OnErr result (WritesParInPart parallel.now (W.contents (inner_of output.old)) (W.contents (inner_of output.new))) }
+    ensures part { OnErr result (WritesParInPart parallel.now (W.contents (counted_inner output.old)) (W.contents (counted_inner output.new))) }
     ensures fault { IfErr result (λ e. IsWriteFault e (failures_of output.old) (failures_of output.new)) }
 {
     let summary = run_as_asked(rt, alloc, parallel)?;
@@ -146,7 +146,7 @@ fn run_as_asked<T: Threads + Wait + Sync>(
     alloc: Global,
     parallel: &Parallel,
 ) -> Result<HistorySummary, AllocError>
-    ensures { IfOk result (IsSummary (discipline_of parallel.now.rule) (processors_in parallel.now.size) parallel.now.ticks) }
+    ensures { IfOk result (IsHistorySummary (discipline_of parallel.now.rule) (processors_in parallel.now.size) parallel.now.ticks) }
 {
     let Parallel { rule, size, ticks } = *parallel;
     match rule {

@@ -1,8 +1,8 @@
 //! What is read and written for a command, by any reader and writer.
 ghost use Rattle.std.specs.Prelude.{◌≡◌, IfOk, IfErr, OnOk, OnErr};
-ghost use Rattle.bq_streams.specs.Counts.{inner_of, calls_of, failures_of};
-ghost use Rattle.bq_streams.specs.Faults.{IsFault};
-ghost use Rattle.bq_cli.specs.Performing.{Performs, PerformsInPart};
+ghost use Rattle.bq_streams.specs.Counts.{counted_inner, call_count, failures_of};
+ghost use Rattle.bq_streams.specs.Faults.{IsStreamFault};
+ghost use Rattle.bq_cli.specs.Performing.{PerformsCommand, PerformsInPart};
 
 use crate::check::is_plain_check;
 use crate::command::Command;
@@ -28,14 +28,14 @@ pub fn perform<T: Threads + Wait + Sync, R: Read, W: Write>(
     input: &mut Counted<R>,
     output: &mut Counted<W>,
 ) -> Result<bool, StreamFault>
-    ensures ok { IfOk result (Performs command.now (R.remaining (inner_of input.old)) (R.remaining (inner_of input.new))
-        (W.contents (inner_of output.old)) (W.contents (inner_of output.new))) }
+    ensures ok { IfOk result (PerformsCommand command.now (R.remaining (counted_inner input.old)) (R.remaining (counted_inner input.new))
+        (W.contents (counted_inner output.old)) (W.contents (counted_inner output.new))) }
     ensures reads { OnOk result (failures_of input.new ≡ failures_of input.old) }
     ensures writes { OnOk result (failures_of output.new ≡ failures_of output.old) }
-    ensures part { OnErr result (PerformsInPart command.now (R.remaining (inner_of input.old)) (R.remaining (inner_of input.new))
-        (W.contents (inner_of output.old)) (W.contents (inner_of output.new))) }
-    ensures fault { IfErr result (λ e. IsFault e (failures_of input.old) (failures_of input.new)
-        (failures_of output.old) (failures_of output.new) (calls_of input.old) (calls_of input.new)) }
+    ensures part { OnErr result (PerformsInPart command.now (R.remaining (counted_inner input.old)) (R.remaining (counted_inner input.new))
+        (W.contents (counted_inner output.old)) (W.contents (counted_inner output.new))) }
+    ensures fault { IfErr result (λ e. IsStreamFault e (failures_of input.old) (failures_of input.new)
+        (failures_of output.old) (failures_of output.new) (call_count input.old) (call_count input.new)) }
 {
     match command {
         Command::Asm(words) => filter_asm(alloc, &words.options, input, output),

@@ -2,7 +2,7 @@
 ghost use Rattle.std.specs.Prelude.{◌≡◌, IfOk, codes};
 ghost use Rattle.clap.specs.Words.{first_of, found_of, rows_of};
 ghost use Rattle.bq_policy_check.specs.Given.{option_bytes};
-ghost use Rattle.bq_cli.specs.Words.{AreAll, AreRunWords, AreReportWords, IsFirst};
+ghost use Rattle.bq_cli.specs.Words.{AreAll, AreRunWords, AreReportWords, IsFirstWord};
 
 use crate::answer::written_answer;
 use crate::policy_words::{most_bytes, policy_words};
@@ -39,8 +39,8 @@ fn moment_words(
     alloc: Global,
     matches: &ArgMatches<'_>,
 ) -> Result<(Option<String>, Option<String>), AllocError>
-    ensures time { IfOk result (λ w. IsFirst (codes "time") (rows_of (found_of matches.now)) w.0) }
-    ensures processor { IfOk result (λ w. IsFirst (codes "processor") (rows_of (found_of matches.now)) w.1) }
+    ensures time { IfOk result (λ w. IsFirstWord (codes "time") (rows_of (found_of matches.now)) w.0) }
+    ensures processor { IfOk result (λ w. IsFirstWord (codes "processor") (rows_of (found_of matches.now)) w.1) }
 {
     let time = word(alloc, matches, "time")?;
     let processor = word(alloc, matches, "processor")?;

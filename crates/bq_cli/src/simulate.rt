@@ -1,7 +1,7 @@
 //! `simulate`: a workload that is run and shown, or run with several seeds and beside other policies.
 ghost use Rattle.std.specs.Prelude.{IfOk};
 ghost use Rattle.clap.specs.Words.{found_of, rows_of};
-ghost use Rattle.bq_cli.specs.Simulating.{AskToSimulate, IsShown};
+ghost use Rattle.bq_cli.specs.Simulating.{AskToSimulate, AskForStudy};
 ghost use Rattle.bq_cli.specs.Words.{AreHookWords, AreMachineWords, AreSimulateWords, AreStudyWords};
 
 use crate::policy_words::{most_bytes, most_events};
@@ -138,7 +138,7 @@ fn simulation_of(alloc: Global, words: &StudyWords) -> Result<AskedSimulation, W
 
 /// What the words ask to be shown.
 fn shown_of(alloc: Global, words: &StudyWords) -> Result<Shown, WordsFault>
-    ensures { IfOk result (IsShown words.now) }
+    ensures { IfOk result (AskForStudy words.now) }
 {
     match asked_comparison(alloc, words) {
         Ok(Some(comparing)) => return Ok(Shown::Figures(comparing)),

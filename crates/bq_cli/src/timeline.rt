@@ -2,7 +2,7 @@
 ghost use Rattle.std.specs.Prelude.{IfOk};
 ghost use Rattle.clap.specs.Words.{found_of, rows_of};
 ghost use Rattle.bq_cli.specs.Words.{AreShownWords, AreTimelineWords};
-ghost use Rattle.bq_timeline.specs.Settings.{AsksFor};
+ghost use Rattle.bq_timeline.specs.Settings.{AsksForSettings};
 
 use crate::policy_words::limit_of_bytes;
 use crate::refusing::refusal;
@@ -66,7 +66,7 @@ pub(crate) fn shown_words(alloc: Global, matches: &ArgMatches<'_>) -> Result<Wor
 
 /// What the words ask for.
 fn settings(alloc: Global, words: &Words) -> Result<Settings, WordsFault>
-    ensures { IfOk result (AsksFor words.now) }
+    ensures { IfOk result (AsksForSettings words.now) }
 {
     match Settings::of(alloc, words) {
         Ok(settings) => Ok(settings),

@@ -3,11 +3,11 @@ use Rattle.std.proofs.Common.{◌≡◌, ℕ, false, List, [], ◌∷◌, ◌++�
 use Rattle.bq_trace.specs.TraceEvents.{TraceEvent, Reported, TakesAll, Gets, Opened, Skipped, Comes, Answered, NotHex, NotLoaded, ProcessorAsked, CounterRead, Bad}
 use Rattle.bq_words.specs.Sizes.{processors_in}
 use Rattle.bq_workload.specs.declared.workload.Workload.{Workload}
-use Rattle.bq_schedule.specs.Figures.{Figures, opening}
-use Rattle.bq_schedule.specs.Steps.{after}
+use Rattle.bq_schedule.specs.Figures.{Figures, opening_figures}
+use Rattle.bq_schedule.specs.Steps.{figures_after}
 use Rattle.bq_schedule.specs.WakeLatencies.{Tasks, TakesStart, latencies_of}
 use Rattle.bq_simulate.specs.Simulations.{Accepted, IsSimulation}
-use Rattle.bq_experiment.specs.Limits.{PassesOn}
+use Rattle.bq_experiment.specs.Limits.{PassesWithin}
 use Rattle.bq_experiment.specs.declared.limited.Limited.{Limited}
 use Rattle.bq_experiment.proofs.LimitLemmas.{lets_through}
 use Rattle.bq_comparison.specs.declared.gathering.Gatherer.{Gatherer}
@@ -41,7 +41,7 @@ latencies-after old new ((n, x) ∷ more) h task =
 -- the schedule and the latencies of a whole simulation, of at most as many events as were left
 pub gathers_simulation : (old new : Limited Gatherer) (policies : List Accepted) (w : Workload)
     → old.sink.schedule ≡ None → ((task : ℕ) → latencies_of old.sink.latencies task ≡ [])
-    → Gets (PassesOn Takes) old new (IsSimulation policies w) → new.is_over ≡ false
+    → Gets (PassesWithin Takes) old new (IsSimulation policies w) → new.is_over ≡ false
     → IsGathered policies w old.left new.sink.schedule new.sink.latencies
 gathers_simulation old new policies w none empty g wants =
     let through = lets_through Takes old new g.reported g.taken wants in
@@ -61,8 +61,8 @@ gathers_simulation old new policies w none empty g wants =
 -- a schedule that has begun stays
 stays : (s : Figures) (reported : Reported) → IsSome (schedule_after (Some s) reported)
 stays s [] = refl
-stays s ((n, Opened rule size) ∷ more) = stays (opening (processors_in size)) more
-stays s ((n, Answered event answer m) ∷ more) = stays (after s event answer) more
+stays s ((n, Opened rule size) ∷ more) = stays (opening_figures (processors_in size)) more
+stays s ((n, Answered event answer m) ∷ more) = stays (figures_after s event answer) more
 stays s ((n, Skipped line) ∷ more) = stays s more
 stays s ((n, Comes event m) ∷ more) = stays s more
 stays s ((n, NotHex) ∷ more) = stays s more
@@ -78,6 +78,6 @@ schedule_gathered policies w most schedule tasks g =
     let run = g.simulation in
     let reported : g.reported ≡ (1, Opened w.machine.rule w.machine.size) ∷ run.more =
     run.whole ∙ ap (λ (l : Reported). l ++ run.more) run.starts.reports in
-    let is : schedule ≡ schedule_after (Some (opening (processors_in w.machine.size))) run.more =
+    let is : schedule ≡ schedule_after (Some (opening_figures (processors_in w.machine.size))) run.more =
     g.schedule_is ∙ ap (schedule_after None) reported in
-    subst IsSome (sym is) (stays (opening (processors_in w.machine.size)) run.more)
+    subst IsSome (sym is) (stays (opening_figures (processors_in w.machine.size)) run.more)

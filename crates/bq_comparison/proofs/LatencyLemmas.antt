@@ -8,7 +8,7 @@ use Rattle.bq_schedule.specs.WakeLatencies.{Tasks, TakesLatency, TakesStart, lat
 use Rattle.bq_comparison.specs.declared.naming.Figure.{Figure}
 use Rattle.bq_comparison.specs.declared.naming.Figure.TheVariants as figure
 use Rattle.bq_comparison.specs.Gathering.{latency_in, own_latency}
-use Rattle.bq_comparison.specs.Values.{AreReordered, IsValue}
+use Rattle.bq_comparison.specs.Values.{AreReordered, IsFigureValue}
 
 takes_latency : (id : ℕ) (latency : Option ℕ) (old new : Tasks) → TakesLatency id latency old new → (task : ℕ)
     → latencies_of new task ≡ latencies_of old task ++ own_latency task id latency
@@ -50,7 +50,7 @@ reordered task old new own others = λ k. elim (cases_eq k task) [
 
 -- what is a value after the latencies were reordered was one before
 pub IsValue-reordered : (s : Figures) (old new : Tasks) (f : Figure) (v : Option ℕ)
-    → AreReordered old new → IsValue s new f v → IsValue s old f v
+    → AreReordered old new → IsFigureValue s new f v → IsFigureValue s old f v
 IsValue-reordered s old new (figure.Task id f) v kept h = h
 IsValue-reordered s old new (figure.Latency id f) v kept (sorted, same, order, is) =
     (sorted, IsPermutation-trans (latencies_of old id) (latencies_of new id) sorted (kept id) same, order, is)

@@ -9,7 +9,7 @@ use Rattle.bq_comparison.specs.declared.naming.Figure.{Figure}
 use Rattle.bq_comparison.specs.declared.runs.RunFigures.{RunFigures}
 use Rattle.bq_comparison.specs.declared.fault.SeedsFault.{SeedsFault}
 use Rattle.bq_comparison.specs.declared.fault.SeedsFault.TheVariants as fault
-use Rattle.bq_comparison.specs.Faults.{HasFault, IsNoRun, IsNoSide, IsNoSummary, fault_of_run}
+use Rattle.bq_comparison.specs.Faults.{EndsInFault, IsNoRun, IsNoSide, IsNoSummary, fault_of_run}
 use Rattle.bq_experiment.specs.Limits.{IsLonger}
 use Rattle.bq_workload.specs.Soundness.{first_flaw}
 use Rattle.bq_simulate.specs.Faults.{reported_flaw}
@@ -17,17 +17,17 @@ use Rattle.bq_simulate.specs.Order.{IsCutOff, IsEndless}
 use Rattle.bq_simulate.specs.declared.fault.SimulateFault.{SimulateFault}
 use Rattle.bq_simulate.specs.declared.fault.SimulateFault.TheVariants as run_fault
 use Rattle.bq_simulate.specs.Simulations.{Accepted, with_seed}
-use Rattle.bq_comparison.specs.Seeds.{AreResults, AreRuns, Comes, IsRun}
+use Rattle.bq_comparison.specs.Seeds.{AreResults, AreSeededRuns, Comes, IsWorkloadRun}
 
 -- what came of runs that all came to their end
 ran : (policies : List Accepted) (w : Workload) (most : ℕ) (figures : List Figure) (seed : ℕ) (runs : List RunFigures)
-    → AreResults policies w most figures seed (map Ok runs) → AreRuns policies w most figures seed runs
+    → AreResults policies w most figures seed (map Ok runs) → AreSeededRuns policies w most figures seed runs
 ran policies w most figures seed [] h = tt
 ran policies w most figures seed (x ∷ xs) h =
-    let P : ℕ → Type 0 = λ s. IsRun policies (with_seed w s) most figures x in
+    let P : ℕ → Type 0 = λ s. IsWorkloadRun policies (with_seed w s) most figures x in
     let rest : AreResults policies w most figures (seed + 1) (map Ok xs) = λ i r there.
     let next = h (suc i) r there in (
-      subst (λ s. IfOk r (IsRun policies (with_seed w s) most figures)) (omega arith) next.0,
+      subst (λ s. IfOk r (IsWorkloadRun policies (with_seed w s) most figures)) (omega arith) next.0,
       subst (λ s. IfErr r (IsNoRun policies (with_seed w s) most)) (omega arith) next.1,
     ) in
     let first = h zero (Ok x) refl in
@@ -36,8 +36,8 @@ ran policies w most figures seed (x ∷ xs) h =
 -- runs with some seeds, and results with the seeds after them that are runs, are runs together
 pub AreRuns-append : (policies : List Accepted) (w : Workload) (most : ℕ) (figures : List Figure)
     (seed : ℕ) (runs more : List RunFigures)
-    → AreRuns policies w most figures seed runs → AreResults policies w most figures (seed + length runs) (map Ok more)
-    → AreRuns policies w most figures seed (runs ++ more)
+    → AreSeededRuns policies w most figures seed runs → AreResults policies w most figures (seed + length runs) (map Ok more)
+    → AreSeededRuns policies w most figures seed (runs ++ more)
 AreRuns-append policies w most figures seed [] more h k =
     let P : ℕ → Type 0 = λ s. AreResults policies w most figures s (map Ok more) in
     ran policies w most figures seed more (subst P (omega arith) k)
@@ -57,11 +57,11 @@ Comes-count before after results (more, ok, is) =
 -- the figures of runs with the next seeds stand behind those before
 pub AreRuns-come : (policies : List Accepted) (w : Workload) (most : ℕ) (figures : List Figure) (seed next : ℕ)
     (before after : List RunFigures) (results : List (Result RunFigures SeedsFault))
-    → next ≡ seed + length before → AreRuns policies w most figures seed before
+    → next ≡ seed + length before → AreSeededRuns policies w most figures seed before
     → AreResults policies w most figures next results → Comes before results after
-    → AreRuns policies w most figures seed after
+    → AreSeededRuns policies w most figures seed after
 AreRuns-come policies w most figures seed next before after results at h k (more, ok, is) =
-    let P : List RunFigures → Type 0 = λ l. AreRuns policies w most figures seed l in
+    let P : List RunFigures → Type 0 = λ l. AreSeededRuns policies w most figures seed l in
     let Q : ℕ → Type 0 = λ s. AreResults policies w most figures s results in
     let R : List (Result RunFigures SeedsFault) → Type 0 = λ l. AreResults policies w most figures (seed + length before) l in
     subst P (sym is) (AreRuns-append policies w most figures seed before more h (subst R ok (subst Q at k)))
@@ -104,7 +104,7 @@ refused_all policies w most count i fault.OutOfMemory few h = tt
 pub none_comes : (policies : List Accepted) (w : Workload) (most : ℕ) (figures : List Figure) (next before count : ℕ)
     (results : List (Result RunFigures SeedsFault)) (why : SeedsFault)
     → next ≡ w.machine.seed + before → before + length results ≤ count → AreResults policies w most figures next results
-    → (why ≡ fault.OutOfMemory) ⊎ HasFault results why
+    → (why ≡ fault.OutOfMemory) ⊎ EndsInFault results why
     → IsNoSummary policies w most count why
 none_comes policies w most figures next before count results why at few are (inl out) =
     subst (λ e. IsNoSummary policies w most count e) (sym out) tt

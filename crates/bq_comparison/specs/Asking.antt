@@ -2,7 +2,7 @@
 use Rattle.std.specs.Prelude.{◌≡◌, ℕ, Bool, true, false, ◌&&◌, ◌||◌, is_some, nat_le, List, [], Option, Some, None, IsNone, String, if◌then◌else◌, codes, option_and_then, string_bytes}
 use Rattle.std.specs.Global.{Global}
 use Rattle.bq_words.specs.Quantities.{decimal_of}
-use Rattle.bq_timeline.specs.Settings.{AsksFor, IsNoSettings, form_asked, option_refused as option_unset, word_refused as word_unset}
+use Rattle.bq_timeline.specs.Settings.{AsksForSettings, IsNoSettings, form_asked, settings_option_refused as option_unset, settings_word_refused as word_unset}
 use Rattle.bq_timeline.specs.declared.form_names.FormName.{FormName}
 use Rattle.bq_timeline.specs.declared.form_names.FormName.TheVariants as form
 use Rattle.bq_timeline.specs.declared.settings.Settings.{Settings}
@@ -15,13 +15,13 @@ use Rattle.bq_comparison.specs.declared.asked.TableForm.{TableForm}
 use Rattle.bq_comparison.specs.declared.asked.TableForm.TheVariants as table
 
 -- a number from the least to the most
-abbrev pub within : ℕ → ℕ → Option ℕ → Option ℕ
-within least most None = None
-within least most (Some n) = if nat_le least n && nat_le n most then Some n else None
+abbrev pub number_between : ℕ → ℕ → Option ℕ → Option ℕ
+number_between least most None = None
+number_between least most (Some n) = if nat_le least n && nat_le n most then Some n else None
 
 -- a number of seeds: decimal, from 1 to 1000
 abbrev pub seeds_in : List ℕ → Option ℕ
-seeds_in word = within 1 1000 (decimal_of word)
+seeds_in word = number_between 1 1000 (decimal_of word)
 
 -- the number of seeds, if the words are right: one, if none of them says how many
 abbrev pub seeds_asked : Option (String Global) → Option ℕ
@@ -52,7 +52,7 @@ names_stretch w = is_some w.from || is_some w.to
 pub record AskToCompare (words : StudyWords) (c : Comparing) : Type 0 where
   pub seeds : seeds_asked words.seeds ≡ Some c.seeds
   pub settings : Settings
-  pub shown : AsksFor words.shown settings
+  pub shown : AsksForSettings words.shown settings
   pub whole : names_stretch words.shown ≡ false
   pub window : c.window ≡ settings.window
   pub names : c.names ≡ settings.names
@@ -76,15 +76,15 @@ abbrev pub IsNoComparison : StudyWords → ComparingFault → Type 0
 IsNoComparison words why = (¬ AskForNone words) × HasNoWord words why
 
 -- the word that a fault refuses; none if the fault is not that of one word
-abbrev pub word_refused : StudyWords → ComparingFault → Option (String Global)
-word_refused words fault.Seeds = words.seeds
-word_refused words fault.Form = words.shown.form
-word_refused words fault.WholeRuns = None
-word_refused words (fault.Settings why) = word_unset words.shown why
+abbrev pub comparing_word_refused : StudyWords → ComparingFault → Option (String Global)
+comparing_word_refused words fault.Seeds = words.seeds
+comparing_word_refused words fault.Form = words.shown.form
+comparing_word_refused words fault.WholeRuns = None
+comparing_word_refused words (fault.Settings why) = word_unset words.shown why
 
 -- the option of the word that a fault refuses
-abbrev pub option_refused : ComparingFault → List ℕ
-option_refused fault.Seeds = codes "seeds"
-option_refused fault.Form = codes "as"
-option_refused fault.WholeRuns = []
-option_refused (fault.Settings why) = option_unset why
+abbrev pub comparing_option_refused : ComparingFault → List ℕ
+comparing_option_refused fault.Seeds = codes "seeds"
+comparing_option_refused fault.Form = codes "as"
+comparing_option_refused fault.WholeRuns = []
+comparing_option_refused (fault.Settings why) = option_unset why

@@ -48,5 +48,5 @@ abbrev pub IsNoSide : List Accepted → Option (List Accepted) → Workload → 
 IsNoSide policies others w most count why = IsNoSummary policies w most count why ⊎ IsSomeAnd others (λ theirs. IsNoSummary theirs w most count why)
 
 -- one of them ended in that fault
-abbrev pub HasFault : List (Result RunFigures SeedsFault) → SeedsFault → Type 0
-HasFault results why = (i : ℕ) × (slice_get results i ≡ Some (Err why))
+abbrev pub EndsInFault : List (Result RunFigures SeedsFault) → SeedsFault → Type 0
+EndsInFault results why = (i : ℕ) × (slice_get results i ≡ Some (Err why))

@@ -14,9 +14,9 @@ abbrev pub row_at : Option (Vec FigureRow Global) → ℕ → Option FigureRow
 row_at theirs place = option_and_then (λ rows. slice_get rows.items place) theirs
 
 -- each row beside the one at its place; the first has this place
-abbrev pub beside : ℕ → List FigureRow → Option (Vec FigureRow Global) → List FigureLine
-beside place [] theirs = []
-beside place (row ∷ rows) theirs = record { ours = row; theirs = row_at theirs place } ∷ beside (place + 1) rows theirs
+abbrev pub rows_beside : ℕ → List FigureRow → Option (Vec FigureRow Global) → List FigureLine
+rows_beside place [] theirs = []
+rows_beside place (row ∷ rows) theirs = record { ours = row; theirs = row_at theirs place } ∷ rows_beside (place + 1) rows theirs
 
 -- the mean is 0
 abbrev pub is_nothing : Option ℕ → Bool
@@ -41,8 +41,8 @@ IsShownAs w line (Processor processor f) = ShowsProcessor w processor
 IsShownAs w line (Hook processor at f) = ShowsProcessor w processor × (is_zero line ≡ false)
 
 -- a line is of a task or a processor in the window; a line of a hook has a mean other than 0 on one side
-abbrev pub IsShown : Window → FigureLine → Type 0
-IsShown w line = IsShownAs w line line.ours.figure
+abbrev pub IsLineShown : Window → FigureLine → Type 0
+IsLineShown w line = IsShownAs w line line.ours.figure
 
 -- the lines for which P holds are chosen, in their order
 abbrev pub Selects : (FigureLine → Type 0) → List FigureLine → List FigureLine → Type 0

@@ -10,8 +10,8 @@ abbrev pub squares : List ℕ → ℕ
 squares xs = sum_by (λ x. x * x) xs
 
 -- n times the sum of the squared differences of n numbers from their mean, as n Σx² - (Σx)²
-abbrev pub spread : List ℕ → ℕ
-spread xs = length xs * squares xs - sum xs * sum xs
+abbrev pub squared_spread : List ℕ → ℕ
+squared_spread xs = length xs * squares xs - sum xs * sum xs
 
 -- the root of a ratio in thousandths: this many of them, and not one more
 abbrev pub IsRoot : ℕ → ℕ → ℕ → Type 0
@@ -20,7 +20,7 @@ IsRoot above below root = (root * root * below ≤ above * 1000000) × (above * 
 -- the sample's standard deviation: the root of the sum of the squared differences from the mean over one less than there are
 -- numbers
 abbrev pub IsDeviation : List ℕ → ℕ → Type 0
-IsDeviation xs deviation = IsRoot (spread xs) (length xs * (length xs - 1)) deviation
+IsDeviation xs deviation = IsRoot (squared_spread xs) (length xs * (length xs - 1)) deviation
 
 -- the numbers are too great for the arithmetic of 128 bits
 abbrev pub IsTooGreat : List ℕ → Type 0

@@ -5,11 +5,11 @@ use Rattle.bq_comparison.specs.Means.{IsDeviation, IsMean, IsTooGreat}
 use Rattle.bq_comparison.specs.declared.naming.Figure.{Figure}
 use Rattle.bq_comparison.specs.declared.summing.FigureRow.{FigureRow}
 use Rattle.bq_comparison.specs.declared.runs.RunFigures.{RunFigures}
-use Rattle.bq_comparison.specs.Runs.{number_at}
+use Rattle.bq_comparison.specs.Runs.{figure_value_at}
 
 -- the numbers at a place, of the runs that have one there
 abbrev pub numbers_at : ℕ → List RunFigures → List ℕ
-numbers_at place runs = filter_map (number_at place) runs
+numbers_at place runs = filter_map (figure_value_at place) runs
 
 -- what the numbers say of a figure
 pub record IsRow (figure : Figure) (xs : List ℕ) (row : FigureRow) : Type 0 where

@@ -14,23 +14,23 @@ use Rattle.bq_comparison.specs.declared.fault.SeedsFault.{SeedsFault}
 use Rattle.bq_comparison.specs.Faults.{IsNoRun}
 
 -- the figures of a simulation of that workload with these policies, of at most this many events
-pub record IsRun (policies : List Accepted) (w : Workload) (most : ℕ) (figures : List Figure) (run : RunFigures) : Type 0 where
+pub record IsWorkloadRun (policies : List Accepted) (w : Workload) (most : ℕ) (figures : List Figure) (run : RunFigures) : Type 0 where
   pub schedule : Figures
   pub tasks : Tasks
   pub gathered : IsGathered policies w most (Some schedule) tasks
   pub reported : IsRunOf schedule tasks figures run
 
 -- a run with each seed in turn, from that one on
-abbrev pub AreRuns : List Accepted → Workload → ℕ → List Figure → ℕ → List RunFigures → Type 0
-AreRuns policies w most figures seed [] = Unit {0}
-AreRuns policies w most figures seed (run ∷ runs) = IsRun policies (with_seed w seed) most figures run × AreRuns policies w most figures (seed + 1) runs
+abbrev pub AreSeededRuns : List Accepted → Workload → ℕ → List Figure → ℕ → List RunFigures → Type 0
+AreSeededRuns policies w most figures seed [] = Unit {0}
+AreSeededRuns policies w most figures seed (run ∷ runs) = IsWorkloadRun policies (with_seed w seed) most figures run × AreSeededRuns policies w most figures (seed + 1) runs
 
 -- a run with each of the first seeds in turn, from the workload's own on
 abbrev pub AreFirstRuns : List Accepted → Workload → ℕ → List Figure → List RunFigures → Type 0
-AreFirstRuns policies w most figures runs = AreRuns policies w most figures w.machine.seed runs
+AreFirstRuns policies w most figures runs = AreSeededRuns policies w most figures w.machine.seed runs
 
 -- what the runs with this many seeds, from the workload's own on, each of at most that many events, say of each figure
-pub record IsSummary (policies : List Accepted) (w : Workload) (most : ℕ) (count : ℕ) (figures : List Figure) (rows : List FigureRow) : Type 0 where
+pub record IsSeedsSummary (policies : List Accepted) (w : Workload) (most : ℕ) (count : ℕ) (figures : List Figure) (rows : List FigureRow) : Type 0 where
   pub runs : List RunFigures
   pub number : length runs ≡ count
   pub runs_are : AreFirstRuns policies w most figures runs
@@ -38,7 +38,7 @@ pub record IsSummary (policies : List Accepted) (w : Workload) (most : ℕ) (cou
 
 -- the result of a run: its figures if it came to its end, and otherwise why it did not
 abbrev pub IsResult : List Accepted → Workload → ℕ → List Figure → Result RunFigures SeedsFault → Type 0
-IsResult policies w most figures result = IfOk result (IsRun policies w most figures) × IfErr result (IsNoRun policies w most)
+IsResult policies w most figures result = IfOk result (IsWorkloadRun policies w most figures) × IfErr result (IsNoRun policies w most)
 
 -- the results of the runs with each seed in turn, from this one on
 abbrev pub AreResults : List Accepted → Workload → ℕ → List Figure → ℕ → List (Result RunFigures SeedsFault) → Type 0

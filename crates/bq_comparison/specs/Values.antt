@@ -6,7 +6,7 @@ use Rattle.bq_hooks.specs.declared.hook.Hook.TheVariants as hook
 use Rattle.bq_report.specs.Columns.{nearest}
 use Rattle.bq_report.specs.Waits.{still_waiting, waited_in_all}
 use Rattle.bq_schedule.specs.declared.figures.HookFigures.{HookFigures}
-use Rattle.bq_schedule.specs.Figures.{Figures, processor_of, task_of}
+use Rattle.bq_schedule.specs.Figures.{Figures, processor_in_figures, task_in_figures}
 use Rattle.bq_schedule.specs.Passing.{idle_of}
 use Rattle.bq_schedule.specs.Runnable.{fair_of}
 use Rattle.bq_schedule.specs.WakeLatencies.{Tasks, latencies_of, percentiles_of}
@@ -24,25 +24,25 @@ use Rattle.bq_comparison.specs.declared.naming.TaskFigure.TheVariants as of_task
 
 -- the value of a figure of a task
 abbrev pub task_value : Figures → ℕ → TaskFigure → ℕ
-task_value s id of_task.Ran = (task_of s id).time
+task_value s id of_task.Ran = (task_in_figures s id).time
 task_value s id of_task.Fair = nearest (fair_of s id)
 task_value s id of_task.Waited = waited_in_all s id
-task_value s id of_task.Switches = (task_of s id).switches
-task_value s id of_task.Preemptions = (task_of s id).preemptions
-task_value s id of_task.Migrations = (task_of s id).migrations
-task_value s id of_task.Wakes = (task_of s id).wakes
+task_value s id of_task.Switches = (task_in_figures s id).switches
+task_value s id of_task.Preemptions = (task_in_figures s id).preemptions
+task_value s id of_task.Migrations = (task_in_figures s id).migrations
+task_value s id of_task.Wakes = (task_in_figures s id).wakes
 
 -- the value of a figure of a processor
 abbrev pub processor_value : Figures → ℕ → ProcessorFigure → ℕ
-processor_value s processor of_processor.Busy = (processor_of s processor).busy
-processor_value s processor of_processor.Idle = idle_of (processor_of s processor)
-processor_value s processor of_processor.Switches = (processor_of s processor).switches
+processor_value s processor of_processor.Busy = (processor_in_figures s processor).busy
+processor_value s processor of_processor.Idle = idle_of (processor_in_figures s processor)
+processor_value s processor of_processor.Switches = (processor_in_figures s processor).switches
 
 -- the figures of a hook at a processor
 abbrev pub hook_figures : Figures → ℕ → Hook → HookFigures
-hook_figures s processor hook.Place = (processor_of s processor).place
-hook_figures s processor hook.Preempt = (processor_of s processor).preempt
-hook_figures s processor hook.Pull = (processor_of s processor).pull
+hook_figures s processor hook.Place = (processor_in_figures s processor).place
+hook_figures s processor hook.Preempt = (processor_in_figures s processor).preempt
+hook_figures s processor hook.Pull = (processor_in_figures s processor).pull
 
 -- the value of a figure of a hook at a processor
 abbrev pub hook_value : Figures → ℕ → Hook → HookFigure → ℕ
@@ -62,12 +62,12 @@ abbrev pub IsPercentile : LatencyFigure → List ℕ → Option ℕ → Type 0
 IsPercentile f xs v = (sorted : List ℕ) × IsPermutation xs sorted × IsSorted nat_cmp sorted × (v ≡ percentile_value (percentiles_of sorted) f)
 
 -- the value of a figure, if it has one
-abbrev pub IsValue : Figures → Tasks → Figure → Option ℕ → Type 0
-IsValue s tasks (figure.Task id f) v = v ≡ Some (task_value s id f)
-IsValue s tasks (figure.Latency id f) v = IsPercentile f (latencies_of tasks id) v
-IsValue s tasks (figure.StillWaiting id) v = v ≡ still_waiting s id
-IsValue s tasks (figure.Processor processor f) v = v ≡ Some (processor_value s processor f)
-IsValue s tasks (figure.Hook processor at f) v = v ≡ Some (hook_value s processor at f)
+abbrev pub IsFigureValue : Figures → Tasks → Figure → Option ℕ → Type 0
+IsFigureValue s tasks (figure.Task id f) v = v ≡ Some (task_value s id f)
+IsFigureValue s tasks (figure.Latency id f) v = IsPercentile f (latencies_of tasks id) v
+IsFigureValue s tasks (figure.StillWaiting id) v = v ≡ still_waiting s id
+IsFigureValue s tasks (figure.Processor processor f) v = v ≡ Some (processor_value s processor f)
+IsFigureValue s tasks (figure.Hook processor at f) v = v ≡ Some (hook_value s processor at f)
 
 -- each task has the latencies that it had, in whatever order
 abbrev pub AreReordered : Tasks → Tasks → Type 0

@@ -1,8 +1,8 @@
 //! What is asked for, by the words of the command.
 ghost use Rattle.std.specs.Prelude.{◌≡◌, ◌≤◌, ◌↔◌, ◌++◌, IfErr, IfNone, IfOk, IfSome, IsErrOf, None, OnOk, Some, string_bytes};
 ghost use Rattle.bq_timeline.specs.Called.{tasks_for, uncalled_notes};
-ghost use Rattle.bq_timeline.specs.Settings.{text_of};
-ghost use Rattle.bq_comparison.specs.Asking.{AskFor, AskForNone, IsNoComparison, names_stretch, option_refused, seeds_asked, seeds_in, table_of, word_refused};
+ghost use Rattle.bq_timeline.specs.Settings.{optional_word_text};
+ghost use Rattle.bq_comparison.specs.Asking.{AskFor, AskForNone, IsNoComparison, names_stretch, comparing_option_refused, seeds_asked, seeds_in, table_of, comparing_word_refused};
 ghost use Rattle.bq_comparison.specs.declared.asked.ComparingFault.TheVariants as why;
 
 use bq_experiment::{StudyWords, workload_names};
@@ -58,9 +58,9 @@ pub enum ComparingFault {
 impl ComparingFault {
     /// The word that the fault refuses, and its option. `None` if the fault is not that of one word.
     pub fn refused<'a>(self, words: &'a StudyWords) -> Option<RefusedWord<'a>>
-        ensures word { IfSome result (λ r. text_of (word_refused words.now self) ≡ Some r.word.now) }
-        ensures none { IfNone result (word_refused words.now self ≡ None) }
-        ensures option { IfSome result (λ r. r.option.now ≡ option_refused self) }
+        ensures word { IfSome result (λ r. optional_word_text (comparing_word_refused words.now self) ≡ Some r.word.now) }
+        ensures none { IfNone result (comparing_word_refused words.now self ≡ None) }
+        ensures option { IfSome result (λ r. r.option.now ≡ comparing_option_refused self) }
     {
         match self {
             ComparingFault::Seeds => word_after("seeds", &words.seeds, ""),

@@ -1,6 +1,6 @@
 //! Figures side by side.
 ghost use Rattle.std.specs.Prelude.{◌≡◌, ◌↔◌, IsTrue, IfOk};
-ghost use Rattle.bq_comparison.specs.Lines.{IsShown, Selects, beside, is_nothing, row_at, is_zero};
+ghost use Rattle.bq_comparison.specs.Lines.{IsLineShown, Selects, rows_beside, is_nothing, row_at, is_zero};
 
 use crate::sides::Sides;
 use crate::{Figure, FigureRow};
@@ -17,7 +17,7 @@ pub struct FigureLine {
 impl FigureLine {
     /// Answers whether the line is of a task or a processor in the window; a line of a hook also needs a mean other than 0 on one side.
     fn is_shown(&self, window: &Window) -> bool
-        ensures { IsTrue result ↔ IsShown window.now self.now }
+        ensures { IsTrue result ↔ IsLineShown window.now self.now }
     {
         match self.ours.figure {
             Figure::Task(task, _) => window.shows_task(task),
@@ -61,7 +61,7 @@ impl Sides {
 
 /// The rows side by side, of those that are shown.
 pub fn lines(alloc: Global, sides: &Sides, window: &Window) -> Result<Vec<FigureLine>, AllocError>
-    ensures { IfOk result (λ v. Selects (IsShown window.now) (beside 0 sides.now.ours.items sides.now.theirs) v.items) }
+    ensures { IfOk result (λ v. Selects (IsLineShown window.now) (rows_beside 0 sides.now.ours.items sides.now.theirs) v.items) }
 {
     let mut lines = Vec::new(alloc);
     'rows: for (place, row) in sides.ours.iter().enumerate() {

@@ -1,6 +1,6 @@
 //! The values of the figures in one run.
 ghost use Rattle.std.specs.Prelude.{◌≡◌, IfOk};
-ghost use Rattle.bq_comparison.specs.Runs.{IsRunOf, number_at};
+ghost use Rattle.bq_comparison.specs.Runs.{IsRunOf, figure_value_at};
 
 use crate::naming::Figure;
 use crate::values::value_of;
@@ -43,7 +43,7 @@ pub fn run_of(
 impl RunFigures {
     /// The number at a place among the figures, if there is one.
     pub(crate) fn number_at(&self, place: usize) -> Option<u64>
-        ensures { result ≡ number_at place self.now }
+        ensures { result ≡ figure_value_at place self.now }
     {
         match self.values.get(place) {
             Some(value) => value.value,

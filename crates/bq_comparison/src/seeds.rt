@@ -1,7 +1,7 @@
 //! A workload run with several seeds.
 ghost use Rattle.std.specs.Prelude.{◌≡◌, ◌<◌, ◌+◌, ◌≤◌, ◌^◌, ◌⊎◌, vec_len, IfErr, IfOk, OnOk};
-ghost use Rattle.bq_comparison.specs.Faults.{HasFault, IsNoRun, IsNoSummary};
-ghost use Rattle.bq_comparison.specs.Seeds.{AreFirstRuns, AreResults, Comes, IsRun, IsSummary};
+ghost use Rattle.bq_comparison.specs.Faults.{EndsInFault, IsNoRun, IsNoSummary};
+ghost use Rattle.bq_comparison.specs.Seeds.{AreFirstRuns, AreResults, Comes, IsWorkloadRun, IsSeedsSummary};
 ghost use Rattle.bq_comparison.specs.declared.fault.SeedsFault.TheVariants.{OutOfMemory};
 ghost use Rattle.bq_simulate.specs.Simulations.{with_seed};
 
@@ -58,7 +58,7 @@ pub fn summary<T: Threads + Sync>(
     count: u16,
     shown: &RunsShown<'_>,
 ) -> Result<Rows, SeedsFault>
-    ensures rows { IfOk result (λ rows. IsSummary experiment.now.policies.now experiment.now.workload.now experiment.now.most count experiment.now.figures.now rows.items) }
+    ensures rows { IfOk result (λ rows. IsSeedsSummary experiment.now.policies.now experiment.now.workload.now experiment.now.most count experiment.now.figures.now rows.items) }
     ensures fault { IfErr result (IsNoSummary experiment.now.policies.now experiment.now.workload.now experiment.now.most count) }
 {
     let runs = runs(threads, alloc, experiment, count, shown)?;
@@ -146,7 +146,7 @@ fn nth_run(
     first: u64,
     number: usize,
 ) -> Result<RunFigures, SeedsFault>
-    ensures run { IfOk result (IsRun experiment.now.policies.now (with_seed experiment.now.workload.now (first + number)) experiment.now.most experiment.now.figures.now) }
+    ensures run { IfOk result (IsWorkloadRun experiment.now.policies.now (with_seed experiment.now.workload.now (first + number)) experiment.now.most experiment.now.figures.now) }
     ensures fault { first + number < 2 ^ 64 → IfErr result (IsNoRun experiment.now.policies.now (with_seed experiment.now.workload.now (first + number)) experiment.now.most) }
 {
     let seed = first
@@ -158,7 +158,7 @@ fn nth_run(
 /// Adds the figures of some runs. If one did not come to its end, the error is the first such fault.
 fn add_all(runs: &mut Vec<RunFigures>, results: Results) -> Result<(), SeedsFault>
     ensures comes { OnOk result (Comes runs.old.items results.items runs.new.items) }
-    ensures fault { IfErr result (λ why. (why ≡ OutOfMemory) ⊎ HasFault results.items why) }
+    ensures fault { IfErr result (λ why. (why ≡ OutOfMemory) ⊎ EndsInFault results.items why) }
 {
     'results: for result in results {
         runs.push(result?)?;
@@ -168,7 +168,7 @@ fn add_all(runs: &mut Vec<RunFigures>, results: Results) -> Result<(), SeedsFaul
 
 /// One run, with this seed in place of the workload's own.
 fn run(alloc: Global, experiment: &Experiment<'_>, seed: u64) -> Result<RunFigures, SeedsFault>
-    ensures run { IfOk result (IsRun experiment.now.policies.now (with_seed experiment.now.workload.now seed) experiment.now.most experiment.now.figures.now) }
+    ensures run { IfOk result (IsWorkloadRun experiment.now.policies.now (with_seed experiment.now.workload.now seed) experiment.now.most experiment.now.figures.now) }
     ensures fault { IfErr result (IsNoRun experiment.now.policies.now (with_seed experiment.now.workload.now seed) experiment.now.most) }
 {
     let Experiment {

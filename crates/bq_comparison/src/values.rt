@@ -1,7 +1,7 @@
 //! The value of a figure.
 ghost use Rattle.std.specs.Prelude.{◌≡◌};
 ghost use Rattle.bq_schedule.specs.WakeLatencies.{latencies_of};
-ghost use Rattle.bq_comparison.specs.Values.{AreReordered, IsPercentile, IsValue, hook_value, percentile_value, processor_value, task_value};
+ghost use Rattle.bq_comparison.specs.Values.{AreReordered, IsPercentile, IsFigureValue, hook_value, percentile_value, processor_value, task_value};
 
 use crate::naming::{Figure, HookFigure, LatencyFigure, ProcessorFigure, TaskFigure};
 use bq_hooks::Hook;
@@ -13,7 +13,7 @@ use bq_schedule::{Percentiles, Schedule, WakeLatencies};
 /// and for the wait of a task that has run since its last wake. If the figure is a latency of a task, the call sorts the task's
 /// latencies.
 pub fn value_of(schedule: &Schedule, latencies: &mut WakeLatencies, figure: Figure) -> Option<u64>
-    ensures value { IsValue schedule.now latencies.old figure result }
+    ensures value { IsFigureValue schedule.now latencies.old figure result }
     ensures kept { AreReordered latencies.old latencies.new }
 {
     match figure {

@@ -7,7 +7,7 @@ use Rattle.bq_insn.specs.declared.Insn.{Insn}
 use Rattle.bq_asm.specs.declared.fault.Cause.{Cause}
 use Rattle.bq_asm.specs.Lines.{lines_of}
 use Rattle.bq_asm.specs.Assembly.{Assembles}
-use Rattle.bq_asm.specs.Faults.{Faulty}
+use Rattle.bq_asm.specs.Faults.{FaultyLines}
 
 -- the text is UTF-8, and assembles to instructions
 abbrev pub IsAssembly : List ℕ → Type 0
@@ -26,5 +26,5 @@ line_words line = if line == 0 then codes "the text has no instruction" else cod
 pub record NamesLine (text reported : List ℕ) : Type 0 where
   pub line : ℕ
   pub cause : Cause
-  pub fault : Faulty (lines_of text) line cause
+  pub fault : FaultyLines (lines_of text) line cause
   pub begins : StartsWith (line_words line) reported

@@ -10,7 +10,7 @@ use Rattle.bq_console.specs.declared.fault.WordsFault.{WordsFault}
 use Rattle.bq_console.specs.declared.fault.WordsFault.TheVariants.{OutOfMemory}
 use Rattle.bq_console.specs.declared.tables.OptionText.{OptionText}
 use Rattle.bq_console.specs.declared.tables.CommandText.{CommandText}
-use Rattle.bq_console.specs.Tables.{command_of, option_of, options_of, with_commands, with_rules}
+use Rattle.bq_console.specs.Tables.{shape_of_command, option_of, options_of, with_commands, with_rules}
 
 -- options that come in two parts
 with_rules-append : (a : App) (some more : List Rule) → with_rules (with_rules a some) more ≡ with_rules a (some ++ more)
@@ -35,8 +35,8 @@ tables-next a b xs i d h e =
 
 -- what the commands from a place on make of a program, those behind it make of the program with the command there
 pub commands-next : (a b : App) (xs : List CommandText) (i : ℕ) (d : CommandText)
-    → i < length xs → b ≡ with_subcommand a (command_of (get_or xs i d))
-    → with_commands b (map command_of (drop (i + 1) xs)) ≡ with_commands a (map command_of (drop i xs))
+    → i < length xs → b ≡ with_subcommand a (shape_of_command (get_or xs i d))
+    → with_commands b (map shape_of_command (drop (i + 1) xs)) ≡ with_commands a (map shape_of_command (drop i xs))
 commands-next a b xs i d h e = rw (e, add-one, drop-cons xs i d) refl
 
 -- a fault that is out of memory if one command takes the words is so for the same command under another name

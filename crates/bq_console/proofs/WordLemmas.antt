@@ -1,6 +1,6 @@
 -- Words that are one thing, or none.
 use Rattle.std.proofs.Common.{◌≡◌, ℕ, suc, Bor, List, [], ◌∷◌, ◌++◌, Option, Some, None, MatchOption, refl, sym, subst, ◌∙◌, arith}
-use Rattle.bq_console.specs.Words.{IsCut, IsFreeOf, IsNumber, IsValue}
+use Rattle.bq_console.specs.Words.{IsSplitAtMark, IsFreeOf, IsNumber, IsNumberWord}
 
 -- a text with the mark in it is not free of it
 pub free_uncut : (mark : ℕ) (before behind : List ℕ) → ¬ IsFreeOf mark (before ++ (mark ∷ behind))
@@ -20,11 +20,11 @@ parts_once mark (x ∷ a) b (y ∷ c) d same free other =
     (cc, rest.1)
 
 -- a text is cut in one way
-pub cut_once : (mark : ℕ) (text a b c d : List ℕ) → IsCut mark text a b → IsCut mark text c d → (a ≡ c) × (b ≡ d)
+pub cut_once : (mark : ℕ) (text a b c d : List ℕ) → IsSplitAtMark mark text a b → IsSplitAtMark mark text c d → (a ≡ c) × (b ≡ d)
 cut_once mark text a b c d one two = parts_once mark a b c d (sym one.splits ∙ two.splits) one.first two.first
 
 -- a text in which the mark does not stand is not cut
-pub free_cut : (mark : ℕ) (text a b : List ℕ) → IsFreeOf mark text → ¬ IsCut mark text a b
+pub free_cut : (mark : ℕ) (text a b : List ℕ) → IsFreeOf mark text → ¬ IsSplitAtMark mark text a b
 free_cut mark text a b free cut = free_uncut mark a b (subst (IsFreeOf mark) cut.splits free)
 
 -- a word writes one number
@@ -32,12 +32,12 @@ pub number_once : (word : List ℕ) (m n : ℕ) → IsNumber word m → IsNumber
 number_once word m n one two = let same : Some m ≡ Some n = sym one ∙ two in cc
 
 -- a word writes one value
-pub value_once : (word : List ℕ) (m n : ℕ) → IsValue word m → IsValue word n → m ≡ n
+pub value_once : (word : List ℕ) (m n : ℕ) → IsNumberWord word m → IsNumberWord word n → m ≡ n
 value_once word m n one two = let same : Some m ≡ Some n = sym one ∙ two in cc
 
 -- the parts around the mark, if it stands there, are those of a cut
 pub cut_parts : (mark : ℕ) (text : List ℕ) (r : Option (Bor (List ℕ) × Bor (List ℕ)))
     → MatchOption r (IsFreeOf mark text) (λ x. (text ≡ x.0.now ++ (mark ∷ x.1.now)) × IsFreeOf mark x.0.now)
-    → MatchOption r (IsFreeOf mark text) (λ x. IsCut mark text x.0.now x.1.now)
+    → MatchOption r (IsFreeOf mark text) (λ x. IsSplitAtMark mark text x.0.now x.1.now)
 cut_parts mark text None h = h
 cut_parts mark text (Some x) h = record { splits = h.0; first = h.1 }

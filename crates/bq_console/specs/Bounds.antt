@@ -6,8 +6,8 @@ use Rattle.std.specs.declared.io.ErrorKind.TheVariants as kind
 use Rattle.bq_console.specs.declared.bounded.Bounded.{Bounded}
 
 -- the reader itself
-abbrev pub inner_of : {R : Type 0} → Bounded R → R
-inner_of b = b.inner
+abbrev pub bounded_inner : {R : Type 0} → Bounded R → R
+bounded_inner b = b.inner
 
 -- the limit: how many bytes are allowed; None if any number is
 abbrev pub limit_of : {R : Type 0} → Bounded R → Option ℕ
@@ -22,10 +22,10 @@ abbrev pub given_after : ℕ → ℕ → ℕ
 given_after given count = min (given + count) (2 ^ 64 - 1)
 
 -- whether more bytes were given than a limit allows
-abbrev pub is_over : Option ℕ → ℕ → Bool
-is_over None given = false
-is_over (Some most) given = nat_lt most given
+abbrev pub is_past_limit : Option ℕ → ℕ → Bool
+is_past_limit None given = false
+is_past_limit (Some most) given = nat_lt most given
 
 -- a read fails because more bytes were given than the limit allows
-abbrev pub IsTooLong : Result ℕ Error → Type 0
-IsTooLong result = IsErrAnd result (λ error. error_kind error ≡ kind.FileTooLarge)
+abbrev pub FailsByLimit : Result ℕ Error → Type 0
+FailsByLimit result = IsErrAnd result (λ error. error_kind error ≡ kind.FileTooLarge)

@@ -14,5 +14,5 @@ abbrev pub file_named : Option (String Global) → Option (List ℕ)
 file_named word = option_and_then file_in (option_map (λ w. string_bytes w) word)
 
 -- what messages call it
-abbrev pub name_of : Option (String Global) → List ℕ
-name_of word = unwrap_or (file_named word) (codes "standard input")
+abbrev pub input_name : Option (String Global) → List ℕ
+input_name word = unwrap_or (file_named word) (codes "standard input")

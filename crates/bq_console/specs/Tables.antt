@@ -55,8 +55,8 @@ abbrev pub command : Text → List Rule → Shape
 command name rules = record (new_shape name) { rules = rules }
 
 -- a command of a table
-abbrev pub command_of : CommandText → Shape
-command_of c = command c.name.now (options_of c.options.now)
+abbrev pub shape_of_command : CommandText → Shape
+shape_of_command c = command c.name.now (options_of c.options.now)
 
 -- the program without commands: it has a version, words come without its name, and one of them has to be a command
 abbrev pub empty_program : App

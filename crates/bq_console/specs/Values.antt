@@ -18,14 +18,14 @@ abbrev pub quoted : List ℕ → Option (List ℕ)
 quoted word = if is_plain word then Some word else None
 
 -- what is said of a value: its option, the value in quotes, and what is right
-abbrev pub refusal : List ℕ → List ℕ → List ℕ → List ℕ
-refusal option value right = codes "--" ++ (option ++ (codes " \"" ++ (value ++ (codes "\": " ++ right))))
+abbrev pub value_refusal : List ℕ → List ℕ → List ℕ → List ℕ
+value_refusal option value right = codes "--" ++ (option ++ (codes " \"" ++ (value ++ (codes "\": " ++ right))))
 
 -- the text says that of a plain value; the word that was perhaps meant may follow
-abbrev pub Refuses : List ℕ → List ℕ → List ℕ → List ℕ → Type 0
-Refuses option value right text = is_plain value ≡ true → (meant : List ℕ) × (text ≡ refusal option value right ++ meant)
+abbrev pub RefusesValue : List ℕ → List ℕ → List ℕ → List ℕ → Type 0
+RefusesValue option value right text = is_plain value ≡ true → (meant : List ℕ) × (text ≡ value_refusal option value right ++ meant)
 
 -- the fault tells that in a line, or memory ran out for it
 abbrev pub IsValueRefusal : List ℕ → List ℕ → List ℕ → WordsFault → Type 0
-IsValueRefusal option value right (fault.Words text) = (why : List ℕ) × Refuses option value right why × (string_bytes text ≡ codes "error: " ++ (why ++ codes "\n"))
+IsValueRefusal option value right (fault.Words text) = (why : List ℕ) × RefusesValue option value right why × (string_bytes text ≡ codes "error: " ++ (why ++ codes "\n"))
 IsValueRefusal option value right fault.OutOfMemory = Unit {0}

@@ -5,7 +5,7 @@ use Rattle.std.specs.List.{list_any, starts_with}
 use Rattle.std.specs.Str.{bytes_eq}
 use Rattle.std.specs.declared.alloc.AllocError.{AllocError}
 use Rattle.std.specs.declared.alloc.Global.{Global}
-use Rattle.bq_words.specs.Numbers.{number_of, value_of}
+use Rattle.bq_words.specs.Numbers.{number_in_base, value_of}
 use Rattle.bq_console.specs.declared.fault.WordsFault.{WordsFault}
 use Rattle.bq_console.specs.declared.fault.WordsFault.TheVariants as fault
 
@@ -30,17 +30,17 @@ abbrev pub IsFreeOf : ℕ → List ℕ → Type 0
 IsFreeOf mark text = (i : ℕ) → i < length text → slice_index text i ≢ mark
 
 -- the two parts of the text around its first such mark
-pub record IsCut (mark : ℕ) (text before behind : List ℕ) : Type 0 where
+pub record IsSplitAtMark (mark : ℕ) (text before behind : List ℕ) : Type 0 where
   pub splits : text ≡ before ++ (mark ∷ behind)
   pub first : IsFreeOf mark before
 
 -- the word writes the number in decimal
 abbrev pub IsNumber : List ℕ → ℕ → Type 0
-IsNumber word number = number_of 10 word ≡ Some number
+IsNumber word number = number_in_base 10 word ≡ Some number
 
 -- a number in decimal, or in hex after `0x`
-abbrev pub IsValue : List ℕ → ℕ → Type 0
-IsValue word number = value_of word ≡ Some number
+abbrev pub IsNumberWord : List ℕ → ℕ → Type 0
+IsNumberWord word number = value_of word ≡ Some number
 
 -- an option by its name, which has no value behind `=`
 abbrev pub is_option : List ℕ → Bool
@@ -61,9 +61,9 @@ is_joined ended option value = not ended && (is_option option && is_negative val
 
 -- words with each negative number joined to the option before it by `=`, as `--seed=-1`; after the word `--` all are files. `ended` says
 -- whether that word came before.
-abbrev pub joined : Bool → List (List ℕ) → List (List ℕ)
-joined ended [] = []
-joined ended (word ∷ []) = word ∷ []
-joined ended (word ∷ value ∷ more) =
-    if is_joined ended word value then (word ++ (codes "=" ++ value)) ∷ joined ended more
-    else word ∷ joined (ended || is_end word) (value ∷ more)
+abbrev pub options_joined : Bool → List (List ℕ) → List (List ℕ)
+options_joined ended [] = []
+options_joined ended (word ∷ []) = word ∷ []
+options_joined ended (word ∷ value ∷ more) =
+    if is_joined ended word value then (word ++ (codes "=" ++ value)) ∷ options_joined ended more
+    else word ∷ options_joined (ended || is_end word) (value ∷ more)

@@ -2,7 +2,7 @@
 ghost use Rattle.std.specs.Prelude.{◌≡◌, IfOk, OnErr, true};
 ghost use Rattle.std.specs.Io.{ReadsAtMost};
 ghost use Rattle.std.specs.Io.KnownBytes.{ReadConsumes};
-ghost use Rattle.bq_console.specs.Bounds.{IsTooLong, given_after, given_by, inner_of, is_over, limit_of};
+ghost use Rattle.bq_console.specs.Bounds.{FailsByLimit, given_after, given_by, bounded_inner, is_past_limit, limit_of};
 
 use std::io;
 use std::io::{Error, ErrorKind, Read};
@@ -28,7 +28,7 @@ pub struct Bounded<R> {
 impl<R> Bounded<R> {
     /// A reader of `inner` that is allowed `most` bytes; `None` is no limit.
     pub fn new(inner: R, most: Option<u64>) -> Bounded<R>
-        ensures wraps { inner_of result ≡ inner }
+        ensures wraps { bounded_inner result ≡ inner }
         ensures limit { limit_of result ≡ most }
         ensures given { given_by result ≡ 0 }
     {
@@ -41,7 +41,7 @@ impl<R> Bounded<R> {
 
     /// Answers whether it has given more bytes than are allowed.
     fn is_over(&self) -> bool
-        ensures { result ≡ is_over (limit_of self.now) (given_by self.now) }
+        ensures { result ≡ is_past_limit (limit_of self.now) (given_by self.now) }
     {
         match self.most {
             Some(most) => most < self.given,
@@ -51,15 +51,15 @@ impl<R> Bounded<R> {
 }
 
 impl<R: Read> Read for Bounded<R> {
-    ghost remaining = { λ b. R.remaining (inner_of b) };
+    ghost remaining = { λ b. R.remaining (bounded_inner b) };
 
     fn read(&mut self, buf: &mut [u8]) -> io::Result<usize>
         ensures bound { ReadsAtMost result buf.new }
-        ensures bytes { ReadConsumes (R.remaining (inner_of self.old)) (R.remaining (inner_of self.new)) result buf.new }
+        ensures bytes { ReadConsumes (R.remaining (bounded_inner self.old)) (R.remaining (bounded_inner self.new)) result buf.new }
         ensures limit { limit_of self.new ≡ limit_of self.old }
         ensures given { IfOk result (λ count. given_by self.new ≡ given_after (given_by self.old) count) }
         ensures failed { OnErr result (given_by self.new ≡ given_by self.old) }
-        ensures over { is_over (limit_of self.old) (given_by self.old) ≡ true → IsTooLong result }
+        ensures over { is_past_limit (limit_of self.old) (given_by self.old) ≡ true → FailsByLimit result }
     {
         if self.is_over() {
             return Err(Error::new(ErrorKind::FileTooLarge, TOO_LONG));

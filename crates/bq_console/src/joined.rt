@@ -1,14 +1,14 @@
 //! Negative numbers after options, which clap would take for options themselves.
 ghost use Rattle.std.specs.Prelude.{◌≡◌, ◌==◌, ◌||◌, ◌<◌, ◌∷◌, ◌++◌, IfOk, IfSome, MatchOption, codes, false, length, map, string_bytes};
 ghost use Rattle.std.specs.List.{list_any};
-ghost use Rattle.bq_console.specs.Words.{is_end, is_joined, is_negative, is_option, joined};
+ghost use Rattle.bq_console.specs.Words.{is_end, is_joined, is_negative, is_option, options_joined};
 
 use std::alloc::{AllocError, Global};
 
 /// The words with each negative number joined to the option before it by `=`: `--seed -1` becomes `--seed=-1`, so that the option
 /// judges its value. After the word `--` nothing is joined.
 pub fn joined_words(alloc: Global, words: &[String]) -> Result<Vec<String>, AllocError>
-    ensures { IfOk result (λ all. map string_bytes all.items ≡ joined false (map string_bytes words.now)) }
+    ensures { IfOk result (λ all. map string_bytes all.items ≡ options_joined false (map string_bytes words.now)) }
 {
     let mut all = Vec::new(alloc);
     let mut rest = words;
@@ -35,7 +35,7 @@ fn value_after<'a>(
     word: &str,
     more: &'a [String],
 ) -> Option<(&'a String, &'a [String])>
-    ensures value { MatchOption result (joined has_ended (word.now ∷ map string_bytes more.now) ≡ word.now ∷ joined (has_ended || is_end word.now) (map string_bytes more.now)) (λ p. joined has_ended (word.now ∷ map string_bytes more.now) ≡ (word.now ++ (codes "=" ++ string_bytes p.0.now)) ∷ joined has_ended (map string_bytes p.1.now)) }
+    ensures value { MatchOption result (options_joined has_ended (word.now ∷ map string_bytes more.now) ≡ word.now ∷ options_joined (has_ended || is_end word.now) (map string_bytes more.now)) (λ p. options_joined has_ended (word.now ∷ map string_bytes more.now) ≡ (word.now ++ (codes "=" ++ string_bytes p.0.now)) ∷ options_joined has_ended (map string_bytes p.1.now)) }
     ensures less { IfSome result (λ p. length p.1.now < length more.now) }
 {
     let Some((value, behind)) = more.split_first() else {

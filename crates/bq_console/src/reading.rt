@@ -1,7 +1,7 @@
 //! What commands read whole: a file, or standard input.
 ghost use Rattle.std.specs.Prelude.{◌≡◌, IfErr, List, option_map, ℕ};
 ghost use Rattle.std.specs.Borrow.{Bor};
-ghost use Rattle.bq_console.specs.Files.{file_named, name_of};
+ghost use Rattle.bq_console.specs.Files.{file_named, input_name};
 ghost use Rattle.bq_console.specs.Status.{EndsFailed};
 
 use crate::bounded::Bounded;
@@ -27,7 +27,7 @@ pub fn file_named(file: &Option<String>) -> Option<&str>
 
 /// What messages about its contents call the file that is named.
 pub fn name_of(file: &Option<String>) -> &str
-    ensures { result.now ≡ name_of file.now }
+    ensures { result.now ≡ input_name file.now }
 {
     match file_named(file) {
         Some(path) => path,

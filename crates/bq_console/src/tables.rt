@@ -2,7 +2,7 @@
 ghost use Rattle.std.specs.Prelude.{◌≡◌, [], IfErr, IfOk, false, map, true};
 ghost use Rattle.clap.specs.Words.{HasMatchesOf, app_of, fault_of as faults_in, is_simple_and_free, rule_of, takes};
 ghost use Rattle.clap.specs.declared.builder.command.Command.TheViews.{out-Command as fields_of};
-ghost use Rattle.bq_console.specs.Tables.{command_of, empty_program, option_of, options_of, with_commands, with_rules};
+ghost use Rattle.bq_console.specs.Tables.{shape_of_command, empty_program, option_of, options_of, with_commands, with_rules};
 
 use crate::fault::WordsFault;
 use crate::refused::fault_of;
@@ -98,7 +98,7 @@ fn with_tables<'a>(
 
 /// A command, with its options.
 fn command<'a>(alloc: Global, text: &CommandText<'_>) -> Result<Command<'a>, AllocError>
-    ensures shape { IfOk result (λ c. (app_of c).top ≡ command_of text.now) }
+    ensures shape { IfOk result (λ c. (app_of c).top ≡ shape_of_command text.now) }
     ensures local { IfOk result (λ c. (fields_of c).has_globals ≡ false) }
 {
     let command = Command::new(alloc, text.name)
@@ -133,7 +133,7 @@ pub fn with_commands<'a>(
     program: Command<'a>,
     texts: &[CommandText<'_>],
 ) -> Result<Command<'a>, AllocError>
-    ensures { IfOk result (λ p. app_of p ≡ with_commands (app_of program.entry) (map command_of texts.now)) }
+    ensures { IfOk result (λ p. app_of p ≡ with_commands (app_of program.entry) (map shape_of_command texts.now)) }
 {
     let mut program = program;
     'commands: for text in texts {

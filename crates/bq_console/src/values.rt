@@ -1,6 +1,6 @@
 //! The values that an option does not take: quoted, with what is right, and with the word that was perhaps meant.
 ghost use Rattle.std.specs.Prelude.{◌≡◌, IfOk, string_bytes};
-ghost use Rattle.bq_console.specs.Values.{Refuses, IsValueRefusal};
+ghost use Rattle.bq_console.specs.Values.{RefusesValue, IsValueRefusal};
 
 use crate::fault::{WordsFault, words_fault};
 use crate::printable::{QUOTED, Quoted};
@@ -20,7 +20,7 @@ pub fn value_words(
     right: &str,
     known: &str,
 ) -> Result<String, AllocError>
-    ensures { IfOk result (λ text. Refuses option.now value.now right.now (string_bytes text)) }
+    ensures { IfOk result (λ text. RefusesValue option.now value.now right.now (string_bytes text)) }
 {
     let shown = Quoted(value);
     let mut text = format!(in alloc; "--{option} \"{shown}\": {right}")?;

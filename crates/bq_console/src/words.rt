@@ -1,11 +1,11 @@
 //! Parts and numbers of the words of a command.
 ghost use Rattle.std.specs.Prelude.{ℕ, ◌<◌, ◌^◌, IfNone, IfSome, MatchOption};
-ghost use Rattle.bq_console.specs.Words.{IsCut, IsFreeOf, IsNumber, IsValue};
+ghost use Rattle.bq_console.specs.Words.{IsSplitAtMark, IsFreeOf, IsNumber, IsNumberWord};
 
 /// Answers the two parts around the first such mark, if the text has one.
 pub fn cut(text: &str, mark: char) -> Option<(&str, &str)>
     requires { mark < 128 }
-    ensures { MatchOption result (IsFreeOf mark text.now) (λ parts. IsCut mark text.now parts.0.now parts.1.now) }
+    ensures { MatchOption result (IsFreeOf mark text.now) (λ parts. IsSplitAtMark mark text.now parts.0.now parts.1.now) }
 {
     text.split_once(mark)
 }
@@ -21,8 +21,8 @@ pub fn decimal(word: &str) -> Option<usize>
 
 /// A number in decimal, or in hex after `0x`.
 pub fn value(word: &str) -> Option<u64>
-    ensures some { IfSome result (IsValue word.now) }
-    ensures none { IfNone result ((number : ℕ) → number < 2 ^ 64 → ¬ IsValue word.now number) }
+    ensures some { IfSome result (IsNumberWord word.now) }
+    ensures none { IfNone result ((number : ℕ) → number < 2 ^ 64 → ¬ IsNumberWord word.now number) }
 {
     bq_words::value(word.as_bytes())
 }

@@ -4,7 +4,7 @@ use Rattle.std.specs.Prelude.{◌==◌}
 use Rattle.bq_disc.specs.Tasks.{Task, with_id, without, place, id_of}
 use Rattle.bq_disc.specs.Rising.{IsRising}
 use Rattle.bq_disc.specs.Discipline.{Discipline, woken, pulled, next_of}
-use Rattle.bq_disc.specs.OneProcessor.{Running, run_id, start, exchanged, switched, decided, entered}
+use Rattle.bq_disc.specs.OneProcessor.{Running, run_id, choice_started, exchanged, switched, decided, entered}
 use Rattle.bq_disc.proofs.RisingLemmas.{IsRising-place, IsRising-without}
 use Rattle.bq_bpf.specs.declared.board.CounterCall.{CounterCall}
 use Rattle.bq_hooks.specs.declared.hook.Hook.{Hook}
@@ -13,11 +13,11 @@ use Rattle.bq_hooks.specs.declared.hook.Version.{Version}
 use Rattle.bq_verify.specs.Accepted.{Accepted}
 use Rattle.bq_installed.specs.Attachments.{Attached, Attachments, none_attached, with_attached}
 use Rattle.bq_hooks.specs.Permitted.{task_numbered}
-use Rattle.bq_installed.specs.Standing.{IsEquipped, MayStand, AreReady}
+use Rattle.bq_installed.specs.Standing.{IsEquipped, MayBeAttached, AreReady}
 use Rattle.bq_parts.specs.declared.event.Event.{Event}
 use Rattle.bq_parts.specs.declared.event.Event.TheVariants as event
 use Rattle.bq_parts.specs.declared.reply.Reply.{Reply}
-use Rattle.bq_parts.specs.Processors.{Processor, opening}
+use Rattle.bq_parts.specs.Processors.{Processor, new_processor}
 use Rattle.bq_parts.specs.World.{World, processor_at, inbox, with_processor}
 use Rattle.bq_parts.specs.Choices.{PolicySemantics, SettledChoice, SettlesBy, SettlesPreempt, decided_by}
 use Rattle.bq_parts.specs.Moves.{taken_from, without_task, with_pulled, started_if_idle}
@@ -44,10 +44,10 @@ at_set Q (y ∷ ys) (suc i) x d q h (suc j) = at_set (λ n. Q (suc n)) ys i x d 
 
 -- a processor is written
 pub well_at : (w : World) (processor : ℕ) (q : Processor) → AllWell w → IsWell q → AllWell (with_processor w processor q)
-well_at w processor q all well = at_set (λ n (p : Processor). IsWell p) w.processors processor q opening well all
+well_at w processor q all well = at_set (λ n (p : Processor). IsWell p) w.processors processor q new_processor well all
 
 -- nothing stands at the opening
-pub opening_well : IsWell opening
+pub opening_well : IsWell new_processor
 opening_well = record { rising = tt; ready = none }
   where
     none : AreReady none_attached
@@ -69,7 +69,7 @@ rising_switched : (d : Discipline) (p : Running) (o : Option Task) → IsRising 
 rising_switched d p None h = h
 rising_switched d p (Some t) h = rising_exchanged p t (with_id (next_of d t p.queue) p.queue) h
 
-rising_start : (d : Discipline) (p : Running) → IsRising p.queue → IsRising (start d p).queue
+rising_start : (d : Discipline) (p : Running) → IsRising p.queue → IsRising (choice_started d p).queue
 rising_start d p h = rising_run p (id_of (d.choice p.queue)) h
 
 rising_decided : (d : Discipline) (p : Running) (o : Option Task) (gives_way : Bool)
@@ -99,7 +99,7 @@ rising_taken p (Some id) h = IsRising-without id p.queue h
 
 -- something else that may stand there
 ready_with : (hooks : Attachments) (hook : Hook) (new : Attached)
-    → AreReady hooks → MayStand hook new → AreReady (with_attached hook hooks new)
+    → AreReady hooks → MayBeAttached hook new → AreReady (with_attached hook hooks new)
 ready_with hooks Place new h m Place = m
 ready_with hooks Place new h m Preempt = h Preempt
 ready_with hooks Place new h m Pull = h Pull
@@ -114,15 +114,15 @@ ready_with hooks Pull new h m Pull = m
 settled_stands : (s : PolicySemantics) (hook : Hook) (policy : Option Accepted) (context : Version → List ℕ)
     (attached : Attached) (now processor : ℕ) (permitted : ℕ → Bool) (own : ℕ) (settled : SettledChoice)
     → attached.policy ≡ policy → SettlesBy s policy context attached now processor permitted own settled
-    → MayStand hook attached
-    → MayStand hook settled.attached
+    → MayBeAttached hook attached
+    → MayBeAttached hook settled.attached
 settled_stands s hook None context attached now processor permitted own settled is h m = rw h m
 settled_stands s hook (Some p) context attached now processor permitted own settled is h m =
     let had : IsEquipped (Some p) attached.maps = subst (λ (o : Option Accepted). IsEquipped o attached.maps) is m.1 in
     rw h.leaves (m.0, subst (λ (o : Option Accepted). IsEquipped o h.maps) (sym is) (had.0, h.shapes))
 
 preempt_stands : (s : PolicySemantics) (processor : ℕ) (p : Processor) (o : Option Task) (settled : SettledChoice)
-    → SettlesPreempt s processor p o settled → AreReady p.hooks → MayStand Preempt settled.attached
+    → SettlesPreempt s processor p o settled → AreReady p.hooks → MayBeAttached Preempt settled.attached
 preempt_stands s processor p None settled h ready = rw h (ready Preempt)
 preempt_stands s processor p (Some t) settled h ready =
     settled_stands s Preempt p.hooks.preempt.policy _ p.hooks.preempt p.running.last processor _ _ settled

@@ -9,8 +9,8 @@ use Rattle.bq_disc.specs.OneProcessor.{Running, present_at, charge, marked, ente
 use Rattle.bq_parts.specs.declared.carried.Carried.{Carried}
 use Rattle.bq_parts.specs.declared.lobby_entry.LobbyEntry.{LobbyEntry}
 use Rattle.bq_parts.specs.declared.lobby_entry.LobbyEntry.TheVariants.{Absent, Sleeping, Away}
-use Rattle.bq_parts.specs.Processors.{Processor, opening, count_of, in_hand}
-use Rattle.bq_parts.specs.World.{World, processor_at, inbox, entry, with_processor, with_inbox}
+use Rattle.bq_parts.specs.Processors.{Processor, new_processor, count_of_id, in_hand}
+use Rattle.bq_parts.specs.World.{World, processor_at, inbox, entry_of_id, with_processor, with_inbox}
 use Rattle.bq_parts.specs.Refusals.{is_absent, is_away}
 use Rattle.bq_disc.specs.Movable.{is_movable_to}
 use Rattle.bq_installed.specs.Attachments.{Attachments}
@@ -41,14 +41,14 @@ absent_is_not_away Away h = cc
 
 -- a task is admitted to an entry that is absent
 pub admit_tidy : (count : ℕ) (w : World) (id : ℕ) (new : Task)
-    → IsTidy count [] w → is_absent (entry w id) ≡ true → new.id ≡ id → HasPlace count new
+    → IsTidy count [] w → is_absent (entry_of_id w id) ≡ true → new.id ≡ id → HasPlace count new
     → IsTidy count [] (with_entry w id (Sleeping new))
 admit_tidy count w id new y a same place =
-    entry_tidy count [] w id (Sleeping new) y (sym (absent_is_not_away (entry w id) a))
+    entry_tidy count [] w id (Sleeping new) y (sym (absent_is_not_away (entry_of_id w id) a))
     (λ t e. let is : new ≡ t = cc in rw (← is) (same, place))
 
 -- a task leaves an entry that is not away
-pub retire_tidy : (count : ℕ) (w : World) (id : ℕ) → IsTidy count [] w → is_away (entry w id) ≡ false
+pub retire_tidy : (count : ℕ) (w : World) (id : ℕ) → IsTidy count [] w → is_away (entry_of_id w id) ≡ false
     → IsTidy count [] (with_entry w id Absent)
 retire_tidy count w id y a = entry_tidy count [] w id Absent y (sym (ap as_number a)) (λ t e. cc)
 
@@ -71,7 +71,7 @@ no_hand (Some c) h = cc
 
 -- a task goes from the lobby to an empty hand
 pub begin_wake_tidy : (count : ℕ) (w : World) (processor id : ℕ) (t : Task) (loads : List ℕ)
-    → IsTidy count [] w → processor < count → entry w id ≡ Sleeping t → is_some (processor_at w processor).hand ≡ false
+    → IsTidy count [] w → processor < count → entry_of_id w id ≡ Sleeping t → is_some (processor_at w processor).hand ≡ false
     → IsTidy count [] (with_entry
     (with_processor w processor (record (processor_at w processor) { hand = Some (record { task = t; loads = loads }) })) id
     Away)
@@ -79,8 +79,8 @@ begin_wake_tidy count w processor id t loads y l e empty =
     let p : Processor = processor_at w processor in
     let c : Carried = record { task = t; loads = loads } in
     let q : Processor = record p { hand = Some c } in
-    let none : (i : ℕ) → count_of i (in_hand p) ≡ 0 =
-    λ i. ap (λ o. count_of i (option_to_list (option_map (λ (c : Carried). c.task) o))) (no_hand p.hand empty) in
+    let none : (i : ℕ) → count_of_id i (in_hand p) ≡ 0 =
+    λ i. ap (λ o. count_of_id i (option_to_list (option_map (λ (c : Carried). c.task) o))) (no_hand p.hand empty) in
     with_processor_tidy count (t ∷ []) [] (with_entry w id Away) processor q (leaves_lobby count w id t y e) l
     (λ i. omega (arith, count_of-held_by i p, count_of-held_by i q, none i))
     (λ d f. let is : c ≡ d = cc in rw (← is) ((y.blocked id t e).1))
@@ -95,8 +95,8 @@ pub end_wake_tidy : (d : Discipline) (count : ℕ) (w : World) (processor now to
 end_wake_tidy d count w processor now to carried hooks y l e k a =
     let p : Processor = processor_at w processor in
     let q : Processor = record (charged_at d w processor now) { hand = None; hooks = hooks } in
-    let had : (i : ℕ) → count_of i (in_hand p) ≡ count_of i (carried.task ∷ []) =
-    λ i. ap (λ o. count_of i (option_to_list (option_map (λ (c : Carried). c.task) o))) e in
+    let had : (i : ℕ) → count_of_id i (in_hand p) ≡ count_of_id i (carried.task ∷ []) =
+    λ i. ap (λ o. count_of_id i (option_to_list (option_map (λ (c : Carried). c.task) o))) e in
     let place : HasPlace count carried.task = y.hand processor carried e in
     let free : IsTidy count (carried.task ∷ []) (with_processor w processor q) =
     with_processor_tidy count [] (carried.task ∷ []) w processor q y l
@@ -198,7 +198,7 @@ pull_tidy d count w processor from now n task hooks y l k apart may e =
     let mid : World = with_processor w from there in
     let free : IsTidy count taken mid =
     running_tidy count [] taken w from there y k refl (λ g. omega (arith, tally-without_task g source task)) refl in
-    let still : processor_at mid processor ≡ processor_at w processor = get_or-set_other w.processors from processor there opening apart in
+    let still : processor_at mid processor ≡ processor_at w processor = get_or-set_other w.processors from processor there new_processor apart in
     let done : IsTidy count [] (with_processor mid processor here) =
     running_tidy count taken [] mid processor here free l (sym (ap (λ (x : Processor). x.hand) still))
     (λ g. omega (

@@ -3,7 +3,7 @@ use Rattle.std.proofs.Common.{◌≡◌, ℕ, ◌+◌, ◌<◌, ◌≤◌, ◌++
 use Rattle.std.proofs.Math.ListN.{length-append}
 use Rattle.std.proofs.lemmas.List.{at_drop_more, at_drop_all, get_or_read}
 use Rattle.bq_disc.specs.Tasks.{Task}
-use Rattle.bq_parts.specs.Processors.{Processor, opening, load_of}
+use Rattle.bq_parts.specs.Processors.{Processor, new_processor, load_of}
 use Rattle.bq_parts.specs.World.{loads_of}
 
 -- the loads from a place on begin with the load of that place
@@ -40,11 +40,11 @@ all_found ps xss loads i goes h =
 
 -- where each load is small, the load of a place that was read is
 pub read_is_small : (ps : List Processor) (xss : List (List Task)) (i : ℕ) (p : Processor) (xs : List Task)
-    → load_of (get_or ps i opening) (get_or xss i []) < 65536 → p ≡ get_or ps i p → xs ≡ get_or xss i xs
+    → load_of (get_or ps i new_processor) (get_or xss i []) < 65536 → p ≡ get_or ps i p → xs ≡ get_or xss i xs
     → i < length ps → length ps ≡ length xss
     → load_of p xs < 65536
 read_is_small ps xss i p xs small at_p at_xs h same =
     let inside : i < length xss = rw (← same) h in
-    let processor : p ≡ get_or ps i opening = get_or_read ps i p h at_p opening in
+    let processor : p ≡ get_or ps i new_processor = get_or_read ps i p h at_p new_processor in
     let inbox : xs ≡ get_or xss i [] = get_or_read xss i xs inside at_xs [] in
     rw (processor, inbox) small

@@ -10,8 +10,8 @@ use Rattle.bq_disc.specs.OneProcessor.{present_at}
 use Rattle.bq_parts.specs.declared.carried.Carried.{Carried}
 use Rattle.bq_parts.specs.declared.lobby_entry.LobbyEntry.{LobbyEntry}
 use Rattle.bq_parts.specs.declared.lobby_entry.LobbyEntry.TheVariants.{Absent, Sleeping, Away}
-use Rattle.bq_parts.specs.Processors.{Processor, opening, count_of, held_by, in_hand}
-use Rattle.bq_parts.specs.World.{World, processor_at, inbox, entry, count_in, with_processor, with_inbox, with_lobby}
+use Rattle.bq_parts.specs.Processors.{Processor, new_processor, count_of_id, held_by, in_hand}
+use Rattle.bq_parts.specs.World.{World, processor_at, inbox, entry_of_id, count_in, with_processor, with_inbox, with_lobby}
 use Rattle.bq_parts.specs.Refusals.{is_away}
 use Rattle.bq_hooks.specs.Contexts.{as_number}
 use Rattle.bq_hooks.specs.OwnPlace.{HasPlace}
@@ -30,8 +30,8 @@ with_entry w id s = with_lobby w (set w.lobby id s)
 pub record IsTidy (count : ℕ) (floating : List Task) (w : World) : Type 0 where
   pub many : length w.processors ≡ count
   pub boxes : length w.inboxes ≡ count
-  pub away : (id : ℕ) → standing_count id w + count_of id floating ≡ as_number (is_away (entry w id))
-  pub blocked : (id : ℕ) (t : Task) → entry w id ≡ Sleeping t → (t.id ≡ id) × HasPlace count t
+  pub away : (id : ℕ) → standing_count id w + count_of_id id floating ≡ as_number (is_away (entry_of_id w id))
+  pub blocked : (id : ℕ) (t : Task) → entry_of_id w id ≡ Sleeping t → (t.id ≡ id) × HasPlace count t
   pub hand : (processor : ℕ) (c : Carried) → (processor_at w processor).hand ≡ Some c → HasPlace count c.task
   pub present : (processor : ℕ) → tally (unsuited count processor) (present_at (processor_at w processor).running) ≡ 0
   pub placed : (processor : ℕ) → tally (unsuited count processor) (inbox w processor) ≡ 0
@@ -101,8 +101,8 @@ at_set_else Q (y ∷ ys) (suc i) x d l q h (suc j) = at_set_else (λ n. Q (suc n
 -- a processor's tasks leave the count, and those of the new one come
 pub held_count-set : (id : ℕ) (ps : List Processor) (processor : ℕ) (q : Processor)
     → processor < length ps
-    → held_count id (set ps processor q) + count_of id (held_by (get_or ps processor opening))
-    ≡ held_count id ps + count_of id (held_by q)
+    → held_count id (set ps processor q) + count_of_id id (held_by (get_or ps processor new_processor))
+    ≡ held_count id ps + count_of_id id (held_by q)
 held_count-set id [] processor q l = absurd (omega arith)
 held_count-set id (p ∷ ps) zero q l = omega arith
 held_count-set id (p ∷ ps) (suc processor) q l = omega (arith, held_count-set id ps processor q (omega arith))
@@ -110,7 +110,7 @@ held_count-set id (p ∷ ps) (suc processor) q l = omega (arith, held_count-set 
 -- an inbox's tasks leave the count, and those of the new one come
 pub placed_count-set : (id : ℕ) (xss : List (List Task)) (processor : ℕ) (tasks : List Task)
     → processor < length xss
-    → placed_count id (set xss processor tasks) + count_of id (get_or xss processor []) ≡ placed_count id xss + count_of id tasks
+    → placed_count id (set xss processor tasks) + count_of_id id (get_or xss processor []) ≡ placed_count id xss + count_of_id id tasks
 placed_count-set id [] processor tasks l = absurd (omega arith)
 placed_count-set id (xs ∷ xss) zero tasks l = omega arith
 placed_count-set id (xs ∷ xss) (suc processor) tasks l = omega (arith, placed_count-set id xss processor tasks (omega arith))
@@ -118,7 +118,7 @@ placed_count-set id (xs ∷ xss) (suc processor) tasks l = omega (arith, placed_
 -- a processor is written: its tasks come from those that were there and those on their way
 pub with_processor_tidy : (count : ℕ) (xs ys : List Task) (w : World) (processor : ℕ) (q : Processor)
     → IsTidy count xs w → processor < count
-    → ((id : ℕ) → count_of id (held_by q) + count_of id ys ≡ count_of id (held_by (processor_at w processor)) + count_of id xs)
+    → ((id : ℕ) → count_of_id id (held_by q) + count_of_id id ys ≡ count_of_id id (held_by (processor_at w processor)) + count_of_id id xs)
     → ((c : Carried) → q.hand ≡ Some c → HasPlace count c.task) → tally (unsuited count processor) (present_at q.running) ≡ 0
     → IsTidy count ys (with_processor w processor q)
 with_processor_tidy count xs ys w processor q y l moved hand present =
@@ -130,10 +130,10 @@ with_processor_tidy count xs ys w processor q y l moved hand present =
       blocked = y.blocked;
       hand =
           at_set (λ n (p : Processor). (c : Carried) → p.hand ≡ Some c → HasPlace count c.task) w.processors processor q
-          opening hand y.hand;
+          new_processor hand y.hand;
       present =
           at_set (λ n (p : Processor). tally (unsuited count n) (present_at p.running) ≡ 0) w.processors processor q
-          opening present y.present;
+          new_processor present y.present;
       placed = y.placed;
     }
 
@@ -145,8 +145,8 @@ pub running_tidy : (count : ℕ) (xs ys : List Task) (w : World) (processor : �
     → IsTidy count ys (with_processor w processor q)
 running_tidy count xs ys w processor q y l h moved fit =
     let p : Processor = processor_at w processor in
-    let hands : (id : ℕ) → count_of id (in_hand q) ≡ count_of id (in_hand p) =
-    λ id. ap (λ o. count_of id (option_to_list (option_map (λ (c : Carried). c.task) o))) h in
+    let hands : (id : ℕ) → count_of_id id (in_hand q) ≡ count_of_id id (in_hand p) =
+    λ id. ap (λ o. count_of_id id (option_to_list (option_map (λ (c : Carried). c.task) o))) h in
     with_processor_tidy count xs ys w processor q y l
     (λ id. omega (
       arith,
@@ -190,14 +190,14 @@ inbox_tidy count xs ys w processor tasks y l moved fit =
 
 -- an entry is written, and is away afterwards if it was before
 pub entry_tidy : (count : ℕ) (xs : List Task) (w : World) (id : ℕ) (s : LobbyEntry)
-    → IsTidy count xs w → as_number (is_away s) ≡ as_number (is_away (entry w id))
+    → IsTidy count xs w → as_number (is_away s) ≡ as_number (is_away (entry_of_id w id))
     → ((t : Task) → s ≡ Sleeping t → (t.id ≡ id) × HasPlace count t)
     → IsTidy count xs (with_entry w id s)
 entry_tidy count xs w id s y same blocked = record {
   many = y.many;
   boxes = y.boxes;
   away =
-      at_set (λ j (x : LobbyEntry). standing_count j w + count_of j xs ≡ as_number (is_away x)) w.lobby id s Absent
+      at_set (λ j (x : LobbyEntry). standing_count j w + count_of_id j xs ≡ as_number (is_away x)) w.lobby id s Absent
       (y.away id ∙ sym same) y.away;
   blocked =
       at_set (λ j (x : LobbyEntry). (t : Task) → x ≡ Sleeping t → (t.id ≡ j) × HasPlace count t) w.lobby id s
@@ -212,22 +212,22 @@ other_id : (j : ℕ) (t : Task) → j ≢ t.id → one j t ≡ 0
 other_id j t n = grind (arith, nat_tests)
 
 -- an entry that is not absent is one of the lobby's
-past_entry : (w : World) (id : ℕ) → entry w id ≢ Absent → id < length w.lobby
+past_entry : (w : World) (id : ℕ) → entry_of_id w id ≢ Absent → id < length w.lobby
 past_entry w id n = elim (cases_lt id (length w.lobby)) [ inl l ↦ l | inr g ↦ absurd (n (get_or_past w.lobby id Absent g)) ]
 
 -- a task leaves the lobby
 pub leaves_lobby : (count : ℕ) (w : World) (id : ℕ) (t : Task)
-    → IsTidy count [] w → entry w id ≡ Sleeping t → IsTidy count (t ∷ []) (with_entry w id Away)
+    → IsTidy count [] w → entry_of_id w id ≡ Sleeping t → IsTidy count (t ∷ []) (with_entry w id Away)
 leaves_lobby count w id t y e =
     let same : t.id ≡ id = (y.blocked id t e).0 in
-    let asleep : as_number (is_away (entry w id)) ≡ 0 = ap (λ s. as_number (is_away s)) e in
+    let asleep : as_number (is_away (entry_of_id w id)) ≡ 0 = ap (λ s. as_number (is_away s)) e in
     let once : one id t ≡ 1 = subst (λ i. one i t ≡ 1) same (one_self t) in
     let apart : (j : ℕ) → j ≢ id → one j t ≡ 0 = λ j n. other_id j t (λ h. n (h ∙ same)) in
     record {
       many = y.many;
       boxes = y.boxes;
       away =
-          at_set_else (λ j (x : LobbyEntry). standing_count j w + count_of j (t ∷ []) ≡ as_number (is_away x)) w.lobby id Away
+          at_set_else (λ j (x : LobbyEntry). standing_count j w + count_of_id j (t ∷ []) ≡ as_number (is_away x)) w.lobby id Away
           Absent (past_entry w id (λ h. cc)) (omega (arith, y.away id)) (λ j n. omega (arith, y.away j, apart j n));
       blocked =
           at_set (λ j (x : LobbyEntry). (t : Task) → x ≡ Sleeping t → (t.id ≡ j) × HasPlace count t) w.lobby id Away Absent
@@ -249,7 +249,7 @@ enters_lobby count w t new y same place =
       boxes = y.boxes;
       away =
           at_set_else (λ j (x : LobbyEntry). standing_count j w + 0 ≡ as_number (is_away x)) w.lobby t.id
-          (Sleeping new) Absent there (omega (arith, y.away t.id, one_self t, as_number_le (is_away (entry w t.id))))
+          (Sleeping new) Absent there (omega (arith, y.away t.id, one_self t, as_number_le (is_away (entry_of_id w t.id))))
           (λ j n. omega (arith, y.away j, apart j n));
       blocked =
           at_set (λ j (x : LobbyEntry). (t : Task) → x ≡ Sleeping t → (t.id ≡ j) × HasPlace count t) w.lobby t.id
@@ -260,7 +260,7 @@ enters_lobby count w t new y same place =
     }
 
 -- at the opening no task stands anywhere
-standing_nowhere : (id n : ℕ) → held_count id (replicate n opening) ≡ 0
+standing_nowhere : (id n : ℕ) → held_count id (replicate n new_processor) ≡ 0
 standing_nowhere id zero = refl
 standing_nowhere id (suc n) = omega (arith, standing_nowhere id n)
 
@@ -276,13 +276,13 @@ same_everywhere x (suc n) (suc i) = same_everywhere x n i
 
 -- a world of this many lobby that opens is tidy
 pub opening_tidy : (n many : ℕ)
-    → IsTidy n [] (record { processors = replicate n opening; inboxes = replicate n []; lobby = replicate many Absent; drawn = 0 })
+    → IsTidy n [] (record { processors = replicate n new_processor; inboxes = replicate n []; lobby = replicate many Absent; drawn = 0 })
 opening_tidy n many =
-    let w : World = record { processors = replicate n opening; inboxes = replicate n []; lobby = replicate many Absent; drawn = 0 } in
-    let empty : (id : ℕ) → entry w id ≡ Absent = λ id. same_everywhere Absent many id in
-    let rests : (processor : ℕ) → processor_at w processor ≡ opening = λ processor. same_everywhere opening n processor in
+    let w : World = record { processors = replicate n new_processor; inboxes = replicate n []; lobby = replicate many Absent; drawn = 0 } in
+    let empty : (id : ℕ) → entry_of_id w id ≡ Absent = λ id. same_everywhere Absent many id in
+    let rests : (processor : ℕ) → processor_at w processor ≡ new_processor = λ processor. same_everywhere new_processor n processor in
     record {
-      many = length-replicate n opening;
+      many = length-replicate n new_processor;
       boxes = length-replicate n [];
       away = λ id. omega (arith, standing_nowhere id n, placed_nowhere id n, ap (λ s. as_number (is_away s)) (empty id));
       blocked = λ id t e. let none : Absent ≡ Sleeping t = sym (empty id) ∙ e in cc;

@@ -19,8 +19,8 @@ use Rattle.bq_parts.specs.declared.event.Event.TheVariants.{Admit, Retire, Draw,
 use Rattle.bq_parts.specs.declared.reply.Reply.{Reply}
 use Rattle.bq_parts.specs.declared.refusal.Refusal.{Refusal}
 use Rattle.bq_parts.specs.declared.refusal.Refusal.TheVariants as no
-use Rattle.bq_parts.specs.Processors.{Processor, HasEachOnce, opening}
-use Rattle.bq_parts.specs.World.{World, opening_world, processor_at, entry, count_in, loads_of}
+use Rattle.bq_parts.specs.Processors.{Processor, HasEachOnce, new_processor}
+use Rattle.bq_parts.specs.World.{World, opening_world, processor_at, entry_of_id, count_in, loads_of}
 use Rattle.bq_parts.specs.Refusals.{refusal, argument_refusal, is_absent, is_away}
 use Rattle.bq_parts.specs.Choices.{PolicySemantics, SettledChoice, by_programs, place_bytes, own_pull, under_any_answers}
 use Rattle.bq_parts.specs.Moves.{admitted}
@@ -40,8 +40,8 @@ use Rattle.bq_core.proofs.EventLemmas
 pub opening_is_orderly : OpeningIsOrderly
 opening_is_orderly n =
     let tidy : IsTidy (count_in (opening_world n)) [] (opening_world n) =
-    subst (λ c. IsTidy c [] (opening_world n)) (sym (length-replicate n opening)) (opening_tidy n 1024) in
-    orderly_of (opening_world n) tidy (λ processor. subst IsWell (sym (same_everywhere opening n processor)) opening_well)
+    subst (λ c. IsTidy c [] (opening_world n)) (sym (length-replicate n new_processor)) (opening_tidy n 1024) in
+    orderly_of (opening_world n) tidy (λ processor. subst IsWell (sym (same_everywhere new_processor n processor)) opening_well)
 
 -- the mask of a task that is admitted has a processor of the machine
 admitted_has_place : (count id : ℕ) (nice : ℤ) (mask slice : ℕ)
@@ -69,8 +69,8 @@ admit_keeps s w id nice mask slice calls r w' y h k =
 retire_keeps : (s : PolicySemantics) (w : World) (id : ℕ) (calls : List CounterCall) (r : Reply) (w' : World)
     → IsTidy (count_in w) [] w → Performs s w (Retire id) calls r w' → Keeps w w'
 retire_keeps s w id calls r w' y k =
-    let later = (first_refusal_passed (is_absent (entry w id)) no.NoTask _ k.1.0).1 in
-    rw (k.3, k.1.2) (EventLemmas.retire_tidy (count_in w) w id y (first_refusal_passed (is_away (entry w id)) no.NotBlocked None later).0)
+    let later = (first_refusal_passed (is_absent (entry_of_id w id)) no.NoTask _ k.1.0).1 in
+    rw (k.3, k.1.2) (EventLemmas.retire_tidy (count_in w) w id y (first_refusal_passed (is_away (entry_of_id w id)) no.NotBlocked None later).0)
 
 install_keeps : (s : PolicySemantics) (w : World) (processor : ℕ) (hook : Hook) (g : ℕ) (policy : Option Accepted)
     (calls : List CounterCall) (r : Reply) (w' : World)
@@ -89,8 +89,8 @@ begin_wake_keeps s w processor id calls r w' y h k =
     let b = k.2 in
     let l = (not_refused_is_there (count_in w) processor _ (accepted w (BeginWake processor id) h).0).0 in
     let later =
-    (first_refusal_passed (is_away (entry w id)) no.NotBlocked _
-    (first_refusal_passed (is_absent (entry w id)) no.NoTask _ b.not_refused).1).1 in
+    (first_refusal_passed (is_away (entry_of_id w id)) no.NotBlocked _
+    (first_refusal_passed (is_absent (entry_of_id w id)) no.NoTask _ b.not_refused).1).1 in
     rw (k.4, b.in_hand, b.away) (EventLemmas.begin_wake_tidy (count_in w)
     w processor id b.task (loads_of w.processors w.inboxes) y l b.sleeps
     (first_refusal_passed (is_some (processor_at w processor).hand) no.InHand None later).0)

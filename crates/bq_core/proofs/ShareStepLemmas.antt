@@ -12,7 +12,7 @@ use Rattle.bq_parts.specs.declared.reply.Reply.TheVariants.{Placed}
 use Rattle.bq_parts.specs.declared.refusal.Refusal.{Refusal}
 use Rattle.bq_parts.specs.declared.refusal.Refusal.TheVariants as no
 use Rattle.bq_parts.specs.declared.lobby_entry.LobbyEntry.{LobbyEntry}
-use Rattle.bq_parts.specs.Processors.{Processor, opening}
+use Rattle.bq_parts.specs.Processors.{Processor, new_processor}
 use Rattle.bq_parts.specs.World.{World, processor_at, inbox, count_in, with_processor, with_inbox, with_lobby, loads_of}
 use Rattle.bq_parts.specs.declared.wakes.Placement.{Placement}
 use Rattle.bq_parts.specs.declared.carried.Carried.{Carried}
@@ -58,7 +58,7 @@ drains_step d w processor now calls r q h t = (rw (in_range_not_refused w proces
 same_processor : (w : World) (processor : ℕ) (q : Processor) → q ≡ processor_at w processor → with_processor w processor q ≡ w
 same_processor w processor q e =
     ap (with_processor w processor) e
-    ∙ ap (λ (x : List Processor). record w { processors = x }) (set-get_or w.processors processor opening)
+    ∙ ap (λ (x : List Processor). record w { processors = x }) (set-get_or w.processors processor new_processor)
 
 -- a processor and a lobby that are as they were
 same_lobby_too : (w : World) (processor : ℕ) (q : Processor) (lobby : List LobbyEntry)
@@ -178,14 +178,14 @@ begins_at d w w' processor id loads r q p lobby lobby' h l count at is b e =
 pub pulls_at : (d : Discipline) (w w' : World) (processor from now : ℕ) (calls : List CounterCall) (r : Reply)
     (ps qs : List Processor) (q other : Processor)
     → processor < count_in w → from < count_in w → processor ≢ from → ps ≡ w.processors
-    → Pulls (by_programs d) processor from now (slice_index_or ps processor opening) (slice_index_or ps from opening) calls r q other
+    → Pulls (by_programs d) processor from now (slice_index_or ps processor new_processor) (slice_index_or ps from new_processor) calls r q other
     → qs ≡ slice_set (slice_set ps processor q) from other → w' ≡ record w { processors = qs }
     → WorldStep (by_programs d) w (Pull processor from now) calls (Ok r) w'
 pulls_at d w w' processor from now calls r ps qs q other h k n is p f e =
     let there =
     subst (λ (xs : List Processor).
-    Pulls (by_programs d) processor from now (slice_index_or xs processor opening)
-    (slice_index_or xs from opening) calls r q other) is p in
+    Pulls (by_programs d) processor from now (slice_index_or xs processor new_processor)
+    (slice_index_or xs from new_processor) calls r q other) is p in
     rw (e, f, is) (pulls_step d w processor from now calls r q other h k n there)
 
 -- the share of an admission is the world's step, where the parts are known by equations

@@ -9,7 +9,7 @@ use Rattle.bq_disc.specs.Discipline.{Discipline}
 use Rattle.bq_parts.specs.declared.event.Event.TheVariants.{Block}
 use Rattle.bq_parts.specs.declared.refusal.Refusal.TheVariants as no
 use Rattle.bq_parts.specs.declared.lobby_entry.LobbyEntry.{LobbyEntry}
-use Rattle.bq_parts.specs.Processors.{Processor, opening}
+use Rattle.bq_parts.specs.Processors.{Processor, new_processor}
 use Rattle.bq_parts.specs.World.{World, processor_at, inbox, count_in, with_processor, with_inbox, with_lobby}
 use Rattle.bq_parts.specs.Choices.{by_programs}
 use Rattle.bq_parts.specs.Shares.{after_time}
@@ -40,7 +40,7 @@ module _ {v w : World} (view : v ≡ w) where
       → p ≡ processor_at w processor
   borrowed {i} {processor} {p} e inside at =
       get_or_read w.processors processor p inside
-      (at ∙ ap (λ (u : World). get_or u.processors i p) view ∙ ap (λ (n : ℕ). get_or w.processors n p) e) opening
+      (at ∙ ap (λ (u : World). get_or u.processors i p) view ∙ ap (λ (n : ℕ). get_or w.processors n p) e) new_processor
 
   -- an inbox is there where the processor is
   pub inbox_there : {to : ℕ} → length v.processors ≡ length v.inboxes → to < count_in w → to < length w.inboxes

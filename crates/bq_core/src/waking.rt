@@ -1,6 +1,6 @@
 //! The two halves of a wake: a sleeping task comes into a processor's hand, and is placed.
 ghost use Rattle.std.specs.Prelude.{◌≡◌, ◌<◌, ◌≤◌, ◌^◌, ℕ, [], length, slice_index_or};
-ghost use Rattle.bq_parts.specs.Processors.{opening, load_of};
+ghost use Rattle.bq_parts.specs.Processors.{new_processor, load_of};
 ghost use Rattle.bq_parts.specs.World.{count_in, loads_of};
 ghost use Rattle.bq_bpf.specs.Counters.{Through};
 ghost use Rattle.bq_parts.specs.Choices.{by_programs};
@@ -70,7 +70,7 @@ impl<Q: RunQueue> Parts<Q> {
 fn loads_of<Q: RunQueue>(cpus: &[Cpu<Q>], inboxes: &[Inbox]) -> Loads
     requires same { length cpus.now ≡ length inboxes.now }
     requires few { length cpus.now ≤ PROCESSORS }
-    requires small { (i : ℕ) → load_of (slice_index_or cpus.now i opening) (slice_index_or inboxes.now i []) < 2 ^ 16 }
+    requires small { (i : ℕ) → load_of (slice_index_or cpus.now i new_processor) (slice_index_or inboxes.now i []) < 2 ^ 16 }
     ensures { result ≡ loads_of cpus.now inboxes.now }
 {
     let mut loads = Loads::new();

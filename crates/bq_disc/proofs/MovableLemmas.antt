@@ -4,7 +4,7 @@ use Rattle.std.proofs.lemmas.List.{length-reverse, reverse-append, map-append, t
 use Rattle.std.proofs.lemmas.List.Elements.{filter-append}
 use Rattle.bq_disc.specs.Tasks.{Task}
 use Rattle.bq_disc.specs.Queues.{can_use}
-use Rattle.bq_disc.specs.Movable.{movable_to, ids, Adds}
+use Rattle.bq_disc.specs.Movable.{movable_to, ids, AddsMovable}
 use Rattle.bq_disc.specs.declared.movable.Movable.{Movable}
 
 movable_to-append : (processor : ℕ) (xs ys : List Task)
@@ -31,7 +31,7 @@ append_nothing (x ∷ xs) = ap (λ l. x ∷ l) (append_nothing xs)
 -- a task that may go is only counted, where eight ids are kept
 pub Adds-full : (processor : ℕ) (t : Task) (a b : Movable) → can_use processor t ≡ true → b.count ≡ a.count + 1
     → b.first.items ≡ a.first.items → length a.first.items ≡ 8
-    → Adds processor (t ∷ []) a b
+    → AddsMovable processor (t ∷ []) a b
 Adds-full processor t a b e count first h =
     let one : movable_to processor (t ∷ []) ≡ t ∷ [] = rw e refl in
     record {
@@ -42,7 +42,7 @@ Adds-full processor t a b e count first h =
 
 -- the later part is looked at first
 pub Adds-append : (processor : ℕ) (xs ys : List Task) (a b c : Movable)
-    → Adds processor ys a b → Adds processor xs b c → Adds processor (xs ++ ys) a c
+    → AddsMovable processor ys a b → AddsMovable processor xs b c → AddsMovable processor (xs ++ ys) a c
 Adds-append processor xs ys a b c h k =
     let both = movable_to-append processor xs ys in
     let many = length-append (movable_to processor ys) (movable_to processor xs) in

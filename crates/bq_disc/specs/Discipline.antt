@@ -4,7 +4,7 @@ use Rattle.bq_disc.specs.Tasks.{Task, id_of}
 use Rattle.bq_disc.specs.Queues.{HasDistinctIds}
 use Rattle.bq_disc.specs.declared.queue.Entry.{Entry}
 use Rattle.bq_disc.specs.declared.queue.Entry.TheVariants.{Wake, Pull}
-use Rattle.bq_weights.specs.VirtualTime.{advance_of, shift_of, distance_of}
+use Rattle.bq_weights.specs.VirtualTime.{advance_of, shift_of, distance_from_mark}
 
 -- a discipline: its choices among tasks, and how it gives them times
 pub record Discipline : Type 0 where
@@ -58,7 +58,7 @@ entered_by d mark Pull t = pulled d mark t
 
 -- a task as it leaves, at this mark
 abbrev pub left_at : ℕ → Task → Task
-left_at mark t = record t { rel = distance_of t.v mark }
+left_at mark t = record t { rel = distance_from_mark t.v mark }
 
 -- the id of the task to run: the choice of all, if it is not the current task; else the choice of the queue; else the
 -- current task

@@ -18,7 +18,7 @@ abbrev pub is_movable_to : ℕ → ℕ → List Task → Bool
 is_movable_to processor id xs = option_map_or (can_use processor) (with_id id xs) false
 
 -- one more stretch of the queue, looked at from its last task to its first, takes the tally from `old` to `new`
-pub record Adds (processor : ℕ) (xs : List Task) (old new : Movable) : Type 0 where
+pub record AddsMovable (processor : ℕ) (xs : List Task) (old new : Movable) : Type 0 where
   pub count : new.count ≡ old.count + length (movable_to processor xs)
   pub first : new.first.items ≡ take 8 (old.first.items ++ ids (movable_to processor xs))
   pub fits : length new.first.items ≤ 8

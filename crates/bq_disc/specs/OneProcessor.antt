@@ -40,8 +40,8 @@ run_id p None = p
 run_id p (Some id) = record p { current = with_id id p.queue; queue = without id p.queue }
 
 -- the queue's choice runs
-abbrev pub start : Discipline → Running → Running
-start d p = run_id p (id_of (d.choice p.queue))
+abbrev pub choice_started : Discipline → Running → Running
+choice_started d p = run_id p (id_of (d.choice p.queue))
 
 -- the current task goes to the queue, and the new one runs in its place; no v and no deadline changes
 abbrev pub exchanged : Running → Task → Option Task → Running
@@ -55,7 +55,7 @@ switched d p (Some current) = exchanged p current (with_id (next_of d current p.
 
 -- Decide: if nothing runs, the queue's choice runs; else `gives_way` says whether the current task gives way
 abbrev pub decided : Discipline → Running → Option Task → Bool → Running
-decided d p None gives_way = start d p
+decided d p None gives_way = choice_started d p
 decided d p (Some current) gives_way = if gives_way then switched d p (Some current) else p
 
 -- the discipline's own answer to whether the current task gives way

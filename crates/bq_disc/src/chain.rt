@@ -6,7 +6,7 @@ ghost use Rattle.bq_disc.specs.Tasks.{place, with_id, without};
 ghost use Rattle.bq_disc.specs.Chains.{task_of, IsLone, chain_behind, IsStraightBehind};
 ghost use Rattle.bq_disc.specs.Totals.{sums_of, is_at_most_mean, HasBounds};
 ghost use Rattle.bq_disc.specs.Dues.{first_due};
-ghost use Rattle.bq_disc.specs.Movable.{Adds};
+ghost use Rattle.bq_disc.specs.Movable.{AddsMovable};
 
 use crate::limits::PROCESSORS;
 use crate::node::{Link, behind};
@@ -206,7 +206,7 @@ pub(crate) fn movable_behind(link: &Link, processor: u8, found: &mut Movable)
     requires processor { processor < PROCESSORS }
     requires few { found.old.count + length (chain_behind link.now) ≤ 2 ^ 20 }
     requires fits { length found.old.first.items ≤ 8 }
-    ensures { Adds processor (chain_behind link.now) found.old found.new }
+    ensures { AddsMovable processor (chain_behind link.now) found.old found.new }
 {
     let Some(node) = link else {
         return;

@@ -1,7 +1,7 @@
 //! The tasks of a queue that may go to another processor.
 ghost use Rattle.std.specs.Prelude.{◌≡◌, ◌<◌, ◌≤◌, ◌^◌, ◌+◌, [], ◌∷◌, length};
 ghost use Rattle.bq_disc.specs.Queues.{can_use};
-ghost use Rattle.bq_disc.specs.Movable.{Adds};
+ghost use Rattle.bq_disc.specs.Movable.{AddsMovable};
 
 use crate::Entity;
 use crate::limits::PROCESSORS;
@@ -31,7 +31,7 @@ impl Movable {
         requires processor { processor < PROCESSORS }
         requires few { self.old.count < 2 ^ 20 }
         requires fits { length self.old.first.items ≤ 8 }
-        ensures { Adds processor (entity.now ∷ []) self.old self.new }
+        ensures { AddsMovable processor (entity.now ∷ []) self.old self.new }
     {
         if !entity.can_use(processor) {
             return;

@@ -6,10 +6,10 @@ use Rattle.std.specs.List.{list_any}
 use Rattle.std.specs.Ordering.{nat_cmp}
 use Rattle.bq_drawing.specs.Keys.{tasks_shown}
 use Rattle.bq_drawing.specs.Legends.{entries_text, entry_text}
-use Rattle.bq_drawing.specs.Shapes.{Setting}
+use Rattle.bq_drawing.specs.Shapes.{PictureSetting}
 
 -- one more task
-pub entries_next : (s : Setting) (first : ℕ) (tasks : List ℕ) (place d : ℕ) (whole now next : List ℕ) → place < length tasks
+pub entries_next : (s : PictureSetting) (first : ℕ) (tasks : List ℕ) (place d : ℕ) (whole now next : List ℕ) → place < length tasks
     → next ≡ now ++ entry_text s first place (get_or tasks place d) → now ++ entries_text s first place (drop place tasks) ≡ whole
     → next ++ entries_text s first (place + 1) (drop (place + 1) tasks) ≡ whole
 unfolding entries_text
@@ -19,7 +19,7 @@ entries_next s first tasks place d whole now next there e is =
     ∙ sym (at_drop_more (λ (l : List ℕ). now ++ entries_text s first place l) tasks place d there) ∙ is
 
 -- all of them
-pub entries_end : (s : Setting) (first place : ℕ) (tasks whole now : List ℕ) → drop place tasks ≡ []
+pub entries_end : (s : PictureSetting) (first place : ℕ) (tasks whole now : List ℕ) → drop place tasks ≡ []
     → now ++ entries_text s first place (drop place tasks) ≡ whole → now ≡ whole
 unfolding entries_text
 entries_end s first place tasks whole now none is =

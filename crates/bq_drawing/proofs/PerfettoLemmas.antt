@@ -10,14 +10,14 @@ use Rattle.bq_schedule.specs.declared.change.Stop.{Stop}
 use Rattle.bq_schedule.specs.declared.change.Wake.{Wake}
 use Rattle.bq_schedule.specs.declared.figures.ProcessorFigures.{ProcessorFigures}
 use Rattle.bq_schedule.specs.declared.slice.Slice.{Slice}
-use Rattle.bq_schedule.specs.Figures.{Figures, processor_of, task_of}
+use Rattle.bq_schedule.specs.Figures.{Figures, processor_in_figures, task_in_figures}
 use Rattle.bq_report.specs.declared.window.Window.{Window}
 use Rattle.bq_report.specs.Names.{NamedTasks}
-use Rattle.bq_report.specs.Reports.{Adds, AreParts}
+use Rattle.bq_report.specs.Reports.{GrowsByPart, AreParts}
 use Rattle.bq_report.specs.Windows.{IsShownPart}
 use Rattle.bq_report.proofs.ReportLemmas.{AreParts-end, lines_more}
 use Rattle.bq_drawing.specs.declared.perfetto.ShownParts.{ShownParts}
-use Rattle.bq_drawing.specs.Events.{act_name, beginning_text, event_track, mark_text, run_event, run_name, run_object, task_args, track_text, tracks_text}
+use Rattle.bq_drawing.specs.Events.{act_name, beginning_text, event_track, instant_text, run_event, run_name, run_object, task_args, track_text, tracks_text}
 use Rattle.bq_drawing.specs.Histories.{Past, arrows_to, next_arrow}
 use Rattle.bq_drawing.specs.Runs.{run_on}
 use Rattle.bq_drawing.specs.Perfetto.{IsPerfettoOf, IsPerfettoRunner, IsPerfettoTail, ShowsChange, left_run, past_reading, past_start, past_stop, past_wake, perfetto_ends_if, perfetto_migration, perfetto_overruled, perfetto_pull, perfetto_reading, perfetto_run, perfetto_wake}
@@ -39,21 +39,21 @@ tracks_written processor runs events name other old now new is is_64 n o e1 e2 =
     ∙ ap (λ p. old ++ tracks_text p) is
 
 same_mark : (kind name name' : List ℕ) (track track' at : ℕ) (args args' : List ℕ) → name ≡ name' → track ≡ track' → args ≡ args'
-    → mark_text kind name track at args ≡ mark_text kind name' track' at args'
+    → instant_text kind name track at args ≡ instant_text kind name' track' at args'
 same_mark kind name name' track track' at args args' n t a =
-    ap (λ m. mark_text kind m track at args) n ∙ ap (λ k. mark_text kind name' k at args) t ∙ ap (λ b. mark_text kind name' track' at b) a
+    ap (λ m. instant_text kind m track at args) n ∙ ap (λ k. instant_text kind name' k at args) t ∙ ap (λ b. instant_text kind name' track' at b) a
 
 -- a wake that is there, and the beginning of its arrow
 pub wake_written : (names : NamedTasks) (arrow : ℕ) (given : Option Wake) (k : Wake) (track : ℕ)
     (name args old now new : List ℕ)
     → given ≡ Some k → name ≡ act_name names (codes "wake") k.task → args ≡ task_args k.task (codes "to") k.to
-    → track ≡ event_track k.from → now ≡ old ++ mark_text (codes "wake") name track k.at args
+    → track ≡ event_track k.from → now ≡ old ++ instant_text (codes "wake") name track k.at args
     → new ≡ now ++ beginning_text (codes "wake") arrow track k.at
     → new ≡ old ++ perfetto_wake names arrow given
 wake_written names arrow given k track name args old now new is n a t e1 e2 =
-    let mark = mark_text (codes "wake") name track k.at args in
+    let mark = instant_text (codes "wake") name track k.at args in
     let reported =
-    mark_text (codes "wake") (act_name names (codes "wake") k.task) (event_track k.from) k.at
+    instant_text (codes "wake") (act_name names (codes "wake") k.task) (event_track k.from) k.at
     (task_args k.task (codes "to") k.to) in
     e2 ∙ ap (λ x. x ++ beginning_text (codes "wake") arrow track k.at) e1
     ∙ append_assoc old mark (beginning_text (codes "wake") arrow track k.at)
@@ -66,7 +66,7 @@ wake_written names arrow given k track name args old now new is n a t e1 e2 =
 -- a pull that is there
 pub pull_written : (names : NamedTasks) (given : Option PulledTask) (p : PulledTask) (track : ℕ) (name args old new : List ℕ)
     → given ≡ Some p → name ≡ act_name names (codes "pull") p.task → args ≡ task_args p.task (codes "from") p.from
-    → track ≡ event_track p.to → new ≡ old ++ mark_text (codes "pull") name track p.at args
+    → track ≡ event_track p.to → new ≡ old ++ instant_text (codes "pull") name track p.at args
     → new ≡ old ++ perfetto_pull names given
 pull_written names given p track name args old new is n a t e =
     e ∙ ap (λ x. old ++ x) (same_mark (codes "pull") name (act_name names (codes "pull") p.task) track
@@ -85,7 +85,7 @@ migration_written arrow given run track at old new is t a e =
 -- a run of which a part is shown, and the ends of the arrows that lead to it
 pub run_written : (names : NamedTasks) (s : Figures) (h : Past) (given : Option Start) (part : Option Slice) (start : Start) (run : Slice)
     (name args old now new : List ℕ) → given ≡ Some start → part ≡ Some run → name ≡ run_name names run.task
-    → args ≡ compact_text (run_object (task_of s run.task) run.task start.waited) → now ≡ old ++ run_event run name args
+    → args ≡ compact_text (run_object (task_in_figures s run.task) run.task start.waited) → now ≡ old ++ run_event run name args
     → new ≡ now ++ perfetto_ends_if (run.from == start.at) (arrows_to h run.processor) run → new ≡ old ++ perfetto_run names s h given part
 run_written names s h given part start run name args old now new is_start is_run n a e1 e2 =
     let ends = perfetto_ends_if (run.from == start.at) (arrows_to h run.processor) run in
@@ -95,8 +95,8 @@ run_written names s h given part start run name args old now new is_start is_run
 
 -- one more processor's tracks
 pub tracks_more : (number processor : ℕ) (old now next : List ℕ)
-    → processor ≡ number → Adds (AreParts (λ p own. own ≡ tracks_text p) number) old now → next ≡ now ++ tracks_text processor
-    → Adds (AreParts (λ p own. own ≡ tracks_text p) (number + 1)) old next
+    → processor ≡ number → GrowsByPart (AreParts (λ p own. own ≡ tracks_text p) number) old now → next ≡ now ++ tracks_text processor
+    → GrowsByPart (AreParts (λ p own. own ≡ tracks_text p) (number + 1)) old next
 tracks_more number processor old now next is before e =
     lines_more (λ p own. own ≡ tracks_text p) number old now next before (tracks_text number, refl, e ∙ ap (λ p. now ++ tracks_text p) is)
 
@@ -107,17 +107,17 @@ AddsRunner w names s h p now next =
 
 -- one more processor's run that goes on
 pub runners_more : (w : Window) (names : NamedTasks) (s : Figures) (h : Past) (number : ℕ) (p : ProcessorFigures) (old now next : List ℕ)
-    → Adds (AreParts (IsPerfettoRunner w names s h) number) old now → p ≡ processor_of s number → AddsRunner w names s h p now next
-    → Adds (AreParts (IsPerfettoRunner w names s h) (number + 1)) old next
+    → GrowsByPart (AreParts (IsPerfettoRunner w names s h) number) old now → p ≡ processor_in_figures s number → AddsRunner w names s h p now next
+    → GrowsByPart (AreParts (IsPerfettoRunner w names s h) (number + 1)) old next
 runners_more w names s h number p old now next before is step =
-    let here : AddsRunner w names s h (processor_of s number) now next = subst (λ q. AddsRunner w names s h q now next) is step in
+    let here : AddsRunner w names s h (processor_in_figures s number) now next = subst (λ q. AddsRunner w names s h q now next) is step in
     lines_more (IsPerfettoRunner w names s h) number old now next before
-    (perfetto_run names s h (processor_of s number).running here.0, (here.0, here.1, refl), here.2)
+    (perfetto_run names s h (processor_in_figures s number).running here.0, (here.0, here.1, refl), here.2)
 
 -- the runs of all processors that go on, and the end behind them
 pub tail_added : (w : Window) (names : NamedTasks) (s : Figures) (h : Past) (number : ℕ) (old now next : List ℕ)
-    → number ≡ 64 → Adds (AreParts (IsPerfettoRunner w names s h) number) old now → next ≡ now ++ codes "\n]}\n"
-    → Adds (IsPerfettoTail w names s h) old next
+    → number ≡ 64 → GrowsByPart (AreParts (IsPerfettoRunner w names s h) number) old now → next ≡ now ++ codes "\n]}\n"
+    → GrowsByPart (IsPerfettoTail w names s h) old next
 tail_added w names s h number old now next is runs e = (
   runs.0 ++ codes "\n]}\n",
   (runs.0, AreParts-end (IsPerfettoRunner w names s h) number 64 runs.0 is runs.1, refl),
@@ -143,7 +143,7 @@ pub events_added : (w : Window) (names : NamedTasks) (s : Figures) (change : Cha
     → started ≡ past_start change.start shown.migration stopped
     → t5 ≡ t4 ++ perfetto_migration (next_arrow stopped) (left_run stopped shown.migration)
     → new ≡ past_reading s shown.reading started → t6 ≡ t5 ++ perfetto_reading s started shown.reading
-    → Adds (IsPerfettoOf w names s change old new) t0 t6
+    → GrowsByPart (IsPerfettoOf w names s change old new) t0 t6
 events_added w names s change shown old woken stopped started new t0 t1 t2 t3 t4 t5 t6 is e1 h2 e2 e3 h4 e4 h5 e5 h6 e6 = (
   _,
   record {

@@ -13,11 +13,11 @@ use Rattle.bq_schedule.specs.declared.change.Stop.{Stop}
 use Rattle.bq_schedule.specs.declared.change.Wake.{Wake}
 use Rattle.bq_schedule.specs.declared.figures.ProcessorFigures.{ProcessorFigures}
 use Rattle.bq_schedule.specs.declared.slice.Slice.{Slice}
-use Rattle.bq_schedule.specs.Figures.{Figures, processor_of, task_of}
+use Rattle.bq_schedule.specs.Figures.{Figures, processor_in_figures, task_in_figures}
 use Rattle.bq_report.specs.declared.extent.Extent.{Extent}
 use Rattle.bq_report.specs.declared.window.Window.{Window}
 use Rattle.bq_report.specs.Names.{NamedTasks}
-use Rattle.bq_report.specs.Reports.{Adds}
+use Rattle.bq_report.specs.Reports.{GrowsByPart}
 use Rattle.bq_report.specs.Windows.{Shows, ShowsProcessor}
 use Rattle.bq_drawing.specs.declared.drawing.WrittenRows.{WrittenRows}
 use Rattle.bq_drawing.specs.declared.lanes.Stretch.{Stretch}
@@ -30,15 +30,15 @@ use Rattle.bq_words.specs.declared.rule.Rule.{Rule}
 use Rattle.bq_drawing.specs.Axes.{axis_text}
 use Rattle.bq_drawing.specs.Headings.{heading_text, title_of}
 use Rattle.bq_drawing.specs.Holdings.{Held, HoldsChange, HoldsPull, HoldsRun, HoldsRunners, HoldsStart, HoldsWait, HoldsWaiting, HoldsWake, Stops, wait_at, with_stop, with_wake}
-use Rattle.bq_drawing.specs.Keys.{key_of, legend_of, legend_top, tasks_shown}
+use Rattle.bq_drawing.specs.Keys.{legend_key, legend_of, legend_top, tasks_shown}
 use Rattle.bq_drawing.specs.Legends.{legend_height, legend_text}
-use Rattle.bq_drawing.specs.Links.{line_of, links_text}
-use Rattle.bq_drawing.specs.Lanes.{lane_of, lanes_after, left_out, taken}
+use Rattle.bq_drawing.specs.Links.{link_line, links_text}
+use Rattle.bq_drawing.specs.Lanes.{lane_of, lanes_after, left_out, lanes_taken}
 use Rattle.bq_drawing.specs.Pictures.{IsDrawing, IsDrawnOver, IsHead, IsPicture, IsPictureOf}
 use Rattle.bq_drawing.specs.Places.{band_height, lane_height, level_height, row_gap, rows_edge}
-use Rattle.bq_drawing.specs.Rows.{ArePutInOrder, Row, Rows, labels_text, row_of, row_text}
-use Rattle.bq_drawing.specs.Runs.{ended_run, run_on}
-use Rattle.bq_drawing.specs.Shapes.{Setting, arrow_of, band_text, drawn_in, in_lanes, label_text, row_name, run_text, shape_in, waits_text, wakes_text}
+use Rattle.bq_drawing.specs.Rows.{ArePutInOrder, DrawingRow, Rows, labels_text, drawing_row_of, drawing_row_text}
+use Rattle.bq_drawing.specs.Runs.{run_ended_by, run_on}
+use Rattle.bq_drawing.specs.Shapes.{PictureSetting, arrow_of, band_text, drawn_in, in_lanes, label_text, row_name, drawn_run_text, shape_in, waits_text, wakes_text}
 use Rattle.bq_drawing.specs.Titles.{axis_step, xml_letter}
 use Rattle.bq_drawing.specs.Writing.{AreDrawn, IsRowWritten, IsRowWrittenIf, key_beside}
 
@@ -49,10 +49,10 @@ runners_none w s rows = refl
 
 -- one more processor's
 pub runner_held : (w : Window) (s : Figures) (number : ℕ) (p : ProcessorFigures) (old now new : Held) → HoldsRunners w s number old now
-    → p ≡ processor_of s number → HoldsRun w p.running (run_on p) now new → HoldsRunners w s (number + 1) old new
+    → p ≡ processor_in_figures s number → HoldsRun w p.running (run_on p) now new → HoldsRunners w s (number + 1) old new
 unfolding HoldsRunners
 runner_held w s number p old now new before is holds =
-    let here : HoldsRun w (processor_of s number).running (run_on (processor_of s number)) now new =
+    let here : HoldsRun w (processor_in_figures s number).running (run_on (processor_in_figures s number)) now new =
     subst (λ q. HoldsRun w q.running (run_on q) now new) is holds in
     subst (λ n. HoldsRunners w s n old new) (sym (add-one number)) (now, before, here)
 
@@ -81,7 +81,7 @@ all_added : (old t1 t2 t3 a b c : List ℕ) → t1 ≡ old ++ a → t2 ≡ t1 ++
 all_added old t1 t2 t3 a b c e1 e2 e3 = both_added old t1 t3 a (b ++ c) e1 (both_added t1 t2 t3 b c e2 e3)
 
 -- a row: its band and its name, then its runs, its waits and its wakes, and the names upon the runs
-pub row_written : (s : Setting) (number : ℕ) (row : Row) (waits wakes : List Stretch) (levels lanes top below above : ℕ)
+pub row_written : (s : PictureSetting) (number : ℕ) (row : DrawingRow) (waits wakes : List Stretch) (levels lanes top below above : ℕ)
     (old new : WrittenRows) (t1 t2 t3 : List ℕ)
     → ArePutInOrder row.waits waits → ArePutInOrder row.wakes wakes
     → levels ≡ length (lanes_after (arrow_of s.extent) [] wakes) → top ≡ saturating_sum old.bottom (levels * level_height + 4)
@@ -93,12 +93,12 @@ pub row_written : (s : Setting) (number : ℕ) (row : Row) (waits wakes : List S
     → new.wakes_left_out ≡ saturating_sum old.wakes_left_out above
     → new.links ≡ old.links → Updates nat_cmp old.bands new.bands number (Some top)
     → string_bytes new.labels ≡ string_bytes old.labels ++ flat_map (label_text s top) row.runs
-    → t1 ≡ string_bytes old.text ++ (band_text top ++ row_name number top) → t2 ≡ t1 ++ flat_map (run_text s top) row.runs
+    → t1 ≡ string_bytes old.text ++ (band_text top ++ row_name number top) → t2 ≡ t1 ++ flat_map (drawn_run_text s top) row.runs
     → t3 ≡ t2 ++ waits_text s top waits → string_bytes new.text ≡ t3 ++ wakes_text s top wakes
     → IsRowWritten s number row old new
 row_written s number row waits wakes levels lanes top below above old new t1 t2 t3 first second high at wide ends few less
     some fewer links bands labels e1 e2 e3 e4 =
-    let drawn = flat_map (run_text s top) row.runs in
+    let drawn = flat_map (drawn_run_text s top) row.runs in
     let under = waits_text s top waits in
     let over = wakes_text s top wakes in
     record {
@@ -144,22 +144,22 @@ pub shapes_end : {A : Type 0} (draw : A → List ℕ) (items : List A) (i : ℕ)
 shapes_end {A} draw items i whole now none is = sym (append-nil now) ∙ sym (ap (λ (l : List A). now ++ flat_map draw l) none) ∙ is
 
 -- one more line between rows
-pub line_written : (kind : LinkKind) (s : Setting) (links : List Link) (i : ℕ) (d : Link)
+pub line_written : (kind : LinkKind) (s : PictureSetting) (links : List Link) (i : ℕ) (d : Link)
     (old now next : WrittenRows) (whole : List ℕ)
     → i < length links → now ≡ record old { links = now.links }
-    → string_bytes next.links ≡ string_bytes now.links ++ line_of kind s (get nat_cmp now.bands) (get_or links i d)
-    → string_bytes now.links ++ flat_map (line_of kind s (get nat_cmp old.bands)) (drop i links) ≡ whole
-    → string_bytes next.links ++ flat_map (line_of kind s (get nat_cmp old.bands)) (drop (i + 1) links) ≡ whole
+    → string_bytes next.links ≡ string_bytes now.links ++ link_line kind s (get nat_cmp now.bands) (get_or links i d)
+    → string_bytes now.links ++ flat_map (link_line kind s (get nat_cmp old.bands)) (drop i links) ≡ whole
+    → string_bytes next.links ++ flat_map (link_line kind s (get nat_cmp old.bands)) (drop (i + 1) links) ≡ whole
 line_written kind s links i d old now next whole there same e is =
-    shapes_next (line_of kind s (get nat_cmp old.bands)) links i d whole (string_bytes now.links)
+    shapes_next (link_line kind s (get nat_cmp old.bands)) links i d whole (string_bytes now.links)
     (string_bytes next.links) there
-    (e ∙ ap (λ (m : BTreeMap ℕ ℕ). string_bytes now.links ++ line_of kind s (get nat_cmp m) (get_or links i d))
+    (e ∙ ap (λ (m : BTreeMap ℕ ℕ). string_bytes now.links ++ link_line kind s (get nat_cmp m) (get_or links i d))
     (ap (λ (r : WrittenRows). r.bands) same)) is
 
 -- one more of some shapes in lanes
 pub lanes_next : (room : Stretch → Stretch) (draw : ℕ → Stretch → List ℕ) (lanes after : List ℕ) (items : List Stretch)
     (i : ℕ) (d place : Stretch) (lane : Option ℕ) (whole now next : List ℕ)
-    → i < length items → place ≡ room (get_or items i d) → lane ≡ lane_of place lanes → after ≡ taken lane place.to lanes
+    → i < length items → place ≡ room (get_or items i d) → lane ≡ lane_of place lanes → after ≡ lanes_taken lane place.to lanes
     → next ≡ now ++ shape_in draw lane (get_or items i d) → now ++ in_lanes room draw lanes (drop i items) ≡ whole
     → next ++ in_lanes room draw after (drop (i + 1) items) ≡ whole
 unfolding in_lanes
@@ -168,10 +168,10 @@ lanes_next room draw lanes after items i d place lane whole now next there needs
     let later = drop (i + 1) items in
     let shape = shape_in draw (lane_of (room here) lanes) here in
     let own : lane ≡ lane_of (room here) lanes = takes ∙ ap (λ (p : Stretch). lane_of p lanes) needs in
-    let kept : after ≡ taken lane (room here).to lanes = keeps ∙ ap (λ (p : Stretch). taken lane p.to lanes) needs in
+    let kept : after ≡ lanes_taken lane (room here).to lanes = keeps ∙ ap (λ (p : Stretch). lanes_taken lane p.to lanes) needs in
     let added : next ≡ now ++ shape = e ∙ ap (λ (l : Option ℕ). now ++ shape_in draw l here) own in
-    let left : after ≡ taken (lane_of (room here) lanes) (room here).to lanes =
-    kept ∙ ap (λ (l : Option ℕ). taken l (room here).to lanes) own in
+    let left : after ≡ lanes_taken (lane_of (room here) lanes) (room here).to lanes =
+    kept ∙ ap (λ (l : Option ℕ). lanes_taken l (room here).to lanes) own in
     ap (λ t. t ++ in_lanes room draw after later) added ∙ append_assoc now shape (in_lanes room draw after later)
     ∙ ap (λ (l : List ℕ). now ++ (shape ++ in_lanes room draw l later)) left
     ∙ sym (at_drop_more (λ (l : List Stretch). now ++ in_lanes room draw lanes l) items i d there) ∙ is
@@ -194,14 +194,14 @@ letters_more old now next yielded letter so_far e =
     ∙ ap (λ t. old ++ t) (sym all)
 
 -- the row of a processor that is there, and is shown
-pub row_there : (w : Window) (s : Setting) (rows : Rows) (number : ℕ) (row : Row) (old new : WrittenRows)
-    → number < length rows → ShowsProcessor w number → row ≡ row_of rows number → IsRowWritten s number row old new
+pub row_there : (w : Window) (s : PictureSetting) (rows : Rows) (number : ℕ) (row : DrawingRow) (old new : WrittenRows)
+    → number < length rows → ShowsProcessor w number → row ≡ drawing_row_of rows number → IsRowWritten s number row old new
     → IsRowWrittenIf w s rows number old new
 row_there w s rows number row old new there shown is written =
     inl (record { exists = there; shown = shown }, subst (λ r. IsRowWritten s number r old new) is written)
 
 -- what stands above, the axis, the rows, and what stands behind them
-pub drawing_whole : (w : Window) (s : Setting) (title : List ℕ) (rule : Option Rule) (held : Held) (written : WrittenRows)
+pub drawing_whole : (w : Window) (s : PictureSetting) (title : List ℕ) (rule : Option Rule) (held : Held) (written : WrittenRows)
     (height : ℕ) (t0 t1 t2 t3 t4 t5 : List ℕ)
     → AreDrawn w s held written → t0 ≡ heading_text s title rule
     → t1 ≡ t0 ++ axis_text s (axis_step s.extent) rows_edge written.bottom → t2 ≡ t1 ++ string_bytes written.text
@@ -213,14 +213,14 @@ pub drawing_whole : (w : Window) (s : Setting) (title : List ℕ) (rule : Option
 drawing_whole w s title rule held written height t0 t1 t2 t3 t4 t5 drawn_so e0 e1 e2 e3 e4 e5 high =
     let are = drawn_so.are_written in
     let axis = axis_text s (axis_step s.extent) rows_edge written.bottom in
-    let drawn = flat_map (row_text s) are.placed in
+    let drawn = flat_map (drawing_row_text s) are.placed in
     let lines = links_text s are.placed held.links in
     let labels = flat_map (labels_text s) are.placed in
     let legend = legend_of s held are.placed written.bottom in
     let behind = lines ++ (labels ++ legend) in
-    let key : key_beside held.links written ≡ key_of s held.links are.placed
+    let key : key_beside held.links written ≡ legend_key s held.links are.placed
     = ap (λ n. record (key_beside held.links written) { waits_left_out = n }) are.waits
-    ∙ ap (λ n. record (key_of s held.links are.placed) { wakes_left_out = n }) are.wakes in
+    ∙ ap (λ n. record (legend_key s held.links are.placed) { wakes_left_out = n }) are.wakes in
     record {
       placed = are.placed;
       edge = written.bottom;
@@ -235,11 +235,11 @@ drawing_whole w s title rule held written height t0 t1 t2 t3 t4 t5 drawn_so e0 e
     }
 
 -- a picture: its head, what is drawn, and its end
-pub picture_added : (w : Window) (look : Look) (s : Setting) (rule : Option Rule) (held : Held)
+pub picture_added : (w : Window) (look : Look) (s : PictureSetting) (rule : Option Rule) (held : Held)
     (height : ℕ) (head drawn old t1 t2 t3 : List ℕ)
     → IsDrawing w s (title_of look) rule held height drawn → IsHead look drawn height head → t1 ≡ old ++ head
     → t2 ≡ t1 ++ drawn → t3 ≡ t2 ++ codes "</svg>\n"
-    → Adds (IsPicture w look s rule held) old t3
+    → GrowsByPart (IsPicture w look s rule held) old t3
 picture_added w look s rule held height head drawn old t1 t2 t3 is is_head e1 e2 e3 = (
   head ++ (drawn ++ codes "</svg>\n"),
   record { head = head; drawn = drawn; height = height; is_drawing = is; is_head = is_head; whole = refl },
@@ -251,12 +251,12 @@ pub picture_at_end : (held between last : Svg) (s : Figures) (names : NamedTasks
     → between ≡ record held { drawing = between.drawing } → last ≡ record between { drawing = last.drawing }
     → HoldsRunners held.window s 64 held.drawing between.drawing
     → HoldsWaiting between.window s 1024 between.drawing last.drawing → IsDrawnOver last.window s e
-    → Adds (IsPicture last.window last.look (drawn_in e last.roster names) last.rule last.drawing) old new
-    → Adds (IsPictureOf held.window held.look held.rule s names held.roster held.drawing) old new
+    → GrowsByPart (IsPicture last.window last.look (drawn_in e last.roster names) last.rule last.drawing) old new
+    → GrowsByPart (IsPictureOf held.window held.look held.rule s names held.roster held.drawing) old new
 picture_at_end held between last s names e old new first second runs waits over added =
     let whole : last ≡ record held { drawing = last.drawing } = second ∙ ap (λ (v : Svg). record v { drawing = last.drawing }) first in
-    let own : Adds (IsPicture held.window held.look (drawn_in e held.roster names) held.rule last.drawing) old new
-    = subst (λ (v : Svg). Adds (IsPicture v.window v.look (drawn_in e v.roster names) v.rule last.drawing) old new) whole added in (
+    let own : GrowsByPart (IsPicture held.window held.look (drawn_in e held.roster names) held.rule last.drawing) old new
+    = subst (λ (v : Svg). GrowsByPart (IsPicture v.window v.look (drawn_in e v.roster names) v.rule last.drawing) old new) whole added in (
       own.0,
       record {
         running = between.drawing;
@@ -279,10 +279,10 @@ waiting_none w s rows = refl
 
 -- one more task's
 pub waiting_held : (w : Window) (s : Figures) (id : ℕ) (wait : Option Slice) (old now new : Held) → HoldsWaiting w s id old now
-    → wait ≡ wait_at s id (task_of s id).place → HoldsWait w wait now new → HoldsWaiting w s (id + 1) old new
+    → wait ≡ wait_at s id (task_in_figures s id).place → HoldsWait w wait now new → HoldsWaiting w s (id + 1) old new
 unfolding HoldsWaiting
 waiting_held w s id wait old now new before is holds =
-    let here : HoldsWait w (wait_at s id (task_of s id).place) now new = subst (λ own. HoldsWait w own now new) is holds in
+    let here : HoldsWait w (wait_at s id (task_in_figures s id).place) now new = subst (λ own. HoldsWait w own now new) is holds in
     subst (λ n. HoldsWaiting w s n old new) (sym (add-one id)) (now, before, here)
 
 -- what is held of the waits of all tasks that still wait
@@ -302,7 +302,7 @@ pub change_held : (change : Change) (v0 v1 v2 v3 : Svg) (new : Held)
     → v1 ≡ record v0 { drawing = v1.drawing } → v2 ≡ record v1 { drawing = v2.drawing }
     → v3 ≡ record v2 { drawing = v3.drawing; stops = v3.stops }
     → HoldsWake v0.window change.wake v0.drawing v1.drawing → HoldsPull v1.window change.pull v1.drawing v2.drawing
-    → HoldsRun v2.window (option_map (λ (s : Stop). s.start) change.stop) (ended_run change.stop) v2.drawing v3.drawing
+    → HoldsRun v2.window (option_map (λ (s : Stop). s.start) change.stop) (run_ended_by change.stop) v2.drawing v3.drawing
     → v3.stops.entries ≡ with_stop change.stop v2.stops.entries
     → HoldsStart v3.window v3.stops.entries change.start v3.drawing new
     → HoldsChange v0.window change v0.stops.entries v3.stops.entries v0.drawing new
@@ -317,7 +317,7 @@ change_held change v0 v1 v2 v3 new s1 s2 s3 wake pull stop stops start =
       stopped = v3.drawing;
       wake = wake;
       pull = subst (λ w. HoldsPull w change.pull v1.drawing v2.drawing) w1 pull;
-      stop = subst (λ w. HoldsRun w (option_map (λ (s : Stop). s.start) change.stop) (ended_run change.stop) v2.drawing v3.drawing) w2 stop;
+      stop = subst (λ w. HoldsRun w (option_map (λ (s : Stop). s.start) change.stop) (run_ended_by change.stop) v2.drawing v3.drawing) w2 stop;
       stops = stops ∙ ap (λ (l : Stops). with_stop change.stop l) before;
       start = subst (λ w. HoldsStart w v3.stops.entries change.start v3.drawing new) w3 start;
     }

@@ -20,11 +20,11 @@ use Rattle.bq_drawing.specs.declared.links.Link.{Link}
 use Rattle.bq_drawing.specs.declared.links.LinkKind.{LinkKind}
 use Rattle.bq_drawing.specs.declared.links.LinkKind.TheVariants.{Migration, Pull}
 use Rattle.bq_drawing.specs.Holdings.{Held}
-use Rattle.bq_drawing.specs.Links.{line_of, link_if, same_kind}
-use Rattle.bq_drawing.specs.Lanes.{lane_of, lanes_after, left_out, taken, without_lane}
+use Rattle.bq_drawing.specs.Links.{link_line, link_if, same_kind}
+use Rattle.bq_drawing.specs.Lanes.{lane_of, lanes_after, left_out, lanes_taken, without_lane}
 use Rattle.bq_drawing.specs.Places.{rows_edge}
-use Rattle.bq_drawing.specs.Rows.{ArePlaced, HasRow, IsNextRow, IsNoRow, PlacedRow, Rows, labels_text, row_of, row_text, top_at}
-use Rattle.bq_drawing.specs.Shapes.{Setting, arrow_of}
+use Rattle.bq_drawing.specs.Rows.{ArePlaced, HasRow, IsNextRow, IsNoRow, PlacedRow, Rows, labels_text, drawing_row_of, drawing_row_text, top_at}
+use Rattle.bq_drawing.specs.Shapes.{PictureSetting, arrow_of}
 use Rattle.bq_drawing.specs.Writing.{AreDrawn, AreWritten, IsRowWritten, IsRowWrittenIf}
 
 -- ---- lanes
@@ -32,15 +32,15 @@ use Rattle.bq_drawing.specs.Writing.{AreDrawn, AreWritten, IsRowWritten, IsRowWr
 -- the lanes when one more has taken its own
 pub lanes_more : (room : Stretch → Stretch) (lanes after : List ℕ) (items : List Stretch) (i : ℕ)
     (d place : Stretch) (lane : Option ℕ) (whole : List ℕ)
-    → i < length items → place ≡ room (get_or items i d) → lane ≡ lane_of place lanes → after ≡ taken lane place.to lanes
+    → i < length items → place ≡ room (get_or items i d) → lane ≡ lane_of place lanes → after ≡ lanes_taken lane place.to lanes
     → lanes_after room lanes (drop i items) ≡ whole
     → lanes_after room after (drop (i + 1) items) ≡ whole
 unfolding lanes_after
 lanes_more room lanes after items i d place lane whole there needs takes keeps is =
     let here = get_or items i d in
     let own : lane ≡ lane_of (room here) lanes = takes ∙ ap (λ (p : Stretch). lane_of p lanes) needs in
-    let left : after ≡ taken (lane_of (room here) lanes) (room here).to lanes
-    = keeps ∙ ap (λ (p : Stretch). taken lane p.to lanes) needs ∙ ap (λ (l : Option ℕ). taken l (room here).to lanes) own in
+    let left : after ≡ lanes_taken (lane_of (room here) lanes) (room here).to lanes
+    = keeps ∙ ap (λ (p : Stretch). lanes_taken lane p.to lanes) needs ∙ ap (λ (l : Option ℕ). lanes_taken l (room here).to lanes) own in
     ap (λ (l : List ℕ). lanes_after room l (drop (i + 1) items)) left
     ∙ sym (at_drop_more (λ (l : List Stretch). lanes_after room lanes l) items i d there) ∙ is
 
@@ -57,15 +57,15 @@ further n a b = omega arith
 -- one more that may find none
 pub left_more : (room : Stretch → Stretch) (lanes after : List ℕ) (items : List Stretch) (i : ℕ)
     (d place : Stretch) (lane : Option ℕ) (whole now next : ℕ)
-    → i < length items → place ≡ room (get_or items i d) → lane ≡ lane_of place lanes → after ≡ taken lane place.to lanes
+    → i < length items → place ≡ room (get_or items i d) → lane ≡ lane_of place lanes → after ≡ lanes_taken lane place.to lanes
     → next ≡ saturating_sum now (without_lane lane) → saturating_sum now (left_out room lanes (drop i items)) ≡ whole
     → saturating_sum next (left_out room after (drop (i + 1) items)) ≡ whole
 unfolding left_out
 left_more room lanes after items i d place lane whole now next there needs takes keeps e is =
     let here = get_or items i d in
     let own : lane ≡ lane_of (room here) lanes = takes ∙ ap (λ (p : Stretch). lane_of p lanes) needs in
-    let left : after ≡ taken (lane_of (room here) lanes) (room here).to lanes
-    = keeps ∙ ap (λ (p : Stretch). taken lane p.to lanes) needs ∙ ap (λ (l : Option ℕ). taken l (room here).to lanes) own in
+    let left : after ≡ lanes_taken (lane_of (room here) lanes) (room here).to lanes
+    = keeps ∙ ap (λ (p : Stretch). lanes_taken lane p.to lanes) needs ∙ ap (λ (l : Option ℕ). lanes_taken l (room here).to lanes) own in
     let later = drop (i + 1) items in
     ap (λ n. saturating_sum n (left_out room after later)) (e ∙ ap (λ (l : Option ℕ). saturating_sum now (without_lane l)) own)
     ∙ further now (without_lane (lane_of (room here) lanes)) (left_out room after later)
@@ -86,7 +86,7 @@ has_number : ℕ → PlacedRow → Bool
 has_number q p = p.number == q
 
 -- no row of a processor that is still to come
-none_yet : (w : Window) (s : Setting) (rows : Rows) (number : ℕ) (placed : List PlacedRow) (edge q : ℕ)
+none_yet : (w : Window) (s : PictureSetting) (rows : Rows) (number : ℕ) (placed : List PlacedRow) (edge q : ℕ)
     → ArePlaced w s rows number placed edge → number ≤ q
     → find (λ (p : PlacedRow). p.number == q) placed ≡ None
 unfolding ArePlaced
@@ -94,7 +94,7 @@ none_yet w s rows zero placed edge q is from = ap (find (λ (p : PlacedRow). p.n
 none_yet w s rows (suc number) placed edge q (above, before, are, way) from =
     let earlier : find (λ (p : PlacedRow). p.number == q) above ≡ None =
     none_yet w s rows number above before q are (omega (arith, from)) in
-    ⊎_elim (λ (there : HasRow w rows number × IsNextRow s number (row_of rows number) above before placed edge).
+    ⊎_elim (λ (there : HasRow w rows number × IsNextRow s number (drawing_row_of rows number) above before placed edge).
     let next = there.1.next in
     let apart : (next.number == q) ≡ false = ap (λ n. n == q) there.1.is_placed.of_processor ∙ grind (arith, nat_tests, from) in
     ap (find (λ (p : PlacedRow). p.number == q)) there.1.comes_last ∙ find-append (λ (p : PlacedRow). p.number == q) above (next ∷ [])
@@ -148,7 +148,7 @@ more_left count placed next old new before e =
     ∙ ap (λ n. saturating_sum 0 n) (sym (sum ∙ ap (λ n. sum_by count placed + n) (omega arith)))
 
 -- no row is written yet
-pub rows_none : (w : Window) (s : Setting) (rows : Rows) (written : WrittenRows)
+pub rows_none : (w : Window) (s : PictureSetting) (rows : Rows) (written : WrittenRows)
     → string_bytes written.text ≡ [] → string_bytes written.labels ≡ [] → written.bands.entries ≡ []
     → written.bottom ≡ rows_edge → written.waits_left_out ≡ 0 → written.wakes_left_out ≡ 0
     → AreWritten w s rows 0 written
@@ -164,12 +164,12 @@ rows_none w s rows written text labels bands bottom waits wakes = record {
 }
 
 -- one more row is written
-pub rows_next : (w : Window) (s : Setting) (rows : Rows) (number : ℕ) (old new : WrittenRows) → AreWritten w s rows number old
+pub rows_next : (w : Window) (s : PictureSetting) (rows : Rows) (number : ℕ) (old new : WrittenRows) → AreWritten w s rows number old
     → IsRowWrittenIf w s rows number old new → AreWritten w s rows (number + 1) new
 unfolding ArePlaced
 rows_next w s rows number old new before way =
     subst (λ n. AreWritten w s rows n new) (sym (add-one number))
-    (⊎_elim (λ (there : HasRow w rows number × IsRowWritten s number (row_of rows number) old new).
+    (⊎_elim (λ (there : HasRow w rows number × IsRowWritten s number (drawing_row_of rows number) old new).
     let is = there.1 in
     let next = is.placed in
     record {
@@ -180,7 +180,7 @@ rows_next w s rows number old new before way =
         before.are_placed,
         inl (there.0, record { next = next; is_placed = is.is_placed; comes_last = refl; ends = is.bottom }),
       );
-      text = more_text (row_text s) before.placed next _ _ before.text is.text;
+      text = more_text (drawing_row_text s) before.placed next _ _ before.text is.text;
       labels = more_text (labels_text s) before.placed next _ _ before.labels is.labels;
       bands = bands_next before.placed next number old.bands new.bands is.is_placed.of_processor
           (none_yet w s rows number before.placed old.bottom number before.are_placed (omega arith)) is.bands.0 before.bands;
@@ -200,42 +200,42 @@ rows_next w s rows number old new before way =
     })) way)
 
 -- a row leaves the lines as they are
-pub lines_stay : (w : Window) (s : Setting) (rows : Rows) (number : ℕ) (old new : WrittenRows) → IsRowWrittenIf w s rows number old new
+pub lines_stay : (w : Window) (s : PictureSetting) (rows : Rows) (number : ℕ) (old new : WrittenRows) → IsRowWrittenIf w s rows number old new
     → new.links ≡ old.links
 lines_stay w s rows number old new way = ⊎_elim
-    (λ (there : HasRow w rows number × IsRowWritten s number (row_of rows number) old new). there.1.links)
+    (λ (there : HasRow w rows number × IsRowWritten s number (drawing_row_of rows number) old new). there.1.links)
     (λ (none : ¬ (HasRow w rows number) × (new ≡ old)). ap (λ (r : WrittenRows). r.links) none.1)
     way
 
-line_same : (kind : LinkKind) (s : Setting) (f g : ℕ → Option ℕ)
-    → ((q : ℕ) → f q ≡ g q) → (link : Link) → line_of kind s f link ≡ line_of kind s g link
+line_same : (kind : LinkKind) (s : PictureSetting) (f g : ℕ → Option ℕ)
+    → ((q : ℕ) → f q ≡ g q) → (link : Link) → link_line kind s f link ≡ link_line kind s g link
 line_same kind s f g same link =
     ap (λ (o : Option ℕ). cond (same_kind link.kind kind) (link_if s link o (f link.to.processor)) []) (same link.from.processor)
     ∙ ap (λ (o : Option ℕ). cond (same_kind link.kind kind) (link_if s link (g link.from.processor) o) []) (same link.to.processor)
 
-lines_same : (kind : LinkKind) (s : Setting) (f g : ℕ → Option ℕ) → ((q : ℕ) → f q ≡ g q) → (links : List Link)
-    → flat_map (line_of kind s f) links ≡ flat_map (line_of kind s g) links
+lines_same : (kind : LinkKind) (s : PictureSetting) (f g : ℕ → Option ℕ) → ((q : ℕ) → f q ≡ g q) → (links : List Link)
+    → flat_map (link_line kind s f) links ≡ flat_map (link_line kind s g) links
 lines_same kind s f g same [] = refl
 lines_same kind s f g same (link ∷ later) =
-    ap (λ t. t ++ flat_map (line_of kind s f) later) (line_same kind s f g same link)
-    ∙ ap (λ t. line_of kind s g link ++ t) (lines_same kind s f g same later)
+    ap (λ t. t ++ flat_map (link_line kind s f) later) (line_same kind s f g same link)
+    ∙ ap (λ t. link_line kind s g link ++ t) (lines_same kind s f g same later)
 
 -- the rows of as many processors as there can be, and the lines that are drawn since
-pub drawn_all : (w : Window) (s : Setting) (held : Held) (number : ℕ) (r0 r1 r2 : WrittenRows) → number ≡ 64 → string_bytes r0.links ≡ []
+pub drawn_all : (w : Window) (s : PictureSetting) (held : Held) (number : ℕ) (r0 r1 r2 : WrittenRows) → number ≡ 64 → string_bytes r0.links ≡ []
     → AreWritten w s held.rows number r0 → r1 ≡ record r0 { links = r1.links } → r2 ≡ record r1 { links = r2.links }
-    → string_bytes r1.links ≡ string_bytes r0.links ++ flat_map (line_of Migration s (get nat_cmp r0.bands)) held.links
-    → string_bytes r2.links ≡ string_bytes r1.links ++ flat_map (line_of Pull s (get nat_cmp r1.bands)) held.links → AreDrawn w s held r2
+    → string_bytes r1.links ≡ string_bytes r0.links ++ flat_map (link_line Migration s (get nat_cmp r0.bands)) held.links
+    → string_bytes r2.links ≡ string_bytes r1.links ++ flat_map (link_line Pull s (get nat_cmp r1.bands)) held.links → AreDrawn w s held r2
 drawn_all w s held number r0 r1 r2 end none are s1 s2 e1 e2 =
     let all : AreWritten w s held.rows 64 r0 = subst (λ n. AreWritten w s held.rows n r0) end are in
     let tops = top_at all.placed in
-    let migrations = flat_map (line_of Migration s tops) held.links in
-    let pulls = flat_map (line_of Pull s tops) held.links in
+    let migrations = flat_map (link_line Migration s tops) held.links in
+    let pulls = flat_map (link_line Pull s tops) held.links in
     let bands : r1.bands ≡ r0.bands = ap (λ (r : WrittenRows). r.bands) s1 in
     let first : string_bytes r1.links ≡ migrations =
-    e1 ∙ ap (λ t. t ++ flat_map (line_of Migration s (get nat_cmp r0.bands)) held.links) none
+    e1 ∙ ap (λ t. t ++ flat_map (link_line Migration s (get nat_cmp r0.bands)) held.links) none
     ∙ lines_same Migration s (get nat_cmp r0.bands) tops all.bands held.links in
     let second : string_bytes r2.links ≡ migrations ++ pulls =
-    e2 ∙ ap (λ t. t ++ flat_map (line_of Pull s (get nat_cmp r1.bands)) held.links) first
+    e2 ∙ ap (λ t. t ++ flat_map (link_line Pull s (get nat_cmp r1.bands)) held.links) first
     ∙ ap (λ t. migrations ++ t)
     (lines_same Pull s (get nat_cmp r1.bands) tops (λ q. ap (λ (m : BTreeMap ℕ ℕ). get nat_cmp m q) bands ∙ all.bands q) held.links) in
     let whole : r2 ≡ record r0 { links = r2.links } = s2 ∙ ap (λ (r : WrittenRows). record r { links = r2.links }) s1 in

@@ -60,8 +60,8 @@ run_object t task waited =
     (member (codes "weight") (number (unsigned t.weight)) no_members))))
 
 -- a slice of one nanosecond, the shortest that the format can have, with this category and name, on this track at a moment
-abbrev pub mark_text : List ℕ → List ℕ → ℕ → ℕ → List ℕ → List ℕ
-mark_text kind name track at args =
+abbrev pub instant_text : List ℕ → List ℕ → ℕ → ℕ → List ℕ → List ℕ
+instant_text kind name track at args =
     codes ",\n{\"ph\":\"X\",\"cat\":\"" ++ (kind ++ (codes "\",\"name\":" ++ (name ++ (codes ",\"pid\":0,\"tid\":" ++ (decimal track
     ++ (codes ",\"ts\":" ++ (micros_text at ++ (codes ",\"dur\":0.001,\"args\":" ++ (args ++ codes "}")))))))))
 

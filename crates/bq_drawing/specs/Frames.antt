@@ -32,8 +32,8 @@ abbrev pub eight_digits : ℕ → List ℕ
 eight_digits n = padded_integral (format_spec 32 0 4 8 (2 ^ 64 - 1)) false [] (digits 16 false n)
 
 -- the name of a picture
-abbrev pub name_text : ℕ → List ℕ
-name_text hash = codes "bqsim-" ++ eight_digits hash
+abbrev pub picture_name_text : ℕ → List ℕ
+picture_name_text hash = codes "bqsim-" ++ eight_digits hash
 
 -- ---- its root
 

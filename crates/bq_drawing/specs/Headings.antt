@@ -6,7 +6,7 @@ use Rattle.bq_words.specs.declared.rule.Rule.{Rule}
 use Rattle.bq_words.specs.declared.rule.Rule.TheVariants.{Cfs, Eevdf}
 use Rattle.bq_drawing.specs.declared.look.Look.{Look}
 use Rattle.bq_drawing.specs.Places.{left_edge}
-use Rattle.bq_drawing.specs.Shapes.{Setting}
+use Rattle.bq_drawing.specs.Shapes.{PictureSetting}
 use Rattle.bq_drawing.specs.Titles.{amount_text, escaped, unit_name}
 
 -- the title of a picture: its own, or a default if it has none
@@ -24,7 +24,7 @@ rule_text None = []
 rule_text (Some rule) = discipline rule ++ codes ", "
 
 -- the time that a picture is drawn over
-abbrev pub times_text : Setting → List ℕ
+abbrev pub times_text : PictureSetting → List ℕ
 times_text s =
     amount_text s.unit s.extent.from ++ (codes " to " ++ (amount_text s.unit s.extent.to ++ (codes " " ++ (unit_name s.unit ++ codes "</text>\n"))))
 
@@ -33,9 +33,9 @@ abbrev pub title_text : List ℕ → List ℕ
 title_text title = (codes "<text class=\"title\" x=\"" ++ (decimal left_edge ++ codes "\" y=\"34\">")) ++ (escaped 90 title ++ codes "</text>\n")
 
 -- the line below the title: the discipline and the time
-abbrev pub span_text : Setting → Option Rule → List ℕ
+abbrev pub span_text : PictureSetting → Option Rule → List ℕ
 span_text s rule = (codes "<text class=\"small\" x=\"" ++ (decimal left_edge ++ codes "\" y=\"58\">")) ++ (rule_text rule ++ times_text s)
 
 -- the title, then the discipline and the time
-abbrev pub heading_text : Setting → List ℕ → Option Rule → List ℕ
+abbrev pub heading_text : PictureSetting → List ℕ → Option Rule → List ℕ
 heading_text s title rule = title_text title ++ span_text s rule

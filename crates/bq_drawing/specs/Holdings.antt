@@ -11,7 +11,7 @@ use Rattle.bq_schedule.specs.declared.change.Start.{Start}
 use Rattle.bq_schedule.specs.declared.change.Stop.{Stop}
 use Rattle.bq_schedule.specs.declared.change.Wake.{Wake}
 use Rattle.bq_schedule.specs.declared.slice.Slice.{Slice}
-use Rattle.bq_schedule.specs.Figures.{Figures, processor_of, task_of}
+use Rattle.bq_schedule.specs.Figures.{Figures, processor_in_figures, task_in_figures}
 use Rattle.bq_schedule.specs.Running.{has_migrated, running_task}
 use Rattle.bq_schedule.specs.Slices.{is_this}
 use Rattle.bq_report.specs.declared.window.Window.{Window}
@@ -20,8 +20,8 @@ use Rattle.bq_drawing.specs.declared.lanes.Stretch.{Stretch}
 use Rattle.bq_drawing.specs.declared.links.Link.{Link}
 use Rattle.bq_drawing.specs.declared.links.LinkKind.TheVariants.{Migration, Pull}
 use Rattle.bq_drawing.specs.declared.shapes.DrawnRun.{DrawnRun}
-use Rattle.bq_drawing.specs.Rows.{Row, Rows, empty_row, row_of}
-use Rattle.bq_drawing.specs.Runs.{ended_run, run_on}
+use Rattle.bq_drawing.specs.Rows.{DrawingRow, Rows, empty_drawing_row, drawing_row_of}
+use Rattle.bq_drawing.specs.Runs.{run_ended_by, run_on}
 
 -- what is held: a row for each processor, the lines between rows, and the tasks of which something is drawn
 pub record Held : Type 0 where
@@ -31,38 +31,38 @@ pub record Held : Type 0 where
 
 -- nothing is held, with this many processors
 abbrev pub nothing_of : ℕ → Held
-nothing_of processors = record { rows = replicate processors empty_row; links = []; tasks = [] }
+nothing_of processors = record { rows = replicate processors empty_drawing_row; links = []; tasks = [] }
 
 -- the shown part of a run, and how the run began
 abbrev pub drawn_run : Start → Slice → DrawnRun
 drawn_run start part = record { task = part.task; from = part.from; to = part.to; waited = start.waited; latency = start.latency }
 
 -- a row with one more run
-abbrev pub row_with_run : DrawnRun → Row → Row
+abbrev pub row_with_run : DrawnRun → DrawingRow → DrawingRow
 row_with_run run row = record row { runs = row.runs ++ run ∷ [] }
 
 -- a row with one more wait
-abbrev pub row_with_wait : Stretch → Row → Row
+abbrev pub row_with_wait : Stretch → DrawingRow → DrawingRow
 row_with_wait wait row = record row { waits = row.waits ++ wait ∷ [] }
 
 -- a row with one more wake
-abbrev pub row_with_wake : Stretch → Row → Row
+abbrev pub row_with_wake : Stretch → DrawingRow → DrawingRow
 row_with_wake wake row = record row { wakes = row.wakes ++ wake ∷ [] }
 
 -- a sorted list of tasks, with this one in it
-abbrev pub with_task : ℕ → List ℕ → List ℕ
-with_task task tasks = insert_key nat_cmp tasks task
+abbrev pub tasks_with : ℕ → List ℕ → List ℕ
+tasks_with task tasks = insert_key nat_cmp tasks task
 
 -- what is held, with something of a task added to the row of a processor
-abbrev pub with_more : ℕ → ℕ → (Row → Row) → Held → Held
+abbrev pub with_more : ℕ → ℕ → (DrawingRow → DrawingRow) → Held → Held
 with_more processor task more held =
-    record held { rows = slice_set held.rows processor (more (row_of held.rows processor)); tasks = with_task task held.tasks }
+    record held { rows = slice_set held.rows processor (more (drawing_row_of held.rows processor)); tasks = tasks_with task held.tasks }
 
 -- what is held, with a run added at the end of its processor's row, if a part of it is shown
-abbrev pub with_run : Option Start → Option Slice → Held → Held
-with_run None part held = held
-with_run (Some start) None held = held
-with_run (Some start) (Some part) held = with_more part.processor part.task (row_with_run (drawn_run start part)) held
+abbrev pub held_with_run : Option Start → Option Slice → Held → Held
+held_with_run None part held = held
+held_with_run (Some start) None held = held
+held_with_run (Some start) (Some part) held = with_more part.processor part.task (row_with_run (drawn_run start part)) held
 
 -- what is held, with a wait added to the row of a processor
 abbrev pub with_stretch : ℕ → Stretch → Held → Held
@@ -84,11 +84,11 @@ with_wake (Some k) held = with_more k.to k.task (row_with_wake (waking k)) held
 
 -- what is held, with a line between two rows added
 abbrev pub with_link : Link → Held → Held
-with_link link held = record held { links = held.links ++ link ∷ []; tasks = with_task link.task held.tasks }
+with_link link held = record held { links = held.links ++ link ∷ []; tasks = tasks_with link.task held.tasks }
 
 -- the shown part of a run is added, if there is one
 abbrev pub HoldsRun : Window → Option Start → Option Slice → Held → Held → Type 0
-HoldsRun w start run old new = (part : Option Slice) × IsShownPart w run part × (new ≡ with_run start part old)
+HoldsRun w start run old new = (part : Option Slice) × IsShownPart w run part × (new ≡ held_with_run start part old)
 
 -- the shown part of a wait is added, if there is one
 abbrev pub HoldsWait : Window → Option Slice → Held → Held → Type 0
@@ -140,15 +140,15 @@ with_stop None stops = stops
 with_stop (Some stop) stops = insert_entry nat_cmp stops stop.start.task stop.at
 
 -- when the line of a migration begins: when its task last stopped running, or when the run begins if that is not known
-abbrev pub left_at : Stops → Start → ℕ
-left_at stops start = unwrap_or (lookup (is_at (nat_cmp start.task)) stops) start.at
+abbrev pub migration_begin : Stops → Start → ℕ
+migration_begin stops start = unwrap_or (lookup (is_at (nat_cmp start.task)) stops) start.at
 
 -- the line to a run with this start, from another processor
 abbrev pub link_from : Stops → Start → ℕ → Link
 link_from stops start before = record {
   kind = Migration;
   task = start.task;
-  from = record { processor = before; at = left_at stops start };
+  from = record { processor = before; at = migration_begin stops start };
   to = record { processor = start.processor; at = start.at };
 }
 
@@ -180,7 +180,7 @@ pub record HoldsChange (w : Window) (change : Change) (before after : Stops) (ol
   pub stopped : Held
   pub wake : HoldsWake w change.wake old woken
   pub pull : HoldsPull w change.pull woken pulled
-  pub stop : HoldsRun w (option_map (λ (s : Stop). s.start) change.stop) (ended_run change.stop) pulled stopped
+  pub stop : HoldsRun w (option_map (λ (s : Stop). s.start) change.stop) (run_ended_by change.stop) pulled stopped
   pub stops : after ≡ with_stop change.stop before
   pub start : HoldsStart w after change.start stopped new
 
@@ -189,17 +189,17 @@ unfoldable pub HoldsRunners : Window → Figures → ℕ → Held → Held → T
 HoldsRunners w s zero old new = new ≡ old
 HoldsRunners w s (suc processor) old new =
     (before : Held) × HoldsRunners w s processor old before
-    × HoldsRun w (processor_of s processor).running (run_on (processor_of s processor)) before new
+    × HoldsRun w (processor_in_figures s processor).running (run_on (processor_in_figures s processor)) before new
 
 -- the wait of a task at a place, unless it runs there: it goes on up to the last reading of the clock there
 abbrev pub wait_at : Figures → ℕ → Option ℕ → Option Slice
 wait_at s id None = None
 wait_at s id (Some p) =
-    if is_this id (running_task (processor_of s p)) then None
-    else Some (record { processor = p; task = id; from = (task_of s id).since; to = (processor_of s p).last })
+    if is_this id (running_task (processor_in_figures s p)) then None
+    else Some (record { processor = p; task = id; from = (task_in_figures s id).since; to = (processor_in_figures s p).last })
 
 -- the shown parts of the waits that still go on are added, for the tasks below a number
 unfoldable pub HoldsWaiting : Window → Figures → ℕ → Held → Held → Type 0
 HoldsWaiting w s zero old new = new ≡ old
 HoldsWaiting w s (suc id) old new =
-    (before : Held) × HoldsWaiting w s id old before × HoldsWait w (wait_at s id (task_of s id).place) before new
+    (before : Held) × HoldsWaiting w s id old before × HoldsWait w (wait_at s id (task_in_figures s id).place) before new

@@ -13,7 +13,7 @@ use Rattle.bq_drawing.specs.Legends.{legend_height, legend_text}
 use Rattle.bq_drawing.specs.Links.{same_kind}
 use Rattle.bq_drawing.specs.Places.{axis_height, row_gap}
 use Rattle.bq_drawing.specs.Rows.{PlacedRow, waits_left_out, wakes_left_out}
-use Rattle.bq_drawing.specs.Shapes.{Setting}
+use Rattle.bq_drawing.specs.Shapes.{PictureSetting}
 
 -- the tasks of which something is drawn, by their places among all
 abbrev pub tasks_shown : List ℕ → List ℕ → List ℕ
@@ -24,8 +24,8 @@ abbrev pub has_line : LinkKind → List Link → Bool
 has_line kind links = list_any (λ (link : Link). same_kind link.kind kind) links
 
 -- what the legend explains besides the tasks
-abbrev pub key_of : Setting → List Link → List PlacedRow → Key
-key_of s links placed = record {
+abbrev pub legend_key : PictureSetting → List Link → List PlacedRow → Key
+legend_key s links placed = record {
   has_pulls = has_line Pull links;
   has_migrations = has_line Migration links;
   waits_left_out = saturating_sum 0 (waits_left_out placed);
@@ -37,10 +37,10 @@ abbrev pub legend_top : ℕ → ℕ
 legend_top edge = saturating_sum edge (axis_height + row_gap)
 
 -- the legend of a picture whose rows end at this height
-abbrev pub legend_of : Setting → Held → List PlacedRow → ℕ → List ℕ
-legend_of s held placed edge = legend_text s (tasks_shown s.tasks held.tasks) (key_of s held.links placed) (legend_top edge)
+abbrev pub legend_of : PictureSetting → Held → List PlacedRow → ℕ → List ℕ
+legend_of s held placed edge = legend_text s (tasks_shown s.tasks held.tasks) (legend_key s held.links placed) (legend_top edge)
 
 -- how high the picture is together with its legend
-abbrev pub picture_height : Setting → Held → List PlacedRow → ℕ → ℕ
+abbrev pub picture_height : PictureSetting → Held → List PlacedRow → ℕ → ℕ
 picture_height s held placed edge =
-    saturating_sum (legend_top edge) (legend_height (length (tasks_shown s.tasks held.tasks)) (key_of s held.links placed))
+    saturating_sum (legend_top edge) (legend_height (length (tasks_shown s.tasks held.tasks)) (legend_key s held.links placed))

@@ -20,14 +20,14 @@ abbrev pub lane_of : Stretch → List ℕ → Option ℕ
 lane_of stretch lanes = or_one_more lanes (first_free stretch.from lanes)
 
 -- the lanes after one of them, or a new one, is taken up to this moment
-abbrev pub taken : Option ℕ → ℕ → List ℕ → List ℕ
-taken None to lanes = lanes
-taken (Some lane) to lanes = if nat_lt lane (length lanes) then slice_set lanes lane to else lanes ++ (to ∷ [])
+abbrev pub lanes_taken : Option ℕ → ℕ → List ℕ → List ℕ
+lanes_taken None to lanes = lanes
+lanes_taken (Some lane) to lanes = if nat_lt lane (length lanes) then slice_set lanes lane to else lanes ++ (to ∷ [])
 
 -- the lanes after stretches have taken theirs, one after another; `room` says how much room a stretch needs
 unfoldable pub lanes_after : (Stretch → Stretch) → List ℕ → List Stretch → List ℕ
 lanes_after room lanes [] = lanes
-lanes_after room lanes (stretch ∷ later) = lanes_after room (taken (lane_of (room stretch) lanes) (room stretch).to lanes) later
+lanes_after room lanes (stretch ∷ later) = lanes_after room (lanes_taken (lane_of (room stretch) lanes) (room stretch).to lanes) later
 
 -- 1 if a stretch finds no lane, otherwise 0
 abbrev pub without_lane : Option ℕ → ℕ
@@ -38,4 +38,4 @@ without_lane (Some lane) = 0
 unfoldable pub left_out : (Stretch → Stretch) → List ℕ → List Stretch → ℕ
 left_out room lanes [] = 0
 left_out room lanes (stretch ∷ later) =
-    without_lane (lane_of (room stretch) lanes) + left_out room (taken (lane_of (room stretch) lanes) (room stretch).to lanes) later
+    without_lane (lane_of (room stretch) lanes) + left_out room (lanes_taken (lane_of (room stretch) lanes) (room stretch).to lanes) later

@@ -7,8 +7,8 @@ use Rattle.bq_report.specs.Names.{name_of}
 use Rattle.bq_drawing.specs.declared.legend.Key.{Key}
 use Rattle.bq_drawing.specs.Lanes.{most_lanes}
 use Rattle.bq_drawing.specs.Places.{left_edge}
-use Rattle.bq_drawing.specs.Shapes.{Setting, colour_of}
-use Rattle.bq_drawing.specs.Titles.{shown_name}
+use Rattle.bq_drawing.specs.Shapes.{PictureSetting, colour_of}
+use Rattle.bq_drawing.specs.Titles.{name_or_number}
 
 -- how many tasks are in a line of the legend
 abbrev pub abreast : ℕ
@@ -29,32 +29,32 @@ grey = 7
 -- ---- the tasks
 
 -- the beginning of a name at this place
-abbrev pub name_at : ℕ → ℕ → List ℕ
-name_at left line = codes "<text x=\"" ++ (decimal left ++ (codes "\" y=\"" ++ (decimal line ++ codes "\">")))
+abbrev pub name_beginning : ℕ → ℕ → List ℕ
+name_beginning left line = codes "<text x=\"" ++ (decimal left ++ (codes "\" y=\"" ++ (decimal line ++ codes "\">")))
 
 -- a colour, and the beginning of the name beside it
 abbrev pub swatch_text : ℕ → ℕ → ℕ → List ℕ
 swatch_text colour left top =
     (codes "<rect class=\"run c" ++ (decimal colour ++ (codes "\" x=\"" ++ (decimal left ++ (codes "\" y=\"" ++ (decimal top
     ++ codes "\" width=\"18\" height=\"18\" rx=\"2\"/>"))))))
-    ++ name_at (saturating_sum left 26) (saturating_sum top 15)
+    ++ name_beginning (saturating_sum left 26) (saturating_sum top 15)
 
 -- the number of a task after its name, if it has one
-abbrev pub number_text : Bool → ℕ → List ℕ
-number_text is_named task = if is_named then codes " (" ++ (decimal task ++ codes ")") else []
+abbrev pub task_number_text : Bool → ℕ → List ℕ
+task_number_text is_named task = if is_named then codes " (" ++ (decimal task ++ codes ")") else []
 
 -- the name of a task, cut after 18 characters, and its number
-abbrev pub short_name : Setting → ℕ → List ℕ
-short_name s task = shown_name 18 s.names task ++ (number_text (is_some (name_of s.names task)) task ++ codes "</text>\n")
+abbrev pub short_name : PictureSetting → ℕ → List ℕ
+short_name s task = name_or_number 18 s.names task ++ (task_number_text (is_some (name_of s.names task)) task ++ codes "</text>\n")
 
 -- a task at its place in the legend
-abbrev pub entry_text : Setting → ℕ → ℕ → ℕ → List ℕ
+abbrev pub entry_text : PictureSetting → ℕ → ℕ → ℕ → List ℕ
 entry_text s first place task =
     swatch_text (colour_of s.tasks task) (saturating_sum (place % abreast * column_width) left_edge) (saturating_sum (place / abreast * line_height) first)
     ++ short_name s task
 
 -- the entries of tasks, from a place on
-unfoldable pub entries_text : Setting → ℕ → ℕ → List ℕ → List ℕ
+unfoldable pub entries_text : PictureSetting → ℕ → ℕ → List ℕ → List ℕ
 entries_text s first place [] = []
 entries_text s first place (task ∷ later) = entry_text s first place task ++ entries_text s first (place + 1) later
 
@@ -118,7 +118,7 @@ abbrev pub key_top : ℕ → ℕ → ℕ
 key_top tasks first = saturating_sum (div_ceil tasks abreast * line_height) first
 
 -- the legend of these tasks, from this height on
-abbrev pub legend_text : Setting → List ℕ → Key → ℕ → List ℕ
+abbrev pub legend_text : PictureSetting → List ℕ → Key → ℕ → List ℕ
 legend_text s tasks key first =
     entries_text s first 0 tasks
     ++ (key_text key (key_top (length tasks) first)

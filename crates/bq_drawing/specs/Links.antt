@@ -6,9 +6,9 @@ use Rattle.bq_disc.specs.Counts.{saturating_sum}
 use Rattle.bq_drawing.specs.declared.links.Link.{Link}
 use Rattle.bq_drawing.specs.declared.links.LinkKind.{LinkKind}
 use Rattle.bq_drawing.specs.declared.links.LinkKind.TheVariants.{Migration, Pull}
-use Rattle.bq_drawing.specs.Places.{band_height, hundredths, place_of}
+use Rattle.bq_drawing.specs.Places.{band_height, hundredths, moment_place}
 use Rattle.bq_drawing.specs.Rows.{PlacedRow, top_at}
-use Rattle.bq_drawing.specs.Shapes.{Setting, colour_of, whole_name}
+use Rattle.bq_drawing.specs.Shapes.{PictureSetting, colour_of, whole_name}
 use Rattle.bq_drawing.specs.Titles.{amount_text, unit_name}
 
 -- ---- where a line is
@@ -18,8 +18,8 @@ abbrev pub leaves_at : ℕ → ℕ → ℕ
 leaves_at from to = if nat_lt from to then saturating_sum from band_height else from
 
 -- a line ends at the nearer edge of the other band
-abbrev pub ends_at : ℕ → ℕ → ℕ
-ends_at from to = if nat_lt from to then to else saturating_sum to band_height
+abbrev pub link_end : ℕ → ℕ → ℕ
+link_end from to = if nat_lt from to then to else saturating_sum to band_height
 
 -- how much of the height between a line's ends is left from a moment on: the same part as of its time
 abbrev pub height_left : Link → ℕ → ℕ → ℕ → ℕ
@@ -57,11 +57,11 @@ dot_text colour place height =
     ++ codes "\" r=\"4.5\"/>")))))
 
 -- the line and its end: an arrow for a pull, and dashes with a dot for a migration
-abbrev pub line_text : LinkKind → ℕ → ℕ → ℕ → ℕ → ℕ → Bool → List ℕ
-line_text Pull colour left begin right end is_down =
+abbrev pub link_text : LinkKind → ℕ → ℕ → ℕ → ℕ → ℕ → Bool → List ℕ
+link_text Pull colour left begin right end is_down =
     (codes "<path class=\"c" ++ (decimal colour ++ (codes " link\" d=\"M" ++ way_text left begin right end (codes "\"/>"))))
     ++ head_text colour right end is_down
-line_text Migration colour left begin right end is_down =
+link_text Migration colour left begin right end is_down =
     (codes "<path class=\"c" ++ (decimal colour ++ (codes " link dashed\" d=\"M" ++ way_text left begin right end (codes "\"/>"))))
     ++ dot_text colour right end
 
@@ -71,28 +71,28 @@ act_text Pull from to = codes " is pulled from cpu " ++ (decimal from ++ (codes 
 act_text Migration from to = codes " migrates from cpu " ++ (decimal from ++ (codes " to cpu " ++ decimal to))
 
 -- the beginning of a line's tooltip: the name of its task
-abbrev pub name_head : Setting → ℕ → List ℕ
+abbrev pub name_head : PictureSetting → ℕ → List ℕ
 name_head s task = codes "<title>" ++ whole_name s task
 
 -- a line's tooltip: the name of its task, what happened, and when
-abbrev pub link_title : Setting → Link → List ℕ
+abbrev pub link_title : PictureSetting → Link → List ℕ
 link_title s link =
     name_head s link.task
     ++ (act_text link.kind link.from.processor link.to.processor
     ++ (codes " at " ++ (amount_text s.unit link.to.at ++ (codes " " ++ (unit_name s.unit ++ codes "</title></g>\n")))))
 
 -- a line between bands whose upper edges are at `from` and `to`
-abbrev pub link_between : Setting → Link → ℕ → ℕ → List ℕ
+abbrev pub link_between : PictureSetting → Link → ℕ → ℕ → List ℕ
 link_between s link from to =
-    let left = place_of s.extent link.from.at in
-    let begin = enters_at link (leaves_at from to) (ends_at from to) s.extent.from in
-    let right = place_of s.extent link.to.at in
-    let end = ends_at from to in
-    (halo_text left begin right end ++ line_text link.kind (colour_of s.tasks link.task) left begin right end (nat_lt from to))
+    let left = moment_place s.extent link.from.at in
+    let begin = enters_at link (leaves_at from to) (link_end from to) s.extent.from in
+    let right = moment_place s.extent link.to.at in
+    let end = link_end from to in
+    (halo_text left begin right end ++ link_text link.kind (colour_of s.tasks link.task) left begin right end (nat_lt from to))
     ++ link_title s link
 
 -- a line between two bands, as `link_between` draws it, if both bands are drawn
-abbrev pub link_if : Setting → Link → Option ℕ → Option ℕ → List ℕ
+abbrev pub link_if : PictureSetting → Link → Option ℕ → Option ℕ → List ℕ
 link_if s link None to = []
 link_if s link (Some from) None = []
 link_if s link (Some from) (Some to) = link_between s link from to
@@ -105,10 +105,10 @@ same_kind Migration Pull = false
 same_kind Migration Migration = true
 
 -- a line, if it is of this kind; `tops` gives the height at which a processor's band begins
-abbrev pub line_of : LinkKind → Setting → (ℕ → Option ℕ) → Link → List ℕ
-line_of kind s tops link = if same_kind link.kind kind then link_if s link (tops link.from.processor) (tops link.to.processor) else []
+abbrev pub link_line : LinkKind → PictureSetting → (ℕ → Option ℕ) → Link → List ℕ
+link_line kind s tops link = if same_kind link.kind kind then link_if s link (tops link.from.processor) (tops link.to.processor) else []
 
 -- all lines between these rows: the migrations, and then the pulls
-abbrev pub links_text : Setting → List PlacedRow → List Link → List ℕ
+abbrev pub links_text : PictureSetting → List PlacedRow → List Link → List ℕ
 links_text s placed links =
-    flat_map (line_of Migration s (top_at placed)) links ++ flat_map (line_of Pull s (top_at placed)) links
+    flat_map (link_line Migration s (top_at placed)) links ++ flat_map (link_line Pull s (top_at placed)) links

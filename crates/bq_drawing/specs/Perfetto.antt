@@ -12,7 +12,7 @@ use Rattle.bq_schedule.specs.declared.change.Start.{Start}
 use Rattle.bq_schedule.specs.declared.change.Stop.{Stop}
 use Rattle.bq_schedule.specs.declared.change.Wake.{Wake}
 use Rattle.bq_schedule.specs.declared.slice.Slice.{Slice}
-use Rattle.bq_schedule.specs.Figures.{Figures, processor_of, task_of}
+use Rattle.bq_schedule.specs.Figures.{Figures, processor_in_figures, task_in_figures}
 use Rattle.bq_schedule.specs.Steps.{was_overruled}
 use Rattle.bq_report.specs.declared.window.Window.{Window}
 use Rattle.bq_report.specs.Names.{NamedTasks}
@@ -21,8 +21,8 @@ use Rattle.bq_report.specs.Timehist.{IsShownMigration, IsShownWake}
 use Rattle.bq_report.specs.Windows.{IsShownPart, Shows, ShowsProcessor}
 use Rattle.bq_drawing.specs.declared.history.Arrows.{Arrows}
 use Rattle.bq_drawing.specs.declared.perfetto.ShownParts.{ShownParts}
-use Rattle.bq_drawing.specs.Events.{act_name, beginning_text, counter_text, end_text, event_track, mark_text, overruled_text, run_event, run_name, run_object, task_args, tracks_text}
-use Rattle.bq_drawing.specs.Runs.{ended_run, run_on}
+use Rattle.bq_drawing.specs.Events.{act_name, beginning_text, counter_text, end_text, event_track, instant_text, overruled_text, run_event, run_name, run_object, task_args, tracks_text}
+use Rattle.bq_drawing.specs.Runs.{run_ended_by, run_on}
 use Rattle.bq_drawing.specs.Histories.{Past, after_count, after_run, after_start, after_wake, arrows_to, last_run, next_arrow, written_count}
 
 -- ---- what of a change is shown
@@ -54,7 +54,7 @@ pub record ShowsChange (w : Window) (change : Change) (shown : ShownParts) : Typ
   pub overruled : IsShownDecision w change.decision change.reading shown.overruled
   pub wake : IsShownWake w change.wake shown.wake
   pub pull : IsShownPull w change.pull shown.pull
-  pub run : IsShownPart w (ended_run change.stop) shown.run
+  pub run : IsShownPart w (run_ended_by change.stop) shown.run
   pub migration : IsShownMigration w change.start shown.migration
   pub reading : IsShownReading w change.reading shown.reading
 
@@ -70,14 +70,14 @@ perfetto_overruled (Some d) (Some r) = overruled_text (hook_word d.hook) d.steps
 abbrev pub perfetto_wake : NamedTasks → ℕ → Option Wake → List ℕ
 perfetto_wake names arrow None = []
 perfetto_wake names arrow (Some k) =
-    mark_text (codes "wake") (act_name names (codes "wake") k.task) (event_track k.from) k.at (task_args k.task (codes "to") k.to)
+    instant_text (codes "wake") (act_name names (codes "wake") k.task) (event_track k.from) k.at (task_args k.task (codes "to") k.to)
     ++ beginning_text (codes "wake") arrow (event_track k.from) k.at
 
 -- a pull, if there is one
 abbrev pub perfetto_pull : NamedTasks → Option PulledTask → List ℕ
 perfetto_pull names None = []
 perfetto_pull names (Some p) =
-    mark_text (codes "pull") (act_name names (codes "pull") p.task) (event_track p.to) p.at (task_args p.task (codes "from") p.from)
+    instant_text (codes "pull") (act_name names (codes "pull") p.task) (event_track p.to) p.at (task_args p.task (codes "from") p.from)
 
 -- the end of an arrow at the beginning of a run, if there is an arrow
 abbrev pub perfetto_end : List ℕ → Option ℕ → Slice → List ℕ
@@ -97,7 +97,7 @@ abbrev pub perfetto_run : NamedTasks → Figures → Past → Option Start → O
 perfetto_run names s h None run = []
 perfetto_run names s h (Some start) None = []
 perfetto_run names s h (Some start) (Some run) =
-    run_event run (run_name names run.task) (compact_text (run_object (task_of s run.task) run.task start.waited))
+    run_event run (run_name names run.task) (compact_text (run_object (task_in_figures s run.task) run.task start.waited))
     ++ perfetto_ends_if (run.from == start.at) (arrows_to h run.processor) run
 
 -- the run from whose end an arrow leads to a migration: the shown part of the task's last run that ended
@@ -118,7 +118,7 @@ perfetto_count processor at count (Some reported) = if reported == count then []
 -- how many tasks are runnable at a processor after a reading, if the number has changed
 abbrev pub perfetto_reading : Figures → Past → Option ClockReading → List ℕ
 perfetto_reading s h None = []
-perfetto_reading s h (Some r) = perfetto_count r.processor r.to (processor_of s r.processor).runnable (written_count h r.processor)
+perfetto_reading s h (Some r) = perfetto_count r.processor r.to (processor_in_figures s r.processor).runnable (written_count h r.processor)
 
 -- ---- what is known after each part
 
@@ -140,7 +140,7 @@ past_start (Some s) migration h = after_start s.processor s.task (is_some (left_
 -- the history after a reading of a clock, if there is one
 abbrev pub past_reading : Figures → Option ClockReading → Past → Past
 past_reading s None h = h
-past_reading s (Some r) h = after_count r.processor (processor_of s r.processor).runnable h
+past_reading s (Some r) h = after_count r.processor (processor_in_figures s r.processor).runnable h
 
 -- ---- the whole
 
@@ -175,8 +175,8 @@ IsPerfettoHead processors text =
 -- the shown part of the run that goes on at a processor
 abbrev pub IsPerfettoRunner : Window → NamedTasks → Figures → Past → ℕ → List ℕ → Type 0
 IsPerfettoRunner w names s h processor text =
-    (part : Option Slice) × IsShownPart w (run_on (processor_of s processor)) part
-    × (text ≡ perfetto_run names s h (processor_of s processor).running part)
+    (part : Option Slice) × IsShownPart w (run_on (processor_in_figures s processor)) part
+    × (text ≡ perfetto_run names s h (processor_in_figures s processor).running part)
 
 -- the end: the runs that go on, in order of their processors, and the text after all events
 abbrev pub IsPerfettoTail : Window → NamedTasks → Figures → Past → List ℕ → Type 0

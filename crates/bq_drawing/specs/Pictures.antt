@@ -4,30 +4,30 @@ use Rattle.bq_disc.specs.declared.limits.TheConstants.{PROCESSORS, TASKS}
 use Rattle.bq_schedule.specs.Figures.{Figures}
 use Rattle.bq_report.specs.declared.extent.Extent.{Extent}
 use Rattle.bq_report.specs.declared.window.Window.{Window}
-use Rattle.bq_report.specs.Extents.{Spans}
+use Rattle.bq_report.specs.Extents.{SpansReadings}
 use Rattle.bq_report.specs.Names.{NamedTasks}
 use Rattle.bq_words.specs.declared.rule.Rule.{Rule}
 use Rattle.bq_drawing.specs.declared.look.Look.{Look}
 use Rattle.bq_drawing.specs.Axes.{axis_text}
-use Rattle.bq_drawing.specs.Frames.{hash_of, name_text, root_text, root_title}
+use Rattle.bq_drawing.specs.Frames.{hash_of, picture_name_text, root_text, root_title}
 use Rattle.bq_drawing.specs.Headings.{heading_text, title_of}
 use Rattle.bq_drawing.specs.Holdings.{Held, HoldsRunners, HoldsWaiting}
 use Rattle.bq_drawing.specs.Keys.{legend_of, picture_height}
 use Rattle.bq_drawing.specs.Links.{links_text}
 use Rattle.bq_drawing.specs.Places.{rows_edge}
-use Rattle.bq_drawing.specs.Rows.{ArePlaced, PlacedRow, labels_text, row_text}
-use Rattle.bq_drawing.specs.Shapes.{Setting, drawn_in}
+use Rattle.bq_drawing.specs.Rows.{ArePlaced, PlacedRow, labels_text, drawing_row_text}
+use Rattle.bq_drawing.specs.Shapes.{PictureSetting, drawn_in}
 use Rattle.bq_drawing.specs.Titles.{axis_step}
 
 -- all that is drawn: the heading, the axis, the rows, the lines between them, the names on their runs, and the legend
-pub record IsDrawing (w : Window) (s : Setting) (title : List ℕ) (rule : Option Rule) (held : Held) (height : ℕ) (text : List ℕ) : Type 0 where
+pub record IsDrawing (w : Window) (s : PictureSetting) (title : List ℕ) (rule : Option Rule) (held : Held) (height : ℕ) (text : List ℕ) : Type 0 where
   pub placed : List PlacedRow
   pub edge : ℕ
   pub are_placed : ArePlaced w s held.rows PROCESSORS placed edge
   pub is_high : height ≡ picture_height s held placed edge
   pub whole : text ≡ heading_text s title rule
       ++ (axis_text s (axis_step s.extent) rows_edge edge
-      ++ (flat_map (row_text s) placed
+      ++ (flat_map (drawing_row_text s) placed
       ++ (links_text s placed held.links
       ++ (flat_map (labels_text s) placed ++ legend_of s held placed edge))))
 
@@ -35,10 +35,10 @@ pub record IsDrawing (w : Window) (s : Setting) (title : List ℕ) (rule : Optio
 -- said here of the styles
 abbrev pub IsHead : Look → List ℕ → ℕ → List ℕ → Type 0
 IsHead look drawn height text =
-    (styles : List ℕ) × (text ≡ root_text (name_text (hash_of look.theme drawn)) height ++ (root_title (title_of look) ++ styles))
+    (styles : List ℕ) × (text ≡ root_text (picture_name_text (hash_of look.theme drawn)) height ++ (root_title (title_of look) ++ styles))
 
 -- a picture: its head, all that is drawn, and the end of its root
-pub record IsPicture (w : Window) (look : Look) (s : Setting) (rule : Option Rule) (held : Held) (text : List ℕ) : Type 0 where
+pub record IsPicture (w : Window) (look : Look) (s : PictureSetting) (rule : Option Rule) (held : Held) (text : List ℕ) : Type 0 where
   pub head : List ℕ
   pub drawn : List ℕ
   pub height : ℕ
@@ -48,11 +48,11 @@ pub record IsPicture (w : Window) (look : Look) (s : Setting) (rule : Option Rul
 
 -- no time passes in the window
 abbrev pub PassesNoTime : Window → Figures → Type 0
-PassesNoTime w s = (e : Extent) → Spans w s e → e.to ≤ e.from
+PassesNoTime w s = (e : Extent) → SpansReadings w s e → e.to ≤ e.from
 
 -- the time that a picture is drawn over: from the first reading to the last, in the window; one nanosecond if no time passes
 abbrev pub IsDrawnOver : Window → Figures → Extent → Type 0
-IsDrawnOver w s e = (Spans w s e × (e.from < e.to)) ⊎ (PassesNoTime w s × (e ≡ record { from = 0; to = 1 }))
+IsDrawnOver w s e = (SpansReadings w s e × (e.from < e.to)) ⊎ (PassesNoTime w s × (e ≡ record { from = 0; to = 1 }))
 
 -- the picture at the end of a schedule: of all that is held, and of the runs and the waits that still go on
 pub record IsPictureOf (w : Window) (look : Look) (rule : Option Rule) (s : Figures) (names : NamedTasks) (tasks : List ℕ) (old : Held)

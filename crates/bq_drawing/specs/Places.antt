@@ -49,12 +49,12 @@ arrow_width = 9
 
 -- how far a moment is from the left edge, in hundredths: in proportion to how much of the extent has passed then. A moment after the
 -- extent is at its end
-abbrev pub place_of : Extent → ℕ → ℕ
-place_of e time = left_edge * 100 + (min time e.to - e.from) * (time_width * 100) / max (e.to - e.from) 1
+abbrev pub moment_place : Extent → ℕ → ℕ
+moment_place e time = left_edge * 100 + (min time e.to - e.from) * (time_width * 100) / max (e.to - e.from) 1
 
 -- how wide the stretch between two moments is drawn, in hundredths: at least as wide as can be seen
-abbrev pub width_of : Extent → ℕ → ℕ → ℕ
-width_of e from to = max (place_of e to - place_of e from) least_width
+abbrev pub drawn_width : Extent → ℕ → ℕ → ℕ
+drawn_width e from to = max (moment_place e to - moment_place e from) least_width
 
 -- hundredths, as a number with two decimals
 abbrev pub hundredths : ℕ → List ℕ

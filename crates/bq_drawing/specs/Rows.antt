@@ -11,25 +11,25 @@ use Rattle.bq_drawing.specs.declared.lanes.Stretch.{Stretch}
 use Rattle.bq_drawing.specs.declared.shapes.DrawnRun.{DrawnRun}
 use Rattle.bq_drawing.specs.Lanes.{lanes_after, left_out}
 use Rattle.bq_drawing.specs.Places.{band_height, lane_height, level_height, row_gap, rows_edge}
-use Rattle.bq_drawing.specs.Shapes.{Setting, arrow_of, label_text, shapes_text}
+use Rattle.bq_drawing.specs.Shapes.{PictureSetting, arrow_of, label_text, shapes_text}
 
 -- what is drawn of a processor: its runs, its waits and its wakes, each in the order in which they came
-pub record Row : Type 0 where
+pub record DrawingRow : Type 0 where
   pub runs : List DrawnRun
   pub waits : List Stretch
   pub wakes : List Stretch
 
 -- a row with nothing in it
-abbrev pub empty_row : Row
-empty_row = record { runs = []; waits = []; wakes = [] }
+abbrev pub empty_drawing_row : DrawingRow
+empty_drawing_row = record { runs = []; waits = []; wakes = [] }
 
 -- a row for each processor
 abbrev pub Rows : Type 0
-Rows = List Row
+Rows = List DrawingRow
 
 -- the row of a processor; empty if it does not exist
-abbrev pub row_of : Rows → ℕ → Row
-row_of rows processor = slice_index_or rows processor empty_row
+abbrev pub drawing_row_of : Rows → ℕ → DrawingRow
+drawing_row_of rows processor = slice_index_or rows processor empty_drawing_row
 
 -- the order of stretches: by when they begin, then by when they end, then by their tasks
 abbrev pub stretch_cmp : Stretch → Stretch → Ordering
@@ -49,10 +49,10 @@ pub record HasRow (w : Window) (rows : Rows) (number : ℕ) : Type 0 where
 pub record PlacedRow : Type 0 where
   pub number : ℕ
   pub top : ℕ
-  pub row : Row
+  pub row : DrawingRow
 
 -- where the band of a row begins, below this height: the levels that its wakes need, and 4 more
-abbrev pub band_top : Setting → ℕ → List Stretch → ℕ
+abbrev pub band_top : PictureSetting → ℕ → List Stretch → ℕ
 band_top s edge wakes = saturating_sum edge (length (lanes_after (arrow_of s.extent) [] wakes) * level_height + 4)
 
 -- where a row ends: below the band, the lanes of its waits, and a gap
@@ -60,7 +60,7 @@ abbrev pub row_end : PlacedRow → ℕ
 row_end p = saturating_sum p.top (band_height + (length (lanes_after (λ wait. wait) [] p.row.waits) * lane_height + row_gap))
 
 -- the row of a processor with all that is held of it, below this height
-pub record IsPlaced (s : Setting) (edge number : ℕ) (row : Row) (placed : PlacedRow) : Type 0 where
+pub record IsPlacedRow (s : PictureSetting) (edge number : ℕ) (row : DrawingRow) (placed : PlacedRow) : Type 0 where
   pub of_processor : placed.number ≡ number
   pub below : placed.top ≡ band_top s edge placed.row.wakes
   pub runs_stay : placed.row.runs ≡ row.runs
@@ -68,9 +68,9 @@ pub record IsPlaced (s : Setting) (edge number : ℕ) (row : Row) (placed : Plac
   pub wakes_in_order : ArePutInOrder row.wakes placed.row.wakes
 
 -- the next row, below the rows before it, the last of which ends at `before`
-pub record IsNextRow (s : Setting) (number : ℕ) (row : Row) (above : List PlacedRow) (before : ℕ) (placed : List PlacedRow) (edge : ℕ) : Type 0 where
+pub record IsNextRow (s : PictureSetting) (number : ℕ) (row : DrawingRow) (above : List PlacedRow) (before : ℕ) (placed : List PlacedRow) (edge : ℕ) : Type 0 where
   pub next : PlacedRow
-  pub is_placed : IsPlaced s before number row next
+  pub is_placed : IsPlacedRow s before number row next
   pub comes_last : placed ≡ above ++ next ∷ []
   pub ends : edge ≡ row_end next
 
@@ -80,22 +80,22 @@ pub record IsNoRow (above : List PlacedRow) (before : ℕ) (placed : List Placed
   pub edge_stays : edge ≡ before
 
 -- the rows of the processors below a number that have one, one below another; the last ends at `edge`
-unfoldable pub ArePlaced : Window → Setting → Rows → ℕ → List PlacedRow → ℕ → Type 0
+unfoldable pub ArePlaced : Window → PictureSetting → Rows → ℕ → List PlacedRow → ℕ → Type 0
 ArePlaced w s rows zero placed edge = (placed ≡ []) × (edge ≡ rows_edge)
 ArePlaced w s rows (suc number) placed edge =
     (above : List PlacedRow) × (before : ℕ) × ArePlaced w s rows number above before
-    × ((HasRow w rows number × IsNextRow s number (row_of rows number) above before placed edge) ⊎ (¬ (HasRow w rows number) × IsNoRow above before placed edge))
+    × ((HasRow w rows number × IsNextRow s number (drawing_row_of rows number) above before placed edge) ⊎ (¬ (HasRow w rows number) × IsNoRow above before placed edge))
 
 -- the height of the band of a processor, if it has a row
 abbrev pub top_at : List PlacedRow → ℕ → Option ℕ
 top_at placed number = option_map (λ (p : PlacedRow). p.top) (find (λ (p : PlacedRow). p.number == number) placed)
 
 -- all that is drawn of a row
-abbrev pub row_text : Setting → PlacedRow → List ℕ
-row_text s p = shapes_text s p.number p.top p.row.runs p.row.waits p.row.wakes
+abbrev pub drawing_row_text : PictureSetting → PlacedRow → List ℕ
+drawing_row_text s p = shapes_text s p.number p.top p.row.runs p.row.waits p.row.wakes
 
 -- the names on the row's runs
-abbrev pub labels_text : Setting → PlacedRow → List ℕ
+abbrev pub labels_text : PictureSetting → PlacedRow → List ℕ
 labels_text s p = flat_map (label_text s p.top) p.row.runs
 
 -- how many waits find no room, in all rows
@@ -103,5 +103,5 @@ abbrev pub waits_left_out : List PlacedRow → ℕ
 waits_left_out placed = sum_by (λ (p : PlacedRow). left_out (λ wait. wait) [] p.row.waits) placed
 
 -- how many wakes find no room, in all rows
-abbrev pub wakes_left_out : Setting → List PlacedRow → ℕ
+abbrev pub wakes_left_out : PictureSetting → List PlacedRow → ℕ
 wakes_left_out s placed = sum_by (λ (p : PlacedRow). left_out (arrow_of s.extent) [] p.row.wakes) placed

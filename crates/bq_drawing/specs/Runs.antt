@@ -11,8 +11,8 @@ abbrev pub run_to : ℕ → Start → Slice
 run_to at start = record { processor = start.processor; task = start.task; from = start.at; to = at }
 
 -- the run that a change ends, if it ends one
-abbrev pub ended_run : Option Stop → Option Slice
-ended_run stop = option_map (λ (s : Stop). run_to s.at s.start) stop
+abbrev pub run_ended_by : Option Stop → Option Slice
+run_ended_by stop = option_map (λ (s : Stop). run_to s.at s.start) stop
 
 -- the run that goes on at a processor, up to the last reading of its clock
 abbrev pub run_on : ProcessorFigures → Option Slice

@@ -10,33 +10,33 @@ use Rattle.bq_drawing.specs.declared.frame.Frame.{Frame}
 use Rattle.bq_drawing.specs.declared.lanes.Stretch.{Stretch}
 use Rattle.bq_drawing.specs.declared.shapes.DrawnRun.{DrawnRun}
 use Rattle.bq_drawing.specs.declared.unit.TimeUnit.{TimeUnit}
-use Rattle.bq_drawing.specs.Lanes.{lane_of, taken}
-use Rattle.bq_drawing.specs.Places.{arrow_time, band_height, hundredths, lane_height, left_edge, level_height, place_of, time_width, width_of}
-use Rattle.bq_drawing.specs.Titles.{amount_text, axis_step, shown_name, time_text, unit_name, unit_of_step}
+use Rattle.bq_drawing.specs.Lanes.{lane_of, lanes_taken}
+use Rattle.bq_drawing.specs.Places.{arrow_time, band_height, hundredths, lane_height, left_edge, level_height, moment_place, time_width, drawn_width}
+use Rattle.bq_drawing.specs.Titles.{amount_text, axis_step, name_or_number, time_text, unit_name, unit_of_step}
 
 -- what the shapes of a picture share: the time that it is drawn over, the unit of its times, and the tasks of the trace, in order, with
 -- their names
-pub record Setting : Type 0 where
+pub record PictureSetting : Type 0 where
   pub extent : Extent
   pub unit : TimeUnit
   pub tasks : List ℕ
   pub names : NamedTasks
 
 -- the setting of a picture that is drawn over this time
-abbrev pub drawn_in : Extent → List ℕ → NamedTasks → Setting
+abbrev pub drawn_in : Extent → List ℕ → NamedTasks → PictureSetting
 drawn_in e tasks names = record { extent = e; unit = unit_of_step (axis_step e); tasks = tasks; names = names }
 
 -- the setting that a frame gives
-abbrev pub setting_of : Frame → Setting
-setting_of f = record { extent = f.scale.extent; unit = f.unit; tasks = f.roster.now; names = f.names.now }
+abbrev pub picture_setting : Frame → PictureSetting
+picture_setting f = record { extent = f.scale.extent; unit = f.unit; tasks = f.roster.now; names = f.names.now }
 
 -- the number of a task's colour, by its place among all tasks of the trace
 abbrev pub colour_of : List ℕ → ℕ → ℕ
 colour_of tasks task = unwrap_or (place_in tasks task) 0 % 8
 
 -- the whole name of a task, or its number if it has none
-abbrev pub whole_name : Setting → ℕ → List ℕ
-whole_name s task = shown_name (2 ^ 64 - 1) s.names task
+abbrev pub whole_name : PictureSetting → ℕ → List ℕ
+whole_name s task = name_or_number (2 ^ 64 - 1) s.names task
 
 -- ---- the band
 
@@ -54,14 +54,14 @@ row_name number top =
 -- ---- runs
 
 -- the rectangle of a run, in the band whose upper edge is at `top`
-abbrev pub rectangle_text : Setting → ℕ → DrawnRun → List ℕ
+abbrev pub rectangle_text : PictureSetting → ℕ → DrawnRun → List ℕ
 rectangle_text s top run =
-    codes "<g><rect class=\"run c" ++ (decimal (colour_of s.tasks run.task) ++ (codes "\" x=\"" ++ (hundredths (place_of s.extent run.from)
-    ++ (codes "\" y=\"" ++ (decimal top ++ (codes "\" width=\"" ++ (hundredths (width_of s.extent run.from run.to)
+    codes "<g><rect class=\"run c" ++ (decimal (colour_of s.tasks run.task) ++ (codes "\" x=\"" ++ (hundredths (moment_place s.extent run.from)
+    ++ (codes "\" y=\"" ++ (decimal top ++ (codes "\" width=\"" ++ (hundredths (drawn_width s.extent run.from run.to)
     ++ (codes "\" height=\"" ++ (decimal band_height ++ codes "\" rx=\"2\"/>")))))))))
 
 -- when a run begins and ends, and how long it is
-abbrev pub run_times : Setting → DrawnRun → List ℕ
+abbrev pub run_times : PictureSetting → DrawnRun → List ℕ
 run_times s run =
     (codes " (" ++ (decimal run.task ++ (codes ") runs " ++ (amount_text s.unit run.from ++ (codes " to " ++ (amount_text s.unit run.to
     ++ (codes " " ++ (unit_name s.unit ++ codes ": "))))))))
@@ -73,18 +73,18 @@ latency_text unit None = []
 latency_text unit (Some latency) = codes ", " ++ (amount_text unit latency ++ (codes " " ++ (unit_name unit ++ codes " since its wake")))
 
 -- how long the task waited for a run
-abbrev pub run_waits : Setting → DrawnRun → List ℕ
+abbrev pub run_waits : PictureSetting → DrawnRun → List ℕ
 run_waits s run =
     (codes ", after " ++ (amount_text s.unit run.waited ++ (codes " " ++ (unit_name s.unit ++ codes " of waiting"))))
     ++ latency_text s.unit run.latency
 
 -- the tooltip of a run
-abbrev pub run_title : Setting → DrawnRun → List ℕ
+abbrev pub run_title : PictureSetting → DrawnRun → List ℕ
 run_title s run = codes "<title>" ++ (whole_name s run.task ++ (run_times s run ++ (run_waits s run ++ codes "</title>")))
 
 -- a run: its rectangle and its tooltip
-abbrev pub run_text : Setting → ℕ → DrawnRun → List ℕ
-run_text s top run = rectangle_text s top run ++ (run_title s run ++ codes "</g>\n")
+abbrev pub drawn_run_text : PictureSetting → ℕ → DrawnRun → List ℕ
+drawn_run_text s top run = rectangle_text s top run ++ (run_title s run ++ codes "</g>\n")
 
 -- ---- waits and wakes, in lanes
 
@@ -99,27 +99,27 @@ unfoldable pub in_lanes : (Stretch → Stretch) → (ℕ → Stretch → List �
 in_lanes room draw lanes [] = []
 in_lanes room draw lanes (stretch ∷ later) =
     shape_in draw (lane_of (room stretch) lanes) stretch
-    ++ in_lanes room draw (taken (lane_of (room stretch) lanes) (room stretch).to lanes) later
+    ++ in_lanes room draw (lanes_taken (lane_of (room stretch) lanes) (room stretch).to lanes) later
 
 -- the height of a wait in this lane, below the band whose upper edge is at `top`
 abbrev pub wait_height : ℕ → ℕ → ℕ
 wait_height top lane = saturating_sum (lane * lane_height) (band_height + (top + 3))
 
 -- the hatched rectangle of a wait, up to the name in its tooltip
-abbrev pub hatched_text : Setting → ℕ → Stretch → List ℕ
+abbrev pub hatched_text : PictureSetting → ℕ → Stretch → List ℕ
 hatched_text s height wait =
-    codes "<rect class=\"wait w" ++ (decimal (colour_of s.tasks wait.task) ++ (codes "\" x=\"" ++ (hundredths (place_of s.extent wait.from)
-    ++ (codes "\" y=\"" ++ (decimal height ++ (codes "\" width=\"" ++ (hundredths (width_of s.extent wait.from wait.to)
+    codes "<rect class=\"wait w" ++ (decimal (colour_of s.tasks wait.task) ++ (codes "\" x=\"" ++ (hundredths (moment_place s.extent wait.from)
+    ++ (codes "\" y=\"" ++ (decimal height ++ (codes "\" width=\"" ++ (hundredths (drawn_width s.extent wait.from wait.to)
     ++ codes "\" height=\"8\"><title>")))))))
 
 -- when a wait begins and ends
-abbrev pub wait_times : Setting → Stretch → List ℕ
+abbrev pub wait_times : PictureSetting → Stretch → List ℕ
 wait_times s wait =
     codes " waits " ++ (amount_text s.unit wait.from ++ (codes " to " ++ (amount_text s.unit wait.to ++ (codes " " ++ (unit_name s.unit
     ++ codes "</title></rect>\n")))))
 
 -- a wait at this height, with the name of its task and when it is
-abbrev pub wait_text : Setting → ℕ → Stretch → List ℕ
+abbrev pub wait_text : PictureSetting → ℕ → Stretch → List ℕ
 wait_text s height wait = hatched_text s height wait ++ (whole_name s wait.task ++ wait_times s wait)
 
 -- the height at which the arrow of a wake at this level ends, above the band whose upper edge is at `top`
@@ -127,44 +127,44 @@ abbrev pub wake_height : ℕ → ℕ → ℕ
 wake_height top level = top - level * level_height
 
 -- the arrow of a wake, up to the name in its tooltip
-abbrev pub arrow_text : Setting → ℕ → Stretch → List ℕ
+abbrev pub arrow_text : PictureSetting → ℕ → Stretch → List ℕ
 arrow_text s end wake =
-    codes "<path class=\"arrow c" ++ (decimal (colour_of s.tasks wake.task) ++ (codes "\" d=\"M" ++ (hundredths (place_of s.extent wake.from)
+    codes "<path class=\"arrow c" ++ (decimal (colour_of s.tasks wake.task) ++ (codes "\" d=\"M" ++ (hundredths (moment_place s.extent wake.from)
     ++ (codes " " ++ (decimal (end - 12) ++ codes "v11l-4 -6h8l-4 6\"><title>")))))
 
 -- when a wake happens
-abbrev pub wake_time : Setting → Stretch → List ℕ
+abbrev pub wake_time : PictureSetting → Stretch → List ℕ
 wake_time s wake = codes " is woken at " ++ (amount_text s.unit wake.from ++ (codes " " ++ (unit_name s.unit ++ codes "</title></path>\n")))
 
 -- a wake whose arrow ends at this height, with the name of its task and when it happens
-abbrev pub wake_text : Setting → ℕ → Stretch → List ℕ
-wake_text s end wake = arrow_text s end wake ++ (whole_name s wake.task ++ wake_time s wake)
+abbrev pub drawn_wake_text : PictureSetting → ℕ → Stretch → List ℕ
+drawn_wake_text s end wake = arrow_text s end wake ++ (whole_name s wake.task ++ wake_time s wake)
 
 -- a wake, made as long as its arrow is wide
 abbrev pub arrow_of : Extent → Stretch → Stretch
 arrow_of e wake = record wake { to = saturating_sum wake.from (arrow_time e) }
 
 -- a wait in its lane, below the band whose upper edge is at `top`
-abbrev pub wait_in : Setting → ℕ → ℕ → Stretch → List ℕ
+abbrev pub wait_in : PictureSetting → ℕ → ℕ → Stretch → List ℕ
 wait_in s top lane wait = wait_text s (wait_height top lane) wait
 
 -- a wake at its level, above the band whose upper edge is at `top`
-abbrev pub wake_in : Setting → ℕ → ℕ → Stretch → List ℕ
-wake_in s top level wake = wake_text s (wake_height top level) wake
+abbrev pub wake_in : PictureSetting → ℕ → ℕ → Stretch → List ℕ
+wake_in s top level wake = drawn_wake_text s (wake_height top level) wake
 
 -- the waits of a row, one after another; each needs room for as long as it lasts
-abbrev pub waits_text : Setting → ℕ → List Stretch → List ℕ
+abbrev pub waits_text : PictureSetting → ℕ → List Stretch → List ℕ
 waits_text s top waits = in_lanes (λ wait. wait) (wait_in s top) [] waits
 
 -- the wakes of a row, one after another; each needs room for its arrow
-abbrev pub wakes_text : Setting → ℕ → List Stretch → List ℕ
+abbrev pub wakes_text : PictureSetting → ℕ → List Stretch → List ℕ
 wakes_text s top wakes = in_lanes (arrow_of s.extent) (wake_in s top) [] wakes
 
 -- what is drawn in the row of a processor whose band has its upper edge at `top`: the band and the name, then the runs, the waits and the
 -- wakes, each in order
-abbrev pub shapes_text : Setting → ℕ → ℕ → List DrawnRun → List Stretch → List Stretch → List ℕ
+abbrev pub shapes_text : PictureSetting → ℕ → ℕ → List DrawnRun → List Stretch → List Stretch → List ℕ
 shapes_text s number top runs waits wakes =
-    band_text top ++ (row_name number top ++ (flat_map (run_text s top) runs ++ (waits_text s top waits ++ wakes_text s top wakes)))
+    band_text top ++ (row_name number top ++ (flat_map (drawn_run_text s top) runs ++ (waits_text s top waits ++ wakes_text s top wakes)))
 
 -- ---- names upon runs
 
@@ -177,14 +177,14 @@ abbrev pub label_width : NamedTasks → ℕ → ℕ
 label_width names task = saturating_sum (min (name_length names task * 1000) (2 ^ 64 - 1)) 1000
 
 -- the name of a run's task, around this place, in the band whose upper edge is at `top`
-abbrev pub name_upon : Setting → ℕ → ℕ → ℕ → List ℕ
+abbrev pub name_upon : PictureSetting → ℕ → ℕ → ℕ → List ℕ
 name_upon s task middle top =
     (codes "<text class=\"in l" ++ (decimal (colour_of s.tasks task) ++ (codes "\" x=\"" ++ (hundredths middle
     ++ (codes "\" y=\"" ++ (decimal (saturating_sum top 24) ++ codes "\">"))))))
     ++ (whole_name s task ++ codes "</text>\n")
 
 -- the name in the middle of a run, if the run is wide enough
-abbrev pub label_text : Setting → ℕ → DrawnRun → List ℕ
+abbrev pub label_text : PictureSetting → ℕ → DrawnRun → List ℕ
 label_text s top run =
-    if nat_lt (width_of s.extent run.from run.to) (label_width s.names run.task) then []
-    else name_upon s run.task (saturating_sum (place_of s.extent run.from) (width_of s.extent run.from run.to / 2)) top
+    if nat_lt (drawn_width s.extent run.from run.to) (label_width s.names run.task) then []
+    else name_upon s run.task (saturating_sum (moment_place s.extent run.from) (drawn_width s.extent run.from run.to / 2)) top

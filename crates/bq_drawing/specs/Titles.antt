@@ -32,8 +32,8 @@ abbrev pub escaped : ℕ → List ℕ → List ℕ
 escaped most text = flat_map xml_letter (take most (chars text))
 
 -- the name of a task, cut after this many characters, or its number if it has none
-abbrev pub shown_name : ℕ → NamedTasks → ℕ → List ℕ
-shown_name most names task = label_of task (option_map (escaped most) (name_of names task))
+abbrev pub name_or_number : ℕ → NamedTasks → ℕ → List ℕ
+name_or_number most names task = label_of task (option_map (escaped most) (name_of names task))
 
 -- the unit of times on an axis with steps of this length
 abbrev pub unit_of_step : ℕ → TimeUnit

@@ -1,7 +1,7 @@
 //! The axis of time.
 ghost use Rattle.std.specs.Prelude.{◌≡◌, ◌++◌, OnOk, string_bytes};
-ghost use Rattle.bq_drawing.specs.Axes.{axis_name, axis_text, first_line, grid_count, grid_line, line_at, mark_if};
-ghost use Rattle.bq_drawing.specs.Shapes.{setting_of};
+ghost use Rattle.bq_drawing.specs.Axes.{axis_name, axis_text, first_axis_line, grid_count, grid_line, line_at, mark_if};
+ghost use Rattle.bq_drawing.specs.Shapes.{picture_setting};
 
 use crate::frame::Frame;
 use crate::scale::{Hundredths, LEFT, Scale, WIDTH};
@@ -21,7 +21,7 @@ pub fn write_axis(
     bottom: usize,
     text: &mut String,
 ) -> Result<(), AllocError>
-    ensures { OnOk result (string_bytes text.new ≡ string_bytes text.old ++ axis_text (setting_of frame.now) step top bottom) }
+    ensures { OnOk result (string_bytes text.new ≡ string_bytes text.old ++ axis_text (picture_setting frame.now) step top bottom) }
 {
     for number in 0..MOST {
         let at = line_at(step, number, &frame.scale);
@@ -39,7 +39,7 @@ fn line_at(step: u64, number: u8, scale: &Scale) -> u64
 
 /// The first multiple of the step that is not before the time that is drawn.
 fn first_line(step: u64, scale: &Scale) -> u64
-    ensures { result ≡ first_line scale.now.extent step }
+    ensures { result ≡ first_axis_line scale.now.extent step }
 {
     scale.extent.from.div_ceil(step.max(1)).saturating_mul(step)
 }
@@ -52,7 +52,7 @@ fn write_mark(
     bottom: usize,
     text: &mut String,
 ) -> Result<(), AllocError>
-    ensures { OnOk result (string_bytes text.new ≡ string_bytes text.old ++ mark_if (setting_of frame.now) top bottom at) }
+    ensures { OnOk result (string_bytes text.new ≡ string_bytes text.old ++ mark_if (picture_setting frame.now) top bottom at) }
 {
     if at > frame.scale.extent.to {
         return Ok(());

@@ -3,15 +3,15 @@ ghost use Rattle.std.specs.Prelude.{◌≡◌, ◌+◌, ◌*◌, ◌++◌, [], �
 ghost use Rattle.bq_disc.specs.Counts.{saturating_sum};
 ghost use Rattle.std.specs.BTreeMap.{get};
 ghost use Rattle.std.specs.Ordering.{nat_cmp};
-ghost use Rattle.bq_drawing.specs.Holdings.{nothing_of, row_with_run, row_with_wait, row_with_wake, waking, with_link, with_run, with_stretch, with_wake};
+ghost use Rattle.bq_drawing.specs.Holdings.{nothing_of, row_with_run, row_with_wait, row_with_wake, waking, with_link, held_with_run, with_stretch, with_wake};
 ghost use Rattle.bq_drawing.specs.Keys.{has_line, legend_top, tasks_shown};
 ghost use Rattle.bq_drawing.specs.Legends.{legend_height, legend_text};
-ghost use Rattle.bq_drawing.specs.Links.{line_of};
+ghost use Rattle.bq_drawing.specs.Links.{link_line};
 ghost use Rattle.bq_drawing.specs.Lanes.{lanes_after, left_out, without_lane};
 ghost use Rattle.bq_drawing.specs.Pictures.{IsDrawing};
 ghost use Rattle.bq_drawing.specs.Places.{band_height, lane_height, level_height, row_gap};
-ghost use Rattle.bq_drawing.specs.Rows.{ArePutInOrder, empty_row};
-ghost use Rattle.bq_drawing.specs.Shapes.{arrow_of, drawn_in, label_text, run_text, setting_of, shape_in, wait_in, waits_text, wake_in, wakes_text};
+ghost use Rattle.bq_drawing.specs.Rows.{ArePutInOrder, empty_drawing_row};
+ghost use Rattle.bq_drawing.specs.Shapes.{arrow_of, drawn_in, label_text, drawn_run_text, picture_setting, shape_in, wait_in, waits_text, wake_in, wakes_text};
 ghost use Rattle.bq_drawing.specs.Writing.{AreDrawn, IsRowWritten, IsRowWrittenIf, key_beside};
 
 use crate::axis::{AXIS, write_axis};
@@ -51,9 +51,9 @@ pub struct ProcessorRow {
 }
 
 impl Model for ProcessorRow {
-    ghost use Rattle.bq_drawing.specs.Rows.{Row};
+    ghost use Rattle.bq_drawing.specs.Rows.{DrawingRow};
 
-    ghost Value = { Row };
+    ghost Value = { DrawingRow };
 
     ghost view = { λ r. record { runs = r.runs.items; waits = r.waits.items; wakes = r.wakes.items } };
 }
@@ -139,7 +139,7 @@ impl Drawing {
 
     /// Adds the shown part of a run. `start` is how the run began.
     pub fn push_run(&mut self, start: &Start, part: &Slice) -> Result<(), AllocError>
-        ensures { OnOk result (self.new ≡ with_run (Some start.now) (Some part.now) self.old) }
+        ensures { OnOk result (self.new ≡ held_with_run (Some start.now) (Some part.now) self.old) }
     {
         self.tasks.insert(part.task)?;
         if let Some(row) = self.rows.get_mut(usize::from(part.processor)) {
@@ -213,7 +213,7 @@ impl Drawing {
 
     /// The legend below the rows, and how high the picture is together with it.
     fn legend(&self, rows: &WrittenRows, frame: &Frame<'_>) -> Result<Written, AllocError>
-        ensures text { IfOk result (λ legend. string_bytes legend.text ≡ legend_text (setting_of frame.now)
+        ensures text { IfOk result (λ legend. string_bytes legend.text ≡ legend_text (picture_setting frame.now)
             (tasks_shown frame.now.roster.now self.now.tasks) (key_beside self.now.links rows.now) (legend_top rows.now.bottom)) }
         ensures height { IfOk result (λ legend. legend.height ≡ saturating_sum (legend_top rows.now.bottom)
             (legend_height (length (tasks_shown frame.now.roster.now self.now.tasks)) (key_beside self.now.links rows.now))) }
@@ -271,7 +271,7 @@ impl Drawing {
 
     /// The rows of the window, and the lines between them.
     fn write_rows(&self, window: &Window, frame: &Frame<'_>) -> Result<WrittenRows, AllocError>
-        ensures { IfOk result (AreDrawn window.now (setting_of frame.now) self.now) }
+        ensures { IfOk result (AreDrawn window.now (picture_setting frame.now) self.now) }
     {
         let mut rows = WrittenRows {
             text: String::new(self.alloc),
@@ -298,7 +298,7 @@ impl Drawing {
         frame: &Frame<'_>,
         rows: &mut WrittenRows,
     ) -> Result<(), AllocError>
-        ensures { OnOk result (IsRowWrittenIf window.now (setting_of frame.now) self.now.rows number rows.old rows.new) }
+        ensures { OnOk result (IsRowWrittenIf window.now (picture_setting frame.now) self.now.rows number rows.old rows.new) }
     {
         if !window.shows_processor(number) {
             return Ok(());
@@ -319,7 +319,7 @@ impl Drawing {
         rows: &mut WrittenRows,
     ) -> Result<(), AllocError>
         ensures text { OnOk result (string_bytes rows.new.links ≡ string_bytes rows.old.links
-            ++ flat_map (line_of kind (setting_of frame.now) (get nat_cmp rows.old.bands)) self.now.links) }
+            ++ flat_map (link_line kind (picture_setting frame.now) (get nat_cmp rows.old.bands)) self.now.links) }
         ensures same { rows.new ≡ record rows.old { links = rows.new.links } }
     {
         for link in self.links.iter() {
@@ -338,7 +338,7 @@ impl WrittenRows {
         frame: &Frame<'_>,
     ) -> Result<(), AllocError>
         ensures text { OnOk result (string_bytes self.new.links
-            ≡ string_bytes self.old.links ++ line_of kind (setting_of frame.now) (get nat_cmp self.old.bands) link.now) }
+            ≡ string_bytes self.old.links ++ link_line kind (picture_setting frame.now) (get nat_cmp self.old.bands) link.now) }
         ensures same { self.new ≡ record self.old { links = self.new.links } }
     {
         if !link.kind.is(kind) {
@@ -356,7 +356,7 @@ impl WrittenRows {
 impl ProcessorRow {
     /// A row with nothing in it.
     fn new(alloc: Global) -> ProcessorRow
-        ensures { result ≡ empty_row }
+        ensures { result ≡ empty_drawing_row }
     {
         ProcessorRow {
             runs: Vec::new(alloc),
@@ -397,7 +397,7 @@ impl ProcessorRow {
         frame: &Frame<'_>,
         labels: &mut String,
     ) -> Result<(), AllocError>
-        ensures { OnOk result (string_bytes labels.new ≡ string_bytes labels.old ++ flat_map (label_text (setting_of frame.now) top) self.now.runs) }
+        ensures { OnOk result (string_bytes labels.new ≡ string_bytes labels.old ++ flat_map (label_text (picture_setting frame.now) top) self.now.runs) }
     {
         for run in self.runs.iter() {
             write_label(run, top, frame, labels)?;
@@ -413,7 +413,7 @@ impl ProcessorRow {
         frame: &Frame<'_>,
         rows: &mut WrittenRows,
     ) -> Result<(), AllocError>
-        ensures { OnOk result (IsRowWritten (setting_of frame.now) number self.now rows.old rows.new) }
+        ensures { OnOk result (IsRowWritten (picture_setting frame.now) number self.now rows.old rows.new) }
     {
         let waits = in_order(alloc, self.waits.as_slice())?;
         let wakes = in_order(alloc, self.wakes.as_slice())?;
@@ -487,7 +487,7 @@ fn write_runs(
     frame: &Frame<'_>,
     text: &mut String,
 ) -> Result<(), AllocError>
-    ensures { OnOk result (string_bytes text.new ≡ string_bytes text.old ++ flat_map (run_text (setting_of frame.now) top) runs.now) }
+    ensures { OnOk result (string_bytes text.new ≡ string_bytes text.old ++ flat_map (drawn_run_text (picture_setting frame.now) top) runs.now) }
 {
     for run in runs {
         write_run(alloc, run, top, frame, text)?;
@@ -502,7 +502,7 @@ fn draw_waits(
     top: usize,
     frame: &Frame<'_>,
 ) -> Result<Shapes, AllocError>
-    ensures text { IfOk result (λ drawn. string_bytes drawn.text ≡ waits_text (setting_of frame.now) top waits.now) }
+    ensures text { IfOk result (λ drawn. string_bytes drawn.text ≡ waits_text (picture_setting frame.now) top waits.now) }
     ensures lanes { IfOk result (λ drawn. drawn.lanes ≡ length (lanes_after (λ wait. wait) [] waits.now)) }
     ensures left_out { IfOk result (λ drawn. drawn.left_out ≡ saturating_sum 0 (left_out (λ wait. wait) [] waits.now)) }
 {
@@ -529,7 +529,7 @@ fn draw_wakes(
     top: usize,
     frame: &Frame<'_>,
 ) -> Result<Shapes, AllocError>
-    ensures text { IfOk result (λ drawn. string_bytes drawn.text ≡ wakes_text (setting_of frame.now) top wakes.now) }
+    ensures text { IfOk result (λ drawn. string_bytes drawn.text ≡ wakes_text (picture_setting frame.now) top wakes.now) }
     ensures left_out { IfOk result (λ drawn. drawn.left_out ≡ saturating_sum 0 (left_out (arrow_of frame.now.scale.extent) [] wakes.now)) }
 {
     let mut lanes = Lanes::new(alloc);
@@ -566,7 +566,7 @@ fn write_wait_in(
     frame: &Frame<'_>,
     text: &mut String,
 ) -> Result<(), AllocError>
-    ensures { OnOk result (string_bytes text.new ≡ string_bytes text.old ++ shape_in (wait_in (setting_of frame.now) top) lane wait.now) }
+    ensures { OnOk result (string_bytes text.new ≡ string_bytes text.old ++ shape_in (wait_in (picture_setting frame.now) top) lane wait.now) }
 {
     match lane {
         Some(lane) => write_wait(wait, wait_height(top, lane), frame, text),
@@ -582,7 +582,7 @@ fn write_wake_in(
     frame: &Frame<'_>,
     text: &mut String,
 ) -> Result<(), AllocError>
-    ensures { OnOk result (string_bytes text.new ≡ string_bytes text.old ++ shape_in (wake_in (setting_of frame.now) top) level wake.now) }
+    ensures { OnOk result (string_bytes text.new ≡ string_bytes text.old ++ shape_in (wake_in (picture_setting frame.now) top) level wake.now) }
 {
     match level {
         Some(level) => write_wake(wake, wake_height(top, level), frame, text),

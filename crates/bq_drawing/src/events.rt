@@ -2,7 +2,7 @@
 ghost use Rattle.std.specs.Prelude.{◌≡◌, ◌++◌, IfOk, OnOk, codes, string_bytes};
 ghost use Rattle.std.specs.Fmt.{decimal};
 ghost use Rattle.bq_hooks.specs.Hooks.{hook_word};
-ghost use Rattle.bq_drawing.specs.Events.{beginning_text, counter_text, end_text, mark_text, overruled_text, run_event, task_args, track_text, tracks_text};
+ghost use Rattle.bq_drawing.specs.Events.{beginning_text, counter_text, end_text, instant_text, overruled_text, run_event, task_args, track_text, tracks_text};
 
 use bq_report::Micros;
 use bq_schedule::{ClockReading, Decision, Slice};
@@ -59,7 +59,7 @@ pub fn write_mark(
     args: &str,
     text: &mut String,
 ) -> Result<(), AllocError>
-    ensures { OnOk result (string_bytes text.new ≡ string_bytes text.old ++ mark_text kind.now name.now track at args.now) }
+    ensures { OnOk result (string_bytes text.new ≡ string_bytes text.old ++ instant_text kind.now name.now track at args.now) }
 {
     let at = Micros(at);
     write!(

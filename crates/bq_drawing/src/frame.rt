@@ -1,7 +1,7 @@
 //! What the shapes of a picture share.
 ghost use Rattle.std.specs.Prelude.{◌≡◌, ◌++◌, OnOk, chars, length, string_bytes};
 ghost use Rattle.bq_drawing.specs.Shapes.{colour_of, label_width, name_length};
-ghost use Rattle.bq_drawing.specs.Titles.{shown_name};
+ghost use Rattle.bq_drawing.specs.Titles.{name_or_number};
 
 use crate::colours::COLOURS;
 use crate::escaped::write_escaped;
@@ -37,7 +37,7 @@ impl Frame<'_> {
 
     /// Adds the name of a task, cut after this many characters, or its number if it has no name.
     pub fn write_name(&self, task: u16, most: usize, text: &mut String) -> Result<(), AllocError>
-        ensures { OnOk result (string_bytes text.new ≡ string_bytes text.old ++ shown_name most self.now.names.now task) }
+        ensures { OnOk result (string_bytes text.new ≡ string_bytes text.old ++ name_or_number most self.now.names.now task) }
     {
         match self.names.of(task) {
             Some(name) => write_escaped(name, most, text),

@@ -1,7 +1,7 @@
 //! The heading of a picture: its title, the discipline, and the time that it is drawn over.
 ghost use Rattle.std.specs.Prelude.{◌≡◌, ◌++◌, OnOk, string_bytes};
 ghost use Rattle.bq_drawing.specs.Headings.{discipline, heading_text, rule_text, span_text, times_text, title_text};
-ghost use Rattle.bq_drawing.specs.Shapes.{setting_of};
+ghost use Rattle.bq_drawing.specs.Shapes.{picture_setting};
 
 use crate::escaped::write_escaped;
 use crate::frame::Frame;
@@ -24,7 +24,7 @@ pub struct Heading<'a> {
 impl Heading<'_> {
     /// Adds the title, and below it the discipline and the time that the picture is drawn over.
     pub fn write(&self, frame: &Frame<'_>, text: &mut String) -> Result<(), AllocError>
-        ensures { OnOk result (string_bytes text.new ≡ string_bytes text.old ++ heading_text (setting_of frame.now) self.now.title.now self.now.rule) }
+        ensures { OnOk result (string_bytes text.new ≡ string_bytes text.old ++ heading_text (picture_setting frame.now) self.now.title.now self.now.rule) }
     {
         write_title(self.title, text)?;
         write_span(self.rule, frame, text)
@@ -42,7 +42,7 @@ fn write_title(title: &str, text: &mut String) -> Result<(), AllocError>
 
 /// Adds the line below the title: the discipline and the time.
 fn write_span(rule: Option<Rule>, frame: &Frame<'_>, text: &mut String) -> Result<(), AllocError>
-    ensures { OnOk result (string_bytes text.new ≡ string_bytes text.old ++ span_text (setting_of frame.now) rule) }
+    ensures { OnOk result (string_bytes text.new ≡ string_bytes text.old ++ span_text (picture_setting frame.now) rule) }
 {
     write!(text, "<text class=\"small\" x=\"{LEFT}\" y=\"58\">")?;
     write_rule(rule, text)?;
@@ -62,7 +62,7 @@ fn write_rule(rule: Option<Rule>, text: &mut String) -> Result<(), AllocError>
 
 /// Adds the time that the picture is drawn over.
 fn write_times(frame: &Frame<'_>, text: &mut String) -> Result<(), AllocError>
-    ensures { OnOk result (string_bytes text.new ≡ string_bytes text.old ++ times_text (setting_of frame.now)) }
+    ensures { OnOk result (string_bytes text.new ≡ string_bytes text.old ++ times_text (picture_setting frame.now)) }
 {
     let from = frame.amount(frame.scale.extent.from);
     let to = frame.amount(frame.scale.extent.to);

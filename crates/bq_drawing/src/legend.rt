@@ -1,7 +1,7 @@
 //! The legend: the tasks with their colours, what the shapes mean, and what found no room.
 ghost use Rattle.std.specs.Prelude.{◌≡◌, ◌++◌, OnOk, string_bytes};
-ghost use Rattle.bq_drawing.specs.Legends.{entry_text, key_text, key_top, leaves_out, left_out_text, legend_height, legend_text, migration_key, number_text, pull_key, short_name, swatch_text, text_if, wait_key, wake_key};
-ghost use Rattle.bq_drawing.specs.Shapes.{setting_of};
+ghost use Rattle.bq_drawing.specs.Legends.{entry_text, key_text, key_top, leaves_out, left_out_text, legend_height, legend_text, migration_key, task_number_text, pull_key, short_name, swatch_text, text_if, wait_key, wake_key};
+ghost use Rattle.bq_drawing.specs.Shapes.{picture_setting};
 
 use crate::colours::GREY;
 use crate::frame::Frame;
@@ -62,7 +62,7 @@ pub fn write_legend(
     frame: &Frame<'_>,
     text: &mut String,
 ) -> Result<(), AllocError>
-    ensures { OnOk result (string_bytes text.new ≡ string_bytes text.old ++ legend_text (setting_of frame.now) tasks.now key.now first) }
+    ensures { OnOk result (string_bytes text.new ≡ string_bytes text.old ++ legend_text (picture_setting frame.now) tasks.now key.now first) }
 {
     for (place, task) in tasks.iter().enumerate() {
         write_entry(place, *task, first, frame, text)?;
@@ -90,7 +90,7 @@ fn write_entry(
     frame: &Frame<'_>,
     text: &mut String,
 ) -> Result<(), AllocError>
-    ensures { OnOk result (string_bytes text.new ≡ string_bytes text.old ++ entry_text (setting_of frame.now) first place task) }
+    ensures { OnOk result (string_bytes text.new ≡ string_bytes text.old ++ entry_text (picture_setting frame.now) first place task) }
 {
     let left = (place % ABREAST).saturating_mul(COLUMN).saturating_add(72);
     let top = (place / ABREAST).saturating_mul(LINE).saturating_add(first);
@@ -113,7 +113,7 @@ fn write_swatch(colour: usize, left: usize, top: usize, text: &mut String) -> Re
 
 /// Adds the name of a task in the legend, and its number.
 fn write_short_name(task: u16, frame: &Frame<'_>, text: &mut String) -> Result<(), AllocError>
-    ensures { OnOk result (string_bytes text.new ≡ string_bytes text.old ++ short_name (setting_of frame.now) task) }
+    ensures { OnOk result (string_bytes text.new ≡ string_bytes text.old ++ short_name (picture_setting frame.now) task) }
 {
     frame.write_name(task, SHORT, text)?;
     write_number(frame.names.of(task).is_some(), task, text)?;
@@ -122,7 +122,7 @@ fn write_short_name(task: u16, frame: &Frame<'_>, text: &mut String) -> Result<(
 
 /// Adds the number of a task after its name, if it has one.
 fn write_number(is_named: bool, task: u16, text: &mut String) -> Result<(), AllocError>
-    ensures { OnOk result (string_bytes text.new ≡ string_bytes text.old ++ number_text is_named task) }
+    ensures { OnOk result (string_bytes text.new ≡ string_bytes text.old ++ task_number_text is_named task) }
 {
     if !is_named {
         return Ok(());

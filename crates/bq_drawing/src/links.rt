@@ -1,8 +1,8 @@
 //! The lines between rows: pulls and migrations.
 ghost use Rattle.std.specs.Prelude.{◌≡◌, ◌++◌, OnOk, string_bytes};
 ghost use Rattle.bq_drawing.specs.declared.links.LinkKind.TheVariants.{Migration, Pull};
-ghost use Rattle.bq_drawing.specs.Links.{act_text, dot_text, ends_at, enters_at, halo_text, head_text, height_left, leaves_at, line_text, link_between, link_title, name_head, same_kind};
-ghost use Rattle.bq_drawing.specs.Shapes.{setting_of};
+ghost use Rattle.bq_drawing.specs.Links.{act_text, dot_text, link_end, enters_at, halo_text, head_text, height_left, leaves_at, link_text, link_between, link_title, name_head, same_kind};
+ghost use Rattle.bq_drawing.specs.Shapes.{picture_setting};
 
 use crate::frame::Frame;
 use crate::scale::Hundredths;
@@ -66,7 +66,7 @@ impl Link {
         frame: &Frame<'_>,
         text: &mut String,
     ) -> Result<(), AllocError>
-        ensures { OnOk result (string_bytes text.new ≡ string_bytes text.old ++ link_between (setting_of frame.now) self.now top_from top_to) }
+        ensures { OnOk result (string_bytes text.new ≡ string_bytes text.old ++ link_between (picture_setting frame.now) self.now top_from top_to) }
     {
         let begin = leaves_at(top_from, top_to);
         let end = ends_at(top_from, top_to);
@@ -110,7 +110,7 @@ impl Link {
 
     /// Adds the tooltip of the line.
     fn write_title(&self, frame: &Frame<'_>, text: &mut String) -> Result<(), AllocError>
-        ensures { OnOk result (string_bytes text.new ≡ string_bytes text.old ++ link_title (setting_of frame.now) self.now) }
+        ensures { OnOk result (string_bytes text.new ≡ string_bytes text.old ++ link_title (picture_setting frame.now) self.now) }
     {
         write_name_head(self.task, frame, text)?;
         write_act(self.kind, self.from.processor, self.to.processor, text)?;
@@ -133,7 +133,7 @@ fn leaves_at(top_from: usize, top_to: usize) -> usize
 
 /// The height at which a line ends: at the nearer edge of the other band.
 fn ends_at(top_from: usize, top_to: usize) -> usize
-    ensures { result ≡ ends_at top_from top_to }
+    ensures { result ≡ link_end top_from top_to }
 {
     if top_from < top_to {
         top_to
@@ -144,7 +144,7 @@ fn ends_at(top_from: usize, top_to: usize) -> usize
 
 /// Adds the beginning of a tooltip, with the name of the task.
 fn write_name_head(task: u16, frame: &Frame<'_>, text: &mut String) -> Result<(), AllocError>
-    ensures { OnOk result (string_bytes text.new ≡ string_bytes text.old ++ name_head (setting_of frame.now) task) }
+    ensures { OnOk result (string_bytes text.new ≡ string_bytes text.old ++ name_head (picture_setting frame.now) task) }
 {
     text.push_str("<title>")?;
     frame.write_name(task, usize::MAX, text)
@@ -186,7 +186,7 @@ fn write_line(
     text: &mut String,
 ) -> Result<(), AllocError>
     ensures { OnOk result (string_bytes text.new
-        ≡ string_bytes text.old ++ line_text kind colour line.now.left.0 line.now.begin line.now.right.0 line.now.end line.now.is_down) }
+        ≡ string_bytes text.old ++ link_text kind colour line.now.left.0 line.now.begin line.now.right.0 line.now.end line.now.is_down) }
 {
     match kind {
         LinkKind::Pull => write_arrow_line(colour, line, text),
@@ -197,7 +197,7 @@ fn write_line(
 /// Adds an arrow.
 fn write_arrow_line(colour: usize, line: &Line, text: &mut String) -> Result<(), AllocError>
     ensures { OnOk result (string_bytes text.new
-        ≡ string_bytes text.old ++ line_text Pull colour line.now.left.0 line.now.begin line.now.right.0 line.now.end line.now.is_down) }
+        ≡ string_bytes text.old ++ link_text Pull colour line.now.left.0 line.now.begin line.now.right.0 line.now.end line.now.is_down) }
 {
     let Line {
         left,
@@ -216,7 +216,7 @@ fn write_arrow_line(colour: usize, line: &Line, text: &mut String) -> Result<(),
 /// Adds a dashed line to a dot.
 fn write_dashed_line(colour: usize, line: &Line, text: &mut String) -> Result<(), AllocError>
     ensures { OnOk result (string_bytes text.new
-        ≡ string_bytes text.old ++ line_text Migration colour line.now.left.0 line.now.begin line.now.right.0 line.now.end line.now.is_down) }
+        ≡ string_bytes text.old ++ link_text Migration colour line.now.left.0 line.now.begin line.now.right.0 line.now.end line.now.is_down) }
 {
     let Line {
         left,

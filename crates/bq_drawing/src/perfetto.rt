@@ -5,7 +5,7 @@ ghost use Rattle.serde_json.specs.View.{view};
 ghost use Rattle.serde_json.specs.Written.{compact_text};
 ghost use Rattle.bq_schedule.specs.declared.slice.Slice.{Slice};
 ghost use Rattle.bq_report.specs.Names.{name_of};
-ghost use Rattle.bq_report.specs.Reports.{Adds};
+ghost use Rattle.bq_report.specs.Reports.{GrowsByPart};
 ghost use Rattle.bq_report.specs.Timehist.{IsShownMigration, IsShownWake};
 ghost use Rattle.bq_report.specs.Windows.{IsShownPart};
 ghost use Rattle.bq_drawing.specs.Events.{act_name, json_text, label_of, run_name, run_object};
@@ -474,7 +474,7 @@ impl ScheduleForm for Perfetto {
         _names: &Names,
         text: &mut String,
     ) -> Result<(), AllocError>
-        ensures head { OnOk result (Adds (IsPerfettoHead (length schedule.now.processors)) (string_bytes text.old) (string_bytes text.new)) }
+        ensures head { OnOk result (GrowsByPart (IsPerfettoHead (length schedule.now.processors)) (string_bytes text.old) (string_bytes text.new)) }
         ensures history { OnOk result (self.new ≡ record self.old { history = empty_past (length schedule.now.processors) TASKS }) }
         ensures window { self.new.window ≡ self.old.window }
     {
@@ -489,7 +489,7 @@ impl ScheduleForm for Perfetto {
         names: &Names,
         text: &mut String,
     ) -> Result<(), AllocError>
-        ensures events { OnOk result (Adds
+        ensures events { OnOk result (GrowsByPart
             (IsPerfettoOf self.old.window names.now schedule.now change.now self.old.history self.new.history)
             (string_bytes text.old) (string_bytes text.new)) }
         ensures same { OnOk result (self.new.window ≡ self.old.window) }
@@ -509,7 +509,7 @@ impl ScheduleForm for Perfetto {
         names: &Names,
         text: &mut String,
     ) -> Result<(), AllocError>
-        ensures tail { OnOk result (Adds (IsPerfettoTail self.old.window names.now schedule.now self.old.history)
+        ensures tail { OnOk result (GrowsByPart (IsPerfettoTail self.old.window names.now schedule.now self.old.history)
             (string_bytes text.old) (string_bytes text.new)) }
         ensures same { self.new ≡ self.old }
     {
@@ -523,7 +523,7 @@ impl ScheduleForm for Perfetto {
 
 /// Adds the text before all events, and the tracks of this many processors.
 fn write_head(alloc: Global, processors: usize, text: &mut String) -> Result<(), AllocError>
-    ensures { OnOk result (Adds (IsPerfettoHead processors) (string_bytes text.old) (string_bytes text.new)) }
+    ensures { OnOk result (GrowsByPart (IsPerfettoHead processors) (string_bytes text.old) (string_bytes text.new)) }
 {
     text.push_str(HEAD)?;
     for processor in 0..processors {

@@ -1,6 +1,6 @@
 //! The name of a picture, which keeps its styles apart from others on a page.
 ghost use Rattle.std.specs.Prelude.{◌≡◌, Some};
-ghost use Rattle.bq_drawing.specs.Frames.{hash_of, mixed, name_text, theme_letter};
+ghost use Rattle.bq_drawing.specs.Frames.{hash_of, mixed, picture_name_text, theme_letter};
 
 use crate::theme::Theme;
 use std::fmt;
@@ -46,7 +46,7 @@ fn mixed(hash: u32, byte: u8) -> u32
 }
 
 impl fmt::Display for PictureName {
-    ghost output = { λ n. Some (name_text n.0) };
+    ghost output = { λ n. Some (picture_name_text n.0) };
 
     fn fmt<W: fmt::Write>(&self, f: &mut fmt::Formatter<W>) -> fmt::Result {
         let hash = self.0;

@@ -1,6 +1,6 @@
 //! Runs, from their starts.
 ghost use Rattle.std.specs.Prelude.{◌≡◌};
-ghost use Rattle.bq_drawing.specs.Runs.{ended_run, run_on, run_to};
+ghost use Rattle.bq_drawing.specs.Runs.{run_ended_by, run_on, run_to};
 
 use bq_schedule::{ProcessorFigures, Slice, Start, Stop};
 
@@ -18,7 +18,7 @@ fn run_to(at: u64, start: &Start) -> Slice
 
 /// The run that a change ends, if it ends one.
 pub fn ended_run(stop: Option<Stop>) -> Option<Slice>
-    ensures { result ≡ ended_run stop }
+    ensures { result ≡ run_ended_by stop }
 {
     let stop = stop?;
     Some(run_to(stop.at, &stop.start))

@@ -1,6 +1,6 @@
 //! Where a moment is in the picture.
 ghost use Rattle.std.specs.Prelude.{◌≡◌, Some};
-ghost use Rattle.bq_drawing.specs.Places.{arrow_time, hundredths, place_of, width_of};
+ghost use Rattle.bq_drawing.specs.Places.{arrow_time, hundredths, moment_place, drawn_width};
 
 use bq_report::Extent;
 use std::fmt;
@@ -43,7 +43,7 @@ pub struct Scale {
 impl Scale {
     /// How far a moment is from the left edge.
     pub fn place(&self, time: u64) -> Hundredths
-        ensures { result.0 ≡ place_of self.now.extent time }
+        ensures { result.0 ≡ moment_place self.now.extent time }
     {
         let length = self.extent.to.saturating_sub(self.extent.from).max(1);
         let after = time.min(self.extent.to).saturating_sub(self.extent.from);
@@ -53,7 +53,7 @@ impl Scale {
 
     /// How wide the stretch between two moments is drawn: at least as wide as can be seen.
     pub fn width(&self, from: u64, to: u64) -> Hundredths
-        ensures { result.0 ≡ width_of self.now.extent from to }
+        ensures { result.0 ≡ drawn_width self.now.extent from to }
     {
         let Hundredths(begin) = self.place(from);
         let Hundredths(end) = self.place(to);

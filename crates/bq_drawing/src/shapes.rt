@@ -1,6 +1,6 @@
 //! The shapes of a row: its name, its runs, the waits below them, and the wakes above.
 ghost use Rattle.std.specs.Prelude.{◌≡◌, ◌++◌, IfOk, OnOk, codes, string_bytes};
-ghost use Rattle.bq_drawing.specs.Shapes.{arrow_text, band_text, hatched_text, label_text, latency_text, name_upon, rectangle_text, row_name, run_text, run_times, run_title, run_waits, setting_of, wait_height, wait_text, wait_times, wake_height, wake_text, wake_time};
+ghost use Rattle.bq_drawing.specs.Shapes.{arrow_text, band_text, hatched_text, label_text, latency_text, name_upon, rectangle_text, row_name, drawn_run_text, run_times, run_title, run_waits, picture_setting, wait_height, wait_text, wait_times, wake_height, drawn_wake_text, wake_time};
 
 use crate::frame::Frame;
 use crate::lanes::Stretch;
@@ -67,7 +67,7 @@ pub fn write_run(
     frame: &Frame<'_>,
     text: &mut String,
 ) -> Result<(), AllocError>
-    ensures { OnOk result (string_bytes text.new ≡ string_bytes text.old ++ run_text (setting_of frame.now) top run.now) }
+    ensures { OnOk result (string_bytes text.new ≡ string_bytes text.old ++ drawn_run_text (picture_setting frame.now) top run.now) }
 {
     let title = run_title(alloc, run, frame)?;
     write_rectangle(run, top, frame, text)?;
@@ -81,7 +81,7 @@ fn write_rectangle(
     frame: &Frame<'_>,
     text: &mut String,
 ) -> Result<(), AllocError>
-    ensures { OnOk result (string_bytes text.new ≡ string_bytes text.old ++ rectangle_text (setting_of frame.now) top run.now) }
+    ensures { OnOk result (string_bytes text.new ≡ string_bytes text.old ++ rectangle_text (picture_setting frame.now) top run.now) }
 {
     let place = frame.scale.place(run.from);
     let width = frame.scale.width(run.from, run.to);
@@ -106,7 +106,7 @@ pub fn write_label(
     frame: &Frame<'_>,
     labels: &mut String,
 ) -> Result<(), AllocError>
-    ensures { OnOk result (string_bytes labels.new ≡ string_bytes labels.old ++ label_text (setting_of frame.now) top run.now) }
+    ensures { OnOk result (string_bytes labels.new ≡ string_bytes labels.old ++ label_text (picture_setting frame.now) top run.now) }
 {
     let place = frame.scale.place(run.from);
     let width = frame.scale.width(run.from, run.to);
@@ -125,7 +125,7 @@ fn write_run_name(
     frame: &Frame<'_>,
     text: &mut String,
 ) -> Result<(), AllocError>
-    ensures { OnOk result (string_bytes text.new ≡ string_bytes text.old ++ name_upon (setting_of frame.now) task middle.0 top) }
+    ensures { OnOk result (string_bytes text.new ≡ string_bytes text.old ++ name_upon (picture_setting frame.now) task middle.0 top) }
 {
     let line = top.saturating_add(24);
     let colour = frame.colour(task);
@@ -139,7 +139,7 @@ fn write_run_name(
 
 /// The tooltip of a run.
 fn run_title(alloc: Global, run: &DrawnRun, frame: &Frame<'_>) -> Result<String, AllocError>
-    ensures { IfOk result (λ title. string_bytes title ≡ run_title (setting_of frame.now) run.now) }
+    ensures { IfOk result (λ title. string_bytes title ≡ run_title (picture_setting frame.now) run.now) }
 {
     let mut text = String::new(alloc);
     text.push_str("<title>")?;
@@ -152,7 +152,7 @@ fn run_title(alloc: Global, run: &DrawnRun, frame: &Frame<'_>) -> Result<String,
 
 /// Adds when a run begins and ends, and how long it is.
 fn write_run_times(run: &DrawnRun, frame: &Frame<'_>, text: &mut String) -> Result<(), AllocError>
-    ensures { OnOk result (string_bytes text.new ≡ string_bytes text.old ++ run_times (setting_of frame.now) run.now) }
+    ensures { OnOk result (string_bytes text.new ≡ string_bytes text.old ++ run_times (picture_setting frame.now) run.now) }
 {
     let task = run.task;
     let from = frame.amount(run.from);
@@ -165,7 +165,7 @@ fn write_run_times(run: &DrawnRun, frame: &Frame<'_>, text: &mut String) -> Resu
 
 /// Adds how long the task waited for a run.
 fn write_run_waits(run: &DrawnRun, frame: &Frame<'_>, text: &mut String) -> Result<(), AllocError>
-    ensures { OnOk result (string_bytes text.new ≡ string_bytes text.old ++ run_waits (setting_of frame.now) run.now) }
+    ensures { OnOk result (string_bytes text.new ≡ string_bytes text.old ++ run_waits (picture_setting frame.now) run.now) }
 {
     let waited = frame.amount(run.waited);
     let unit = frame.unit.name();
@@ -206,7 +206,7 @@ pub fn write_wait(
     frame: &Frame<'_>,
     text: &mut String,
 ) -> Result<(), AllocError>
-    ensures { OnOk result (string_bytes text.new ≡ string_bytes text.old ++ wait_text (setting_of frame.now) height wait.now) }
+    ensures { OnOk result (string_bytes text.new ≡ string_bytes text.old ++ wait_text (picture_setting frame.now) height wait.now) }
 {
     write_hatched(wait, height, frame, text)?;
     frame.write_name(wait.task, usize::MAX, text)?;
@@ -220,7 +220,7 @@ fn write_hatched(
     frame: &Frame<'_>,
     text: &mut String,
 ) -> Result<(), AllocError>
-    ensures { OnOk result (string_bytes text.new ≡ string_bytes text.old ++ hatched_text (setting_of frame.now) height wait.now) }
+    ensures { OnOk result (string_bytes text.new ≡ string_bytes text.old ++ hatched_text (picture_setting frame.now) height wait.now) }
 {
     let place = frame.scale.place(wait.from);
     let width = frame.scale.width(wait.from, wait.to);
@@ -233,7 +233,7 @@ fn write_hatched(
 
 /// Adds when a wait begins and ends.
 fn write_wait_times(wait: &Stretch, frame: &Frame<'_>, text: &mut String) -> Result<(), AllocError>
-    ensures { OnOk result (string_bytes text.new ≡ string_bytes text.old ++ wait_times (setting_of frame.now) wait.now) }
+    ensures { OnOk result (string_bytes text.new ≡ string_bytes text.old ++ wait_times (picture_setting frame.now) wait.now) }
 {
     let from = frame.amount(wait.from);
     let to = frame.amount(wait.to);
@@ -255,7 +255,7 @@ pub fn write_wake(
     frame: &Frame<'_>,
     text: &mut String,
 ) -> Result<(), AllocError>
-    ensures { OnOk result (string_bytes text.new ≡ string_bytes text.old ++ wake_text (setting_of frame.now) end wake.now) }
+    ensures { OnOk result (string_bytes text.new ≡ string_bytes text.old ++ drawn_wake_text (picture_setting frame.now) end wake.now) }
 {
     write_arrow(wake, end, frame, text)?;
     frame.write_name(wake.task, usize::MAX, text)?;
@@ -269,7 +269,7 @@ fn write_arrow(
     frame: &Frame<'_>,
     text: &mut String,
 ) -> Result<(), AllocError>
-    ensures { OnOk result (string_bytes text.new ≡ string_bytes text.old ++ arrow_text (setting_of frame.now) end wake.now) }
+    ensures { OnOk result (string_bytes text.new ≡ string_bytes text.old ++ arrow_text (picture_setting frame.now) end wake.now) }
 {
     let place = frame.scale.place(wake.from);
     let colour = frame.colour(wake.task);
@@ -282,7 +282,7 @@ fn write_arrow(
 
 /// Adds when a wake happens.
 fn write_wake_time(wake: &Stretch, frame: &Frame<'_>, text: &mut String) -> Result<(), AllocError>
-    ensures { OnOk result (string_bytes text.new ≡ string_bytes text.old ++ wake_time (setting_of frame.now) wake.now) }
+    ensures { OnOk result (string_bytes text.new ≡ string_bytes text.old ++ wake_time (picture_setting frame.now) wake.now) }
 {
     let at = frame.amount(wake.from);
     let unit = frame.unit.name();

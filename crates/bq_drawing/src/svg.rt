@@ -1,13 +1,13 @@
 //! The picture of a schedule.
 ghost use Rattle.std.specs.Prelude.{◌≡◌, ◌++◌, [], length, IfOk, OnOk, Some, codes, option_map, string_bytes};
-ghost use Rattle.bq_schedule.specs.Figures.{task_of};
+ghost use Rattle.bq_schedule.specs.Figures.{task_in_figures};
 ghost use Rattle.bq_schedule.specs.Slices.{is_this};
-ghost use Rattle.bq_report.specs.Reports.{Adds};
+ghost use Rattle.bq_report.specs.Reports.{GrowsByPart};
 ghost use Rattle.bq_report.specs.Rosters.{enlisted};
-ghost use Rattle.bq_drawing.specs.Frames.{name_text, root_text, root_title};
-ghost use Rattle.bq_drawing.specs.Holdings.{HoldsChange, HoldsLink, HoldsPull, HoldsRun, HoldsRunners, HoldsStart, HoldsWait, HoldsWaiting, HoldsWake, left_at, migration_link, nothing_of, pulled_link, wait_at, wait_before, wait_ended, with_stop};
+ghost use Rattle.bq_drawing.specs.Frames.{picture_name_text, root_text, root_title};
+ghost use Rattle.bq_drawing.specs.Holdings.{HoldsChange, HoldsLink, HoldsPull, HoldsRun, HoldsRunners, HoldsStart, HoldsWait, HoldsWaiting, HoldsWake, migration_begin, migration_link, nothing_of, pulled_link, wait_at, wait_before, wait_ended, with_stop};
 ghost use Rattle.bq_drawing.specs.Pictures.{IsDrawnOver, IsHead, IsPicture, IsPictureOf};
-ghost use Rattle.bq_drawing.specs.Runs.{ended_run};
+ghost use Rattle.bq_drawing.specs.Runs.{run_ended_by};
 ghost use Rattle.bq_drawing.specs.Shapes.{drawn_in};
 
 use crate::drawing::{Drawing, Written};
@@ -99,7 +99,7 @@ impl Svg {
 
     /// Holds the shown part of a run that ended, and notes when it ended.
     fn hold_stop(&mut self, stop: Option<Stop>) -> Result<(), AllocError>
-        ensures run { OnOk result (HoldsRun self.old.window (option_map (λ s. s.start) stop) (ended_run stop) self.old.drawing self.new.drawing) }
+        ensures run { OnOk result (HoldsRun self.old.window (option_map (λ s. s.start) stop) (run_ended_by stop) self.old.drawing self.new.drawing) }
         ensures stops { OnOk result (self.new.stops.entries ≡ with_stop stop self.old.stops.entries) }
         ensures same { self.new ≡ record self.old { drawing = self.new.drawing; stops = self.new.stops } }
     {
@@ -153,7 +153,7 @@ impl Svg {
 
     /// When the task of a start last stopped running.
     fn left_at(&self, start: &Start) -> u64
-        ensures { result ≡ left_at self.now.stops.entries start.now }
+        ensures { result ≡ migration_begin self.now.stops.entries start.now }
     {
         self.stops.get(&start.task).copied().unwrap_or(start.at)
     }
@@ -223,7 +223,7 @@ impl Svg {
 
     /// Adds the picture of what is held.
     fn write(&self, extent: Extent, names: &Names, text: &mut String) -> Result<(), AllocError>
-        ensures { OnOk result (Adds (IsPicture self.now.window self.now.look (drawn_in extent self.now.roster names.now) self.now.rule self.now.drawing)
+        ensures { OnOk result (GrowsByPart (IsPicture self.now.window self.now.look (drawn_in extent self.now.roster names.now) self.now.rule self.now.drawing)
             (string_bytes text.old) (string_bytes text.new)) }
     {
         let heading = Heading {
@@ -280,7 +280,7 @@ fn styles_of(alloc: Global, name: PictureName, theme: Theme) -> Result<String, A
 
 /// Adds the beginning of the root.
 fn write_root(name: PictureName, height: usize, text: &mut String) -> Result<(), AllocError>
-    ensures { OnOk result (string_bytes text.new ≡ string_bytes text.old ++ root_text (name_text name.0) height) }
+    ensures { OnOk result (string_bytes text.new ≡ string_bytes text.old ++ root_text (picture_name_text name.0) height) }
 {
     write!(
         text,
@@ -353,7 +353,7 @@ fn pulled_link(pull: Option<PulledTask>) -> Option<Link>
 
 /// The wait of a task that still goes on, if it waits.
 fn wait_of(schedule: &Schedule, id: u16) -> Option<Slice>
-    ensures { result ≡ wait_at schedule.now id (task_of schedule.now id).place }
+    ensures { result ≡ wait_at schedule.now id (task_in_figures schedule.now id).place }
 {
     let task = schedule.task(id);
     let place = task.place?;
@@ -424,7 +424,7 @@ impl ScheduleForm for Svg {
         names: &Names,
         text: &mut String,
     ) -> Result<(), AllocError>
-        ensures picture { OnOk result (Adds (IsPictureOf self.old.window self.old.look self.old.rule schedule.now names.now self.old.roster self.old.drawing)
+        ensures picture { OnOk result (GrowsByPart (IsPictureOf self.old.window self.old.look self.old.rule schedule.now names.now self.old.roster self.old.drawing)
             (string_bytes text.old) (string_bytes text.new)) }
     {
         self.hold_runners(schedule)?;

@@ -18,7 +18,7 @@ use Rattle.bq_workload.specs.Kinds.{tasks_in}
 use Rattle.bq_workload.specs.Soundness.{first_flaw}
 use Rattle.bq_workload.proofs.SoundLemmas.{sound-few, sound-named}
 use Rattle.bq_report.specs.Names.{Learns, NamedTasks}
-use Rattle.bq_timeline.specs.Comments.{Rests}
+use Rattle.bq_timeline.specs.Comments.{ViewerRests}
 use Rattle.bq_timeline.specs.declared.viewer.Viewer.{Viewer}
 use Rattle.bq_lines.specs.Bytes.{is_allowed}
 use Rattle.bq_lines.specs.Lines.{reading_of, reading_of_words}
@@ -29,7 +29,7 @@ use Rattle.bq_simulate.proofs.PlainWordLemmas.{allowed-spaced}
 use Rattle.bq_simulate.specs.Replays.{IsComment}
 use Rattle.bq_simulate.specs.Texts.{ByHook, reported_lines}
 use Rattle.bq_words.specs.Words.{is_space, words}
-use Rattle.bq_experiment.specs.Names.{LearnsAll, comment_by, comment_of, comments_by, comments_from, comments_of, name_in, names_in, names_of, plain_name, plain_of}
+use Rattle.bq_experiment.specs.Names.{LearnsAll, comment_by, comment_of, comments_by, comments_from, comments_of, name_of_task, names_of_kind, names_of, plain_name, plain_of}
 use Rattle.bq_experiment.specs.Traces.{skipped}
 
 -- the comments of some tasks, and of those behind them
@@ -76,7 +76,7 @@ learns_more [] comment old mid new h k = (new, subst (λ (n : NamedTasks). Learn
 learns_more (x ∷ xs) comment old mid new h k = (h.0, h.1, learns_more xs comment h.0 mid new h.2 k)
 
 -- what a viewer keeps it keeps on
-pub rests_on : (a b c : Viewer) → Rests a b → Rests b c → Rests a c
+pub rests_on : (a b c : Viewer) → ViewerRests a b → ViewerRests b c → ViewerRests a c
 rests_on a b c h k = record { schedule = k.schedule ∙ h.schedule; troubles = k.troubles ∙ h.troubles; asked = k.asked ∙ h.asked }
 
 -- a text has no more characters than bytes
@@ -173,10 +173,10 @@ lines_from images task (name ∷ names) few =
 length-names_of : (kinds : List TaskKind) → length (names_of kinds) ≡ tasks_in kinds
 length-names_of [] = refl
 length-names_of (kind ∷ kinds) =
-    let mine = length-map-range_with_len (name_in kind) 0 kind.count in
+    let mine = length-map-range_with_len (name_of_task kind) 0 kind.count in
     let others = length-names_of kinds in
-    let parts : length (names_of (kind ∷ kinds)) ≡ length (names_in kind) + length (names_of kinds) =
-    length-append (names_in kind) (names_of kinds) in
+    let parts : length (names_of (kind ∷ kinds)) ≡ length (names_of_kind kind) + length (names_of kinds) =
+    length-append (names_of_kind kind) (names_of kinds) in
     let sum : tasks_in (kind ∷ kinds) ≡ kind.count + tasks_in kinds = sum_by-cons (λ (k : TaskKind). k.count) kind kinds in
     omega (arith, mine, others, parts, sum)
 
@@ -184,7 +184,7 @@ all_both : (P : List ℕ → Type 0) (xs ys : List (List ℕ)) → AllByRecursio
 all_both P [] ys h k = k
 all_both P (x ∷ xs) ys h k = (h.0, all_both P xs ys h.1 k)
 
-short_name_in : (kind : TaskKind) (number : ℕ) → length (string_bytes kind.name) ≤ 1024 → number < 2 ^ 64 → IsShort (name_in kind number)
+short_name_in : (kind : TaskKind) (number : ℕ) → length (string_bytes kind.name) ≤ 1024 → number < 2 ^ 64 → IsShort (name_of_task kind number)
 short_name_in kind number named fits = of (kind.count == 1)
   where
     of : (b : Bool) → IsShort (cond b (string_bytes kind.name) (string_bytes kind.name ++ (codes "-" ++ decimal number)))
@@ -197,7 +197,7 @@ short_name_in kind number named fits = of (kind.count == 1)
         omega (arith, named, digits, whole, dash)
 
 short_names_in : (kind : TaskKind) (first count : ℕ) → length (string_bytes kind.name) ≤ 1024 → first + count ≤ 1024
-    → AllByRecursion IsShort (map (name_in kind) (range_with_len first count))
+    → AllByRecursion IsShort (map (name_of_task kind) (range_with_len first count))
 short_names_in kind first zero named few = tt
 short_names_in kind first (suc count) named few =
     (short_name_in kind first named (omega arith), short_names_in kind (first + 1) count named (omega arith))
@@ -208,7 +208,7 @@ short_names_of : (kinds : List TaskKind) → AllByRecursion (λ (kind : TaskKind
 short_names_of [] named few = tt
 short_names_of (kind ∷ kinds) named few =
     let sum : tasks_in (kind ∷ kinds) ≡ kind.count + tasks_in kinds = sum_by-cons (λ (k : TaskKind). k.count) kind kinds in
-    all_both IsShort (names_in kind) (names_of kinds) (short_names_in kind 0 kind.count named.0 (omega arith))
+    all_both IsShort (names_of_kind kind) (names_of kinds) (short_names_in kind 0 kind.count named.0 (omega arith))
     (short_names_of kinds named.1 (omega arith))
 
 few_names : (w : Workload) → first_flaw w ≡ None → 0 + length (names_of w.tasks.items) ≤ 2 ^ 64

@@ -8,7 +8,7 @@ use Rattle.bq_parts.specs.Refusals.{same_hook}
 use Rattle.bq_simulate.specs.Replays.{AreOfImages, IsLoadedFromImage}
 use Rattle.bq_simulate.specs.Texts.{ByHook}
 use Rattle.bq_simulate.specs.Simulations.{Accepted}
-use Rattle.bq_experiment.specs.Standing.{Adds, AreOfTheirImages, Standing, image_for}
+use Rattle.bq_experiment.specs.Standing.{AddsPolicy, AreOfTheirImages, Standing, image_for}
 
 itself : (hook : Hook) → same_hook hook hook ≡ true
 itself Place = refl
@@ -65,7 +65,7 @@ push images (p ∷ policies) policy h one = (h.0, push images policies policy h.
 
 -- one policy and its image more, for a hook at which none was
 pub AreOfTheirImages-adds : (hook : Hook) (image : List ℕ) (policy : Accepted) (old new : Standing)
-    → Adds hook image policy old new → policy.hook ≡ hook → image_for old.images hook ≡ None
+    → AddsPolicy hook image policy old new → policy.hook ≡ hook → image_for old.images hook ≡ None
     → IsLoadedFromImage (Some image) policy → AreOfTheirImages old
     → AreOfTheirImages new
 AreOfTheirImages-adds hook image policy old new adds at free of h =

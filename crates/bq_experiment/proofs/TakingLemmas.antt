@@ -3,7 +3,7 @@ use Rattle.std.proofs.Common.{◌≡◌, ℕ, List, Option, Result, Ok, Err, Som
 use Rattle.bq_hooks.specs.declared.hook.Hook.{Hook}
 use Rattle.bq_insn.specs.Spelling.{spelling}
 use Rattle.bq_load.specs.Layout.{IsImage}
-use Rattle.bq_policy_file.specs.Files.{Agree, IsOfKind, IsPolicy, IsPolicyFault, either, kind_of}
+use Rattle.bq_policy_file.specs.Files.{Agree, IsPolicyOfKind, IsPolicy, IsPolicyFault, either, kind_of}
 use Rattle.bq_policy_file.specs.declared.fault.PolicyFault.{PolicyFault as FileFault}
 use Rattle.bq_policy_file.specs.declared.fault.PolicyFault.TheVariants.{Disagrees}
 use Rattle.bq_policy_file.specs.declared.head.Head.{Head}
@@ -11,7 +11,7 @@ use Rattle.bq_policy_file.specs.declared.kind.FileKind.{FileKind}
 use Rattle.bq_policy_file.specs.declared.kind.FileKind.TheVariants as kind
 use Rattle.bq_policy_file.specs.declared.policy_source.PolicySource.{PolicySource}
 use Rattle.bq_experiment.specs.Standing.{Standing}
-use Rattle.bq_experiment.specs.Taking.{Asks, IsFileRefusal, IsRead, IsAttachFault, IsFaultOfFile, IsFaultOfImage, Attaches}
+use Rattle.bq_experiment.specs.Taking.{AsksForHook, IsFileRefusal, IsRead, IsAttachFault, IsFaultOfFile, IsFaultOfImage, Attaches}
 use Rattle.bq_experiment.specs.declared.policies.AttachFault.{AttachFault}
 use Rattle.bq_experiment.specs.declared.policies.AttachFault.TheVariants as attach
 
@@ -24,7 +24,7 @@ agrees (Some other) hook named is e = cc
 agrees None hook named is e = cc
 
 of_kind : (k : FileKind) (bytes : List ℕ) (asked : Head) (policy : PolicySource) (hook : Hook)
-    → asked.hook ≡ Some hook → IsOfKind k bytes asked policy → policy.form.hook ≡ hook
+    → asked.hook ≡ Some hook → IsPolicyOfKind k bytes asked policy → policy.form.hook ≡ hook
 of_kind kind.Image bytes asked policy hook is h = agrees asked.hook hook policy.form.hook is h.agrees.hooks
 of_kind kind.Hex bytes asked policy hook is (image, spells, h) = agrees asked.hook hook policy.form.hook is h.agrees.hooks
 of_kind kind.Text bytes asked policy hook is h = either_is asked.hook h.stated.hook hook policy.form.hook is h.combined.hook_is
@@ -35,7 +35,7 @@ hook_read file asked policy hook is h = of_kind (kind_of file) file asked policy
 
 -- it is taken as what was asked for
 taken : (hook : Option Hook) (asked : Head) (file : List ℕ) (at : Hook) (old new : Standing)
-    → Attaches (IsPolicy file asked) at old new → Asks hook asked → Attaches (IsRead hook file) at old new
+    → Attaches (IsPolicy file asked) at old new → AsksForHook hook asked → Attaches (IsRead hook file) at old new
 taken hook asked file at old new t asks = record {
   read = t.read;
   reads = (asked, asks, t.reads);
@@ -50,14 +50,14 @@ taken hook asked file at old new t asks = record {
 
 -- where no hook is asked for, it is taken at the hook that the file says
 pub takes_by_head : (result : Result (Unit {0}) AttachFault) (asked : Head) (file : List ℕ) (old new : Standing)
-    → OnOk result ((at : Hook) × Attaches (IsPolicy file asked) at old new) → Asks None asked
+    → OnOk result ((at : Hook) × Attaches (IsPolicy file asked) at old new) → AsksForHook None asked
     → OnOk result ((at : Hook) × Attaches (IsRead None file) at old new)
 takes_by_head (Ok x) asked file old new (at, t) asks = (at, taken None asked file at old new t asks)
 takes_by_head (Err e) asked file old new t asks = tt
 
 -- where a hook is asked for, it is taken at that hook
 pub takes_at : (result : Result (Unit {0}) AttachFault) (hook : Hook) (asked : Head) (file : List ℕ) (old new : Standing)
-    → OnOk result ((at : Hook) × Attaches (IsPolicy file asked) at old new) → Asks (Some hook) asked
+    → OnOk result ((at : Hook) × Attaches (IsPolicy file asked) at old new) → AsksForHook (Some hook) asked
     → OnOk result (Attaches (IsRead (Some hook) file) hook old new)
 takes_at (Ok x) hook asked file old new (at, t) asks =
     let is : at ≡ hook = sym t.hook_is ∙ hook_read file asked t.read hook asks.hook_is t.reads in
@@ -65,7 +65,7 @@ takes_at (Ok x) hook asked file old new (at, t) asks =
 takes_at (Err e) hook asked file old new t asks = tt
 
 fault_reported : (hook : Option Hook) (asked : Head) (file : List ℕ) (old : Standing) (fault : AttachFault)
-    → IsAttachFault (IsPolicy file asked) (IsPolicyFault file asked) old fault → Asks hook asked
+    → IsAttachFault (IsPolicy file asked) (IsPolicyFault file asked) old fault → AsksForHook hook asked
     → IsAttachFault (IsRead hook file) (IsFileRefusal hook file) old fault
 fault_reported hook asked file old attach.Twice (read, reads, there) asks = (read, (asked, asks, reads), there)
 fault_reported hook asked file old attach.Hook (key, refused) asks = (key, (asked, asks, refused))
@@ -77,7 +77,7 @@ fault_reported hook asked file old attach.OutOfMemory t asks = tt
 -- why a file is not taken is so by what was asked for
 pub reported_of : (result : Result (Unit {0}) AttachFault) (hook : Option Hook) (asked : Head)
     (file : List ℕ) (old : Standing)
-    → IfErr result (IsAttachFault (IsPolicy file asked) (IsPolicyFault file asked) old) → Asks hook asked
+    → IfErr result (IsAttachFault (IsPolicy file asked) (IsPolicyFault file asked) old) → AsksForHook hook asked
     → IfErr result (IsAttachFault (IsRead hook file) (IsFileRefusal hook file) old)
 reported_of (Ok x) hook asked file old t asks = tt
 reported_of (Err e) hook asked file old t asks = fault_reported hook asked file old e t asks

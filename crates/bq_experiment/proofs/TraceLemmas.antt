@@ -9,12 +9,12 @@ use Rattle.bq_simulate.specs.declared.trace_writer.TraceWriter.{TraceWriter}
 use Rattle.bq_simulate.proofs.FromImagesLemmas.{installs_of_images}
 use Rattle.bq_simulate.proofs.ReplayLemmas.{AreFitting-parts, texts_are_replayed, reported_lines-append}
 use Rattle.bq_simulate.proofs.TextLemmas.{Takes}
-use Rattle.bq_streams.specs.Counts.{inner_of}
+use Rattle.bq_streams.specs.Counts.{counted_inner}
 use Rattle.bq_simulate.specs.Chronicles.{events_of}
 use Rattle.bq_simulate.specs.Simulations.{Accepted, IsFollowed, IsSimulation}
 use Rattle.bq_trace.specs.Feeding.{with_feeds}
 use Rattle.bq_trace.specs.TraceEvents.{Gets, TraceEvent, Reported, texts}
-use Rattle.bq_experiment.specs.Limits.{IsLonger, PassesOn, events_in}
+use Rattle.bq_experiment.specs.Limits.{IsLonger, PassesWithin, events_in}
 use Rattle.bq_experiment.specs.Passing.{TakesAndPasses}
 use Rattle.bq_experiment.specs.declared.limited.Limited.{Limited}
 use Rattle.bq_experiment.specs.declared.passing.Passing.{Passing}
@@ -69,7 +69,7 @@ TraceRun W E = Passing TraceWriter W E
 
 -- what its output has
 abbrev pub got : {W E : Type 0} → (W → Option (List ℕ)) → TraceRun W E → Option (List ℕ)
-got contents run = contents (inner_of run.output)
+got contents run = contents (counted_inner run.output)
 
 -- what it takes, and passes on
 abbrev pub TakesRun : {W E : Type 0} → (W → Option (List ℕ)) → TraceRun W E → ℕ → TraceEvent → TraceRun W E → Type 0
@@ -80,7 +80,7 @@ pub run_written : {W E : Type 0} (contents : W → Option (List ℕ)) (old new :
     (w : Workload) (policies : List Accepted) (images : ByHook)
     → string_bytes old.sink.sink.text ≡ [] → image_at old.sink.sink.images ≡ images
     → AreOfImages images policies → first_flaw w ≡ None → new.is_over ≡ false
-    → Gets (PassesOn (TakesRun contents)) old new (IsNamed w (IsSimulation policies w))
+    → Gets (PassesWithin (TakesRun contents)) old new (IsNamed w (IsSimulation policies w))
     → Appends (got contents new.sink) final (string_bytes new.sink.sink.text)
     → WritesTrace w policies images old.left (got contents old.sink) final
 run_written {W} {E} contents old new final w policies images empty same of sound not g rest =
@@ -93,7 +93,7 @@ run_written {W} {E} contents old new final w policies images empty same of sound
 pub longer_named : {S : Type 0} (takes : S → ℕ → TraceEvent → S → Type 0) (old new : Limited S)
     (policies : List Accepted) (w : Workload)
     → first_flaw w ≡ None → old.is_over ≡ false → new.is_over ≡ true
-    → Gets (PassesOn takes) old new (IsNamed w (IsFollowed true policies w))
+    → Gets (PassesWithin takes) old new (IsNamed w (IsFollowed true policies w))
     → IsLonger policies w old.left
 longer_named takes old new policies w sound not over g =
     let comments = map skipped (comments_of w) in

@@ -11,13 +11,13 @@ use Rattle.bq_simulate.specs.Faults.{ReportsNoOther, reported_flaw}
 use Rattle.bq_simulate.specs.Simulations.{Accepted, IsSimulation}
 use Rattle.bq_simulate.specs.declared.driver.Driver.{Driver}
 use Rattle.bq_simulate.specs.declared.fault.SimulateFault.{SimulateFault}
-use Rattle.bq_timeline.specs.Timelines.{Keeps}
+use Rattle.bq_timeline.specs.Timelines.{TakesEvent}
 use Rattle.bq_timeline.specs.Watching.{schedule_after, troubles_after}
 use Rattle.bq_timeline.specs.declared.viewer.Viewer.{Viewer}
 use Rattle.bq_timeline.proofs.WatchLemmas.{Takes, takes_all, troubles_after-append}
 use Rattle.bq_trace.specs.TraceEvents.{Gets, TraceEvent, TakesAll, Reported}
-use Rattle.bq_experiment.specs.Faults.{IsStopped}
-use Rattle.bq_experiment.specs.Limits.{PassesOn, events_in}
+use Rattle.bq_experiment.specs.Faults.{IsRunStopped}
+use Rattle.bq_experiment.specs.Limits.{PassesWithin, events_in}
 use Rattle.bq_experiment.specs.Passing.{TakesAndPasses}
 use Rattle.bq_experiment.specs.Views.{IsViewed}
 use Rattle.bq_experiment.specs.declared.fault.RunFault.{RunFault}
@@ -26,11 +26,11 @@ use Rattle.bq_experiment.specs.declared.offset_viewer.OffsetViewer.{OffsetViewer
 use Rattle.bq_experiment.specs.declared.limited.Limited.{Limited}
 use Rattle.bq_experiment.specs.declared.passing.Passing.{Passing}
 use Rattle.bq_experiment.proofs.LimitLemmas.{lets_through}
-use Rattle.bq_streams.specs.Counts.{inner_of}
+use Rattle.bq_streams.specs.Counts.{counted_inner}
 
 -- a viewer further below takes an event
 abbrev pub TakesByOffset : OffsetViewer → ℕ → TraceEvent → OffsetViewer → Type 0
-TakesByOffset old n traced new = (new.offset ≡ old.offset) × Keeps old.viewer traced new.viewer
+TakesByOffset old n traced new = (new.offset ≡ old.offset) × TakesEvent old.viewer traced new.viewer
 
 -- the text of a viewer that is not written yet
 abbrev pub pending : OffsetViewer → List ℕ
@@ -43,7 +43,7 @@ Clears old new = (new.viewer.schedule ≡ old.viewer.schedule) × (new.viewer.tr
 -- what it takes its viewer takes, whatever is passed on
 keeps_one : (old new : OffsetViewer) (was now : Option (List ℕ)) (n : ℕ) (traced : TraceEvent)
     → TakesAndPasses TakesByOffset pending Clears old was n traced new now
-    → Keeps old.viewer traced new.viewer
+    → TakesEvent old.viewer traced new.viewer
 keeps_one old new was now n traced h = elim h.passed [
   | inl same ↦ (
     ap (λ (l : OffsetViewer). l.viewer.schedule) same.0 ∙ h.taken.1.0,
@@ -87,7 +87,7 @@ no_other w why is = of (reported_flaw why) is
 
 -- what holds of a simulation's fault holds of why a run was stopped by it
 pub IsStopped-by : (P : SimulateFault → Type 0) (why : SimulateFault) (e : RunFault) (failures : ℕ)
-    → P why → IsStopped (λ (reported : SimulateFault). reported ≡ why) e failures → IsStopped P e failures
+    → P why → IsRunStopped (λ (reported : SimulateFault). reported ≡ why) e failures → IsRunStopped P e failures
 IsStopped-by P why (fault.Simulation reported) failures h k = (subst P (sym k.0) h, k.1)
 IsStopped-by P why fault.Write failures h k = k
 IsStopped-by P why fault.Events failures h k = (subst P (sym k.0) h, k.1)
@@ -114,7 +114,7 @@ ViewedRun W E = Passing OffsetViewer W E
 
 -- what its output has
 abbrev pub got : {W E : Type 0} → (W → Option (List ℕ)) → ViewedRun W E → Option (List ℕ)
-got contents run = contents (inner_of run.output)
+got contents run = contents (counted_inner run.output)
 
 -- what it takes, and passes on
 abbrev pub TakesRun : {W E : Type 0} → (W → Option (List ℕ)) → ViewedRun W E → ℕ → TraceEvent → ViewedRun W E → Type 0
@@ -124,7 +124,7 @@ TakesRun contents old n traced new =
 -- where its limit is not passed, the viewer has viewed the simulation that came
 pub run_viewed : {W E : Type 0} (contents : W → Option (List ℕ)) (old new : Limited (ViewedRun W E))
     (policies : List Accepted) (w : Workload)
-    → Gets (PassesOn (TakesRun contents)) old new (IsSimulation policies w) → new.is_over ≡ false
+    → Gets (PassesWithin (TakesRun contents)) old new (IsSimulation policies w) → new.is_over ≡ false
     → old.sink.sink.viewer.schedule ≡ None → old.sink.sink.viewer.troubles ≡ 0 → first_flaw w ≡ None
     → IsViewed policies w old.left new.sink.sink.viewer
 run_viewed {W} {E} contents old new policies w g not empty zero sound =

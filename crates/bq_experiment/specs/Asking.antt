@@ -2,9 +2,9 @@
 use Rattle.std.specs.Prelude.{◌≡◌, ℕ, Bool, true, false, ◌&&◌, ◌||◌, nat_le, List, [], Option, Some, None, String, if◌then◌else◌, codes, is_some, option_and_then, option_map}
 use Rattle.std.specs.Global.{Global}
 use Rattle.bq_workload.specs.Lengths.{longest}
-use Rattle.bq_words.specs.Quantities.{size_of, decimal_of}
+use Rattle.bq_words.specs.Quantities.{size_in_word, decimal_of}
 use Rattle.bq_policy_check.specs.Given.{option_bytes}
-use Rattle.bq_timeline.specs.Settings.{AsksFor, IsNoSettings, asked_or, form_asked, option_refused as option_unset, word_refused as word_unset}
+use Rattle.bq_timeline.specs.Settings.{AsksForSettings, IsNoSettings, asked_or, form_asked, settings_option_refused as option_unset, settings_word_refused as word_unset}
 use Rattle.bq_timeline.specs.declared.settings.Words.{Words}
 use Rattle.bq_words.specs.Sizes.{rule_of}
 use Rattle.bq_workload.specs.Durations.{duration_with_unit}
@@ -25,21 +25,21 @@ abbrev pub simulable : ℕ → Option ℕ
 simulable time = if nat_le 1 time && nat_le time longest then Some time else None
 
 -- the time that a word writes with its unit, if it can be simulated
-abbrev pub time_in : List ℕ → Option ℕ
-time_in word = option_and_then simulable (duration_with_unit word)
+abbrev pub simulable_time : List ℕ → Option ℕ
+simulable_time word = option_and_then simulable (duration_with_unit word)
 
 -- the words ask for these changes of the machine
 pub record AskForChanges (w : MachineWords) (c : Changes) : Type 0 where
   pub rule : change_asked rule_of w.discipline ≡ Some c.rule
-  pub size : change_asked size_of w.processors ≡ Some c.size
-  pub duration : change_asked time_in w.duration ≡ Some c.duration
+  pub size : change_asked size_in_word w.processors ≡ Some c.size
+  pub duration : change_asked simulable_time w.duration ≡ Some c.duration
   pub seed : change_asked decimal_of w.seed ≡ Some c.seed
 
 -- the word that the fault names is not of its kind
 abbrev pub IsNoChange : MachineWords → AskedFault → Type 0
 IsNoChange w fault.Discipline = change_asked rule_of w.discipline ≡ None
-IsNoChange w fault.Processors = change_asked size_of w.processors ≡ None
-IsNoChange w fault.Duration = change_asked time_in w.duration ≡ None
+IsNoChange w fault.Processors = change_asked size_in_word w.processors ≡ None
+IsNoChange w fault.Duration = change_asked simulable_time w.duration ≡ None
 IsNoChange w fault.Seed = change_asked decimal_of w.seed ≡ None
 IsNoChange w other = ⊥
 
@@ -55,7 +55,7 @@ chooses_part w =
 -- a trace, which is written whole, if the form is `trace`; otherwise what a timeline shows by these words
 abbrev pub AskToShow : StudyWords → ShownAs → Type 0
 AskToShow w Trace = NamesTrace w × (chooses_part w.shown ≡ false)
-AskToShow w (Timeline settings) = (¬ NamesTrace w) × AsksFor w.shown settings
+AskToShow w (Timeline settings) = (¬ NamesTrace w) × AsksForSettings w.shown settings
 
 -- the word that the fault names is not of its kind, or a part is chosen of a trace
 abbrev pub IsNotShown : StudyWords → AskedFault → Type 0
@@ -65,21 +65,21 @@ IsNotShown w (fault.Settings why) = (¬ NamesTrace w) × IsNoSettings w.shown wh
 IsNotShown w other = ⊥
 
 -- the word that a fault refuses; none if the fault is not that of one word
-abbrev pub word_refused : StudyWords → AskedFault → Option (String Global)
-word_refused w fault.Discipline = w.machine.discipline
-word_refused w fault.Processors = w.machine.processors
-word_refused w fault.Duration = w.machine.duration
-word_refused w fault.Seed = w.machine.seed
-word_refused w fault.Form = w.shown.form
-word_refused w fault.WholeTrace = None
-word_refused w (fault.Settings why) = word_unset w.shown why
+abbrev pub asked_word_refused : StudyWords → AskedFault → Option (String Global)
+asked_word_refused w fault.Discipline = w.machine.discipline
+asked_word_refused w fault.Processors = w.machine.processors
+asked_word_refused w fault.Duration = w.machine.duration
+asked_word_refused w fault.Seed = w.machine.seed
+asked_word_refused w fault.Form = w.shown.form
+asked_word_refused w fault.WholeTrace = None
+asked_word_refused w (fault.Settings why) = word_unset w.shown why
 
 -- the option of the word that a fault refuses
-abbrev pub option_refused : AskedFault → List ℕ
-option_refused fault.Discipline = codes "discipline"
-option_refused fault.Processors = codes "processors"
-option_refused fault.Duration = codes "duration"
-option_refused fault.Seed = codes "seed"
-option_refused fault.Form = codes "as"
-option_refused fault.WholeTrace = []
-option_refused (fault.Settings why) = option_unset why
+abbrev pub asked_option_refused : AskedFault → List ℕ
+asked_option_refused fault.Discipline = codes "discipline"
+asked_option_refused fault.Processors = codes "processors"
+asked_option_refused fault.Duration = codes "duration"
+asked_option_refused fault.Seed = codes "seed"
+asked_option_refused fault.Form = codes "as"
+asked_option_refused fault.WholeTrace = []
+asked_option_refused (fault.Settings why) = option_unset why

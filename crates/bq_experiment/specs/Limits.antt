@@ -18,7 +18,7 @@ events_in ((n, traced) ∷ more) = event_count traced + events_in more
 
 -- While the limit is not passed, the sink takes each event of the trace, and each of the machine's is counted. The limit is passed only by
 -- an event for which nothing is left, stays passed, and then lets nothing through.
-pub record PassesOn {S : Type 0} (takes : S → ℕ → TraceEvent → S → Type 0) (old : Limited S) (n : ℕ) (traced : TraceEvent) (new : Limited S) : Type 0 where
+pub record PassesWithin {S : Type 0} (takes : S → ℕ → TraceEvent → S → Type 0) (old : Limited S) (n : ℕ) (traced : TraceEvent) (new : Limited S) : Type 0 where
   pub within : new.is_over ≡ false → takes old.sink n traced new.sink × (old.left ≡ event_count traced + new.left) × (old.is_over ≡ false)
   pub over : new.is_over ≡ true → (old.is_over ≡ true) ⊎ (old.left < event_count traced)
   pub nothing : new.is_over ≡ true → new.sink ≡ old.sink

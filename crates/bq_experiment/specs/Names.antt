@@ -10,16 +10,16 @@ use Rattle.bq_report.specs.Names.{Learns, NamedTasks}
 use Rattle.bq_timeline.specs.Called.{shown_letter}
 
 -- the name of a task, by its number among the tasks of its kind: the kind's name, with the number if the kind has several tasks
-abbrev pub name_in : TaskKind → ℕ → List ℕ
-name_in kind number = if kind.count == 1 then string_bytes kind.name else string_bytes kind.name ++ (codes "-" ++ decimal number)
+abbrev pub name_of_task : TaskKind → ℕ → List ℕ
+name_of_task kind number = if kind.count == 1 then string_bytes kind.name else string_bytes kind.name ++ (codes "-" ++ decimal number)
 
 -- the names of a kind's tasks
-abbrev pub names_in : TaskKind → List (List ℕ)
-names_in kind = map (name_in kind) (range_with_len 0 kind.count)
+abbrev pub names_of_kind : TaskKind → List (List ℕ)
+names_of_kind kind = map (name_of_task kind) (range_with_len 0 kind.count)
 
 -- the names of all tasks, by number
 abbrev pub names_of : List TaskKind → List (List ℕ)
-names_of kinds = flat_map names_in kinds
+names_of kinds = flat_map names_of_kind kinds
 
 -- a letter as a line of a trace can have it: unchanged, or as `?`
 abbrev pub plain_of : ℕ → ℕ

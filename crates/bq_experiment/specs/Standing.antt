@@ -22,14 +22,14 @@ abbrev pub AreOfTheirImages : Standing → Type 0
 AreOfTheirImages s = AreOfImages (image_for s.images) s.loaded
 
 -- an image with its hook, as bytes
-abbrev pub with_bytes : Hook × Vec ℕ Global → Hook × List ℕ
-with_bytes image = (image.0, image.1.items)
+abbrev pub image_as_bytes : Hook × Vec ℕ Global → Hook × List ℕ
+image_as_bytes image = (image.0, image.1.items)
 
 -- these policies, with the bytes of their images
 abbrev pub standing : List Accepted → List (Hook × Vec ℕ Global) → Standing
-standing loaded images = record { loaded = loaded; images = map with_bytes images }
+standing loaded images = record { loaded = loaded; images = map image_as_bytes images }
 
 -- one more policy is there, and one more image at this hook
-pub record Adds (hook : Hook) (image : List ℕ) (policy : Accepted) (old new : Standing) : Type 0 where
+pub record AddsPolicy (hook : Hook) (image : List ℕ) (policy : Accepted) (old new : Standing) : Type 0 where
   pub loaded : new.loaded ≡ old.loaded ++ policy ∷ []
   pub images : new.images ≡ old.images ++ (hook, image) ∷ []

@@ -14,20 +14,20 @@ use Rattle.bq_policy_file.specs.declared.head.Head.{Head}
 use Rattle.bq_policy_file.specs.declared.mark.Key.{Key}
 use Rattle.bq_policy_file.specs.declared.policy_source.PolicySource.{PolicySource}
 use Rattle.bq_simulate.specs.Replays.{IsLoadedFromImage}
-use Rattle.bq_experiment.specs.Standing.{Adds, Standing, image_for}
+use Rattle.bq_experiment.specs.Standing.{AddsPolicy, Standing, image_for}
 use Rattle.bq_experiment.specs.declared.policies.AttachFault.{AttachFault}
 use Rattle.bq_experiment.specs.declared.policies.AttachFault.TheVariants as attach
 use Rattle.bq_simulate.specs.Simulations.{Accepted}
 
 -- a hook is asked for, or none, and nothing beside it
-pub record Asks (hook : Option Hook) (asked : Head) : Type 0 where
+pub record AsksForHook (hook : Option Hook) (asked : Head) : Type 0 where
   pub hook_is : asked.hook ≡ hook
   pub maps : asked.maps ≡ None
   pub format : asked.format ≡ None
 
 -- a file is read as this policy, for the hook that is asked for, if any
 abbrev pub IsRead : Option Hook → List ℕ → PolicySource → Type 0
-IsRead hook file policy = (asked : Head) × Asks hook asked × IsPolicy file asked policy
+IsRead hook file policy = (asked : Head) × AsksForHook hook asked × IsPolicy file asked policy
 
 -- A policy that was read so is taken at this hook, at which no image was: its image is added, and what is loaded of it.
 pub record Attaches (Reads : PolicySource → Type 0) (hook : Hook) (old new : Standing) : Type 0 where
@@ -39,7 +39,7 @@ pub record Attaches (Reads : PolicySource → Type 0) (hook : Hook) (old new : S
   pub spells : IsImage image read.form.version hook read.form.shapes.items (spelling read.insns.items)
   pub policy : Accepted
   pub of : IsLoadedFromImage (Some image) policy
-  pub adds : Adds hook image policy old new
+  pub adds : AddsPolicy hook image policy old new
 
 -- a policy that was read so is for a hook at which an image was
 abbrev pub IsSecondForHook : (PolicySource → Type 0) → Standing → Type 0
@@ -47,10 +47,10 @@ IsSecondForHook Reads s = (read : PolicySource) × Reads read × IsSome (image_f
 
 -- a file is refused for this fault, for the hook that is asked for, if any
 abbrev pub IsFileRefusal : Option Hook → List ℕ → FileFault → Type 0
-IsFileRefusal hook file named = (asked : Head) × Asks hook asked × IsPolicyFault file asked named
+IsFileRefusal hook file named = (asked : Head) × AsksForHook hook asked × IsPolicyFault file asked named
 
 -- the image of a policy that was read so is not loaded, for this fault
-pub record IsUnaccepted (Reads : PolicySource → Type 0) (named : LoadFault) : Type 0 where
+pub record IsPolicyUnaccepted (Reads : PolicySource → Type 0) (named : LoadFault) : Type 0 where
   pub read : PolicySource
   pub reads : Reads read
   pub image : List ℕ
@@ -64,7 +64,7 @@ abbrev pub IsAttachFault : (PolicySource → Type 0) → (FileFault → Type 0) 
 IsAttachFault Reads Refuses s attach.Twice = IsSecondForHook Reads s
 IsAttachFault Reads Refuses s attach.Hook = (key : Key) × Refuses (Disagrees key)
 IsAttachFault Reads Refuses s (attach.File words) = (named : FileFault) × Refuses named × (named ≢ file.OutOfMemory)
-IsAttachFault Reads Refuses s (attach.Program named) = IsUnaccepted Reads named
+IsAttachFault Reads Refuses s (attach.Program named) = IsPolicyUnaccepted Reads named
 IsAttachFault Reads Refuses s attach.OutOfMemory = Unit {0}
 
 -- what is reported of a refused file

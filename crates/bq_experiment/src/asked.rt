@@ -1,10 +1,10 @@
 //! What a simulation is asked for, by the words of its options.
 ghost use Rattle.std.specs.Prelude.{◌≡◌, ◌↔◌, IfErr, IfNone, IfOk, IfSome, IsTrue, None, Some, codes};
-ghost use Rattle.bq_words.specs.Quantities.{size_of, decimal_of};
+ghost use Rattle.bq_words.specs.Quantities.{size_in_word, decimal_of};
 ghost use Rattle.bq_policy_check.specs.Given.{option_bytes};
 ghost use Rattle.bq_words.specs.Sizes.{rule_of};
-ghost use Rattle.bq_timeline.specs.Settings.{text_of};
-ghost use Rattle.bq_experiment.specs.Asking.{AskForChanges, AskToShow, IsNoChange, IsNotShown, change_asked, chooses_part, option_refused, time_in, word_refused};
+ghost use Rattle.bq_timeline.specs.Settings.{optional_word_text};
+ghost use Rattle.bq_experiment.specs.Asking.{AskForChanges, AskToShow, IsNoChange, IsNotShown, change_asked, chooses_part, asked_option_refused, simulable_time, asked_word_refused};
 
 use crate::words::StudyWords;
 use bq_timeline::{RefusedWord, Settings, SettingsFault, Words, with_forms, word_after};
@@ -62,9 +62,9 @@ pub enum AskedFault {
 impl AskedFault {
     /// The word that the fault refuses, and its option. `None` if the fault is not that of one word.
     pub fn refused<'a>(self, words: &'a StudyWords) -> Option<RefusedWord<'a>>
-        ensures word { IfSome result (λ r. text_of (word_refused words.now self) ≡ Some r.word.now) }
-        ensures none { IfNone result (word_refused words.now self ≡ None) }
-        ensures option { IfSome result (λ r. r.option.now ≡ option_refused self) }
+        ensures word { IfSome result (λ r. optional_word_text (asked_word_refused words.now self) ≡ Some r.word.now) }
+        ensures none { IfNone result (asked_word_refused words.now self ≡ None) }
+        ensures option { IfSome result (λ r. r.option.now ≡ asked_option_refused self) }
     {
         let machine = &words.machine;
         match self {
@@ -156,7 +156,7 @@ fn rule_asked(word: &Option<String>) -> Option<Option<Rule>>
 
 /// The number of processors that a word asks for, if there is a word.
 fn size_asked(word: &Option<String>) -> Option<Option<ProcessorCount>>
-    ensures { result ≡ change_asked size_of word.now }
+    ensures { result ≡ change_asked size_in_word word.now }
 {
     match word {
         None => Some(None),
@@ -166,7 +166,7 @@ fn size_asked(word: &Option<String>) -> Option<Option<ProcessorCount>>
 
 /// The duration that a word asks for, if there is a word.
 fn time_asked(word: &Option<String>) -> Option<Option<u64>>
-    ensures { result ≡ change_asked time_in word.now }
+    ensures { result ≡ change_asked simulable_time word.now }
 {
     match word {
         None => Some(None),
@@ -186,7 +186,7 @@ fn seed_asked(word: &Option<String>) -> Option<Option<u64>>
 
 /// A duration, with its unit, that can be simulated.
 fn time(word: &[u8]) -> Option<u64>
-    ensures { result ≡ time_in word.now }
+    ensures { result ≡ simulable_time word.now }
 {
     let time = duration_with_unit(word)?;
     if 1 <= time && time <= LONGEST {

@@ -1,7 +1,7 @@
 //! A sink that passes on no more of a machine's events than a limit.
 ghost use Rattle.std.specs.Prelude.{◌≡◌, ◌+◌, ◌<◌, ◌⊎◌, false, true};
 ghost use Rattle.bq_trace.specs.Borrowed.{event_of};
-ghost use Rattle.bq_experiment.specs.Limits.{PassesOn, event_count};
+ghost use Rattle.bq_experiment.specs.Limits.{PassesWithin, event_count};
 
 use bq_simulate::Enough;
 use bq_trace::{Sink, TraceEvent};
@@ -63,7 +63,7 @@ impl<S> Enough for Limited<S> {
 }
 
 impl<S: Sink> Sink for Limited<S> {
-    ghost takes = { PassesOn S.takes };
+    ghost takes = { PassesWithin S.takes };
 
     fn take(&mut self, number: u64, event: &TraceEvent<'_>) -> Result<(), AllocError> {
         self.count(event);

@@ -1,8 +1,8 @@
 //! The names of a workload's tasks.
 ghost use Rattle.std.specs.Prelude.{◌≡◌, ◌<◌, ◌++◌, map, length, IfOk, OnOk, string_bytes};
-ghost use Rattle.bq_timeline.specs.Comments.{Rests};
+ghost use Rattle.bq_timeline.specs.Comments.{ViewerRests};
 ghost use Rattle.bq_trace.specs.TraceEvents.{TakesAll};
-ghost use Rattle.bq_experiment.specs.Names.{LearnsAll, comments_of, name_in, names_in, names_of, plain_name, plain_of, shown_comments, shown_name};
+ghost use Rattle.bq_experiment.specs.Names.{LearnsAll, comments_of, name_of_task, names_of_kind, names_of, plain_name, plain_of, shown_comments, shown_name};
 ghost use Rattle.bq_experiment.specs.Traces.{skipped};
 
 use bq_report::Names;
@@ -25,7 +25,7 @@ pub fn task_names(alloc: Global, workload: &Workload) -> Result<Vec<String>, All
 
 /// Adds the name of each task of a kind.
 fn add_names(alloc: Global, kind: &TaskKind, names: &mut Vec<String>) -> Result<(), AllocError>
-    ensures { OnOk result (map string_bytes names.new.items ≡ map string_bytes names.old.items ++ names_in kind.now) }
+    ensures { OnOk result (map string_bytes names.new.items ≡ map string_bytes names.old.items ++ names_of_kind kind.now) }
 {
     'numbers: for number in 0..kind.count {
         names.push(task_name(alloc, kind, number)?)?;
@@ -35,7 +35,7 @@ fn add_names(alloc: Global, kind: &TaskKind, names: &mut Vec<String>) -> Result<
 
 /// Answers the name of a task, by its number among the tasks of its kind.
 fn task_name(alloc: Global, kind: &TaskKind, number: u16) -> Result<String, AllocError>
-    ensures { IfOk result (λ name. string_bytes name ≡ name_in kind.now number) }
+    ensures { IfOk result (λ name. string_bytes name ≡ name_of_task kind.now number) }
 {
     let name = kind.name.as_str();
     if kind.count == 1 {
@@ -71,7 +71,7 @@ pub(crate) fn show_names(
     workload: &Workload,
     viewer: &mut Viewer,
 ) -> Result<u64, AllocError>
-    ensures rest { Rests viewer.old viewer.new }
+    ensures rest { ViewerRests viewer.old viewer.new }
     ensures names { OnOk result (LearnsAll (shown_comments workload.now) viewer.old.screen.names viewer.new.screen.names) }
     ensures lines { IfOk result (λ lines. lines ≡ length (shown_comments workload.now)) }
 {

@@ -1,6 +1,6 @@
 //! A viewer below the comments that begin a trace.
 ghost use Rattle.std.specs.Prelude.{◌≡◌};
-ghost use Rattle.bq_timeline.specs.Timelines.{Keeps};
+ghost use Rattle.bq_timeline.specs.Timelines.{TakesEvent};
 
 use bq_timeline::viewer::Viewer;
 use bq_trace::{Sink, TraceEvent};
@@ -15,7 +15,7 @@ pub struct OffsetViewer {
 }
 
 impl Sink for OffsetViewer {
-    ghost takes = { λ old n traced new. (new.offset ≡ old.offset) × Keeps old.viewer traced new.viewer };
+    ghost takes = { λ old n traced new. (new.offset ≡ old.offset) × TakesEvent old.viewer traced new.viewer };
 
     fn take(&mut self, number: u64, event: &TraceEvent<'_>) -> Result<(), AllocError> {
         self.viewer.take(number.saturating_add(self.offset), event)

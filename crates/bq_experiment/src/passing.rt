@@ -1,7 +1,7 @@
 //! A sink whose texts are written as they come.
 ghost use Rattle.std.specs.Prelude.{◌≡◌, ◌<◌, false, true, IfErr, OnOk};
 ghost use Rattle.std.specs.Io.KnownBytes.{Appends};
-ghost use Rattle.bq_streams.specs.Counts.{HasRisen, failures_of, inner_of};
+ghost use Rattle.bq_streams.specs.Counts.{HasRisen, failures_of, counted_inner};
 ghost use Rattle.bq_experiment.specs.Passing.{Empties, IsPassedOn, TakesAndPasses};
 
 use crate::run_progress::RunProgress;
@@ -29,7 +29,7 @@ impl<'a, S, W, E> Passing<'a, S, W, E> {
     /// Nothing is written yet.
     pub fn new(sink: S, output: W, errors: E, progress: RunProgress<'a>) -> Passing<'a, S, W, E>
         ensures sink { result.sink ≡ sink }
-        ensures output { inner_of result.output ≡ output }
+        ensures output { counted_inner result.output ≡ output }
     {
         Passing {
             sink,
@@ -61,7 +61,7 @@ impl<S: Texts, W: Write, E: Write> Passing<'_, S, W, E> {
     /// Writes the text.
     pub fn write_text(&mut self) -> Result<(), StreamFault>
         ensures sink { self.new.sink ≡ self.old.sink }
-        ensures added { OnOk result (Appends (W.contents (inner_of self.old.output)) (W.contents (inner_of self.new.output)) (S.pending self.old.sink)) }
+        ensures added { OnOk result (Appends (W.contents (counted_inner self.old.output)) (W.contents (counted_inner self.new.output)) (S.pending self.old.sink)) }
         ensures kept { OnOk result (failures_of self.new.output ≡ 0) }
         ensures fault { IfErr result (λ e. HasRisen 0 (failures_of self.new.output)) }
     {
@@ -76,7 +76,7 @@ impl<S: Texts, W: Write, E: Write> Passing<'_, S, W, E> {
 
     /// Writes the notes and the text, and clears both.
     fn empty(&mut self) -> Result<(), AllocError>
-        ensures { OnOk result (Empties S.pending S.clears self.old.sink (W.contents (inner_of self.old.output)) self.new.sink (W.contents (inner_of self.new.output))) }
+        ensures { OnOk result (Empties S.pending S.clears self.old.sink (W.contents (counted_inner self.old.output)) self.new.sink (W.contents (counted_inner self.new.output))) }
     {
         let _ = self.errors.write_all(self.sink.notes().as_bytes());
         // A sink can fail only by `AllocError`. `is_failed` tells a failed write from memory that ran out.
@@ -89,7 +89,7 @@ impl<S: Texts, W: Write, E: Write> Passing<'_, S, W, E> {
 
     /// Writes what has come once it is a piece, or there is a note.
     fn pass_on(&mut self) -> Result<(), AllocError>
-        ensures { OnOk result (IsPassedOn S.pending S.clears self.old.sink (W.contents (inner_of self.old.output)) self.new.sink (W.contents (inner_of self.new.output))) }
+        ensures { OnOk result (IsPassedOn S.pending S.clears self.old.sink (W.contents (counted_inner self.old.output)) self.new.sink (W.contents (counted_inner self.new.output))) }
     {
         if self.sink.text().len() < PIECE && self.sink.notes().is_empty() {
             return Ok(());
@@ -99,7 +99,7 @@ impl<S: Texts, W: Write, E: Write> Passing<'_, S, W, E> {
 }
 
 impl<S: Sink + Texts, W: Write, E: Write> Sink for Passing<'_, S, W, E> {
-    ghost takes = { λ old n traced new. TakesAndPasses S.takes S.pending S.clears old.sink (W.contents (inner_of old.output)) n traced new.sink (W.contents (inner_of new.output)) };
+    ghost takes = { λ old n traced new. TakesAndPasses S.takes S.pending S.clears old.sink (W.contents (counted_inner old.output)) n traced new.sink (W.contents (counted_inner new.output)) };
 
     fn take(&mut self, number: u64, event: &TraceEvent<'_>) -> Result<(), AllocError> {
         if let TraceEvent::Comes { event, .. } = event {

@@ -5,7 +5,7 @@ ghost use Rattle.std.specs.Option.{option_map};
 ghost use Rattle.bq_policy_file.specs.Files.{IsPolicy, IsPolicyFault};
 ghost use Rattle.bq_simulate.specs.Replays.{IsLoadedFromImage};
 ghost use Rattle.bq_simulate.specs.Texts.{image_at};
-ghost use Rattle.bq_experiment.specs.Standing.{Adds, AreOfTheirImages, image_for};
+ghost use Rattle.bq_experiment.specs.Standing.{AddsPolicy, AreOfTheirImages, image_for};
 ghost use Rattle.bq_experiment.specs.Taking.{IsFileRefusal, IsRead, IsAttachFault, IsFaultOfFile, IsFaultOfImage, Attaches};
 
 use bq_hooks::Hook;
@@ -116,7 +116,7 @@ impl Policies {
         requires of { IsLoadedFromImage (Some image.items) policy }
         requires hook { policy.hook ≡ hook }
         requires free { image_for self.old.images hook ≡ None }
-        ensures adds { OnOk result (Adds hook image.items policy self.old self.new) }
+        ensures adds { OnOk result (AddsPolicy hook image.items policy self.old self.new) }
         ensures refused { OnErr result (self.new ≡ self.old) }
         ensures other { IfErr result (λ fault. fault ≡ AttachFault.OutOfMemory) }
     {

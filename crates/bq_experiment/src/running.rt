@@ -1,6 +1,6 @@
 //! One run of a workload, and what is written of it.
 ghost use Rattle.std.specs.Prelude.{◌≡◌, ◌≢◌, [], false, true, IfErr, IfOk, None, OnOk, string_bytes};
-ghost use Rattle.bq_streams.specs.Counts.{failures_of, inner_of};
+ghost use Rattle.bq_streams.specs.Counts.{failures_of, counted_inner};
 ghost use Rattle.bq_simulate.specs.Faults.{ReportsNoOther};
 ghost use Rattle.bq_simulate.specs.Order.{IsCutOff};
 ghost use Rattle.bq_simulate.specs.Simulations.{HasEnough, IsFollowed, IsSimulation};
@@ -8,7 +8,7 @@ ghost use Rattle.bq_simulate.specs.Texts.{image_at};
 ghost use Rattle.bq_simulate.specs.declared.fault.SimulateFault.TheVariants as why;
 ghost use Rattle.bq_trace.specs.TraceEvents.{Gets};
 ghost use Rattle.bq_workload.specs.Soundness.{first_flaw};
-ghost use Rattle.bq_experiment.specs.Faults.{IsNoEnd, IsRunFault, IsStopped};
+ghost use Rattle.bq_experiment.specs.Faults.{IsNoEnd, IsRunFault, IsRunStopped};
 ghost use Rattle.bq_experiment.specs.Standing.{AreOfTheirImages, image_for};
 ghost use Rattle.bq_experiment.specs.Traces.{IsNamed, IsWritten, WritesTrace};
 ghost use Rattle.bq_experiment.specs.Views.{AreNotesOf, IsViewed};
@@ -63,7 +63,7 @@ pub fn run_as<W: Write + Drop, E: Write + Drop>(
     streams: Streams<'_, W, E>,
 ) -> Ran<W>
     ensures written { IfOk result.outcome (λ notes. IsWritten shown workload.now policies.now most
-        (W.contents streams.entry.output) (W.contents (inner_of result.output)) (string_bytes notes)) }
+        (W.contents streams.entry.output) (W.contents (counted_inner result.output)) (string_bytes notes)) }
 
     // After a run that came to its end no write has failed: the first failure ends a run.
     ensures writes { OnOk result.outcome (failures_of result.output ≡ 0) }
@@ -89,7 +89,7 @@ fn sink_of_run<'a, S, W, E>(
     streams: Streams<'a, W, E>,
 ) -> RunSink<'a, S, W, E>
     ensures sink { result.sink.sink ≡ sink }
-    ensures output { inner_of result.sink.output ≡ streams.entry.output }
+    ensures output { counted_inner result.sink.output ≡ streams.entry.output }
     ensures left { result.left ≡ most }
     ensures over { result.is_over ≡ false }
 {
@@ -111,7 +111,7 @@ fn as_trace<W: Write + Drop, E: Write + Drop>(
     streams: Streams<'_, W, E>,
 ) -> Ran<W>
     ensures written { IfOk result.outcome (λ notes. IsWritten shown_as.Trace workload.now policies.now most
-        (W.contents streams.entry.output) (W.contents (inner_of result.output)) (string_bytes notes)) }
+        (W.contents streams.entry.output) (W.contents (counted_inner result.output)) (string_bytes notes)) }
     ensures writes { OnOk result.outcome (failures_of result.output ≡ 0) }
     ensures fault { IfErr result.outcome (λ e. IsRunFault policies.now.loaded workload.now most e (failures_of result.output)) }
 {
@@ -139,7 +139,7 @@ fn write_trace<W: Write, E: Write>(
     requires images { image_at run.old.sink.sink.images ≡ image_for policies.now.images }
     requires over { run.old.is_over ≡ false }
     ensures written { OnOk result (WritesTrace workload.now policies.now.loaded (image_for policies.now.images) run.old.left
-        (W.contents (inner_of run.old.sink.output)) (W.contents (inner_of run.new.sink.output))) }
+        (W.contents (counted_inner run.old.sink.output)) (W.contents (counted_inner run.new.sink.output))) }
     ensures writes { OnOk result (failures_of run.new.sink.output ≡ 0) }
     ensures fault { IfErr result (λ e. IsRunFault policies.now.loaded workload.now run.old.left e (failures_of run.new.sink.output)) }
 {
@@ -181,7 +181,7 @@ fn write_rest<S: Texts, W: Write, E: Write>(
     run: &mut RunSink<'_, S, W, E>,
     fault: SimulateFault,
 ) -> RunFault
-    ensures { IsStopped (λ why. why ≡ fault) result (failures_of run.new.sink.output) }
+    ensures { IsRunStopped (λ why. why ≡ fault) result (failures_of run.new.sink.output) }
 {
     if let SimulateFault::Enough = fault {
         return match run.sink.write_text() {

@@ -19,7 +19,7 @@ use Rattle.bq_verify.specs.KnownAt.{ContainsRuns}
 use Rattle.bq_states.specs.declared.abstract_state.AbstractState.{AbstractState}
 use Rattle.bq_needs.specs.Needs.{IsNeed}
 use Rattle.bq_needs.specs.declared.needs.Need.{Need}
-use Rattle.bq_explain.specs.Explained.{AreAsked, AreMade, IsFinding, IsOfState, IsOfVerifier, IsPlace, IsRefusalOf}
+use Rattle.bq_explain.specs.Explained.{AreAsked, AreMade, IsFinding, IsOfState, IsOfVerifier, IsPlaceOfSlot, IsRefusalOf}
 use Rattle.bq_explain.specs.declared.place.Place.{Place}
 use Rattle.bq_explain.specs.declared.refusal.Finding.TheVariants as finding
 use Rattle.bq_explain.specs.declared.refusal.Refusal.{Refusal}
@@ -72,14 +72,14 @@ nothing_made slots slot made none one there =
 
 -- a refusal for a fault of the control graph
 pub refusal_of_graph : {E : Type 0} (p : PolicySource) (slot : ℕ) (named : GraphCause) (place : Place) (r : Result Refusal E)
-    → IsPlace (spread p.insns.items) slot place → IfOk r (λ refusal. refusal.place ≡ place)
+    → IsPlaceOfSlot (spread p.insns.items) slot place → IfOk r (λ refusal. refusal.place ≡ place)
     → IfOk r (λ refusal. refusal.cause ≡ cause.Graph named)
     → IfOk r (λ refusal. (p : PolicySource) (slot : ℕ) → IsFinding p slot place.insn (cause.Graph named) refusal.finding)
     → IfOk r (λ refusal. refusal.trail.made.items ≡ [])
     → IfOk r (IsRefusalOf p slot (cause.Graph named))
 refusal_of_graph p slot named place (Err e) at same is finds none = tt
 refusal_of_graph p slot named place (Ok refusal) at same is finds none = record {
-  place = subst (λ (q : Place). IsPlace (spread p.insns.items) slot q) (sym same) at;
+  place = subst (λ (q : Place). IsPlaceOfSlot (spread p.insns.items) slot q) (sym same) at;
   cause_is = is;
   finds = subst (λ (q : Place). IsFinding p slot q.insn (cause.Graph named) refusal.finding) (sym same) (finds p slot);
   asked = [];
@@ -89,14 +89,14 @@ refusal_of_graph p slot named place (Ok refusal) at same is finds none = record 
 
 -- a refusal for what is not shown of the states
 pub refusal_of_state : {E : Type 0} (p : PolicySource) (slot : ℕ) (named : Cause) (slots : List (Option Insn))
-    → slots ≡ spread p.insns.items → (place : Place) (r : Result Refusal E) → IsPlace (spread p.insns.items) slot place
+    → slots ≡ spread p.insns.items → (place : Place) (r : Result Refusal E) → IsPlaceOfSlot (spread p.insns.items) slot place
     → IfOk r (λ refusal. refusal.place ≡ place) → IfOk r (λ refusal. refusal.cause ≡ named)
     → IfOk r (λ refusal. IsFinding p place.slot place.insn named refusal.finding)
     → IfOk r (λ refusal. (asked : List Bool) × AreAsked refusal.finding asked × AreMade slots place.slot asked refusal.trail.made.items)
     → IfOk r (IsRefusalOf p slot named)
 refusal_of_state p slot named slots laid place (Err e) at same is finds made = tt
 refusal_of_state p slot named slots laid place (Ok refusal) at same is finds made = record {
-  place = subst (λ (q : Place). IsPlace (spread p.insns.items) slot q) (sym same) at;
+  place = subst (λ (q : Place). IsPlaceOfSlot (spread p.insns.items) slot q) (sym same) at;
   cause_is = is;
   finds =
       subst (λ (q : Place). IsFinding p slot q.insn named refusal.finding) (sym same)

@@ -8,8 +8,8 @@ use Rattle.bq_insn.specs.declared.Insn.{Insn}
 use Rattle.bq_insn.proofs.OptionLemmas.{some_none}
 use Rattle.bq_bpf.specs.Steps.{instruction_at}
 use Rattle.bq_verify.specs.Edges.{IsEdge}
-use Rattle.bq_verify.specs.Paths.{IsPath, end_of}
-use Rattle.bq_verify.specs.Passes.{IsAmongTargets, IsSound, LeadsOut}
+use Rattle.bq_verify.specs.Paths.{IsPath, path_end}
+use Rattle.bq_verify.specs.Passes.{IsAmongTargets, IsGraphSound, LeadsOut}
 use Rattle.bq_verify.specs.declared.edges.Targets.{Targets}
 use Rattle.bq_explain.specs.Makers.{AreLeading, AreSparing, IsMaker, HasRole, SparingWay}
 use Rattle.bq_explain.specs.declared.makers.Role.TheVariants.{Off, Makes, Leads}
@@ -31,7 +31,7 @@ record FirstStep (slots : List (Option Insn)) (register from to : ℕ) : Type 0 
   way : SparingWay slots register next to
 
 module _ (slots : List (Option Insn)) (register slot : ℕ) where
-  first_by : (from : ℕ) (rest : List ℕ) → from ≢ slot → IsPath slots from rest → end_of from rest ≡ slot
+  first_by : (from : ℕ) (rest : List ℕ) → from ≢ slot → IsPath slots from rest → path_end from rest ≡ slot
       → AreSparing slots register from rest
       → FirstStep slots register from slot
   first_by from [] other path ends sparing = absurd (other ends)
@@ -65,8 +65,8 @@ module _ (slots : List (Option Insn)) (register slot : ℕ) where
   no_maker : (from : ℕ) → from < slot → SparingWay slots register from slot → IsMaker slots register slot from → ⊥
   no_maker from lt way maker = no_way from lt maker.writes way
 
-  module _ (sound : IsSound slots) where
-    rises : (from : ℕ) (rest : List ℕ) → IsPath slots from rest → from ≤ end_of from rest
+  module _ (sound : IsGraphSound slots) where
+    rises : (from : ℕ) (rest : List ℕ) → IsPath slots from rest → from ≤ path_end from rest
     rises from [] path = omega arith
     rises from (next ∷ rest) path =
         let lt = (sound.forward from next path.0).0 in

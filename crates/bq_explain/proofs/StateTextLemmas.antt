@@ -7,7 +7,7 @@ use Rattle.bq_states.specs.AbstractStates.{Contains, RegisterIsAsKnown, StackIsA
 use Rattle.bq_states.specs.declared.abstract_state.AbstractValue.{AbstractValue}
 use Rattle.bq_states.specs.declared.abstract_state.AbstractState.{AbstractState}
 use Rattle.bq_explain.specs.DescribedStates.{DescribesRegisters, no_register, one_register, DescribesRuns, no_described_run, one_described_run, DescribesStack, DescribesKept, no_kept, one_kept, DescribesState}
-use Rattle.bq_explain.specs.Texts.{register_text, registers_below, kept_text, kept_below, AreRuns, no_byte, unset_byte, one_run, IsStackText, IsStateText, stack_text, unknown_text}
+use Rattle.bq_explain.specs.Texts.{known_register_text, registers_below, kept_text, kept_below, AreByteRuns, no_byte, unset_byte, one_run, IsStackText, IsStateText, written_stack_text, unknown_registers_text}
 use Rattle.bq_explain.proofs.UnknownLemmas.{names_unknown}
 use Rattle.bq_needs.specs.Texts.{known_text}
 use Rattle.bq_needs.proofs.DescribedWordLemmas.{describes_known}
@@ -15,7 +15,7 @@ use Rattle.bq_needs.proofs.DescribedWordLemmas.{describes_known}
 -- one register more
 pub describes_register : (f : Setting) (s : State) (before : List ℕ) (r : ℕ) (known : Option AbstractValue)
     → RegisterIsAsKnown f.shapes known (s.register r) → DescribesRegisters f s before
-    → DescribesRegisters f s (before ++ register_text f.shapes r known)
+    → DescribesRegisters f s (before ++ known_register_text f.shapes r known)
 describes_register f s before r None holds described = subst (λ (t : List ℕ). DescribesRegisters f s t) (sym (append-nil before)) described
 describes_register f s before r (Some k) (n, is, describes) described =
     one_register f s before (known_text f.shapes k) r n described is (describes_known f.shapes k n describes)
@@ -45,7 +45,7 @@ describes_kept f s v contains (suc n) =
 
 -- runs of bytes that the abstract state knows to be set are set
 pub describes_runs : (s : State) {set : List Bool} {past : ℕ} {text : List ℕ}
-    → ((i : ℕ) → slice_index_or set i false ≡ true → (b : ℕ) × (s.stack i ≡ Some b)) → AreRuns set past text
+    → ((i : ℕ) → slice_index_or set i false ≡ true → (b : ℕ) × (s.stack i ≡ Some b)) → AreByteRuns set past text
     → DescribesRuns s text
 describes_runs s is (no_byte set) = no_described_run s
 describes_runs s is (unset_byte set before byte rest unset) = describes_runs s is rest
@@ -53,7 +53,7 @@ describes_runs s is (one_run set before first past rest some inside all ends) =
     one_described_run s before first past (describes_runs s is rest) some inside (λ i from to. is i (all i from to))
 
 -- runs that are reported, or none
-describes_line : (s : State) (runs text : List ℕ) → text ≡ stack_text runs → DescribesRuns s runs → DescribesStack s text
+describes_line : (s : State) (runs text : List ℕ) → text ≡ written_stack_text runs → DescribesRuns s runs → DescribesStack s text
 describes_line s [] text is described = inl is
 describes_line s (first ∷ rest) text is described = inr (first ∷ rest, is, described)
 
@@ -65,7 +65,7 @@ describes_stack f s v text contains (runs, are, is) =
 
 -- the parts of the text make it whole
 pub is_state_text : (shapes : List MapShape) (v : AbstractState) (registers unset stack kept text : List ℕ)
-    → registers ≡ registers_below shapes 11 v.registers → unset ≡ unknown_text v.registers → IsStackText v.set stack
+    → registers ≡ registers_below shapes 11 v.registers → unset ≡ unknown_registers_text v.registers → IsStackText v.set stack
     → kept ≡ kept_below shapes 64 v.kept → text ≡ codes " " ++ (registers ++ (unset ++ (stack ++ kept)))
     → IsStateText shapes v text
 is_state_text shapes v registers unset stack kept text registers_are unset_are is_stack kept_are is =
@@ -79,7 +79,7 @@ describes_state shapes v text described f s of contains =
     let is : IsStateText f.shapes v text = rw of described in
     record {
       registers = registers_below f.shapes 11 v.registers;
-      unknown = unknown_text v.registers;
+      unknown = unknown_registers_text v.registers;
       stack = is.stack;
       kept = kept_below f.shapes 64 v.kept;
       text_is = is.text_is;

@@ -6,12 +6,12 @@ use Rattle.bq_explain.specs.declared.advice.Advice.{Advice}
 use Rattle.bq_explain.specs.declared.advice.Advice.TheVariants.{Compare, Give, GiveFirstMap, GiveValue, Know, OtherSide, Test, UseBefore}
 
 -- advice on an argument of a helper is on that one, or on a register of which nothing is known
-abbrev pub GoesBy : Argument → Advice → Type 0
-GoesBy a (Give given) = given ≡ a
-GoesBy a (GiveValue bytes) = a ≡ argument.Value
-GoesBy a GiveFirstMap = a ≡ argument.Map
-GoesBy a (Know missing) = Unit {0}
-GoesBy a other = ⊥
+abbrev pub AdvisesOn : Argument → Advice → Type 0
+AdvisesOn a (Give given) = given ≡ a
+AdvisesOn a (GiveValue bytes) = a ≡ argument.Value
+AdvisesOn a GiveFirstMap = a ≡ argument.Map
+AdvisesOn a (Know missing) = Unit {0}
+AdvisesOn a other = ⊥
 
 -- if advice names a register that is a pointer, it is this one
 abbrev pub NamesRegister : ℕ → Advice → Type 0

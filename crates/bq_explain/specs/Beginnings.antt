@@ -11,15 +11,15 @@ use Rattle.bq_explain.specs.declared.verdict.Verdict.TheVariants.{Accepted}
 use Rattle.bq_explain.specs.Verdicts.{verdict_line}
 
 -- the maps by their shapes, as `--maps` takes them
-abbrev pub maps_text : List MapShape → List ℕ
-maps_text [] = codes "none"
-maps_text (first ∷ rest) = decimal first.value_size ++ (codes ":" ++ (decimal first.entries ++ more_maps rest))
+abbrev pub map_shapes_text : List MapShape → List ℕ
+map_shapes_text [] = codes "none"
+map_shapes_text (first ∷ rest) = decimal first.value_size ++ (codes ":" ++ (decimal first.entries ++ more_maps rest))
 
 -- the words on a policy that is accepted: its hook, its budget, its version and its maps
 abbrev pub accepted_words : PolicySource → ℕ → List ℕ
 accepted_words p budget =
     codes "accepted " ++ (hook_word p.form.hook ++ (codes " budget " ++ (decimal budget ++ (codes " of " ++ (decimal SLOTS ++ (codes ", version "
-    ++ (decimal (version_number p.form.version) ++ (codes ", maps " ++ maps_text p.form.shapes.items))))))))
+    ++ (decimal (version_number p.form.version) ++ (codes ", maps " ++ map_shapes_text p.form.shapes.items))))))))
 
 -- the first words on a policy: those of an accepted one, or otherwise the whole line of the verdict
 abbrev pub first_words : PolicySource → Verdict → List ℕ

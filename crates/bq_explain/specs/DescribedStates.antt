@@ -3,7 +3,7 @@ use Rattle.std.specs.Prelude.{◌≡◌, ℕ, ◌+◌, ◌-◌, ◌*◌, ◌<◌
 use Rattle.std.specs.Int.{byte_at}
 use Rattle.std.specs.Fmt.{decimal}
 use Rattle.bq_bpf.specs.Memory.{Setting, State, stack_size}
-use Rattle.bq_explain.specs.Texts.{run_text}
+use Rattle.bq_explain.specs.Texts.{byte_run_text}
 use Rattle.bq_needs.specs.DescribedWords.{DescribesWord}
 
 -- a register, and what is said of its word
@@ -17,13 +17,13 @@ pub data DescribesRegisters : Setting → State → List ℕ → Type 0 where
       → s.register register ≡ Some word → DescribesWord f.shapes text word → DescribesRegisters f s (before ++ register_piece register text)
 
 -- registers by only their names
-pub data AreNames : List ℕ → Type 0 where
-  no_name : AreNames []
-  one_name : (before : List ℕ) (register : ℕ) → AreNames before → AreNames (before ++ (codes " r" ++ decimal register))
+pub data AreRegisterNames : List ℕ → Type 0 where
+  no_name : AreRegisterNames []
+  one_name : (before : List ℕ) (register : ℕ) → AreRegisterNames before → AreRegisterNames (before ++ (codes " r" ++ decimal register))
 
 -- nothing, or registers by their names, and that they are unknown: no word of any is reported
 abbrev pub NamesUnknown : List ℕ → Type 0
-NamesUnknown text = (text ≡ []) ⊎ ((names : List ℕ) × (text ≡ names ++ codes " unknown  ") × AreNames names)
+NamesUnknown text = (text ≡ []) ⊎ ((names : List ℕ) × (text ≡ names ++ codes " unknown  ") × AreRegisterNames names)
 
 -- the state has each byte of the stack from the first up to the one past the last
 abbrev pub HasEachByte : State → ℕ → ℕ → Type 0
@@ -33,7 +33,7 @@ HasEachByte s first past = (i : ℕ) → first ≤ i → i < past → (b : ℕ) 
 pub data DescribesRuns : State → List ℕ → Type 0 where
   no_described_run : (s : State) → DescribesRuns s []
   one_described_run : (s : State) (before : List ℕ) (first past : ℕ) → DescribesRuns s before
-      → first < past → past ≤ stack_size → HasEachByte s first past → DescribesRuns s (before ++ run_text first past)
+      → first < past → past ≤ stack_size → HasEachByte s first past → DescribesRuns s (before ++ byte_run_text first past)
 
 -- the text on the stack holds of a state
 abbrev pub DescribesStack : State → List ℕ → Type 0

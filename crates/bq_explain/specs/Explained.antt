@@ -14,7 +14,7 @@ use Rattle.bq_verify.specs.Straight.{IsStraightBefore}
 use Rattle.bq_states.specs.AbstractStates.{Contains as Allows}
 use Rattle.bq_states.specs.declared.abstract_state.AbstractState.{AbstractState}
 use Rattle.bq_policy_file.specs.declared.policy_source.PolicySource.{PolicySource}
-use Rattle.bq_needs.specs.Arguments.{register_of}
+use Rattle.bq_needs.specs.Arguments.{argument_register}
 use Rattle.bq_needs.specs.Needs.{IsNeed}
 use Rattle.bq_needs.specs.Words.{DescribesNeed}
 use Rattle.bq_needs.specs.declared.needs.Need.{Need}
@@ -40,7 +40,7 @@ use Rattle.bq_explain.specs.declared.verdict.Verdict.{Verdict}
 use Rattle.bq_explain.specs.declared.verdict.Verdict.TheVariants.{Accepted, Refused}
 
 -- the place is that of the instruction at the slot
-pub record IsPlace (slots : List (Option Insn)) (slot : ℕ) (place : Place) : Type 0 where
+pub record IsPlaceOfSlot (slots : List (Option Insn)) (slot : ℕ) (place : Place) : Type 0 where
   pub slot_is : place.slot ≡ slot
   pub here : instruction_at slots slot ≡ Some place.insn
 
@@ -77,7 +77,7 @@ speaks_of (need.Unknown registers) r = slice_index_or registers r false
 speaks_of (need.Address access) r = access.register == r
 speaks_of (need.Access access pointer lack) r = access.register == r
 speaks_of (need.Number pointer) r = pointer.register == r
-speaks_of (need.Argument helper argument) r = register_of argument == r
+speaks_of (need.Argument helper argument) r = argument_register argument == r
 speaks_of (need.Answer known) r = 0 == r
 speaks_of (need.Map index) r = false
 speaks_of need.Unshown r = false
@@ -108,7 +108,7 @@ AreOf slots makers made = (one : Made) → Contains made one → (maker : Maker)
 
 -- the instruction at the slot, what is found there, and instructions on the trail of registers of which that speaks
 pub record IsRefusalOf (p : PolicySource) (slot : ℕ) (named : Cause) (refusal : Refusal) : Type 0 where
-  pub place : IsPlace (spread p.insns.items) slot refusal.place
+  pub place : IsPlaceOfSlot (spread p.insns.items) slot refusal.place
   pub cause_is : refusal.cause ≡ named
   pub finds : IsFinding p slot refusal.place.insn named refusal.finding
   pub asked : List Bool

@@ -4,8 +4,8 @@ use Rattle.bq_insn.specs.declared.Insn.{Insn}
 use Rattle.bq_bpf.specs.Steps.{instruction_at}
 use Rattle.bq_insn.specs.declared.TheConstants.{SLOTS}
 use Rattle.bq_verify.specs.Edges.{IsEdge}
-use Rattle.bq_verify.specs.Passes.{IsSound}
-use Rattle.bq_verify.specs.Paths.{IsPath, end_of}
+use Rattle.bq_verify.specs.Passes.{IsGraphSound}
+use Rattle.bq_verify.specs.Paths.{IsPath, path_end}
 use Rattle.bq_verify.specs.Straight.{spares}
 use Rattle.bq_needs.specs.Operands.{reads}
 use Rattle.bq_explain.specs.declared.makers.Maker.{Maker}
@@ -21,7 +21,7 @@ AreSparing slots register from (next ∷ rest) = (spares register (instruction_a
 pub record SparingWay (slots : List (Option Insn)) (register from to : ℕ) : Type 0 where
   pub rest : List ℕ
   pub is_path : IsPath slots from rest
-  pub ends : end_of from rest ≡ to
+  pub ends : path_end from rest ≡ to
   pub sparing : AreSparing slots register from rest
 
 -- The instruction writes the register, and from it some way leads to the slot on which no later instruction writes the register.
@@ -66,4 +66,4 @@ pub record MakesAsked (slots : List (Option Insn)) (slot : ℕ) (asked : List Bo
 -- slots whose control graph may be walked
 pub record CanBeWalked (slots : List (Option Insn)) : Type 0 where
   pub short : length slots ≤ SLOTS
-  pub sound : IsSound slots
+  pub sound : IsGraphSound slots

@@ -7,13 +7,13 @@ use Rattle.bq_explain.specs.declared.measure.Measure.{Measure}
 use Rattle.bq_explain.specs.declared.measure.Measure.TheVariants.{Maps, MapBytes, Counters}
 
 -- the bytes of the values of a map
-abbrev pub bytes_of : MapShape → ℕ
-bytes_of shape = shape.value_size * shape.entries
+abbrev pub bytes_in_map : MapShape → ℕ
+bytes_in_map shape = shape.value_size * shape.entries
 
 -- the number of a policy's maps, of the bytes of their values, or of its instructions that call a counter
 abbrev pub measure_of : PolicySource → Measure → ℕ
 measure_of p Maps = length p.form.shapes.items
-measure_of p MapBytes = sum_by bytes_of p.form.shapes.items
+measure_of p MapBytes = sum_by bytes_in_map p.form.shapes.items
 measure_of p Counters = count_by asks_counter p.insns.items
 
 -- what answers call it

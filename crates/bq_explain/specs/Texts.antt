@@ -5,18 +5,18 @@ use Rattle.bq_bpf.specs.Memory.{stack_size}
 use Rattle.bq_bpf.specs.declared.shape.MapShape.{MapShape}
 use Rattle.bq_states.specs.declared.abstract_state.AbstractValue.{AbstractValue}
 use Rattle.bq_states.specs.declared.abstract_state.AbstractState.{AbstractState}
-use Rattle.bq_needs.specs.Accesses.{AreSet}
+use Rattle.bq_needs.specs.Accesses.{AreBytesSet}
 use Rattle.bq_needs.specs.Texts.{known_text}
 
 -- a register and what is known of it; nothing is printed if nothing is known
-abbrev pub register_text : List MapShape → ℕ → Option AbstractValue → List ℕ
-register_text shapes register None = []
-register_text shapes register (Some k) = codes " r" ++ (decimal register ++ (codes " " ++ (known_text shapes k ++ codes "  ")))
+abbrev pub known_register_text : List MapShape → ℕ → Option AbstractValue → List ℕ
+known_register_text shapes register None = []
+known_register_text shapes register (Some k) = codes " r" ++ (decimal register ++ (codes " " ++ (known_text shapes k ++ codes "  ")))
 
 -- the first registers, this many of them
 abbrev pub registers_below : List MapShape → ℕ → List (Option AbstractValue) → List ℕ
 registers_below shapes zero registers = []
-registers_below shapes (suc n) registers = registers_below shapes n registers ++ register_text shapes n (slice_index_or registers n None)
+registers_below shapes (suc n) registers = registers_below shapes n registers ++ known_register_text shapes n (slice_index_or registers n None)
 
 -- the name of a register of which nothing is known; nothing is printed of others
 abbrev pub unknown_name : ℕ → Option AbstractValue → List ℕ
@@ -34,8 +34,8 @@ called_unknown [] = []
 called_unknown (first ∷ rest) = (first ∷ rest) ++ codes " unknown  "
 
 -- the registers of which nothing is known
-abbrev pub unknown_text : List (Option AbstractValue) → List ℕ
-unknown_text registers = called_unknown (unknown_below 11 registers)
+abbrev pub unknown_registers_text : List (Option AbstractValue) → List ℕ
+unknown_registers_text registers = called_unknown (unknown_below 11 registers)
 
 -- a word that is kept whole on the stack, by how far its first byte is below the end
 abbrev pub kept_text : List MapShape → ℕ → Option AbstractValue → List ℕ
@@ -48,8 +48,8 @@ kept_below shapes zero slots = []
 kept_below shapes (suc n) slots = kept_below shapes n slots ++ kept_text shapes n (slice_index_or slots n None)
 
 -- bytes of the stack from the first up to the one past the last, by how far they are below the end
-abbrev pub run_text : ℕ → ℕ → List ℕ
-run_text first past =
+abbrev pub byte_run_text : ℕ → ℕ → List ℕ
+byte_run_text first past =
     if stack_size - first == stack_size + 1 - past then codes " -" ++ decimal (stack_size - first)
     else codes " -" ++ (decimal (stack_size - first) ++ (codes "..-" ++ decimal (stack_size + 1 - past)))
 
@@ -58,23 +58,23 @@ abbrev pub EndsAt : List Bool → ℕ → Type 0
 EndsAt set past = (past ≡ stack_size) ⊎ (slice_index_or set past false ≡ false)
 
 -- the runs of bytes that are set, in order, as long as each is: all of them among the first bytes, this many
-pub data AreRuns : List Bool → ℕ → List ℕ → Type 0 where
-  no_byte : (set : List Bool) → AreRuns set 0 []
-  unset_byte : (set : List Bool) (before : List ℕ) (byte : ℕ) → AreRuns set byte before → slice_index_or set byte false ≡ false → AreRuns set (byte + 1) before
-  one_run : (set : List Bool) (before : List ℕ) (first past : ℕ) → AreRuns set first before → first < past → past ≤ stack_size
-      → AreSet set first past → EndsAt set past → AreRuns set past (before ++ run_text first past)
+pub data AreByteRuns : List Bool → ℕ → List ℕ → Type 0 where
+  no_byte : (set : List Bool) → AreByteRuns set 0 []
+  unset_byte : (set : List Bool) (before : List ℕ) (byte : ℕ) → AreByteRuns set byte before → slice_index_or set byte false ≡ false → AreByteRuns set (byte + 1) before
+  one_run : (set : List Bool) (before : List ℕ) (first past : ℕ) → AreByteRuns set first before → first < past → past ≤ stack_size
+      → AreBytesSet set first past → EndsAt set past → AreByteRuns set past (before ++ byte_run_text first past)
 
 -- the line on the stack: the runs of written bytes; or, if there are none, that nothing is known to be written
-abbrev pub stack_text : List ℕ → List ℕ
-stack_text [] = codes " stack: nothing known to be written\n"
-stack_text (first ∷ rest) = codes " stack:" ++ ((first ∷ rest) ++ codes " written\n")
+abbrev pub written_stack_text : List ℕ → List ℕ
+written_stack_text [] = codes " stack: nothing known to be written\n"
+written_stack_text (first ∷ rest) = codes " stack:" ++ ((first ∷ rest) ++ codes " written\n")
 
 -- the bytes of the stack that are set: all runs of them, or that none is
 abbrev pub IsStackText : List Bool → List ℕ → Type 0
-IsStackText set text = (runs : List ℕ) × AreRuns set stack_size runs × (text ≡ stack_text runs)
+IsStackText set text = (runs : List ℕ) × AreByteRuns set stack_size runs × (text ≡ written_stack_text runs)
 
 -- what is known: each register that is known, those that are not, the stack's bytes that are set, and the words that are kept there
 pub record IsStateText (shapes : List MapShape) (v : AbstractState) (text : List ℕ) : Type 0 where
   pub stack : List ℕ
-  pub text_is : text ≡ codes " " ++ (registers_below shapes 11 v.registers ++ (unknown_text v.registers ++ (stack ++ kept_below shapes 64 v.kept)))
+  pub text_is : text ≡ codes " " ++ (registers_below shapes 11 v.registers ++ (unknown_registers_text v.registers ++ (stack ++ kept_below shapes 64 v.kept)))
   pub is_stack : IsStackText v.set stack

@@ -8,10 +8,10 @@ use Rattle.bq_verify.specs.Faults.{IsFaultless}
 use Rattle.bq_verify.specs.Paths.{IsGreatest, PathOut}
 use Rattle.bq_verify.specs.Accepted.{IsAccepted}
 use Rattle.bq_load.specs.declared.fault.LoadFault.TheVariants as load
-use Rattle.bq_load.specs.Naming.{fault_text}
+use Rattle.bq_load.specs.Naming.{load_fault_text}
 use Rattle.bq_hooks.specs.Hooks.{hook_word}
 use Rattle.bq_verify.specs.Refusals.{IsVerdictOn}
-use Rattle.bq_verify.specs.Subjects.{context_of}
+use Rattle.bq_verify.specs.Subjects.{context_size_of}
 use Rattle.bq_policy_file.specs.Subjects.{subject_in}
 use Rattle.bq_verify.specs.Straight.{IsStraightProgram}
 use Rattle.bq_hooks.specs.declared.hook.Hook.{Hook}
@@ -31,7 +31,7 @@ use Rattle.bq_explain.specs.declared.verdict.Verdict.TheVariants.{Accepted, Over
 -- the program's control graph has no fault, and the verifier accepts the program with that budget, which is the longest path
 pub record IsAcceptedPolicy (p : PolicySource) (budget : ℕ) : Type 0 where
   pub faultless : IsFaultless (spread p.insns.items)
-  pub accepted : IsAccepted (spread p.insns.items) p.form.shapes.items (context_of p.form) budget
+  pub accepted : IsAccepted (spread p.insns.items) p.form.shapes.items (context_size_of p.form) budget
   pub longest : IsGreatest (PathOut (spread p.insns.items) 0) budget
 
 -- the verifier refuses the policy's program at that slot for that cause; so the program is not straight
@@ -40,13 +40,13 @@ pub record IsRefusedPolicy (p : PolicySource) (slot : ℕ) (cause : Cause) : Typ
   pub not_straight : ¬ (IsStraightProgram (subject_in p))
 
 -- without a limit each budget is within it
-abbrev pub IsWithin : ℕ → Option ℕ → Type 0
-IsWithin budget None = Unit {0}
-IsWithin budget (Some most) = budget ≤ most
+abbrev pub IsWithinLimit : ℕ → Option ℕ → Type 0
+IsWithinLimit budget None = Unit {0}
+IsWithinLimit budget (Some most) = budget ≤ most
 
 -- the helpers that may be called; without a list all of them
-abbrev pub allowed : Limits → Option (List ℤ)
-allowed l = option_map (λ helpers. helpers.items) l.helpers
+abbrev pub helpers_allowed : Limits → Option (List ℤ)
+helpers_allowed l = option_map (λ helpers. helpers.items) l.helpers
 
 -- the instruction calls no helper beside those
 abbrev pub CallsNoOther : Option (List ℤ) → Insn → Type 0
@@ -82,9 +82,9 @@ most_of l Counters = l.counters
 
 -- the policy is within the limits of its maps, their bytes and its calls of counters
 pub record KeepsMeasures (p : PolicySource) (l : Limits) : Type 0 where
-  pub maps : IsWithin (measure_of p Maps) l.maps
-  pub map_bytes : IsWithin (measure_of p MapBytes) l.map_bytes
-  pub counters : IsWithin (measure_of p Counters) l.counters
+  pub maps : IsWithinLimit (measure_of p Maps) l.maps
+  pub map_bytes : IsWithinLimit (measure_of p MapBytes) l.map_bytes
+  pub counters : IsWithinLimit (measure_of p Counters) l.counters
 
 -- the policy uses more of a measure than is allowed
 pub record IsOver (p : PolicySource) (l : Limits) (over : Over) : Type 0 where
@@ -95,8 +95,8 @@ pub record IsOver (p : PolicySource) (l : Limits) (over : Over) : Type 0 where
 -- the policy is within the limits of the measures that are asked before that one
 abbrev pub KeepsBefore : PolicySource → Limits → Measure → Type 0
 KeepsBefore p l Maps = Unit {0}
-KeepsBefore p l MapBytes = IsWithin (measure_of p Maps) l.maps
-KeepsBefore p l Counters = IsWithin (measure_of p Maps) l.maps × IsWithin (measure_of p MapBytes) l.map_bytes
+KeepsBefore p l MapBytes = IsWithinLimit (measure_of p Maps) l.maps
+KeepsBefore p l Counters = IsWithinLimit (measure_of p Maps) l.maps × IsWithinLimit (measure_of p MapBytes) l.map_bytes
 
 -- the policy uses more of this measure than is allowed, and of no measure before it
 pub record IsFirstOver (p : PolicySource) (l : Limits) (over : Over) : Type 0 where
@@ -106,13 +106,13 @@ pub record IsFirstOver (p : PolicySource) (l : Limits) (over : Over) : Type 0 wh
 -- the verifier accepts the policy with that budget, and it is within the limits of steps and helpers
 pub record IsAcceptedWithin (p : PolicySource) (l : Limits) (budget : ℕ) : Type 0 where
   pub accepted : IsAcceptedPolicy p budget
-  pub steps : IsWithin budget l.steps
-  pub helpers : All (CallsNoOther (allowed l)) p.insns.items
+  pub steps : IsWithinLimit budget l.steps
+  pub helpers : All (CallsNoOther (helpers_allowed l)) p.insns.items
 
 -- the policy is within all limits
 pub record KeepsLimits (p : PolicySource) (l : Limits) (budget : ℕ) : Type 0 where
-  pub steps : IsWithin budget l.steps
-  pub helpers : All (CallsNoOther (allowed l)) p.insns.items
+  pub steps : IsWithinLimit budget l.steps
+  pub helpers : All (CallsNoOther (helpers_allowed l)) p.insns.items
   pub hook : AllowsHook l p.form.hook
   pub measures : KeepsMeasures p l
 
@@ -121,7 +121,7 @@ pub record KeepsLimits (p : PolicySource) (l : Limits) (budget : ℕ) : Type 0 w
 abbrev pub IsVerdict : PolicySource → Limits → Verdict → Type 0
 IsVerdict p l (Accepted budget) = IsAcceptedPolicy p budget × KeepsLimits p l budget
 IsVerdict p l (OverSteps budget most) = IsAcceptedPolicy p budget × (l.steps ≡ Some most) × (most < budget)
-IsVerdict p l (Forbidden helper) = (budget : ℕ) × IsAcceptedPolicy p budget × IsWithin budget l.steps × IsCalledAgainst (allowed l) p.insns.items helper
+IsVerdict p l (Forbidden helper) = (budget : ℕ) × IsAcceptedPolicy p budget × IsWithinLimit budget l.steps × IsCalledAgainst (helpers_allowed l) p.insns.items helper
 IsVerdict p l OtherHook = (budget : ℕ) × IsAcceptedWithin p l budget × (¬ (AllowsHook l p.form.hook))
 IsVerdict p l (Beyond over) = (budget : ℕ) × IsAcceptedWithin p l budget × AllowsHook l p.form.hook × IsFirstOver p l over
 IsVerdict p l (Refused slot cause) = IsRefusedPolicy p slot cause
@@ -142,4 +142,4 @@ verdict_line hook (OverSteps budget most) = refused_line (codes "limit steps " +
 verdict_line hook (Forbidden helper) = refused_line (codes "limit helper " ++ signed_decimal helper)
 verdict_line hook OtherHook = refused_line (codes "limit hook " ++ hook_word hook)
 verdict_line hook (Beyond over) = over_line over
-verdict_line hook (Refused slot cause) = refused_line (fault_text (load.Refused slot cause))
+verdict_line hook (Refused slot cause) = refused_line (load_fault_text (load.Refused slot cause))

@@ -1,6 +1,6 @@
 //! What helps against each cause, as a value.
 ghost use Rattle.std.specs.Prelude.{◌≡◌, ◌==◌, ℕ, false, slice_index_or, true};
-ghost use Rattle.bq_explain.specs.Advising.{GoesBy, NamesRegister};
+ghost use Rattle.bq_explain.specs.Advising.{AdvisesOn, NamesRegister};
 ghost use Rattle.bq_explain.specs.declared.advice.Advice.TheVariants.{Know};
 ghost use Rattle.bq_explain.specs.declared.advice.Missing.{Missing as Lacking};
 
@@ -215,7 +215,7 @@ fn argument_advice(
     argument: Argument,
     trail: &Trail,
 ) -> Advice
-    ensures { GoesBy argument result }
+    ensures { AdvisesOn argument result }
 {
     let register = argument.register();
     let at = usize::from(register);
@@ -232,7 +232,7 @@ fn argument_advice(
 
 /// Answers what helps if the value of an update is not shown to be good: as many bytes as a value of the map in r1 has.
 fn value_advice(policy: &PolicySource, state: &AbstractState) -> Advice
-    ensures { GoesBy Argument.Value result }
+    ensures { AdvisesOn Argument.Value result }
 {
     let Some(named) = known(state, 1) else {
         return Advice::Give(Argument::Value);

@@ -1,6 +1,6 @@
 //! A keeper's own limits on programs.
 ghost use Rattle.std.specs.Prelude.{◌≡◌, ◌↔◌, IfSome, IsTrue, MatchOption, All, None, Some};
-ghost use Rattle.bq_explain.specs.Verdicts.{AllowsHook, CallsNoOther, IsBeside, IsCalledAgainst, IsFirstOver, IsOver, IsWithin, KeepsMeasures, most_of};
+ghost use Rattle.bq_explain.specs.Verdicts.{AllowsHook, CallsNoOther, IsBeside, IsCalledAgainst, IsFirstOver, IsOver, IsWithinLimit, KeepsMeasures, most_of};
 ghost use Rattle.bq_explain.specs.Measures.{measure_of};
 
 use crate::measure::Measure;
@@ -34,7 +34,7 @@ pub struct Over {
 }
 
 impl Limits {
-    ghost use Rattle.bq_explain.specs.Verdicts.{allowed};
+    ghost use Rattle.bq_explain.specs.Verdicts.{helpers_allowed};
 
     /// No limits.
     pub fn none() -> Limits
@@ -80,7 +80,7 @@ impl Limits {
 
     /// Answers the limit of that measure, if the policy exceeds it.
     fn beyond(&self, policy: &PolicySource, measure: Measure) -> Option<Over>
-        ensures over { MatchOption result (IsWithin (measure_of policy.now measure) (most_of self.now measure)) (IsOver policy.now self.now) }
+        ensures over { MatchOption result (IsWithinLimit (measure_of policy.now measure) (most_of self.now measure)) (IsOver policy.now self.now) }
         ensures measure { IfSome result (λ over. over.measure ≡ measure) }
     {
         let most = self.most(measure)?;
@@ -108,7 +108,7 @@ impl Limits {
 
     /// The first helper that is called and may not be called.
     pub(crate) fn forbidden(&self, insns: &[Insn]) -> Option<i32>
-        ensures { MatchOption result (All (CallsNoOther (allowed self.now)) insns.now) (IsCalledAgainst (allowed self.now) insns.now) }
+        ensures { MatchOption result (All (CallsNoOther (helpers_allowed self.now)) insns.now) (IsCalledAgainst (helpers_allowed self.now) insns.now) }
     {
         match &self.helpers {
             None => None,

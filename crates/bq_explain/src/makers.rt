@@ -1,6 +1,6 @@
 //! The instructions that made a register's value, by the ways of the control graph.
 ghost use Rattle.std.specs.Prelude.{◌+◌, ◌⊎◌, Bool, List, ◌≡◌, ◌<◌, ◌≤◌, ◌↔◌, ℕ, All, Contains, IfOk, IfSome, IsTrue, MatchBool, OnOk, false, length, slice_index_or, Some, true};
-ghost use Rattle.bq_verify.specs.Passes.{IsAmongTargets, IsSound};
+ghost use Rattle.bq_verify.specs.Passes.{IsAmongTargets, IsGraphSound};
 ghost use Rattle.bq_explain.specs.Makers.{AreLeading, AreOnTrail, IsMaker, IsOnTrail, HasRole, MakesAsked};
 ghost use Rattle.bq_explain.specs.declared.makers.Maker.{Maker as Named};
 ghost use Rattle.bq_verify.specs.Straight.{spares};
@@ -72,7 +72,7 @@ pub(crate) fn makers(
 ) -> Result<Vec<usize>, AllocError>
     requires inside { slot < length slots.now }
     requires short { length slots.now ≤ SLOTS }
-    requires sound { IsSound slots.now }
+    requires sound { IsGraphSound slots.now }
     ensures { IfOk result (λ makers. (made : ℕ) → Contains makers.items made ↔ IsMaker slots.now register slot made) }
 {
     let mut leading = vec![in alloc; false; slots.len()]?;
@@ -89,7 +89,7 @@ fn swept(
 ) -> Result<Vec<usize>, AllocError>
     requires inside { slot < length slots.now }
     requires short { length slots.now ≤ SLOTS }
-    requires sound { IsSound slots.now }
+    requires sound { IsGraphSound slots.now }
     requires room { length leading.old ≡ length slots.now }
     requires blank { (k : ℕ) → slice_index_or leading.old k false ≡ false }
     ensures { IfOk result (λ makers. (made : ℕ) → Contains makers.items made ↔ IsMaker slots.now register slot made) }
@@ -111,7 +111,7 @@ fn swept(
 fn role_of(slots: &[Option<Insn>], register: u8, here: usize, leading: &[bool]) -> Role
     requires inside { here < length slots.now }
     requires short { length slots.now ≤ SLOTS }
-    requires sound { IsSound slots.now }
+    requires sound { IsGraphSound slots.now }
     requires room { length leading.now ≡ length slots.now }
     ensures { (slot : ℕ) → here < slot → AreLeading slots.now register slot (here + 1) leading.now → HasRole slots.now register slot here result }
 {
@@ -152,7 +152,7 @@ pub(crate) fn trail(
 ) -> Result<Vec<Maker>, AllocError>
     requires inside { slot < length slots.now }
     requires short { length slots.now ≤ SLOTS }
-    requires sound { IsSound slots.now }
+    requires sound { IsGraphSound slots.now }
     ensures { IfOk result (λ trail. AreOnTrail slots.now slot asked.now trail.items) }
 {
     let mut trail = Vec::new(alloc);
@@ -175,7 +175,7 @@ fn push_operands(
     trail: &mut Vec<Maker>,
 ) -> Result<(), AllocError>
     requires short { length slots.now ≤ SLOTS }
-    requires sound { IsSound slots.now }
+    requires sound { IsGraphSound slots.now }
     ensures { OnOk result ((slot : ℕ) (asked : List Bool) → IsOnTrail slots.now slot asked maker.register maker.slot
         → AreOnTrail slots.now slot asked trail.old.items → AreOnTrail slots.now slot asked trail.new.items) }
 {
@@ -199,7 +199,7 @@ fn push_makers(
 ) -> Result<(), AllocError>
     requires inside { slot < length slots.now }
     requires short { length slots.now ≤ SLOTS }
-    requires sound { IsSound slots.now }
+    requires sound { IsGraphSound slots.now }
     ensures { OnOk result ((maker : Named) → Contains trail.new.items maker → Contains trail.old.items maker ⊎ MakesAsked slots.now slot asked.now maker) }
 {
     for register in 0..REGISTERS as u8 {

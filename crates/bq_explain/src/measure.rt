@@ -1,7 +1,7 @@
 //! What a policy uses of the things that a keeper may limit.
 ghost use Rattle.std.specs.Prelude.{◌≡◌, ◌≤◌, count_by, length, sum_by};
 ghost use Rattle.bq_bpf.specs.Instructions.{asks_counter};
-ghost use Rattle.bq_explain.specs.Measures.{bytes_of, measure_of, measure_word};
+ghost use Rattle.bq_explain.specs.Measures.{bytes_in_map, measure_of, measure_word};
 
 use bq_bpf::MapShape;
 use bq_bpf::instruction::is_counter_call;
@@ -57,7 +57,7 @@ impl Measure {
 /// The bytes of the values of these maps.
 fn value_bytes(shapes: &[MapShape]) -> u64
     requires { length shapes.now ≤ 8 }
-    ensures { result ≡ sum_by bytes_of shapes.now }
+    ensures { result ≡ sum_by bytes_in_map shapes.now }
 {
     let mut sum: u64 = 0;
     for shape in shapes {
@@ -69,7 +69,7 @@ fn value_bytes(shapes: &[MapShape]) -> u64
 /// The bytes of the values of a map.
 #[tactic(auto, using(crate::proofs::MeasureLemmas::few_bytes))]
 fn map_bytes(shape: MapShape) -> u64
-    ensures value { result ≡ bytes_of shape }
+    ensures value { result ≡ bytes_in_map shape }
     ensures few { result ≤ 65536 }
 {
     u64::from(shape.value_size) * u64::from(shape.entries)

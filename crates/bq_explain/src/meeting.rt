@@ -1,6 +1,6 @@
 //! The places where ways meet on which a register holds different words.
 ghost use Rattle.std.specs.Prelude.{◌<◌, ◌≤◌, length};
-ghost use Rattle.bq_verify.specs.Passes.{IsSound};
+ghost use Rattle.bq_verify.specs.Passes.{IsGraphSound};
 ghost use Rattle.bq_explain.specs.Makers.{CanBeWalked};
 
 use crate::after::known_after;
@@ -86,7 +86,7 @@ pub(crate) fn meeting_of(
 /// The slots from which control may go to that slot.
 fn before(alloc: Global, slots: &[Option<Insn>], to: usize) -> Result<Vec<usize>, AllocError>
     requires short { length slots.now ≤ SLOTS }
-    requires sound { IsSound slots.now }
+    requires sound { IsGraphSound slots.now }
 {
     let mut from = Vec::new(alloc);
     for slot in 0..slots.len() {
@@ -101,7 +101,7 @@ fn before(alloc: Global, slots: &[Option<Insn>], to: usize) -> Result<Vec<usize>
 fn leads(slots: &[Option<Insn>], from: usize, to: usize) -> bool
     requires inside { from < length slots.now }
     requires short { length slots.now ≤ SLOTS }
-    requires sound { IsSound slots.now }
+    requires sound { IsGraphSound slots.now }
 {
     let Some(insn) = instruction(slots, from) else {
         return false;

@@ -4,7 +4,7 @@ ghost use Rattle.bq_insn.specs.Slots.{spread};
 ghost use Rattle.bq_insn.specs.declared.Insn.{Insn as Reported};
 ghost use Rattle.bq_bpf.specs.Steps.{instruction_at};
 ghost use Rattle.bq_verify.specs.Edges.{IsStart};
-ghost use Rattle.bq_explain.specs.Explained.{IsPlace};
+ghost use Rattle.bq_explain.specs.Explained.{IsPlaceOfSlot};
 ghost use Rattle.bq_explain.specs.TrailTexts.{EndsWith, place_line, place_text};
 
 use bq_insn::Insn;
@@ -22,7 +22,7 @@ pub struct Place {
 
 /// The place of the instruction that begins at the slot, if one does.
 pub(crate) fn place_at(policy: &PolicySource, slots: &[Option<Insn>], slot: usize) -> Option<Place>
-    ensures place { IfSome result (IsPlace slots.now slot) }
+    ensures place { IfSome result (IsPlaceOfSlot slots.now slot) }
     ensures none { IfNone result (¬ IsStart slots.now slot) }
 {
     if slot >= slots.len() {

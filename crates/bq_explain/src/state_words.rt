@@ -3,8 +3,8 @@ ghost use Rattle.std.specs.Prelude.{◌≡◌, ◌<◌, ◌≤◌, true, false, 
 ghost use Rattle.bq_bpf.specs.Memory.{Setting, State, stack_size};
 ghost use Rattle.bq_states.specs.AbstractStates.{Contains};
 ghost use Rattle.bq_explain.specs.DescribedStates.{DescribesState};
-ghost use Rattle.bq_needs.specs.Accesses.{AreSet};
-ghost use Rattle.bq_explain.specs.Texts.{AreRuns, EndsAt, IsStackText, IsStateText, kept_below, kept_text, register_text, registers_below, run_text, unknown_below, unknown_name, unknown_text};
+ghost use Rattle.bq_needs.specs.Accesses.{AreBytesSet};
+ghost use Rattle.bq_explain.specs.Texts.{AreByteRuns, EndsAt, IsStackText, IsStateText, kept_below, kept_text, known_register_text, registers_below, byte_run_text, unknown_below, unknown_name, unknown_registers_text};
 
 use bq_bpf::MapShape;
 use bq_bpf::addresses::STACK_SIZE;
@@ -66,7 +66,7 @@ fn register_text(
     number: usize,
     known: &Option<AbstractValue>,
 ) -> Result<String, AllocError>
-    ensures { IfOk result (λ text. string_bytes text ≡ register_text shapes.now number known.now) }
+    ensures { IfOk result (λ text. string_bytes text ≡ known_register_text shapes.now number known.now) }
 {
     match known {
         None => Ok(String::new(alloc)),
@@ -80,7 +80,7 @@ fn register_text(
 /// Says that the registers of which nothing is known are unknown; empty if each is known.
 #[tactic(auto, using(crate::proofs::UnknownLemmas::none_unknown, crate::proofs::UnknownLemmas::some_unknown))]
 fn unknown_text(alloc: Global, state: &AbstractState) -> Result<String, AllocError>
-    ensures { IfOk result (λ text. string_bytes text ≡ unknown_text state.now.registers) }
+    ensures { IfOk result (λ text. string_bytes text ≡ unknown_registers_text state.now.registers) }
 {
     let names = unknown_names(alloc, state)?;
     if names.is_empty() {
@@ -130,7 +130,7 @@ fn stack_line(alloc: Global, state: &AbstractState) -> Result<String, AllocError
 /// Each run of bytes that are set, by their distance from the stack's end.
 #[tactic(auto, using(crate::proofs::RunLemmas::none_yet, crate::proofs::RunLemmas::all_described, crate::proofs::RunLemmas::byte_in_last_run, crate::proofs::RunLemmas::byte_not_set, crate::proofs::RunLemmas::with_run))]
 fn runs_text(alloc: Global, state: &AbstractState) -> Result<String, AllocError>
-    ensures { IfOk result (λ text. AreRuns state.now.set stack_size (string_bytes text)) }
+    ensures { IfOk result (λ text. AreByteRuns state.now.set stack_size (string_bytes text)) }
 {
     let mut text = String::new(alloc);
     let mut past = 0;
@@ -154,7 +154,7 @@ fn run_end(set: &[bool; STACK], first: usize) -> usize
     requires begun { slice_index_or set.now first false ≡ true }
     ensures some { first < result }
     ensures most { result ≤ stack_size }
-    ensures all { AreSet set.now first result }
+    ensures all { AreBytesSet set.now first result }
     ensures ends { EndsAt set.now result }
 {
     for byte in first + 1..STACK {
@@ -169,7 +169,7 @@ fn run_end(set: &[bool; STACK], first: usize) -> usize
 fn run_text(alloc: Global, first: usize, past: usize) -> Result<String, AllocError>
     requires some { first < past }
     requires inside { past ≤ stack_size }
-    ensures { IfOk result (λ text. string_bytes text ≡ run_text first past) }
+    ensures { IfOk result (λ text. string_bytes text ≡ byte_run_text first past) }
 {
     let far = STACK - first;
     let near = STACK + 1 - past;

@@ -1,7 +1,7 @@
 //! What is said of a program that is accepted.
 ghost use Rattle.std.specs.Prelude.{◌≡◌, IfOk, string_bytes};
 ghost use Rattle.bq_insn.specs.Appending.{StartsWith};
-ghost use Rattle.bq_explain.specs.Beginnings.{accepted_words, maps_text};
+ghost use Rattle.bq_explain.specs.Beginnings.{accepted_words, map_shapes_text};
 
 use crate::measure::counter_calls;
 use bq_bpf::MapShape;
@@ -71,7 +71,7 @@ fn slot_count(insns: &[Insn]) -> usize {
 
 /// The shapes of the maps, as `--maps` takes them, or `none`.
 pub fn maps_text(alloc: Global, shapes: &[MapShape]) -> Result<String, AllocError>
-    ensures { IfOk result (λ text. string_bytes text ≡ maps_text shapes.now) }
+    ensures { IfOk result (λ text. string_bytes text ≡ map_shapes_text shapes.now) }
 {
     match shapes {
         [] => String::from_str(alloc, "none"),

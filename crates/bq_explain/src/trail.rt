@@ -1,6 +1,6 @@
 //! Where the registers come from that matter to a need: what made them, and where their ways meet.
 ghost use Rattle.std.specs.Prelude.{◌≡◌, ◌<◌, ◌≤◌, [], IfOk, IfSome, length};
-ghost use Rattle.bq_verify.specs.Passes.{IsSound};
+ghost use Rattle.bq_verify.specs.Passes.{IsGraphSound};
 ghost use Rattle.bq_explain.specs.Explained.{AreMade, AreOf, IsMadeBy};
 ghost use Rattle.bq_explain.specs.Makers.{CanBeWalked};
 ghost use Rattle.bq_explain.specs.TrailTexts.{leaves_unset};
@@ -218,7 +218,7 @@ fn calls_before(
 ) -> Result<Vec<usize>, AllocError>
     requires inside { slot < length slots.now }
     requires short { length slots.now ≤ SLOTS }
-    requires sound { IsSound slots.now }
+    requires sound { IsGraphSound slots.now }
 {
     let made = makers(alloc, slots, register, slot)?;
     let reaching = reaching(alloc, slots, ways, register, slot)?;

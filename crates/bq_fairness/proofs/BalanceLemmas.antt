@@ -8,10 +8,10 @@ use Rattle.bq_disc.specs.Tasks.{Task, without}
 use Rattle.bq_disc.specs.Totals.{total_weight, is_at_most_mean}
 use Rattle.bq_disc.specs.Discipline.{Discipline}
 use Rattle.bq_disc.specs.OneProcessor.{Running, present_at, ticked, rise}
-use Rattle.bq_cfs.specs.Spread.{IsSound}
+use Rattle.bq_cfs.specs.Spread.{AreTasksSound}
 use Rattle.bq_eevdf.specs.Eevdf.{eevdf}
 use Rattle.bq_fairness.specs.Histories.{task_at}
-use Rattle.bq_fairness.specs.Work.{weight_at, weighted_v_at}
+use Rattle.bq_fairness.specs.Work.{weight_present, weighted_v_at}
 use Rattle.bq_fairness.specs.EevdfFairness.{most_ahead, IsBalanced, BeginsBalanced, StaysBalanced, HistoryStaysBalanced}
 use Rattle.bq_fairness.proofs.TickLemmas.{Change, Stays, Runs, tick_came}
 use Rattle.bq_fairness.proofs.SoundLemmas.{of_each, vdelta_of-le, IsWellFormed, well_formed, change_rises, well_formed_ticked}
@@ -21,7 +21,7 @@ use Rattle.bq_fairness.proofs.PlaceLemmas.{current_present}
 use Rattle.bq_fairness.proofs.EevdfFairLemmas.{tick_runs_eligible}
 
 -- ids, weights and ends in the words of the law
-pub well_formed_is_sound : (p : Running) → IsWellFormed p → IsSound p
+pub well_formed_is_sound : (p : Running) → IsWellFormed p → AreTasksSound p
 well_formed_is_sound p w = record {
   distinct = w.distinct;
   weights = All-from_ids (λ t. IsWeight t.weight) (present_at p) w.distinct w.weights;
@@ -30,21 +30,21 @@ well_formed_is_sound p w = record {
 
 -- a processor that is balanced, by ids
 pub record IsLevel (E r : ℕ) (p : Running) : Type 0 where
-  pub runs : (t : Task) → p.current ≡ Some t → weight_at p * t.v ≤ weighted_v_at p + E
-  pub each : (i : ℕ) (t : Task) → task_at i p ≡ Some t → weight_at p * t.v ≤ weighted_v_at p + most_ahead E r (weight_at p) t.weight
+  pub runs : (t : Task) → p.current ≡ Some t → weight_present p * t.v ≤ weighted_v_at p + E
+  pub each : (i : ℕ) (t : Task) → task_at i p ≡ Some t → weight_present p * t.v ≤ weighted_v_at p + most_ahead E r (weight_present p) t.weight
 
 -- at a balanced processor the task that runs and the task of each id keep their bounds
 pub IsLevel-from_balanced : (E r : ℕ) (p : Running) → IsBalanced E r p → IsLevel E r p
 IsLevel-from_balanced E r p b = record {
-  runs = λ t e. of_some (λ x. weight_at p * x.v ≤ weighted_v_at p + E) p.current t b.current e;
-  each = λ i t f. of_each (λ x. weight_at p * x.v ≤ weighted_v_at p + most_ahead E r (weight_at p) x.weight) p i t b.each f;
+  runs = λ t e. of_some (λ x. weight_present p * x.v ≤ weighted_v_at p + E) p.current t b.current e;
+  each = λ i t f. of_each (λ x. weight_present p * x.v ≤ weighted_v_at p + most_ahead E r (weight_present p) x.weight) p i t b.each f;
 }
 
 -- a well formed processor where the task that runs and the task of each id keep their bounds is balanced
 pub IsBalanced-from_level : (E r : ℕ) (p : Running) → IsWellFormed p → IsLevel E r p → IsBalanced E r p
 IsBalanced-from_level E r p w l = record {
-  current = IfSome-from (λ t. weight_at p * t.v ≤ weighted_v_at p + E) p.current l.runs;
-  each = All-from_ids (λ t. weight_at p * t.v ≤ weighted_v_at p + most_ahead E r (weight_at p) t.weight) (present_at p) w.distinct l.each;
+  current = IfSome-from (λ t. weight_present p * t.v ≤ weighted_v_at p + E) p.current l.runs;
+  each = All-from_ids (λ t. weight_present p * t.v ≤ weighted_v_at p + most_ahead E r (weight_present p) t.weight) (present_at p) w.distinct l.each;
 }
 
 -- The mean never falls
@@ -75,7 +75,7 @@ ahead_more W w s M N E x y g most split up le start moves =
 
 ahead_by : (E r : ℕ) (p : Running) (now i : ℕ) (t u : Task) → IsWellFormed p → IsLevel E r p → rise p now ≤ r
     → task_at i p ≡ Some t → Change eevdf p now i t u
-    → weight_at p * u.v ≤ weighted_v_at (ticked eevdf p now) + most_ahead E r (weight_at p) t.weight
+    → weight_present p * u.v ≤ weighted_v_at (ticked eevdf p now) + most_ahead E r (weight_present p) t.weight
 ahead_by E r p now i t u w l le f (Stays e z) =
     let v : u.v ≡ t.v = ap (λ (x : Task). x.v) e in
     let h = l.each i t f in
@@ -96,20 +96,20 @@ ahead_by E r p now i t u w l le f (Runs c e z) =
     let own = ap (λ (x : Task). t.weight * x.v) e in
     let sum : weighted_v_at (ticked eevdf p now) + t.weight * t.v ≡ weighted_v_at p + t.weight * u.v = omega arith in
     let law =
-    ahead_more (weight_at p) t.weight rest (weighted_v_at p) (weighted_v_at (ticked eevdf p now)) E t.v u.v (u.v - t.v)
+    ahead_more (weight_present p) t.weight rest (weighted_v_at p) (weighted_v_at (ticked eevdf p now)) E t.v u.v (u.v - t.v)
     (vdelta_of r t.weight) split up few (l.runs t c) sum in
-    let less : weight_at p - t.weight ≡ rest = omega arith in
+    let less : weight_present p - t.weight ≡ rest = omega arith in
     rw less law
 
 eligible_ahead : (W M E : ℕ) (t : Task) → is_at_most_mean W M t ≡ true → W * t.v ≤ M + E
 eligible_ahead W M E t h = grind (arith, nat_tests)
 
-level_ticked : (E r : ℕ) (p : Running) (now : ℕ) → IsSound p → IsWellFormed p → IsLevel E r p → rise p now ≤ r
+level_ticked : (E r : ℕ) (p : Running) (now : ℕ) → AreTasksSound p → IsWellFormed p → IsLevel E r p → rise p now ≤ r
     → IsLevel E r (ticked eevdf p now)
 level_ticked E r p now s w l le =
     let q = ticked eevdf p now in
     record {
-      runs = λ t e. eligible_ahead (weight_at q) (weighted_v_at q) E t (of_some _ q.current t (tick_runs_eligible p now s) e);
+      runs = λ t e. eligible_ahead (weight_present q) (weighted_v_at q) E t (of_some _ q.current t (tick_runs_eligible p now s) e);
       each = λ i u f.
           let b = tick_came eevdf p now i u w.distinct f in
           let t = b.0 in
@@ -122,11 +122,11 @@ level_ticked E r p now s w l le =
 pub begins_balanced : BeginsBalanced
 begins_balanced E r p h = record {
   current =
-      IfSome-from (λ t. weight_at p * t.v ≤ weighted_v_at p + E) p.current
-      (λ t e. of_each (λ x. weight_at p * x.v ≤ weighted_v_at p + E) p t.id t h (current_present p.queue p.kept p.current p.last t e));
+      IfSome-from (λ t. weight_present p * t.v ≤ weighted_v_at p + E) p.current
+      (λ t e. of_each (λ x. weight_present p * x.v ≤ weighted_v_at p + E) p t.id t h (current_present p.queue p.kept p.current p.last t e));
   each =
-      All-weaker (λ x. weight_at p * x.v ≤ weighted_v_at p + E)
-      (λ x. weight_at p * x.v ≤ weighted_v_at p + most_ahead E r (weight_at p) x.weight)
+      All-weaker (λ x. weight_present p * x.v ≤ weighted_v_at p + E)
+      (λ x. weight_present p * x.v ≤ weighted_v_at p + most_ahead E r (weight_present p) x.weight)
       (λ x k. omega arith) (present_at p) h;
 }
 

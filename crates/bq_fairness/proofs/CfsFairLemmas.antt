@@ -12,7 +12,7 @@ use Rattle.bq_cfs.specs.Cfs.{cfs, least}
 use Rattle.bq_cfs.proofs.BoundLemmas.{weaker_of_each, none_below_least}
 use Rattle.bq_cfs.proofs.MoveLemmas.{each-with_id}
 use Rattle.bq_cfs.proofs.SpreadStayLemmas.{least_is_found, idle_processor, busy_processor, near_each, next_is_least}
-use Rattle.bq_fairness.specs.Histories.{history, RisesByAtMost, task_at}
+use Rattle.bq_fairness.specs.Histories.{history, TicksRiseByAtMost, task_at}
 use Rattle.bq_fairness.proofs.PlaceLemmas.{current_present}
 use Rattle.bq_fairness.proofs.TickLemmas.{Change, Stays, Runs, tick_came, tick_keeps, charged_distinct}
 use Rattle.bq_fairness.proofs.SoundLemmas.{of_each, vdelta_of-le, IsWellFormed, change_rises, well_formed_ticked}
@@ -112,7 +112,7 @@ fair_ticked V r p now w fair le = record {
 }
 
 -- any number of Ticks at which the clock rises by at most r keep each task as near the others
-pub fair_history : (V r : ℕ) (p : Running) (nows : List ℕ) → IsWellFormed p → IsFair V r p → RisesByAtMost r cfs p nows
+pub fair_history : (V r : ℕ) (p : Running) (nows : List ℕ) → IsWellFormed p → IsFair V r p → TicksRiseByAtMost r cfs p nows
     → IsFair V r (history cfs p nows)
 fair_history V r p [] w fair le = fair
 fair_history V r p (now ∷ nows) w fair le =

@@ -9,7 +9,7 @@ use Rattle.bq_disc.specs.Totals.{total_weight, weighted_sum}
 use Rattle.bq_disc.specs.OneProcessor.{present_at}
 use Rattle.bq_cfs.specs.Cfs.{cfs}
 use Rattle.bq_fairness.specs.Histories.{history, served}
-use Rattle.bq_fairness.specs.Work.{weight_at, weighted_v_at, booked, elapsed}
+use Rattle.bq_fairness.specs.Work.{weight_present, weighted_v_at, booked, elapsed}
 use Rattle.bq_fairness.specs.CfsFairness.{CfsServesItsShare, CfsWaiting}
 use Rattle.bq_fairness.proofs.SoundLemmas.{of_each, each_has_room, vdelta_of-weighted, well_formed, well_formed_history, got_to}
 use Rattle.bq_fairness.proofs.SumLemmas.{length-history}
@@ -47,7 +47,7 @@ cfs_serves_its_share V r p nows j b s room h le f =
     let moved = moves_the_sum cfs p nows s room in
     let m = rw (moved.0, moved.1, length-history cfs p nows) at sum in
     let v = u.2 in
-    share_by (weighted_v_at p) (weight_at p) N (max V (b.v + 1000000)) (booked cfs p nows) (served j cfs p nows)
+    share_by (weighted_v_at p) (weight_present p) N (max V (b.v + 1000000)) (booked cfs p nows) (served j cfs p nows)
     r (length (present_at p)) m (omega arith)
 
 -- where no v is below L, the weighted sum is at least L times the weights together
@@ -76,6 +76,6 @@ cfs_waiting L S r p nows j b s room h le busy f none =
     let own = of_each range p j b h f in
     let share = cfs_serves_its_share V r p nows j b s room high le f in
     let near = books_the_time cfs p nows s busy in
-    waiting_by (weighted_v_at p) (weight_at p) L S 1000000 (max V (b.v + 1000000)) (booked cfs p nows)
+    waiting_by (weighted_v_at p) (weight_present p) L S 1000000 (max V (b.v + 1000000)) (booked cfs p nows)
     (1024 * elapsed cfs p nows) (served j cfs p nows) r (length (present_at p)) (88760 * length nows) none
     (least_under L (present_at p) (recursion_from_All (λ (x : Task). L ≤ x.v) (present_at p) low)) (omega arith) share near.1

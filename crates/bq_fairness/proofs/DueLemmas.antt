@@ -13,7 +13,7 @@ use Rattle.bq_disc.specs.OneProcessor.{Running, present_at, charge, ticked, rise
 use Rattle.bq_disc.proofs.SetLemmas.{Contains-with_id}
 use Rattle.bq_disc.proofs.SameSumLemmas.{filter-Contains}
 use Rattle.bq_eevdf.specs.Eevdf.{eevdf, is_eligible, earliest}
-use Rattle.bq_fairness.specs.Histories.{history, RisesByAtMost, task_at}
+use Rattle.bq_fairness.specs.Histories.{history, TicksRiseByAtMost, task_at}
 use Rattle.bq_fairness.specs.EevdfDeadlines.{HasDeadlines, NoneIsBeyondADeadline}
 use Rattle.bq_fairness.proofs.PlaceLemmas.{current_present}
 use Rattle.bq_fairness.proofs.TickLemmas.{Change, Stays, Runs, tick_came, tick_keeps, charged_distinct}
@@ -159,7 +159,7 @@ timely_ticked V r p now w timely le =
     }
 
 -- any number of Ticks at which the clock rises by at most r keep each task as near the deadlines
-pub timely_history : (V r : ℕ) (p : Running) (nows : List ℕ) → IsWellFormed p → IsTimely V r p → RisesByAtMost r eevdf p nows
+pub timely_history : (V r : ℕ) (p : Running) (nows : List ℕ) → IsWellFormed p → IsTimely V r p → TicksRiseByAtMost r eevdf p nows
     → IsTimely V r (history eevdf p nows)
 timely_history V r p [] w timely le = timely
 timely_history V r p (now ∷ nows) w timely le =

@@ -3,7 +3,7 @@ use Rattle.std.proofs.Common.{◌≡◌, ℕ, ◌+◌, ◌*◌, ◌≤◌, arith
 use Rattle.std.proofs.Math.Nat.{mul-le-mul_left}
 use Rattle.bq_eevdf.specs.Eevdf.{eevdf}
 use Rattle.bq_fairness.specs.Histories.{history, served}
-use Rattle.bq_fairness.specs.Work.{weight_at, weighted_v_at, booked, elapsed, most_lost}
+use Rattle.bq_fairness.specs.Work.{weight_present, weighted_v_at, booked, elapsed, most_lost}
 use Rattle.bq_fairness.specs.EevdfFairness.{most_ahead, most_behind, EevdfServesItsShare, EevdfServesInProportion, EevdfWaiting}
 use Rattle.bq_fairness.proofs.SoundLemmas.{of_each, each_has_room, well_formed, got_to}
 use Rattle.bq_fairness.proofs.SumLemmas.{length-history}
@@ -33,13 +33,13 @@ eevdf_serves_in_proportion E r p nows i j a b s room bal le f g =
     let end = history_stays_balanced E r p nows s bal le in
     let u = got_to eevdf p nows i a w (each_has_room p room) f in
     let moved = moves_the_sum eevdf p nows s room in
-    let ahead = of_each (λ x. weight_at q * x.v ≤ weighted_v_at q + most_ahead E r (weight_at q) x.weight) q i u.0 end.1.each u.1 in
+    let ahead = of_each (λ x. weight_present q * x.v ≤ weighted_v_at q + most_ahead E r (weight_present q) x.weight) q i u.0 end.1.each u.1 in
     let ahead_here = rw (u.3, u.2, moved.0, moved.1) at ahead in
     let owed = eevdf_serves_its_share E r p nows j b s room bal le g in
     let B = most_behind E r p b.weight in
     let law =
-    proportion_by b.weight (weight_at p) (a.v + served i eevdf p nows) (b.v + served j eevdf p nows)
-    (weighted_v_at p + booked eevdf p nows) (most_ahead E r (weight_at p) a.weight) B ahead_here (omega (arith, owed)) in
+    proportion_by b.weight (weight_present p) (a.v + served i eevdf p nows) (b.v + served j eevdf p nows)
+    (weighted_v_at p + booked eevdf p nows) (most_ahead E r (weight_present p) a.weight) B ahead_here (omega (arith, owed)) in
     omega (arith, law)
 
 waiting_by : (w M W v A B c s rest : ℕ) → s ≡ 0 → A ≤ B + c → w * (M + B) ≤ w * (W * (v + s)) + rest → w * (M + A) ≤ w * (W * v + c) + rest
@@ -56,6 +56,6 @@ eevdf_waiting E r p nows j b s room bal le busy f none =
     let near = books_the_time eevdf p nows s busy in
     let rest = most_behind E r p b.weight in
     let law =
-    waiting_by b.weight (weighted_v_at p) (weight_at p) b.v (1024 * elapsed eevdf p nows) (booked eevdf p nows)
+    waiting_by b.weight (weighted_v_at p) (weight_present p) b.v (1024 * elapsed eevdf p nows) (booked eevdf p nows)
     (most_lost nows) (served j eevdf p nows) rest none near.1 (omega (arith, owed)) in
     omega (arith, law)

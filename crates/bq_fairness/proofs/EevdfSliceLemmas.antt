@@ -7,7 +7,7 @@ use Rattle.bq_disc.specs.Tasks.{Task}
 use Rattle.bq_disc.specs.OneProcessor.{present_at}
 use Rattle.bq_eevdf.specs.Eevdf.{eevdf}
 use Rattle.bq_fairness.specs.Histories.{history, served}
-use Rattle.bq_fairness.specs.Work.{weight_at, weighted_v_at, booked, elapsed}
+use Rattle.bq_fairness.specs.Work.{weight_present, weighted_v_at, booked, elapsed}
 use Rattle.bq_fairness.specs.EevdfDeadlines.{EevdfOwedBySlices, EevdfSharesBySlices, EevdfWaitsBySlices}
 use Rattle.bq_fairness.proofs.SoundLemmas.{of_each, each_has_room, well_formed, well_formed_history, got_to}
 use Rattle.bq_fairness.proofs.SumLemmas.{length-history}
@@ -30,7 +30,7 @@ owed_by_slices V r p nows j b s due h le f =
     let all = All-from_ids reach (present_at q) (well_formed_history eevdf p nows w).distinct (λ i t e. timely.each i j t b e f) in
     let sum = weighted_sum_within N r (present_at q) (recursion_from_All reach (present_at q) all) in
     let high = (timely.due j b f).high in
-    owed_by (weighted_v_at q) (weight_at q) N (max V (b.v + vdelta_of b.slice b.weight)) r (length (present_at q)) sum (omega arith)
+    owed_by (weighted_v_at q) (weight_present q) N (max V (b.v + vdelta_of b.slice b.weight)) r (length (present_at q)) sum (omega arith)
 
 -- each task is served its share of what is booked, except for its slice or where all began, and a rise for each task
 pub shares_by_slices : EevdfSharesBySlices
@@ -48,7 +48,7 @@ shares_by_slices V r p nows j b s room due h le f =
     let v = u.2 in
     let high = (timely.due j u.0 u.1).high in
     let high_own = rw (u.3, u.4) at high in
-    share_by (weighted_v_at p) (weight_at p) N (max V (b.v + vdelta_of b.slice b.weight)) (booked eevdf p nows)
+    share_by (weighted_v_at p) (weight_present p) N (max V (b.v + vdelta_of b.slice b.weight)) (booked eevdf p nows)
     (served j eevdf p nows) r (length (present_at p)) m (omega arith)
 
 -- while a task is served nothing the clock rises by no more than its slice, the spread at the start and rises allow
@@ -62,6 +62,6 @@ waits_by_slices L S r p nows j b s room due h le busy f none =
     let share = shares_by_slices V r p nows j b s room due high le f in
     let near = books_the_time eevdf p nows s busy in
     let slice = vdelta_of b.slice b.weight in
-    waiting_by (weighted_v_at p) (weight_at p) L S slice (max V (b.v + slice)) (booked eevdf p nows)
+    waiting_by (weighted_v_at p) (weight_present p) L S slice (max V (b.v + slice)) (booked eevdf p nows)
     (1024 * elapsed eevdf p nows) (served j eevdf p nows) r (length (present_at p)) (88760 * length nows) none
     (least_under L (present_at p) (recursion_from_All (λ (x : Task). L ≤ x.v) (present_at p) low)) (omega arith) share near.1

@@ -3,9 +3,9 @@ use Rattle.std.proofs.Common.{◌≡◌, ℕ, Bool, true, false, cond, eqb, List
 use Rattle.bq_disc.specs.Tasks.{Task, with_id, without, place, present}
 use Rattle.bq_disc.specs.Queues.{HasDistinctIds}
 use Rattle.bq_disc.specs.Discipline.{Discipline, woken}
-use Rattle.bq_disc.specs.OneProcessor.{Running, present_at, marked, charge, start, decided, own_preempt, entered}
+use Rattle.bq_disc.specs.OneProcessor.{Running, present_at, marked, charge, choice_started, decided, own_preempt, entered}
 use Rattle.bq_disc.proofs.QueueLemmas.{without-absent}
-use Rattle.bq_fairness.specs.Steps.{Decide, Leave, stepped, after, kept_current}
+use Rattle.bq_fairness.specs.Steps.{Decide, Leave, stepped, after_steps, kept_current}
 use Rattle.bq_fairness.specs.Events.{entries, EventsAreSteps}
 use Rattle.bq_fairness.proofs.TickLemmas.{charged_distinct}
 
@@ -25,12 +25,12 @@ stops d q kept (Some u) last t h e =
 drained : (d : Discipline) (q : List Task) (kept : ℕ) (o : Option Task) (last : ℕ) (tasks : List Task)
     → (let e : Running = record { queue = entered d kept q tasks; kept = kept; current = o; last = last } in
     decided d e e.current (own_preempt d e.queue e.current)
-    ≡ after d (record { queue = q; kept = kept; current = o; last = last }) (entries d kept tasks))
+    ≡ after_steps d (record { queue = q; kept = kept; current = o; last = last }) (entries d kept tasks))
 drained d q kept o last [] = refl
 drained d q kept o last (t ∷ tasks) = drained d (place (woken d kept t) q) kept o last tasks
 
 starts : (d : Discipline) (q : List Task) (kept : ℕ) (o : Option Task) (last : ℕ)
-    → (let p : Running = record { queue = q; kept = kept; current = o; last = last } in o ≡ None → start d p ≡ stepped d p Decide)
+    → (let p : Running = record { queue = q; kept = kept; current = o; last = last } in o ≡ None → choice_started d p ≡ stepped d p Decide)
 starts d q kept None last e = refl
 starts d q kept (Some t) last e = cc
 

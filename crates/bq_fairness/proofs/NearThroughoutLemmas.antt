@@ -6,8 +6,8 @@ use Rattle.bq_disc.specs.Tasks.{Task}
 use Rattle.bq_disc.specs.Discipline.{Discipline, charged}
 use Rattle.bq_disc.specs.OneProcessor.{Running, present_at, charge, reading, own_preempt, rise}
 use Rattle.bq_disc.proofs.SetLemmas.{with_id-id}
-use Rattle.bq_fairness.specs.Histories.{task_at, charge_of}
-use Rattle.bq_fairness.specs.Steps.{Step, Pass, Decide, Enter, Leave, Mark, stepped, after, charged_by, served_by, since, DecidesWithin, EntersNew, EachEntersNew, kept_current, leaves, StaysThroughout}
+use Rattle.bq_fairness.specs.Histories.{task_at, tick_charge}
+use Rattle.bq_fairness.specs.Steps.{ProcessorStep, Pass, Decide, Enter, Leave, Mark, stepped, after_steps, step_charge, served_by, since, DecidesWithin, EntersNew, EachEntersNew, kept_current, is_leave_of, StaysThroughout}
 use Rattle.bq_fairness.proofs.PlaceLemmas.{current_present}
 use Rattle.bq_fairness.proofs.TickLemmas.{Change, Stays, Runs, charge_changed}
 use Rattle.bq_fairness.proofs.DecideLemmas.{keeps_present}
@@ -19,7 +19,7 @@ abbrev pub Each : (Task → Type 0) → Running → Type 0
 Each P p = (i : ℕ) (t : Task) → task_at i p ≡ Some t → P t
 
 -- it is kept by a step where it holds of what enters
-abbrev pub OfEntered : (Task → Type 0) → Step → Type 0
+abbrev pub OfEntered : (Task → Type 0) → ProcessorStep → Type 0
 OfEntered P (Enter t) = P t
 OfEntered P (Pass now) = Unit {0}
 OfEntered P Decide = Unit {0}
@@ -27,7 +27,7 @@ OfEntered P (Leave k) = Unit {0}
 OfEntered P Mark = Unit {0}
 
 -- the premise holds of each task that enters by some steps
-abbrev pub OfEachEntered : (Task → Type 0) → List Step → Type 0
+abbrev pub OfEachEntered : (Task → Type 0) → List ProcessorStep → Type 0
 OfEachEntered P [] = Unit {0}
 OfEachEntered P (s ∷ ss) = OfEntered P s × OfEachEntered P ss
 
@@ -42,7 +42,7 @@ pub record IsReach (d : Discipline) (reach : Task → ℕ) (P : Task → Type 0)
 -- The premise is kept
 
 holds_came : (d : Discipline) (reach : Task → ℕ) (P : Task → Type 0)
-    → IsReach d reach P → (p : Running) (s : Step) (i : ℕ) (u : Task) → IsWellFormed p
+    → IsReach d reach P → (p : Running) (s : ProcessorStep) (i : ℕ) (u : Task) → IsWellFormed p
     → Each P p → OfEntered P s → Came d p s i u
     → P u
 holds_came d reach P r p s i u w h o (Was f) = h i u f
@@ -51,7 +51,7 @@ holds_came d reach P r p s i u w h o (Charged now t e f (Runs c g z)) = subst P 
 holds_came d reach P r p s i u w h o (Entered e) = subst (OfEntered P) e o
 
 holds_stepped : (d : Discipline) (reach : Task → ℕ) (P : Task → Type 0)
-    → IsReach d reach P → (p : Running) (s : Step) → IsWellFormed p → Each P p → EntersNew p s → OfEntered P s
+    → IsReach d reach P → (p : Running) (s : ProcessorStep) → IsWellFormed p → Each P p → EntersNew p s → OfEntered P s
     → Each P (stepped d p s)
 holds_stepped d reach P r p s w h n o = λ i u f. holds_came d reach P r p s i u w h o (step_came d p s i u w.distinct n f)
 
@@ -171,7 +171,7 @@ current_kept k None m e = e
 current_kept k (Some c) m e = current_kept_by c m (eqb c.id k) e
 
 close_leave : (d : Discipline) (V r n : ℕ) (reach : Task → ℕ) (p : Running) (k i j : ℕ) (u t : Task)
-    → IsWellFormed p → leaves i (Leave k) ≡ false → leaves j (Leave k) ≡ false → IsClose V r n i j reach p u t
+    → IsWellFormed p → is_leave_of i (Leave k) ≡ false → is_leave_of j (Leave k) ≡ false → IsClose V r n i j reach p u t
     → AreClose V r n i j reach (stepped d p (Leave k))
 close_leave d V r n reach p k i j u t w li lj c =
     let a = step_goes d p (Leave k) i u w.distinct tt li c.one in
@@ -189,8 +189,8 @@ close_leave d V r n reach p k i j u t w li lj c =
 -- Any step, and any number of them
 
 close_stepped : (d : Discipline) (reach : Task → ℕ) (P : Task → Type 0)
-    → IsReach d reach P → (V r n : ℕ) (p : Running) (s : Step) (i j : ℕ) (u t : Task) → IsWellFormed p → Each P p
-    → EntersNew p s → since n p s ≤ r → leaves i s ≡ false → leaves j s ≡ false → IsClose V r n i j reach p u t
+    → IsReach d reach P → (V r n : ℕ) (p : Running) (s : ProcessorStep) (i j : ℕ) (u t : Task) → IsWellFormed p → Each P p
+    → EntersNew p s → since n p s ≤ r → is_leave_of i s ≡ false → is_leave_of j s ≡ false → IsClose V r n i j reach p u t
     → AreClose V r (since n p s) i j reach (stepped d p s)
 close_stepped d reach P law V r n p (Pass now) i j u t w h new le li lj c = close_pass d reach P law V r n p now i j u t w h le c
 close_stepped d reach P law V r n p Decide i j u t w h new le li lj c = close_decide d reach P law V r n p i j u t w h c
@@ -206,10 +206,10 @@ EverClose V r i j reach P p =
     × (u.v ≤ max V (reach t) + vdelta_of r u.weight) × P t
 
 close_after : (d : Discipline) (reach : Task → ℕ) (P : Task → Type 0)
-    → IsReach d reach P → (V r n : ℕ) (p : Running) (ss : List Step) (i j : ℕ) (u t : Task) → IsWellFormed p
+    → IsReach d reach P → (V r n : ℕ) (p : Running) (ss : List ProcessorStep) (i j : ℕ) (u t : Task) → IsWellFormed p
     → Each P p → EachEntersNew d p ss → OfEachEntered P ss → DecidesWithin r d n p ss → StaysThroughout i ss
     → StaysThroughout j ss → IsClose V r n i j reach p u t
-    → EverClose V r i j reach P (after d p ss)
+    → EverClose V r i j reach P (after_steps d p ss)
 close_after d reach P law V r n p [] i j u t w h new of le si sj c = (u, t, c.one, c.other, c.ever, h j t c.other)
 close_after d reach P law V r n p (s ∷ ss) i j u t w h new of le si sj c =
     let next = close_stepped d reach P law V r n p s i j u t w h new.0 le.0 si.0 sj.0 c in
@@ -218,10 +218,10 @@ close_after d reach P law V r n p (s ∷ ss) i j u t w h new of le si sj c =
 
 -- where no v is beyond V at the start
 pub ever_close : (d : Discipline) (reach : Task → ℕ) (P : Task → Type 0)
-    → IsReach d reach P → (V r : ℕ) (p : Running) (ss : List Step) (i j : ℕ) (a b : Task) → IsWellFormed p → Each P p
+    → IsReach d reach P → (V r : ℕ) (p : Running) (ss : List ProcessorStep) (i j : ℕ) (a b : Task) → IsWellFormed p → Each P p
     → a.v ≤ V → EachEntersNew d p ss → OfEachEntered P ss → DecidesWithin r d 0 p ss → StaysThroughout i ss
     → StaysThroughout j ss → task_at i p ≡ Some a → task_at j p ≡ Some b
-    → EverClose V r i j reach P (after d p ss)
+    → EverClose V r i j reach P (after_steps d p ss)
 ever_close d reach P law V r p ss i j a b w h high new of le si sj f g =
     close_after d reach P law V r 0 p ss i j a b w h new of le si sj
     (record { one = f; other = g; runs = λ m e k. omega arith; ever = omega arith })
@@ -229,30 +229,30 @@ ever_close d reach P law V r p ss i j a b w h high new of le si sj f g =
 -- What it was served
 
 -- where a task has got: its weight and slice stay, and its v rises by what it is served
-abbrev pub GotBy : Discipline → Running → List Step → ℕ → Task → Type 0
+abbrev pub GotBy : Discipline → Running → List ProcessorStep → ℕ → Task → Type 0
 GotBy d p ss i t =
-    (u : Task) × (task_at i (after d p ss) ≡ Some u) × (u.v ≡ t.v + served_by i d p ss) × (u.weight ≡ t.weight)
+    (u : Task) × (task_at i (after_steps d p ss) ≡ Some u) × (u.v ≡ t.v + served_by i d p ss) × (u.weight ≡ t.weight)
     × (u.slice ≡ t.slice)
 
 -- one step takes a task on by what it is charged there, and changes neither its weight nor its slice
-record Moves (d : Discipline) (p : Running) (s : Step) (i : ℕ) (t u : Task) : Type 0 where
-  v : u.v ≡ t.v + charged_by i p s
+record Moves (d : Discipline) (p : Running) (s : ProcessorStep) (i : ℕ) (t u : Task) : Type 0 where
+  v : u.v ≡ t.v + step_charge i p s
   weight : u.weight ≡ t.weight
   slice : u.slice ≡ t.slice
   room : HasRoomAt (stepped d p s).last u
 
-stands : (d : Discipline) (p : Running) (s : Step) (i : ℕ) (t u : Task)
-    → u ≡ t → charged_by i p s ≡ 0 → (stepped d p s).last ≡ p.last → HasRoomAt p.last t → Moves d p s i t u
+stands : (d : Discipline) (p : Running) (s : ProcessorStep) (i : ℕ) (t u : Task)
+    → u ≡ t → step_charge i p s ≡ 0 → (stepped d p s).last ≡ p.last → HasRoomAt p.last t → Moves d p s i t u
 stands d p s i t u e z last room =
     let v : u.v ≡ t.v = ap (λ (x : Task). x.v) e in
     record { v = omega arith; weight = ap (λ (x : Task). x.weight) e; slice = ap (λ (x : Task). x.slice) e; room = rw (last, v) room }
 
-moves : (d : Discipline) (p : Running) (s : Step) (i : ℕ) (t u : Task)
+moves : (d : Discipline) (p : Running) (s : ProcessorStep) (i : ℕ) (t u : Task)
     → IsWellFormed p → task_at i p ≡ Some t → HasRoomAt p.last t → ChangesBy d p s i t u → Moves d p s i t u
 moves d p (Pass now) i t u w f room g =
     let r = change_rises d p now i t u (w.ends i t f) g in
-    let next = tick_leaves_room p.last now t.v t.weight (charge_of i p now) (w.weights i t f).0 r.most room in
-    let v : u.v ≡ t.v + charge_of i p now = let e = r.v in omega (arith, next.0) in
+    let next = tick_leaves_room p.last now t.v t.weight (tick_charge i p now) (w.weights i t f).0 r.most room in
+    let v : u.v ≡ t.v + tick_charge i p now = let e = r.v in omega (arith, next.0) in
     record { v = v; weight = r.weight; slice = r.slice; room = rw v next.1 }
 moves d p Decide i t u w f room g =
     stands d p Decide i t u g refl (keeps_present d p (own_preempt d p.queue p.current) w.distinct).last room
@@ -261,7 +261,7 @@ moves d p (Leave k) i t u w f room g = stands d p (Leave k) i t u g refl refl ro
 moves d p Mark i t u w f room g = stands d p Mark i t u g refl refl room
 
 -- a task that stays and has room gets by some steps as far as it is served, with its weight and slice
-pub got_by : (d : Discipline) (p : Running) (ss : List Step) (i : ℕ) (t : Task)
+pub got_by : (d : Discipline) (p : Running) (ss : List ProcessorStep) (i : ℕ) (t : Task)
     → IsWellFormed p → EachEntersNew d p ss → StaysThroughout i ss → HasRoomAt p.last t → task_at i p ≡ Some t
     → GotBy d p ss i t
 got_by d p [] i t w new si room f = (t, f, omega arith, refl, refl)
@@ -277,7 +277,7 @@ got_by d p (s ∷ ss) i t w new si room f =
 
 -- of two tasks that stay, one gets no further than V or what the other reaches in the end, and one rise
 pub served_near : (d : Discipline) (reach : Task → ℕ) (P : Task → Type 0)
-    → IsReach d reach P → (V r : ℕ) (p : Running) (ss : List Step) (i j : ℕ) (a b : Task) → IsWellFormed p → Each P p
+    → IsReach d reach P → (V r : ℕ) (p : Running) (ss : List ProcessorStep) (i j : ℕ) (a b : Task) → IsWellFormed p → Each P p
     → a.v ≤ V → EachEntersNew d p ss → OfEachEntered P ss → DecidesWithin r d 0 p ss → StaysThroughout i ss
     → StaysThroughout j ss → HasRoomAt p.last a → HasRoomAt p.last b → task_at i p ≡ Some a → task_at j p ≡ Some b
     → (t : Task) × (t.v ≡ b.v + served_by j d p ss) × (t.weight ≡ b.weight) × (t.slice ≡ b.slice)
@@ -286,7 +286,7 @@ served_near d reach P law V r p ss i j a b w h high new of le si sj ra rb f g =
     let end = ever_close d reach P law V r p ss i j a b w h high new of le si sj f g in
     let x = got_by d p ss i a w new si ra f in
     let y = got_by d p ss j b w new sj rb g in
-    let q = after d p ss in
+    let q = after_steps d p ss in
     let one = same_task (task_at i q) end.0 x.0 end.2 x.1 in
     let two = same_task (task_at j q) end.1 y.0 end.3 y.1 in
     let near = rw (one, two) at end.4 in

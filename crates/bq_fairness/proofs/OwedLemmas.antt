@@ -9,7 +9,7 @@ use Rattle.bq_disc.specs.Totals.{total_weight, weighted_sum}
 use Rattle.bq_disc.specs.OneProcessor.{present_at}
 use Rattle.bq_disc.proofs.SameSumLemmas.{sum_of-without}
 use Rattle.bq_cfs.proofs.MoveLemmas.{each-without}
-use Rattle.bq_fairness.specs.Work.{weight_at, weighted_v_at}
+use Rattle.bq_fairness.specs.Work.{weight_present, weighted_v_at}
 use Rattle.bq_fairness.specs.EevdfFairness.{most_ahead, ahead_together, NoneIsOwedMore, NoneIsOwedLong}
 use Rattle.bq_fairness.proofs.SoundLemmas.{vdelta_of-weighted}
 use Rattle.bq_fairness.proofs.SumLemmas.{length-sum}
@@ -34,7 +34,7 @@ pub none_is_owed_more : NoneIsOwedMore
 none_is_owed_more E r p j b s bal f =
     let xs = present_at p in
     let others = without j xs in
-    let W = weight_at p in
+    let W = weight_present p in
     let M = weighted_v_at p in
     let ahead : Task → Type 0 = λ t. W * t.v ≤ M + most_ahead E r W t.weight in
     let each = each-without ahead j xs (recursion_from_All ahead xs bal.each) in
@@ -79,7 +79,7 @@ pub none_is_owed_long : NoneIsOwedLong
 none_is_owed_long E r p j b s bal f =
     let xs = present_at p in
     let others = without j xs in
-    let W = weight_at p in
+    let W = weight_present p in
     let few = All-from_ids (λ t. t.weight ≤ W) xs s.distinct (λ i t e. omega (arith, weights_split i xs t e)) in
     let each = each-without (λ t. t.weight ≤ W) j xs (recursion_from_All (λ t. t.weight ≤ W) xs few) in
     let split = weights_split j xs b f in

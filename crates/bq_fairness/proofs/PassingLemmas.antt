@@ -8,7 +8,7 @@ use Rattle.bq_disc.specs.Tasks.{Task}
 use Rattle.bq_disc.specs.Discipline.{Discipline}
 use Rattle.bq_disc.specs.OneProcessor.{Running, decided, own_preempt, ticked}
 use Rattle.bq_cfs.specs.Cfs.{cfs}
-use Rattle.bq_cfs.specs.Spread.{passed, departed, Block as BlockAt}
+use Rattle.bq_cfs.specs.Spread.{processor_passed, departed, Block as BlockAt}
 use Rattle.bq_bpf.specs.declared.board.CounterCall.{CounterCall}
 use Rattle.bq_hooks.specs.declared.hook.Version.{Version}
 use Rattle.bq_verify.specs.Accepted.{Accepted}
@@ -23,8 +23,8 @@ use Rattle.bq_parts.specs.declared.reply.Reply.TheVariants.{Ticked, Blocked}
 use Rattle.bq_parts.specs.declared.refusal.Refusal.{Refusal}
 use Rattle.bq_parts.specs.declared.refusal.Refusal.TheVariants as no
 use Rattle.bq_parts.specs.declared.lobby_entry.LobbyEntry.{LobbyEntry}
-use Rattle.bq_parts.specs.Processors.{Processor, opening}
-use Rattle.bq_parts.specs.Refusals.{first_refusal, either}
+use Rattle.bq_parts.specs.Processors.{Processor, new_processor}
+use Rattle.bq_parts.specs.Refusals.{first_refusal, either_refusal}
 use Rattle.bq_parts.specs.World.{World, processor_at, count_in, with_processor}
 use Rattle.bq_parts.specs.Choices.{PolicySemantics, SettledChoice, SettlesBy, SettlesPreempt, by_programs}
 use Rattle.bq_parts.specs.Shares.{Ticks, Blocks, after_time}
@@ -79,17 +79,17 @@ block_share_leaves d p q processor now lobby lobby' reply h = ap (λ (x : Proces
 -- Of the world
 
 in_range : (count processor : ℕ) (b : Bool) (o : Option Refusal)
-    → nat_le count processor ≡ b → either (first_refusal ((b, no.NoProcessor) ∷ [])) o ≡ None
+    → nat_le count processor ≡ b → either_refusal (first_refusal ((b, no.NoProcessor) ∷ [])) o ≡ None
     → processor < count
 in_range count processor true o e h = cc
 in_range count processor false o e h = grind (arith, nat_tests)
 
 there : (w : World) (processor : ℕ) (q : Processor) → processor < count_in w → processor_at (with_processor w processor q) processor ≡ q
-there w processor q l = get_or-set_same w.processors processor q opening l
+there w processor q l = get_or-set_same w.processors processor q new_processor l
 
 -- where the number of a processor is not refused, what is written there is what stands there
 written : (w w' v : World) (processor : ℕ) (q : Processor) (o : Option Refusal)
-    → either (first_refusal ((nat_le (count_in w) processor, no.NoProcessor) ∷ [])) o ≡ None → w' ≡ v
+    → either_refusal (first_refusal ((nat_le (count_in w) processor, no.NoProcessor) ∷ [])) o ≡ None → w' ≡ v
     → processor_at v processor ≡ processor_at (with_processor w processor q) processor
     → processor_at w' processor ≡ q
 written w w' v processor q o h e f =
@@ -128,14 +128,14 @@ stays p now None r e = refl
 stays p now (Some u) r e = cc
 
 only_idle : (count processor : ℕ) (b : Bool) (o : Option Refusal) (r : Refusal)
-    → processor < count → nat_le count processor ≡ b → either (first_refusal ((b, no.NoProcessor) ∷ [])) o ≡ Some r
+    → processor < count → nat_le count processor ≡ b → either_refusal (first_refusal ((b, no.NoProcessor) ∷ [])) o ≡ Some r
     → o ≡ Some r
 only_idle count processor true o r l e h = absurd (let k : count ≤ processor = grind (arith, nat_tests) in omega arith)
 only_idle count processor false o r l e h = h
 
 blocked : (w w' : World) (processor now : ℕ) (calls : List CounterCall) (answer : Result Reply Refusal)
     → processor < count_in w → WorldStep (by_programs cfs) w (Block processor now) calls answer w'
-    → (processor_at w' processor).running ≡ passed (processor_at w processor).running (BlockAt now)
+    → (processor_at w' processor).running ≡ processor_passed (processor_at w processor).running (BlockAt now)
 blocked w w' processor now calls (Ok r) l h =
     let p = (processor_at w processor).running in
     let k = h.1 in

@@ -10,8 +10,8 @@ use Rattle.bq_disc.specs.Queues.{HasDistinctIds}
 use Rattle.bq_disc.specs.Discipline.{Discipline}
 use Rattle.bq_disc.specs.OneProcessor.{Running, present_at, reading, ticked, rise}
 use Rattle.bq_disc.proofs.SetLemmas.{Contains-with_id}
-use Rattle.bq_cfs.specs.Spread.{IsSound}
-use Rattle.bq_fairness.specs.Histories.{HasRoom, history, task_at, charge_of, served}
+use Rattle.bq_cfs.specs.Spread.{AreTasksSound}
+use Rattle.bq_fairness.specs.Histories.{HasRoom, history, task_at, tick_charge, served}
 use Rattle.bq_fairness.proofs.TickLemmas.{Change, Stays, Runs, tick_changed, tick_came, tick_keeps}
 
 -- what holds of all that are present holds of the one of an id
@@ -43,7 +43,7 @@ pub record IsWellFormed (p : Running) : Type 0 where
   pub ends : (i : ℕ) (t : Task) → task_at i p ≡ Some t → t.v ≤ 2 ^ 62
 
 -- a sound processor is well formed, the task of each id being one that is present
-pub well_formed : (p : Running) → IsSound p → IsWellFormed p
+pub well_formed : (p : Running) → AreTasksSound p → IsWellFormed p
 well_formed p s = record {
   distinct = s.distinct;
   weights = λ i t f. of_each (λ (x : Task). IsWeight x.weight) p i t s.weights f;
@@ -52,10 +52,10 @@ well_formed p s = record {
 
 -- how v and weight change, in numbers
 pub record Rises (d : Discipline) (p : Running) (now i : ℕ) (t u : Task) : Type 0 where
-  pub v : u.v ≡ min (t.v + charge_of i p now) (2 ^ 62)
+  pub v : u.v ≡ min (t.v + tick_charge i p now) (2 ^ 62)
   pub weight : u.weight ≡ t.weight
   pub slice : u.slice ≡ t.slice
-  pub most : charge_of i p now ≤ vdelta_of (rise p now) t.weight
+  pub most : tick_charge i p now ≤ vdelta_of (rise p now) t.weight
 
 -- as time passes a task's v rises by its charge, which is no more than the rise takes, and its weight and slice stay
 pub change_rises : (d : Discipline) (p : Running) (now i : ℕ) (t u : Task) → t.v ≤ 2 ^ 62 → Change d p now i t u → Rises d p now i t u
@@ -115,9 +115,9 @@ room_ticked d p now w room i u f =
     let b = tick_came d p now i u w.distinct f in
     let t = b.0 in
     let r = change_rises d p now i t u (w.ends i t b.1) b.2 in
-    let after = tick_leaves_room p.last now t.v t.weight (charge_of i p now) (w.weights i t b.1).0 r.most (room i t b.1) in
+    let after = tick_leaves_room p.last now t.v t.weight (tick_charge i p now) (w.weights i t b.1).0 r.most (room i t b.1) in
     let last : (ticked d p now).last ≡ reading p.last now = (tick_keeps d p now w.distinct).last in
-    let v : u.v ≡ t.v + charge_of i p now = let e = r.v in omega (arith, after.0) in
+    let v : u.v ≡ t.v + tick_charge i p now = let e = r.v in omega (arith, after.0) in
     rw (last, v) after.1
 
 -- Histories
@@ -136,8 +136,8 @@ got_to d p (now ∷ nows) i t w room f =
     let c = tick_changed d p now i t w.distinct f in
     let u = c.0 in
     let r = change_rises d p now i t u (w.ends i t f) c.2 in
-    let after = tick_leaves_room p.last now t.v t.weight (charge_of i p now) (w.weights i t f).0 r.most (room i t f) in
-    let v : u.v ≡ t.v + charge_of i p now = let e = r.v in omega (arith, after.0) in
+    let after = tick_leaves_room p.last now t.v t.weight (tick_charge i p now) (w.weights i t f).0 r.most (room i t f) in
+    let v : u.v ≡ t.v + tick_charge i p now = let e = r.v in omega (arith, after.0) in
     let g = got_to d (ticked d p now) nows i u (well_formed_ticked d p now w) (room_ticked d p now w room) c.1 in
     let rest = g.2 in
     (g.0, g.1, omega arith, g.3 ∙ r.weight, g.4 ∙ r.slice)

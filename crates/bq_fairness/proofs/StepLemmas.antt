@@ -7,7 +7,7 @@ use Rattle.bq_disc.specs.Discipline.{Discipline}
 use Rattle.bq_disc.specs.OneProcessor.{Running, present_at, own_preempt}
 use Rattle.bq_disc.proofs.QueueLemmas.{with_id-none, with_id-place_other, HasDistinctIds-place, with_id-without, HasDistinctIds-without, with_id-without_same, eqb_comm}
 use Rattle.bq_fairness.specs.Histories.{task_at}
-use Rattle.bq_fairness.specs.Steps.{Step, Pass, Decide, Enter, Leave, Mark, stepped, kept_current, EntersNew, leaves}
+use Rattle.bq_fairness.specs.Steps.{ProcessorStep, Pass, Decide, Enter, Leave, Mark, stepped, kept_current, EntersNew, is_leave_of}
 use Rattle.bq_fairness.proofs.PlaceLemmas.{with_id-place, with_id-without_other, either_order}
 use Rattle.bq_fairness.proofs.DecideLemmas.{keeps_present}
 use Rattle.bq_fairness.proofs.TickLemmas.{Change, charge_changed, charge_came, charged_distinct}
@@ -91,7 +91,7 @@ left_came_by k i q o u false e d f = sym (left_stays k i q o e) ∙ f
 -- Any step
 
 -- ids stay distinct
-pub step_distinct : (d : Discipline) (p : Running) (s : Step)
+pub step_distinct : (d : Discipline) (p : Running) (s : ProcessorStep)
     → HasDistinctIds (present_at p) → EntersNew p s → HasDistinctIds (present_at (stepped d p s))
 step_distinct d p (Pass now) h n = charged_distinct d p now h
 step_distinct d p Decide h n = (keeps_present d p (own_preempt d p.queue p.current) h).distinct
@@ -100,7 +100,7 @@ step_distinct d p (Leave k) h n = left_distinct k p.queue p.current h
 step_distinct d p Mark h n = h
 
 -- a task that enters, or that was there, and was charged where time passed
-pub data Came (d : Discipline) (p : Running) (s : Step) (i : ℕ) (u : Task) : Type 0 where
+pub data Came (d : Discipline) (p : Running) (s : ProcessorStep) (i : ℕ) (u : Task) : Type 0 where
   Was : task_at i p ≡ Some u → Came d p s i u
   Charged : (now : ℕ) (t : Task) → s ≡ Pass now → task_at i p ≡ Some t → Change d p now i t u → Came d p s i u
   Entered : s ≡ Enter u → Came d p s i u
@@ -110,7 +110,7 @@ entered_came d p t i u (inl f) = Was f
 entered_came d p t i u (inr e) = Entered (ap (λ x. Enter x) e)
 
 -- a task that is present after a step entered by it, or was there before, and was charged where time passed
-pub step_came : (d : Discipline) (p : Running) (s : Step) (i : ℕ) (u : Task)
+pub step_came : (d : Discipline) (p : Running) (s : ProcessorStep) (i : ℕ) (u : Task)
     → HasDistinctIds (present_at p) → EntersNew p s → task_at i (stepped d p s) ≡ Some u → Came d p s i u
 step_came d p (Pass now) i u h n f = let c = charge_came d p now i u f in Charged now c.0 refl c.1 c.2
 step_came d p Decide i u h n f = Was (sym ((keeps_present d p (own_preempt d p.queue p.current) h).same i) ∙ f)
@@ -120,7 +120,7 @@ step_came d p (Leave k) i u h n f = Was (left_came_by k i p.queue p.current u (e
 step_came d p Mark i u h n f = Was f
 
 -- how a task that does not leave changes: not, or as time passes
-abbrev pub ChangesBy : Discipline → Running → Step → ℕ → Task → Task → Type 0
+abbrev pub ChangesBy : Discipline → Running → ProcessorStep → ℕ → Task → Task → Type 0
 ChangesBy d p (Pass now) i t u = Change d p now i t u
 ChangesBy d p Decide i t u = u ≡ t
 ChangesBy d p (Enter x) i t u = u ≡ t
@@ -128,12 +128,12 @@ ChangesBy d p (Leave k) i t u = u ≡ t
 ChangesBy d p Mark i t u = u ≡ t
 
 -- a task that was there is there after the step, and changed in no other way
-abbrev pub StaysChanged : Discipline → Running → Step → ℕ → Task → Option Task → Type 0
+abbrev pub StaysChanged : Discipline → Running → ProcessorStep → ℕ → Task → Option Task → Type 0
 StaysChanged d p s i t o = (u : Task) × (o ≡ Some u) × ChangesBy d p s i t u
 
 -- a task that does not leave is there after the step
-pub step_goes : (d : Discipline) (p : Running) (s : Step) (i : ℕ) (t : Task)
-    → HasDistinctIds (present_at p) → EntersNew p s → leaves i s ≡ false → task_at i p ≡ Some t
+pub step_goes : (d : Discipline) (p : Running) (s : ProcessorStep) (i : ℕ) (t : Task)
+    → HasDistinctIds (present_at p) → EntersNew p s → is_leave_of i s ≡ false → task_at i p ≡ Some t
     → StaysChanged d p s i t (task_at i (stepped d p s))
 step_goes d p (Pass now) i t h n l f = charge_changed d p now i t f
 step_goes d p Decide i t h n l f = (t, (keeps_present d p (own_preempt d p.queue p.current) h).same i ∙ f, refl)
@@ -142,7 +142,7 @@ step_goes d p (Enter x) i t h n l f =
 step_goes d p (Leave k) i t h n l f = (t, left_stays k i p.queue p.current l ∙ f, refl)
 step_goes d p Mark i t h n l f = (t, f, refl)
 
-step_ends : (d : Discipline) (p : Running) (s : Step) (i : ℕ) (u : Task)
+step_ends : (d : Discipline) (p : Running) (s : ProcessorStep) (i : ℕ) (u : Task)
     → IsWellFormed p → EntersNew p s → Came d p s i u → IsWeight u.weight × (u.v ≤ 2 ^ 62)
 step_ends d p s i u w n (Was f) = (w.weights i u f, w.ends i u f)
 step_ends d p s i u w n (Charged now t e f c) =
@@ -152,7 +152,7 @@ step_ends d p s i u w n (Charged now t e f c) =
 step_ends d p s i u w n (Entered e) = let m = subst (EntersNew p) e n in (m.weight, m.ends)
 
 -- a step keeps the processor well formed
-pub well_formed_stepped : (d : Discipline) (p : Running) (s : Step) → IsWellFormed p → EntersNew p s → IsWellFormed (stepped d p s)
+pub well_formed_stepped : (d : Discipline) (p : Running) (s : ProcessorStep) → IsWellFormed p → EntersNew p s → IsWellFormed (stepped d p s)
 well_formed_stepped d p s w n = record {
   distinct = step_distinct d p s w.distinct n;
   weights = λ i u f. (step_ends d p s i u w n (step_came d p s i u w.distinct n f)).0;

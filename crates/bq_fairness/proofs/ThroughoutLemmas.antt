@@ -6,7 +6,7 @@ use Rattle.bq_disc.specs.OneProcessor.{present_at}
 use Rattle.bq_cfs.specs.Cfs.{cfs}
 use Rattle.bq_cfs.proofs.MoveLemmas.{each-with_id}
 use Rattle.bq_eevdf.specs.Eevdf.{eevdf, earliest}
-use Rattle.bq_fairness.specs.Steps.{Step, Pass, Decide, Enter, Leave, Mark, stepped, EntersDue, CfsServesThroughout, EevdfServesThroughout}
+use Rattle.bq_fairness.specs.Steps.{ProcessorStep, Pass, Decide, Enter, Leave, Mark, stepped, EntersDue, CfsServesThroughout, EevdfServesThroughout}
 use Rattle.bq_fairness.proofs.SoundLemmas.{of_each, each_has_room, well_formed}
 use Rattle.bq_fairness.proofs.ListLemmas.{of_some}
 use Rattle.bq_fairness.proofs.CfsFairLemmas.{IsNearEach, runs_near_each}
@@ -19,7 +19,7 @@ use Rattle.bq_fairness.proofs.NearThroughoutLemmas.{Each, OfEachEntered, IsReach
 abbrev Anyhow : Task → Type 0
 Anyhow t = Unit {0}
 
-anyhow : (ss : List Step) → OfEachEntered Anyhow ss
+anyhow : (ss : List ProcessorStep) → OfEachEntered Anyhow ss
 anyhow [] = tt
 anyhow (Pass now ∷ ss) = (tt, anyhow ss)
 anyhow (Decide ∷ ss) = (tt, anyhow ss)
@@ -50,7 +50,7 @@ cfs_serves_throughout r p ss i j a b s room new le f g si sj =
 
 -- EEVDF
 
-due_of_entered : (ss : List Step) → EntersDue ss → OfEachEntered IsDue ss
+due_of_entered : (ss : List ProcessorStep) → EntersDue ss → OfEachEntered IsDue ss
 due_of_entered [] h = tt
 due_of_entered (Pass now ∷ ss) h = (tt, due_of_entered ss h)
 due_of_entered (Decide ∷ ss) h = (tt, due_of_entered ss h)

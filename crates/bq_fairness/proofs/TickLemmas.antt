@@ -6,13 +6,13 @@ use Rattle.bq_disc.specs.Tasks.{Task, with_id}
 use Rattle.bq_disc.specs.Queues.{HasDistinctIds}
 use Rattle.bq_disc.specs.Discipline.{Discipline, charged}
 use Rattle.bq_disc.specs.OneProcessor.{Running, present_at, reading, charge, own_preempt, ticked, rise}
-use Rattle.bq_fairness.specs.Histories.{task_at, charge_of}
+use Rattle.bq_fairness.specs.Histories.{task_at, tick_charge}
 use Rattle.bq_fairness.proofs.DecideLemmas.{KeepsPresent, keeps_present}
 
 -- how a task of id i changes at a Tick: it stays, or it runs and is charged
 pub data Change (d : Discipline) (p : Running) (now i : ℕ) (t u : Task) : Type 0 where
-  Stays : u ≡ t → charge_of i p now ≡ 0 → Change d p now i t u
-  Runs : p.current ≡ Some t → u ≡ charged d t (rise p now) → charge_of i p now ≡ vdelta_of (rise p now) t.weight → Change d p now i t u
+  Stays : u ≡ t → tick_charge i p now ≡ 0 → Change d p now i t u
+  Runs : p.current ≡ Some t → u ≡ charged d t (rise p now) → tick_charge i p now ≡ vdelta_of (rise p now) t.weight → Change d p now i t u
 
 -- a task and how it changed
 abbrev pub Changed : Discipline → Running → ℕ → ℕ → Task → Option Task → Type 0

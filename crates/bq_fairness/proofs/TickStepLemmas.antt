@@ -4,13 +4,13 @@ use Rattle.bq_disc.specs.Discipline.{Discipline}
 use Rattle.bq_disc.specs.OneProcessor.{Running, ticked}
 use Rattle.bq_cfs.specs.Cfs.{cfs}
 use Rattle.bq_eevdf.specs.Eevdf.{eevdf}
-use Rattle.bq_fairness.specs.Histories.{RisesByAtMost, served}
-use Rattle.bq_fairness.specs.Steps.{Step, Pass, Decide, served_by, EachEntersNew, EntersDue, DecidesWithin, StaysThroughout}
+use Rattle.bq_fairness.specs.Histories.{TicksRiseByAtMost, served}
+use Rattle.bq_fairness.specs.Steps.{ProcessorStep, Pass, Decide, served_by, EachEntersNew, EntersDue, DecidesWithin, StaysThroughout}
 use Rattle.bq_fairness.specs.CfsFairness.{CfsServesInProportion, CfsServesWithin}
 use Rattle.bq_fairness.specs.EevdfDeadlines.{EevdfServesBySlices}
 use Rattle.bq_fairness.proofs.ThroughoutLemmas.{cfs_serves_throughout, eevdf_serves_throughout}
 
-abbrev steps_of : List ℕ → List Step
+abbrev steps_of : List ℕ → List ProcessorStep
 steps_of [] = []
 steps_of (now ∷ nows) = Pass now ∷ Decide ∷ steps_of nows
 
@@ -26,7 +26,7 @@ none_due : (nows : List ℕ) → EntersDue (steps_of nows)
 none_due [] = tt
 none_due (now ∷ nows) = none_due nows
 
-within : (r : ℕ) (d : Discipline) (p : Running) (nows : List ℕ) → RisesByAtMost r d p nows → DecidesWithin r d 0 p (steps_of nows)
+within : (r : ℕ) (d : Discipline) (p : Running) (nows : List ℕ) → TicksRiseByAtMost r d p nows → DecidesWithin r d 0 p (steps_of nows)
 within r d p [] h = tt
 within r d p (now ∷ nows) h = let le = h.0 in (omega arith, (omega arith, within r d (ticked d p now) nows h.1))
 

@@ -8,7 +8,7 @@ use Rattle.bq_disc.specs.Discipline.{Discipline, next_of}
 use Rattle.bq_disc.specs.OneProcessor.{Running, reading, charge, decided, exchanged, own_preempt, ticked, rise}
 use Rattle.bq_cfs.proofs.SpreadStayLemmas.{busy_processor}
 use Rattle.bq_fairness.specs.Histories.{history}
-use Rattle.bq_fairness.specs.Work.{weight_at, weighted_v_at, booked_at, booked, elapsed, BooksTheTime, MovesTheSum}
+use Rattle.bq_fairness.specs.Work.{weight_present, weighted_v_at, booked_at, booked, elapsed, BooksTheTime, MovesTheSum}
 use Rattle.bq_fairness.proofs.PlaceLemmas.{current_present}
 use Rattle.bq_fairness.proofs.TickLemmas.{tick_keeps}
 use Rattle.bq_fairness.proofs.SoundLemmas.{IsWellFormed, well_formed, well_formed_ticked, EachHasRoom, each_has_room, room_ticked, tick_leaves_room, vdelta_of-weighted}
@@ -108,7 +108,7 @@ moves_by d p now (Some t) e w room =
     omega arith
 
 moves : (d : Discipline) (p : Running) (nows : List ℕ) → IsWellFormed p → EachHasRoom p
-    → (weighted_v_at (history d p nows) ≡ weighted_v_at p + booked d p nows) × (weight_at (history d p nows) ≡ weight_at p)
+    → (weighted_v_at (history d p nows) ≡ weighted_v_at p + booked d p nows) × (weight_present (history d p nows) ≡ weight_present p)
 moves d p [] w room = (omega arith, refl)
 moves d p (now ∷ nows) w room =
     let rest = moves d (ticked d p now) nows (well_formed_ticked d p now w) (room_ticked d p now w room) in

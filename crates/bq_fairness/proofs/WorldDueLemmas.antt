@@ -6,7 +6,7 @@ use Rattle.bq_disc.specs.Tasks.{Task, id_of}
 use Rattle.bq_disc.specs.OneProcessor.{Running, charge, marked}
 use Rattle.bq_bpf.specs.declared.board.CounterCall.{CounterCall}
 use Rattle.bq_eevdf.specs.Eevdf.{eevdf}
-use Rattle.bq_fairness.specs.Steps.{Step, Pass, Decide, Enter, Leave, Mark, EntersDue}
+use Rattle.bq_fairness.specs.Steps.{ProcessorStep, Pass, Decide, Enter, Leave, Mark, EntersDue}
 use Rattle.bq_fairness.specs.Events.{entries}
 use Rattle.bq_hooks.specs.Permitted.{task_numbered}
 use Rattle.bq_parts.specs.declared.event.Event.{Event}
@@ -18,7 +18,7 @@ use Rattle.bq_parts.specs.Moves.{taken_from}
 use Rattle.bq_parts.specs.World.{World, inbox}
 use Rattle.bq_parts.specs.Choices.{by_programs, SettledChoice}
 use Rattle.bq_parts.specs.Steps.{WorldStep}
-use Rattle.bq_fairness.specs.Seen.{running_at, entry, begins, own_steps, leaving, steps_at}
+use Rattle.bq_fairness.specs.Seen.{running_at, enter_if_pulled, decide_if_idle, own_steps, leaving, steps_at}
 
 -- a mark that is moved ends at 2^62
 pub shift_ends : (mark : ℕ) (rel : ℤ) → shift_of mark rel ≤ 2 ^ 62
@@ -37,11 +37,11 @@ entries_due kept (t ∷ tasks) = (
   entries_due kept tasks,
 )
 
-entry_due : (p : Running) (o : Option Task) (ss : List Step) → EntersDue ss → EntersDue (entry eevdf p o ++ ss)
+entry_due : (p : Running) (o : Option Task) (ss : List ProcessorStep) → EntersDue ss → EntersDue (enter_if_pulled eevdf p o ++ ss)
 entry_due p None ss h = h
 entry_due p (Some t) ss h = (entered_due _ t.slice t.weight (shift_ends p.kept t.rel), h)
 
-begins_due : (o : Option Task) → EntersDue (begins o)
+begins_due : (o : Option Task) → EntersDue (decide_if_idle o)
 begins_due None = tt
 begins_due (Some t) = tt
 
@@ -49,12 +49,12 @@ leaving_due : (task : Option ℕ) → EntersDue (leaving task)
 leaving_due None = tt
 leaving_due (Some id) = tt
 
-either_due : (ss rs : List Step) (t : Bool) → EntersDue ss → EntersDue rs → EntersDue (cond t ss rs)
+either_due : (ss rs : List ProcessorStep) (t : Bool) → EntersDue ss → EntersDue rs → EntersDue (cond t ss rs)
 either_due ss rs true h k = h
 either_due ss rs false h k = k
 
 -- where each task that enters over some steps and over others is due, so is each that enters over all of them
-pub EntersDue-append : (ss rs : List Step) → EntersDue ss → EntersDue rs → EntersDue (ss ++ rs)
+pub EntersDue-append : (ss rs : List ProcessorStep) → EntersDue ss → EntersDue rs → EntersDue (ss ++ rs)
 EntersDue-append [] rs h k = k
 EntersDue-append (Pass now ∷ ss) rs h k = EntersDue-append ss rs h k
 EntersDue-append (Decide ∷ ss) rs h k = EntersDue-append ss rs h k
@@ -87,5 +87,5 @@ event_due at w w' (Pull processor from now) calls (Ok r) h =
     subst (λ x. EntersDue (steps_at eevdf at w (Pull processor from now) (Ok x))) (sym h.1.2.replies)
     (either_due (own_steps eevdf w (Pull processor from now) (Pulled task (id_of h.1.0.running.current) settled.by settled.steps))
     (cond (at == from) (leaving task) []) (at == processor)
-    (entry_due c (taken_from (marked eevdf (running_at w from)) task) (begins c.current) (begins_due c.current))
+    (entry_due c (taken_from (marked eevdf (running_at w from)) task) (decide_if_idle c.current) (begins_due c.current))
     (either_due (leaving task) [] (at == from) (leaving_due task) tt))

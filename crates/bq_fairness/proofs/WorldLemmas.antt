@@ -9,11 +9,11 @@ use Rattle.bq_disc.specs.Discipline.{Discipline, charged, woken, pulled}
 use Rattle.bq_disc.specs.OneProcessor.{present_at}
 use Rattle.bq_bpf.specs.declared.board.CounterCall.{CounterCall}
 use Rattle.bq_cfs.specs.Cfs.{cfs, held_above}
-use Rattle.bq_cfs.specs.Spread.{IsSound}
+use Rattle.bq_cfs.specs.Spread.{AreTasksSound}
 use Rattle.bq_eevdf.specs.Eevdf.{eevdf}
 use Rattle.bq_fairness.specs.Histories.{task_at}
 use Rattle.bq_fairness.specs.EevdfDeadlines.{HasDeadlines}
-use Rattle.bq_fairness.specs.Steps.{Step, after, EachEntersNew, EntersDue}
+use Rattle.bq_fairness.specs.Steps.{ProcessorStep, after_steps, EachEntersNew, EntersDue}
 use Rattle.bq_fairness.proofs.ListLemmas.{All-from_ids}
 use Rattle.bq_fairness.proofs.SoundLemmas.{well_formed, each_has_room}
 use Rattle.bq_fairness.proofs.DueLemmas.{IsDue, charged_due}
@@ -22,7 +22,7 @@ use Rattle.bq_fairness.proofs.ThroughoutLemmas.{cfs_serves_throughout, eevdf_ser
 use Rattle.bq_parts.specs.declared.event.Event.{Event}
 use Rattle.bq_parts.specs.declared.reply.Reply.{Reply}
 use Rattle.bq_parts.specs.declared.refusal.Refusal.{Refusal}
-use Rattle.bq_parts.specs.Processors.{opening}
+use Rattle.bq_parts.specs.Processors.{new_processor}
 use Rattle.bq_parts.specs.World.{World, opening_world, count_in}
 use Rattle.bq_parts.specs.StandsOnce.{IsOrderly}
 use Rattle.bq_parts.specs.Choices.{by_programs}
@@ -75,12 +75,12 @@ reached : (d : Discipline) (P : Task → Type 0) → IsKept d P
     → IsReached P count w
 reached d P k count w es more answers h =
     run_reached d P k count (opening_world count) es more answers w
-    (record { many = length-replicate count opening; orderly = opening_is_orderly count; sound = opening_sound P count }) h
+    (record { many = length-replicate count new_processor; orderly = opening_is_orderly count; sound = opening_sound P count }) h
 
 -- each task that enters in a history is new
 history_new : (d : Discipline) (P : Task → Type 0) → IsKept d P
     → (count at : ℕ) (w w' : World) (es : List Event) (more : List (List CounterCall))
-    (answers : List (Result Reply Refusal)) (ss : List Step)
+    (answers : List (Result Reply Refusal)) (ss : List ProcessorStep)
     → IsReached P count w → at < count → IsSeenAt d at w es more answers w' ss
     → EachEntersNew d (running_at w at) ss
 history_new d P k count at w w' [] [] [] ss r l h = rw h.1 tt
@@ -88,7 +88,7 @@ history_new d P k count at w w' (e ∷ es) (calls ∷ more) (a ∷ answers) ss r
     let mid : World = h.0 in
     let there : at < count_in w = rw r.many l in
     let next = step_reached d P k count w e calls a mid r h.2 in
-    let first : running_at mid at ≡ after d (running_at w at) (steps_at d at w e a) =
+    let first : running_at mid at ≡ after_steps d (running_at w at) (steps_at d at w e a) =
     event_is_steps d at w mid e calls a r.orderly there h.2 h.3 in
     let rest = history_new d P k count at mid w' es more answers h.1 next l h.4 in
     rw h.5 (EachEntersNew-append d (running_at w at) (steps_at d at w e a) h.1
@@ -102,7 +102,7 @@ each_at P w at o s =
     (λ i t f. each_found P i (present_at (running_at w at)) t (holds_present P (running_at w at) (s.running at)) f)
 
 sound_at : (d : Discipline) (P : Task → Type 0) → IsKept d P → (w : World) (at : ℕ) → IsOrderly w → IsSoundWorld P w
-    → IsSound (running_at w at)
+    → AreTasksSound (running_at w at)
 sound_at d P k w at o s =
     let each = each_at P w at o s in
     record { distinct = distinct_at w at o; weights = λ i x l. k.weight _ (each i x l); ends = λ i x l. k.ends _ (each i x l) }
@@ -132,7 +132,7 @@ cfs_world_serves count at r i j w w' earlier es before calls given answers ss a 
     let rooms = each_has_room p room in
     let x = got_by cfs p ss i a (well_formed p sound) new si (rooms i a f) f in
     let y = got_by cfs p ss j b (well_formed p sound) new sj (rooms j b g) g in
-    let end : running_at w' at ≡ after cfs p ss = history_is_steps cfs at w w' es calls answers ss k.orderly (rw k.many l) seen in (
+    let end : running_at w' at ≡ after_steps cfs p ss = history_is_steps cfs at w w' es calls answers ss k.orderly (rw k.many l) seen in (
       x.0,
       y.0,
       ap (λ q. task_at i q) end ∙ x.1,
@@ -163,7 +163,7 @@ eevdf_keeps = record {
 }
 
 history_due : (at : ℕ) (w w' : World) (es : List Event) (more : List (List CounterCall))
-    (answers : List (Result Reply Refusal)) (ss : List Step)
+    (answers : List (Result Reply Refusal)) (ss : List ProcessorStep)
     → IsSeenAt eevdf at w es more answers w' ss → EntersDue ss
 history_due at w w' [] [] [] ss h = rw h.1 tt
 history_due at w w' (e ∷ es) (calls ∷ more) (a ∷ answers) ss h =
@@ -187,7 +187,7 @@ eevdf_world_serves count at r i j w w' earlier es before calls given answers ss 
     let rooms = each_has_room p room in
     let x = got_by eevdf p ss i a (well_formed p sound) new si (rooms i a f) f in
     let y = got_by eevdf p ss j b (well_formed p sound) new sj (rooms j b g) g in
-    let end : running_at w' at ≡ after eevdf p ss = history_is_steps eevdf at w w' es calls answers ss k.orderly (rw k.many l) seen in (
+    let end : running_at w' at ≡ after_steps eevdf p ss = history_is_steps eevdf at w w' es calls answers ss k.orderly (rw k.many l) seen in (
       x.0,
       y.0,
       ap (λ q. task_at i q) end ∙ x.1,

@@ -6,7 +6,7 @@ use Rattle.bq_disc.specs.Tasks.{Task, with_id, place, present, id_of}
 use Rattle.bq_disc.specs.Discipline.{Discipline, woken, pulled, left_at}
 use Rattle.bq_disc.specs.OneProcessor.{Running, present_at, charge, marked}
 use Rattle.bq_bpf.specs.declared.board.CounterCall.{CounterCall}
-use Rattle.bq_fairness.specs.Steps.{Step, Enter, stepped, after, IsNew, EachEntersNew}
+use Rattle.bq_fairness.specs.Steps.{ProcessorStep, Enter, stepped, after_steps, IsNew, EachEntersNew}
 use Rattle.bq_fairness.specs.Events.{entries}
 use Rattle.bq_hooks.specs.Permitted.{task_numbered}
 use Rattle.bq_parts.specs.declared.event.Event.{Event}
@@ -14,7 +14,7 @@ use Rattle.bq_parts.specs.declared.event.Event.TheVariants.{Admit, Retire, Draw,
 use Rattle.bq_parts.specs.declared.reply.Reply.{Reply}
 use Rattle.bq_parts.specs.declared.reply.Reply.TheVariants.{Blocked, Pulled}
 use Rattle.bq_parts.specs.declared.refusal.Refusal.{Refusal}
-use Rattle.bq_parts.specs.Processors.{count_of, HasEachOnce}
+use Rattle.bq_parts.specs.Processors.{count_of_id, HasEachOnce}
 use Rattle.bq_parts.specs.Moves.{taken_from}
 use Rattle.bq_parts.specs.World.{World, inbox}
 use Rattle.bq_parts.specs.StandsOnce.{IsOrderly}
@@ -22,13 +22,13 @@ use Rattle.bq_parts.specs.Choices.{by_programs, SettledChoice}
 use Rattle.bq_parts.specs.Steps.{WorldStep}
 use Rattle.bq_parts.proofs.CountLemmas.{one, one_self, count_of-append, count_of-place, count_of-without, queue_le_present, with_id-absent, keeps_charge}
 use Rattle.bq_parts.proofs.OnceLemmas.{each_once_runnable, each_once_two}
-use Rattle.bq_fairness.specs.Seen.{running_at, entry, begins, own_steps, leaving, steps_at}
+use Rattle.bq_fairness.specs.Seen.{running_at, enter_if_pulled, decide_if_idle, own_steps, leaving, steps_at}
 use Rattle.bq_fairness.proofs.SeenLemmas.{pulls_apart}
 use Rattle.bq_fairness.proofs.WorldSoundLemmas.{Each, IsKept, HasWeight, IsSoundWorld, Holds, taken_weight}
 
 -- what enters is counted
 count_entered : (id : ℕ) (t : Task) (q : List Task) (o : Option Task)
-    → count_of id (present o (place t q)) ≡ one id t + count_of id (present o q)
+    → count_of_id id (present o (place t q)) ≡ one id t + count_of_id id (present o q)
 count_entered id t q None = count_of-place id t q
 count_entered id t q (Some c) = omega (arith, count_of-place id t q)
 
@@ -56,12 +56,12 @@ entries_new d P k p kept (t ∷ tasks) once w =
     (new, entries_new d P k next kept tasks rest w.1)
 
 -- where each task that enters over some steps, and over others after them, is new, so is each that enters over all
-pub EachEntersNew-append : (d : Discipline) (p : Running) (ss rs : List Step)
-    → EachEntersNew d p ss → EachEntersNew d (after d p ss) rs → EachEntersNew d p (ss ++ rs)
+pub EachEntersNew-append : (d : Discipline) (p : Running) (ss rs : List ProcessorStep)
+    → EachEntersNew d p ss → EachEntersNew d (after_steps d p ss) rs → EachEntersNew d p (ss ++ rs)
 EachEntersNew-append d p [] rs h k = k
 EachEntersNew-append d p (s ∷ ss) rs h k = (h.0, EachEntersNew-append d (stepped d p s) ss rs h.1 k)
 
-begins_new : (d : Discipline) (p : Running) (o : Option Task) → EachEntersNew d p (begins o)
+begins_new : (d : Discipline) (p : Running) (o : Option Task) → EachEntersNew d p (decide_if_idle o)
 begins_new d p None = (tt, tt)
 begins_new d p (Some t) = tt
 
@@ -71,7 +71,7 @@ leaving_new d p (Some id) = (tt, (tt, tt))
 
 entry_new : (d : Discipline) (P : Task → Type 0) → IsKept d P → (p : Running) (o : Option Task)
     → ((t : Task) → o ≡ Some t → HasWeight t × (with_id t.id (present_at p) ≡ None))
-    → EachEntersNew d p (entry d p o)
+    → EachEntersNew d p (enter_if_pulled d p o)
 entry_new d P k p None h = tt
 entry_new d P k p (Some t) h =
     let u = pulled d p.kept t in
@@ -80,14 +80,14 @@ entry_new d P k p (Some t) h =
     (record { id = f.1; weight = k.weight u held; ends = k.ends u held }, tt)
 
 found_counted : (kept id : ℕ) (q : List Task) (r : Option Task) (o : Option Task)
-    → with_id id q ≡ o → (t : Task) → option_map (left_at kept) o ≡ Some t → 1 ≤ count_of t.id (present r q)
+    → with_id id q ≡ o → (t : Task) → option_map (left_at kept) o ≡ Some t → 1 ≤ count_of_id t.id (present r q)
 found_counted kept id q r None e t f = cc
 found_counted kept id q r (Some x) e t f =
     let same : x.id ≡ t.id = let it : left_at kept x ≡ t = cc in ap (λ (y : Task). y.id) it in
     omega (arith, count_of-without t.id id q x e, subst (λ i. one i x ≡ 1) same (one_self x), queue_le_present t.id r q)
 
 -- a task that is taken was there
-taken_counted : (p : Running) (task : Option ℕ) (t : Task) → taken_from p task ≡ Some t → 1 ≤ count_of t.id (present_at p)
+taken_counted : (p : Running) (task : Option ℕ) (t : Task) → taken_from p task ≡ Some t → 1 ≤ count_of_id t.id (present_at p)
 taken_counted p None t e = cc
 taken_counted p (Some id) t e = found_counted p.kept id p.queue p.current (with_id id p.queue) refl t e
 
@@ -107,14 +107,14 @@ elsewhere d w processor from now task t o apart e =
       there,
     ))
 
-if_at : (d : Discipline) (p : Running) (ss rs : List Step) (t : Bool)
+if_at : (d : Discipline) (p : Running) (ss rs : List ProcessorStep) (t : Bool)
     → (t ≡ true → EachEntersNew d p ss) → (t ≡ false → EachEntersNew d p rs)
     → EachEntersNew d p (cond t ss rs)
 if_at d p ss rs true h k = h refl
 if_at d p ss rs false h k = k refl
 
 -- what an event does at its own processor, seen from a processor that may be it
-own_new : (d : Discipline) (w : World) (at processor : ℕ) (ss rs : List Step)
+own_new : (d : Discipline) (w : World) (at processor : ℕ) (ss rs : List ProcessorStep)
     → EachEntersNew d (running_at w processor) ss → EachEntersNew d (running_at w at) rs
     → EachEntersNew d (running_at w at) (cond (at == processor) ss rs)
 own_new d w at processor ss rs h k =
@@ -165,7 +165,7 @@ event_new d P k at w w' (Pull processor from now) calls (Ok r) o s h =
     (own_steps d w (Pull processor from now) (Pulled task (id_of h.1.0.running.current) settled.by settled.steps))
     (cond (at == from) (leaving task) []) (
       tt,
-      EachEntersNew-append d c (entry d c taken) (begins c.current)
+      EachEntersNew-append d c (enter_if_pulled d c taken) (decide_if_idle c.current)
           (entry_new d P k c taken (λ t e. (taken_weight d P k source task there t e, elsewhere d w processor from now task t o apart e)))
-          (begins_new d (after d c (entry d c taken)) c.current),
+          (begins_new d (after_steps d c (enter_if_pulled d c taken)) c.current),
     ) (own_new d w at from (leaving task) [] (leaving_new d (running_at w from) task) tt))

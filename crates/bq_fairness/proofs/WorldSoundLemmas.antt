@@ -9,7 +9,7 @@ use Rattle.std.proofs.lemmas.Bool.Decides.{nat_tests}
 use Rattle.bq_weights.specs.VirtualTime.{IsWeight, is_nice, weights, weight_of}
 use Rattle.bq_disc.specs.Tasks.{Task, has_id, with_id, without, place, present, runs_before, id_of}
 use Rattle.bq_disc.specs.Discipline.{Discipline, charged, woken, pulled, left_at, next_of}
-use Rattle.bq_disc.specs.OneProcessor.{Running, present_at, charge, run_id, start, exchanged, decided, entered, enter_all}
+use Rattle.bq_disc.specs.OneProcessor.{Running, present_at, charge, run_id, choice_started, exchanged, decided, entered, enter_all}
 use Rattle.bq_bpf.specs.declared.board.CounterCall.{CounterCall}
 use Rattle.bq_parts.specs.declared.carried.Carried.{Carried}
 use Rattle.bq_parts.specs.declared.lobby_entry.LobbyEntry.{LobbyEntry}
@@ -18,9 +18,9 @@ use Rattle.bq_parts.specs.declared.event.Event.{Event}
 use Rattle.bq_parts.specs.declared.event.Event.TheVariants as event
 use Rattle.bq_parts.specs.declared.reply.Reply.{Reply}
 use Rattle.bq_parts.specs.declared.refusal.Refusal.TheVariants as no
-use Rattle.bq_parts.specs.Processors.{Processor, opening}
+use Rattle.bq_parts.specs.Processors.{Processor, new_processor}
 use Rattle.bq_parts.specs.Refusals.{refusal}
-use Rattle.bq_parts.specs.World.{World, opening_world, processor_at, inbox, entry, count_in, with_processor, with_inbox, with_lobby}
+use Rattle.bq_parts.specs.World.{World, opening_world, processor_at, inbox, entry_of_id, count_in, with_processor, with_inbox, with_lobby}
 use Rattle.bq_parts.specs.Choices.{PolicySemantics, SettledChoice}
 use Rattle.bq_parts.specs.Moves.{taken_from, without_task, with_pulled, started_if_idle, admitted}
 use Rattle.bq_parts.specs.Shares.{Decides, after_time, remarked}
@@ -107,7 +107,7 @@ holds_run : (P : Task → Type 0) (p : Running) (o : Option ℕ) → Holds P p �
 holds_run P p None h = h
 holds_run P p (Some id) h = record { current = λ t e. each_found P id p.queue t h.queue e; queue = each_without P id p.queue h.queue }
 
-holds_start : (d : Discipline) (P : Task → Type 0) (p : Running) → Holds P p → Holds P (start d p)
+holds_start : (d : Discipline) (P : Task → Type 0) (p : Running) → Holds P p → Holds P (choice_started d p)
 holds_start d P p h = holds_run P p (id_of (d.choice p.queue)) h
 
 holds_exchanged : (P : Task → Type 0) (p : Running) (old : Task) (o : Option Task)
@@ -170,7 +170,7 @@ pub record IsSoundWorld (P : Task → Type 0) (w : World) : Type 0 where
   pub running : (processor : ℕ) → Holds P (processor_at w processor).running
   pub hand : (processor : ℕ) (c : Carried) → (processor_at w processor).hand ≡ Some c → HasWeight c.task
   pub placed : (processor : ℕ) → Each HasWeight (inbox w processor)
-  pub lobby : (id : ℕ) (t : Task) → entry w id ≡ Sleeping t → HasWeight t
+  pub lobby : (id : ℕ) (t : Task) → entry_of_id w id ≡ Sleeping t → HasWeight t
 
 abbrev HandIsSound : Processor → Type 0
 HandIsSound q = (c : Carried) → q.hand ≡ Some c → HasWeight c.task
@@ -178,8 +178,8 @@ HandIsSound q = (c : Carried) → q.hand ≡ Some c → HasWeight c.task
 sound_processor : (P : Task → Type 0) (w : World) (processor : ℕ) (q : Processor)
     → IsSoundWorld P w → Holds P q.running → HandIsSound q → IsSoundWorld P (with_processor w processor q)
 sound_processor P w processor q s h k = record {
-  running = at_set (λ n (p : Processor). Holds P p.running) w.processors processor q opening h s.running;
-  hand = at_set (λ n (p : Processor). HandIsSound p) w.processors processor q opening k s.hand;
+  running = at_set (λ n (p : Processor). Holds P p.running) w.processors processor q new_processor h s.running;
+  hand = at_set (λ n (p : Processor). HandIsSound p) w.processors processor q new_processor k s.hand;
   placed = s.placed;
   lobby = s.lobby;
 }
@@ -333,10 +333,10 @@ performs_sound s P k w (event.Pull processor from now) calls r w' y free h =
 -- in the opening world, where no task is, any fact is kept of every task
 pub opening_sound : (P : Task → Type 0) (count : ℕ) → IsSoundWorld P (opening_world count)
 opening_sound P count = record {
-  running = λ processor. rw (same_everywhere {X = Processor} opening count processor) (record { current = λ t e. cc; queue = tt });
+  running = λ processor. rw (same_everywhere {X = Processor} new_processor count processor) (record { current = λ t e. cc; queue = tt });
   hand = λ processor c e.
       let none : None ≡ Some c =
-      sym (ap (λ (p : Processor). p.hand) (same_everywhere {X = Processor} opening count processor)) ∙ e in
+      sym (ap (λ (p : Processor). p.hand) (same_everywhere {X = Processor} new_processor count processor)) ∙ e in
       cc;
   placed = λ processor. rw (same_everywhere {X = List Task} [] count processor) tt;
   lobby = λ id t e. let none : Absent ≡ Sleeping t = sym (same_everywhere {X = LobbyEntry} Absent 1024 id) ∙ e in cc;

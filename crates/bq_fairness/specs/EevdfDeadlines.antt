@@ -4,10 +4,10 @@ use Rattle.std.specs.Prelude.{◌≡◌, ℕ, ◌+◌, ◌*◌, ◌≤◌, max, 
 use Rattle.bq_weights.specs.VirtualTime.{vdelta_of}
 use Rattle.bq_disc.specs.Tasks.{Task}
 use Rattle.bq_disc.specs.OneProcessor.{Running, present_at}
-use Rattle.bq_cfs.specs.Spread.{IsSound}
+use Rattle.bq_cfs.specs.Spread.{AreTasksSound}
 use Rattle.bq_eevdf.specs.Eevdf.{eevdf}
-use Rattle.bq_fairness.specs.Histories.{HasRoom, RisesByAtMost, history, task_at, served}
-use Rattle.bq_fairness.specs.Work.{weight_at, weighted_v_at, booked, elapsed, most_lost}
+use Rattle.bq_fairness.specs.Histories.{HasRoom, TicksRiseByAtMost, history, task_at, served}
+use Rattle.bq_fairness.specs.Work.{weight_present, weighted_v_at, booked, elapsed, most_lost}
 
 -- the deadline of each task is no earlier than its v, and at most one slice later, as it is at each entry
 abbrev pub HasDeadlines : Running → Type 0
@@ -17,7 +17,7 @@ HasDeadlines p = All (λ t. (t.v ≤ t.deadline) × (t.deadline ≤ t.v + vdelta
 abbrev pub NoneIsBeyondADeadline : Type 0
 NoneIsBeyondADeadline =
     (V r : ℕ) (p : Running) (nows : List ℕ) →
-    IsSound p → HasDeadlines p → All (λ t. t.v ≤ V) (present_at p) → RisesByAtMost r eevdf p nows →
+    AreTasksSound p → HasDeadlines p → All (λ t. t.v ≤ V) (present_at p) → TicksRiseByAtMost r eevdf p nows →
     HasDeadlines (history eevdf p nows)
     × ((i j : ℕ) (u t : Task) → task_at i (history eevdf p nows) ≡ Some u → task_at j (history eevdf p nows) ≡ Some t → u.v ≤ max V t.deadline + vdelta_of r u.weight)
 
@@ -26,28 +26,28 @@ NoneIsBeyondADeadline =
 abbrev pub EevdfOwedBySlices : Type 0
 EevdfOwedBySlices =
     (V r : ℕ) (p : Running) (nows : List ℕ) (j : ℕ) (b : Task) →
-    IsSound p → HasDeadlines p → All (λ t. t.v ≤ V) (present_at p) → RisesByAtMost r eevdf p nows → task_at j (history eevdf p nows) ≡ Some b →
-    (let q = history eevdf p nows in weighted_v_at q ≤ weight_at q * max V (b.v + vdelta_of b.slice b.weight) + 1024 * r * length (present_at q))
+    AreTasksSound p → HasDeadlines p → All (λ t. t.v ≤ V) (present_at p) → TicksRiseByAtMost r eevdf p nows → task_at j (history eevdf p nows) ≡ Some b →
+    (let q = history eevdf p nows in weighted_v_at q ≤ weight_present q * max V (b.v + vdelta_of b.slice b.weight) + 1024 * r * length (present_at q))
 
 -- Proportional service: of two tasks a and b, a comes to no more virtual time than the sum of three: the greater of where it
 -- began and one slice of b's beyond where b began; what b was served; and one rise at a's own weight
 abbrev pub EevdfServesBySlices : Type 0
 EevdfServesBySlices =
     (r : ℕ) (p : Running) (nows : List ℕ) (i j : ℕ) (a b : Task) →
-    IsSound p → HasRoom p → HasDeadlines p → RisesByAtMost r eevdf p nows → task_at i p ≡ Some a → task_at j p ≡ Some b →
+    AreTasksSound p → HasRoom p → HasDeadlines p → TicksRiseByAtMost r eevdf p nows → task_at i p ≡ Some a → task_at j p ≡ Some b →
     a.v + served i eevdf p nows ≤ served j eevdf p nows + max a.v (b.v + vdelta_of b.slice b.weight) + vdelta_of r a.weight
 
 -- Service by share: what a task is served, times the weights of all, is at least what is booked, except for a bound by its slice
 abbrev pub EevdfSharesBySlices : Type 0
 EevdfSharesBySlices =
     (V r : ℕ) (p : Running) (nows : List ℕ) (j : ℕ) (b : Task) →
-    IsSound p → HasRoom p → HasDeadlines p → All (λ t. t.v ≤ V) (present_at p) → RisesByAtMost r eevdf p nows → task_at j p ≡ Some b →
-    weighted_v_at p + booked eevdf p nows ≤ weight_at p * (served j eevdf p nows + max V (b.v + vdelta_of b.slice b.weight)) + 1024 * r * length (present_at p)
+    AreTasksSound p → HasRoom p → HasDeadlines p → All (λ t. t.v ≤ V) (present_at p) → TicksRiseByAtMost r eevdf p nows → task_at j p ≡ Some b →
+    weighted_v_at p + booked eevdf p nows ≤ weight_present p * (served j eevdf p nows + max V (b.v + vdelta_of b.slice b.weight)) + 1024 * r * length (present_at p)
 
 -- Bounded waiting: as long as a task is served nothing, the clock rises by no more than this
 abbrev pub EevdfWaitsBySlices : Type 0
 EevdfWaitsBySlices =
     (L S r : ℕ) (p : Running) (nows : List ℕ) (j : ℕ) (b : Task) →
-    IsSound p → HasRoom p → HasDeadlines p → All (λ t. (L ≤ t.v) × (t.v ≤ L + S)) (present_at p) → RisesByAtMost r eevdf p nows →
+    AreTasksSound p → HasRoom p → HasDeadlines p → All (λ t. (L ≤ t.v) × (t.v ≤ L + S)) (present_at p) → TicksRiseByAtMost r eevdf p nows →
     IsSome p.current → task_at j p ≡ Some b → served j eevdf p nows ≡ 0 →
-    1024 * elapsed eevdf p nows ≤ weight_at p * (S + vdelta_of b.slice b.weight) + 1024 * r * length (present_at p) + most_lost nows
+    1024 * elapsed eevdf p nows ≤ weight_present p * (S + vdelta_of b.slice b.weight) + 1024 * r * length (present_at p) + most_lost nows

@@ -3,18 +3,18 @@ use Rattle.std.specs.Prelude.{◌≡◌, ℕ, List, [], ◌∷◌, None, Some}
 use Rattle.bq_disc.specs.Tasks.{Task, with_id}
 use Rattle.bq_disc.specs.Queues.{HasDistinctIds}
 use Rattle.bq_disc.specs.Discipline.{Discipline, woken, pulled}
-use Rattle.bq_disc.specs.OneProcessor.{Running, present_at, marked, charge, start, decided, own_preempt, enter_all, ticked}
+use Rattle.bq_disc.specs.OneProcessor.{Running, present_at, marked, charge, choice_started, decided, own_preempt, enter_all, ticked}
 use Rattle.bq_parts.specs.Moves.{with_pulled, without_task}
-use Rattle.bq_fairness.specs.Steps.{Step, Pass, Decide, Enter, Leave, Mark, after}
+use Rattle.bq_fairness.specs.Steps.{ProcessorStep, Pass, Decide, Enter, Leave, Mark, after_steps}
 
 -- some woken tasks enter at a mark, then the rule decides
-abbrev pub entries : Discipline → ℕ → List Task → List Step
+abbrev pub entries : Discipline → ℕ → List Task → List ProcessorStep
 entries d kept [] = Decide ∷ []
 entries d kept (t ∷ tasks) = Enter (woken d kept t) ∷ entries d kept tasks
 
 -- Block: the current task goes, then the queue's choice runs
 abbrev pub after_block : Discipline → Running → ℕ → Running
-after_block d p now = start d (record (charge d p now) { current = None })
+after_block d p now = choice_started d (record (charge d p now) { current = None })
 
 -- Drain: woken tasks enter in their order, then it is decided who runs
 abbrev pub after_drain : Discipline → Running → ℕ → List Task → Running
@@ -23,15 +23,15 @@ after_drain d p now tasks = let e = enter_all d (charge d p now) tasks in decide
 -- each event is some steps at the processor
 pub record EventsAreSteps : Type 0 where
   -- Tick
-  pub tick : (d : Discipline) (p : Running) (now : ℕ) → ticked d p now ≡ after d p (Pass now ∷ Decide ∷ [])
+  pub tick : (d : Discipline) (p : Running) (now : ℕ) → ticked d p now ≡ after_steps d p (Pass now ∷ Decide ∷ [])
   pub block : (d : Discipline) (p : Running) (now : ℕ) (t : Task) → HasDistinctIds (present_at p) → (charge d p now).current ≡ Some t →
-      after_block d p now ≡ after d p (Pass now ∷ Leave t.id ∷ Decide ∷ [])
-  pub drain : (d : Discipline) (p : Running) (now : ℕ) (tasks : List Task) → after_drain d p now tasks ≡ after d p (Pass now ∷ entries d (charge d p now).kept tasks)
+      after_block d p now ≡ after_steps d p (Pass now ∷ Leave t.id ∷ Decide ∷ [])
+  pub drain : (d : Discipline) (p : Running) (now : ℕ) (tasks : List Task) → after_drain d p now tasks ≡ after_steps d p (Pass now ∷ entries d (charge d p now).kept tasks)
   -- the end of a wake
-  pub wake : (d : Discipline) (p : Running) (now : ℕ) → charge d p now ≡ after d p (Pass now ∷ [])
+  pub wake : (d : Discipline) (p : Running) (now : ℕ) → charge d p now ≡ after_steps d p (Pass now ∷ [])
   -- Pull: a task enters; if nothing runs, the queue's choice does
-  pub pull : (d : Discipline) (p : Running) (now : ℕ) (t : Task) → (let c = charge d p now in with_pulled d c (Some t) ≡ after d p (Pass now ∷ Enter (pulled d c.kept t) ∷ []))
-  pub idle : (d : Discipline) (p : Running) → p.current ≡ None → start d p ≡ after d p (Decide ∷ [])
+  pub pull : (d : Discipline) (p : Running) (now : ℕ) (t : Task) → (let c = charge d p now in with_pulled d c (Some t) ≡ after_steps d p (Pass now ∷ Enter (pulled d c.kept t) ∷ []))
+  pub idle : (d : Discipline) (p : Running) → p.current ≡ None → choice_started d p ≡ after_steps d p (Decide ∷ [])
   -- Pull, at the other processor: a task leaves the queue
   pub pulled_away : (d : Discipline) (p : Running) (id : ℕ) (t : Task) → HasDistinctIds (present_at p) → with_id id p.queue ≡ Some t →
-      without_task (marked d p) (Some id) ≡ after d p (Mark ∷ Leave id ∷ [])
+      without_task (marked d p) (Some id) ≡ after_steps d p (Mark ∷ Leave id ∷ [])

@@ -12,22 +12,22 @@ history d p [] = p
 history d p (now ∷ nows) = history d (ticked d p now) nows
 
 -- the clock rises by at most r at each of the Ticks
-abbrev pub RisesByAtMost : ℕ → Discipline → Running → List ℕ → Type 0
-RisesByAtMost r d p [] = Unit {0}
-RisesByAtMost r d p (now ∷ nows) = (rise p now ≤ r) × RisesByAtMost r d (ticked d p now) nows
+abbrev pub TicksRiseByAtMost : ℕ → Discipline → Running → List ℕ → Type 0
+TicksRiseByAtMost r d p [] = Unit {0}
+TicksRiseByAtMost r d p (now ∷ nows) = (rise p now ≤ r) × TicksRiseByAtMost r d (ticked d p now) nows
 
 -- the present task with this id, if there is one
 abbrev pub task_at : ℕ → Running → Option Task
 task_at id p = with_id id (present_at p)
 
 -- the virtual time that a Tick charges the task with this id: what the rise takes at its weight, if it runs; else 0
-abbrev pub charge_of : ℕ → Running → ℕ → ℕ
-charge_of id p now = option_map_or (λ t. if has_id id t then vdelta_of (rise p now) t.weight else 0) p.current 0
+abbrev pub tick_charge : ℕ → Running → ℕ → ℕ
+tick_charge id p now = option_map_or (λ t. if has_id id t then vdelta_of (rise p now) t.weight else 0) p.current 0
 
 -- the virtual time that a task is served: the sum of its charges
 abbrev pub served : ℕ → Discipline → Running → List ℕ → ℕ
 served id d p [] = 0
-served id d p (now ∷ nows) = charge_of id p now + served id d (ticked d p now) nows
+served id d p (now ∷ nows) = tick_charge id p now + served id d (ticked d p now) nows
 
 -- virtual time does not run out before the clock does: even at the least weight, the rest of the clock takes no task beyond 2^62
 abbrev pub HasRoom : Running → Type 0

@@ -3,7 +3,7 @@ use Rattle.std.specs.Prelude.{◌≡◌, ℕ, ◌<◌, List, Option, Result, Ok}
 use Rattle.bq_disc.specs.Discipline.{Discipline}
 use Rattle.bq_disc.specs.OneProcessor.{Running, ticked}
 use Rattle.bq_cfs.specs.Cfs.{cfs}
-use Rattle.bq_cfs.specs.Spread.{passed, Tick as TickAt, Block as BlockAt}
+use Rattle.bq_cfs.specs.Spread.{processor_passed, Tick as TickAt, Block as BlockAt}
 use Rattle.bq_bpf.specs.declared.board.CounterCall.{CounterCall}
 use Rattle.bq_hooks.specs.declared.settled.By.TheVariants as who
 use Rattle.bq_parts.specs.declared.event.Event.TheVariants.{Tick, Block}
@@ -36,7 +36,7 @@ pub record DisciplinePasses : Type 0 where
 pub record CfsPasses : Type 0 where
   pub tick : (w w' : World) (processor now : ℕ) (calls : List CounterCall) (run : Option ℕ) (steps : ℕ) →
       WorldStep (by_programs cfs) w (Tick processor now) calls (Ok (Ticked run who.Discipline steps)) w' →
-      (processor_at w' processor).running ≡ passed (processor_at w processor).running (TickAt now)
+      (processor_at w' processor).running ≡ processor_passed (processor_at w processor).running (TickAt now)
   pub block : (w w' : World) (processor now : ℕ) (calls : List CounterCall) (answer : Result Reply Refusal) → processor < count_in w →
       WorldStep (by_programs cfs) w (Block processor now) calls answer w' →
-      (processor_at w' processor).running ≡ passed (processor_at w processor).running (BlockAt now)
+      (processor_at w' processor).running ≡ processor_passed (processor_at w processor).running (BlockAt now)

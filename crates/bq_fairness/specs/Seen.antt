@@ -5,7 +5,7 @@ use Rattle.bq_disc.specs.Discipline.{Discipline, pulled}
 use Rattle.bq_disc.specs.OneProcessor.{Running, charge, marked}
 use Rattle.bq_bpf.specs.declared.board.CounterCall.{CounterCall}
 use Rattle.bq_hooks.specs.declared.settled.By.TheVariants as who
-use Rattle.bq_fairness.specs.Steps.{Step, Pass, Decide, Enter, Leave, Mark, after}
+use Rattle.bq_fairness.specs.Steps.{ProcessorStep, Pass, Decide, Enter, Leave, Mark, after_steps}
 use Rattle.bq_fairness.specs.Events.{entries}
 use Rattle.bq_parts.specs.declared.event.Event.{Event}
 use Rattle.bq_parts.specs.declared.event.Event.TheVariants as event
@@ -23,33 +23,33 @@ abbrev pub running_at : World → ℕ → Running
 running_at w processor = (processor_at w processor).running
 
 -- a pulled task, if there is one, enters
-abbrev pub entry : Discipline → Running → Option Task → List Step
-entry d p None = []
-entry d p (Some t) = Enter (pulled d p.kept t) ∷ []
+abbrev pub enter_if_pulled : Discipline → Running → Option Task → List ProcessorStep
+enter_if_pulled d p None = []
+enter_if_pulled d p (Some t) = Enter (pulled d p.kept t) ∷ []
 
 -- the queue's choice begins to run if nothing runs
-abbrev pub begins : Option Task → List Step
-begins None = Decide ∷ []
-begins (Some t) = []
+abbrev pub decide_if_idle : Option Task → List ProcessorStep
+decide_if_idle None = Decide ∷ []
+decide_if_idle (Some t) = []
 
 -- the steps of an answered event at the processor that it is for
-abbrev pub own_steps : Discipline → World → Event → Reply → List Step
+abbrev pub own_steps : Discipline → World → Event → Reply → List ProcessorStep
 own_steps d w (event.EndWake processor now) r = Pass now ∷ []
 own_steps d w (event.Drain processor now) r = Pass now ∷ entries d (charge d (running_at w processor) now).kept (inbox w processor)
 own_steps d w (event.Tick processor now) r = Pass now ∷ Decide ∷ []
 own_steps d w (event.Block processor now) (Blocked task run) = Pass now ∷ Leave task ∷ Decide ∷ []
 own_steps d w (event.Pull processor from now) (Pulled task run by steps) =
     let c = charge d (running_at w processor) now in
-    Pass now ∷ entry d c (taken_from (marked d (running_at w from)) task) ++ begins c.current
+    Pass now ∷ enter_if_pulled d c (taken_from (marked d (running_at w from)) task) ++ decide_if_idle c.current
 own_steps d w e r = []
 
 -- the steps of a pull at the other processor: the mark is computed again, and the task, if there is one, leaves
-abbrev pub leaving : Option ℕ → List Step
+abbrev pub leaving : Option ℕ → List ProcessorStep
 leaving None = Mark ∷ []
 leaving (Some id) = Mark ∷ Leave id ∷ []
 
 -- the steps of an answered event at the other processor of a pull
-abbrev pub source_steps : Event → Reply → List Step
+abbrev pub source_steps : Event → Reply → List ProcessorStep
 source_steps (event.Pull processor from now) (Pulled task run by steps) = leaving task
 source_steps e r = []
 
@@ -68,13 +68,13 @@ source (event.Pull processor from now) = Some from
 source e = None
 
 -- whether this is the processor given
-abbrev pub is_at : ℕ → Option ℕ → Bool
-is_at at None = false
-is_at at (Some processor) = at == processor
+abbrev pub is_own_processor : ℕ → Option ℕ → Bool
+is_own_processor at None = false
+is_own_processor at (Some processor) = at == processor
 
 -- the steps that an answered event makes at a processor: none if it was refused
-abbrev pub steps_at : Discipline → ℕ → World → Event → Result Reply Refusal → List Step
-steps_at d at w e (Ok r) = if is_at at (own_processor e) then own_steps d w e r else if is_at at (source e) then source_steps e r else []
+abbrev pub steps_at : Discipline → ℕ → World → Event → Result Reply Refusal → List ProcessorStep
+steps_at d at w e (Ok r) = if is_own_processor at (own_processor e) then own_steps d w e r else if is_own_processor at (source e) then source_steps e r else []
 steps_at d at w e (Err r) = []
 
 -- if the event asks who runs at that processor, the discipline answered
@@ -84,10 +84,10 @@ DecidesAlone at (event.Tick processor now) (Ok (Ticked run by steps)) = at ≡ p
 DecidesAlone at e a = Unit {0}
 
 -- a history of the world, and the steps that it makes at a processor if only the discipline decides there
-abbrev pub IsSeenAt : Discipline → ℕ → World → List Event → List (List CounterCall) → List (Result Reply Refusal) → World → List Step → Type 0
+abbrev pub IsSeenAt : Discipline → ℕ → World → List Event → List (List CounterCall) → List (Result Reply Refusal) → World → List ProcessorStep → Type 0
 IsSeenAt d at w [] [] [] w' ss = (w' ≡ w) × (ss ≡ [])
 IsSeenAt d at w (e ∷ es) (calls ∷ more) (a ∷ answers) w' ss =
-    (mid : World) × (rest : List Step) × WorldStep (by_programs d) w e calls a mid × DecidesAlone at e a
+    (mid : World) × (rest : List ProcessorStep) × WorldStep (by_programs d) w e calls a mid × DecidesAlone at e a
     × IsSeenAt d at mid es more answers w' rest × (ss ≡ steps_at d at w e a ++ rest)
 IsSeenAt d at w es more answers w' ss = ⊥
 
@@ -96,10 +96,10 @@ abbrev pub EventIsSteps : Type 0
 EventIsSteps =
     (d : Discipline) (at : ℕ) (w w' : World) (e : Event) (calls : List CounterCall) (a : Result Reply Refusal) →
     IsOrderly w → at < count_in w → WorldStep (by_programs d) w e calls a w' → DecidesAlone at e a →
-    running_at w' at ≡ after d (running_at w at) (steps_at d at w e a)
+    running_at w' at ≡ after_steps d (running_at w at) (steps_at d at w e a)
 
 -- what a history does at a processor is its steps there
 abbrev pub HistoryIsSteps : Type 0
 HistoryIsSteps =
-    (d : Discipline) (at : ℕ) (w w' : World) (es : List Event) (more : List (List CounterCall)) (answers : List (Result Reply Refusal)) (ss : List Step) →
-    IsOrderly w → at < count_in w → IsSeenAt d at w es more answers w' ss → running_at w' at ≡ after d (running_at w at) ss
+    (d : Discipline) (at : ℕ) (w w' : World) (es : List Event) (more : List (List CounterCall)) (answers : List (Result Reply Refusal)) (ss : List ProcessorStep) →
+    IsOrderly w → at < count_in w → IsSeenAt d at w es more answers w' ss → running_at w' at ≡ after_steps d (running_at w at) ss

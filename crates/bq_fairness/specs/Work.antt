@@ -5,12 +5,12 @@ use Rattle.bq_weights.specs.VirtualTime.{vdelta_of}
 use Rattle.bq_disc.specs.Discipline.{Discipline}
 use Rattle.bq_disc.specs.Totals.{total_weight, weighted_sum}
 use Rattle.bq_disc.specs.OneProcessor.{Running, present_at, ticked, rise}
-use Rattle.bq_cfs.specs.Spread.{IsSound}
+use Rattle.bq_cfs.specs.Spread.{AreTasksSound}
 use Rattle.bq_fairness.specs.Histories.{history, HasRoom}
 
 -- the sum of the weights of all present tasks
-abbrev pub weight_at : Running → ℕ
-weight_at p = total_weight (present_at p)
+abbrev pub weight_present : Running → ℕ
+weight_present p = total_weight (present_at p)
 
 -- the sum of weight times v of all present tasks
 abbrev pub weighted_v_at : Running → ℕ
@@ -36,11 +36,11 @@ elapsed d p nows = (history d p nows).last - p.last
 -- If a task runs, what is booked is the time that passes, except for less than a weight lost at each Tick
 abbrev pub BooksTheTime : Type 0
 BooksTheTime =
-    (d : Discipline) (p : Running) (nows : List ℕ) → IsSound p → IsSome p.current →
+    (d : Discipline) (p : Running) (nows : List ℕ) → AreTasksSound p → IsSome p.current →
     (booked d p nows ≤ 1024 * elapsed d p nows) × (1024 * elapsed d p nows ≤ booked d p nows + most_lost nows)
 
 -- The sum of weight times v rises by what is booked, however the rule decides
 abbrev pub MovesTheSum : Type 0
 MovesTheSum =
-    (d : Discipline) (p : Running) (nows : List ℕ) → IsSound p → HasRoom p →
-    (weighted_v_at (history d p nows) ≡ weighted_v_at p + booked d p nows) × (weight_at (history d p nows) ≡ weight_at p)
+    (d : Discipline) (p : Running) (nows : List ℕ) → AreTasksSound p → HasRoom p →
+    (weighted_v_at (history d p nows) ≡ weighted_v_at p + booked d p nows) × (weight_present (history d p nows) ≡ weight_present p)

@@ -8,7 +8,7 @@ use Rattle.bq_cfs.specs.Cfs.{cfs}
 use Rattle.bq_eevdf.specs.Eevdf.{eevdf}
 use Rattle.bq_bpf.specs.declared.board.CounterCall.{CounterCall}
 use Rattle.bq_fairness.specs.Histories.{HasRoom, task_at}
-use Rattle.bq_fairness.specs.Steps.{Step, DecidesWithin, StaysThroughout}
+use Rattle.bq_fairness.specs.Steps.{ProcessorStep, DecidesWithin, StaysThroughout}
 use Rattle.bq_parts.specs.declared.event.Event.{Event}
 use Rattle.bq_parts.specs.declared.reply.Reply.{Reply}
 use Rattle.bq_parts.specs.declared.refusal.Refusal.{Refusal}
@@ -21,7 +21,7 @@ use Rattle.bq_fairness.specs.Seen.{running_at, IsSeenAt}
 -- beyond where b began; as far as b came in the meantime; and one rise of the clock at a's own weight
 abbrev pub CfsWorldServes : Type 0
 CfsWorldServes =
-    (count at r i j : ℕ) (w w' : World) (earlier es : List Event) (before calls : List (List CounterCall)) (given answers : List (Result Reply Refusal)) (ss : List Step) (a b : Task) →
+    (count at r i j : ℕ) (w w' : World) (earlier es : List Event) (before calls : List (List CounterCall)) (given answers : List (Result Reply Refusal)) (ss : List ProcessorStep) (a b : Task) →
     WorldRun (by_programs cfs) (opening_world count) earlier before given w → at < count → IsSeenAt cfs at w es calls answers w' ss →
     HasRoom (running_at w at) → DecidesWithin r cfs 0 (running_at w at) ss → StaysThroughout i ss → StaysThroughout j ss →
     task_at i (running_at w at) ≡ Some a → task_at j (running_at w at) ≡ Some b →
@@ -31,7 +31,7 @@ CfsWorldServes =
 -- EEVDF: the bound of CFS holds with one slice of b's in place of 1,000,000
 abbrev pub EevdfWorldServes : Type 0
 EevdfWorldServes =
-    (count at r i j : ℕ) (w w' : World) (earlier es : List Event) (before calls : List (List CounterCall)) (given answers : List (Result Reply Refusal)) (ss : List Step) (a b : Task) →
+    (count at r i j : ℕ) (w w' : World) (earlier es : List Event) (before calls : List (List CounterCall)) (given answers : List (Result Reply Refusal)) (ss : List ProcessorStep) (a b : Task) →
     WorldRun (by_programs eevdf) (opening_world count) earlier before given w → at < count → IsSeenAt eevdf at w es calls answers w' ss →
     HasRoom (running_at w at) → DecidesWithin r eevdf 0 (running_at w at) ss → StaysThroughout i ss → StaysThroughout j ss →
     task_at i (running_at w at) ≡ Some a → task_at j (running_at w at) ≡ Some b →

@@ -3,7 +3,7 @@ use Rattle.std.proofs.Common.{◌≡◌, ◌≢◌, ℕ, zero, suc, ◌+◌, ◌
 use mathlib.Core.Option.{some, some-ne-none, some-injective}
 use lib.ListN.{get_elem?}
 use Rattle.atomic_table.proofs.Lists.{at_set, at_snoc, set_else}
-use Rattle.bq_history.specs.Whole.{total, count, Each, first_of, others_of, Keeps, Has, MayExchange}
+use Rattle.bq_history.specs.Whole.{total, count, Each, first_item, others_of, Keeps, Has, MayExchange}
 
 module _ {A : Type 0} (f : A → ℕ) where
   -- an item in place of another changes the total by their difference
@@ -39,12 +39,12 @@ module _ {E : Type 0} where
   count-append p (x ∷ xs) w = let h = count-append p xs w in omega arith
 
   -- the first item and the others are all items
-  pub count_cut : (p : E → Bool) (v : List E) → count p (others_of v) + count p (first_of v) ≡ count p v
+  pub count_cut : (p : E → Bool) (v : List E) → count p (others_of v) + count p (first_item v) ≡ count p v
   count_cut p [] = refl
   count_cut p (x ∷ xs) = omega arith
 
   -- what each has, the first has
-  pub each_first : (P : E → Type 0) (v : List E) → Each P v → Each P (first_of v)
+  pub each_first : (P : E → Type 0) (v : List E) → Each P v → Each P (first_item v)
   each_first P [] h = tt
   each_first P (x ∷ xs) h = (h.0, tt)
 
@@ -80,12 +80,12 @@ module _ {E T : Type 0} (same : E → E → Bool) (good : T → Type 0) (fits : 
 
   -- the first item goes to a new holder
   pub cuts : (views : List (List E)) (id : ℕ) (v : List E) → Keeps same good fits views → get_elem? views id ≡ some v
-      → Keeps same good fits (set views id (others_of v) ++ first_of v ∷ [])
+      → Keeps same good fits (set views id (others_of v) ++ first_item v ∷ [])
   cuts views id v k at = (
     k.0,
     k.1,
     (λ e. let a = total_set (count (same e)) views id v (others_of v) at in
-        let b = total_snoc (count (same e)) (set views id (others_of v)) (first_of v) in
+        let b = total_snoc (count (same e)) (set views id (others_of v)) (first_item v) in
         let c = count_cut (same e) v in
         let d = k.2 e in
         omega arith),
@@ -94,8 +94,8 @@ module _ {E T : Type 0} (same : E → E → Bool) (good : T → Type 0) (fits : 
         (λ (x : (by ≡ id) × (others_of v ≡ w)). subst (Each (fits k.0)) x.1 (each_others (fits k.0) v (k.3 id v at)))
         (λ (x : (by ≢ id) × (get_elem? views by ≡ some w)). k.3 by w x.1)
         (at_set views id by (others_of v) w was))
-        (λ (new : first_of v ≡ w). subst (Each (fits k.0)) new (each_first (fits k.0) v (k.3 id v at)))
-        (at_snoc (set views id (others_of v)) (first_of v) w by e),
+        (λ (new : first_item v ≡ w). subst (Each (fits k.0)) new (each_first (fits k.0) v (k.3 id v at)))
+        (at_snoc (set views id (others_of v)) (first_item v) w by e),
   )
 
   -- one holder takes all that another has

@@ -1,6 +1,6 @@
 //! What the holders share.
 ghost use Rattle.std.specs.Prelude.{◌≡◌, ◌++◌, IfOk, []};
-ghost use Rattle.bq_history.specs.Whole.{MayExchange, Has, first_of, others_of};
+ghost use Rattle.bq_history.specs.Whole.{MayExchange, Has, first_item, others_of};
 
 use crate::holder::Holder;
 use crate::law::{Apart, Fact, Holding, Law, Look, Naming, Ruled, Step, Together, Whole};
@@ -89,7 +89,7 @@ impl<E, T, K, L: Law<E, T, K>, N: Naming> Owner<E, T, K, L, N> {
 
     /// Gives the first item to a new holder.
     pub fn part(&self, from: &mut Holder<E, N>) -> Holder<E, N>
-        ensures { (from.new ≡ others_of from.old) × (result ≡ first_of from.old) }
+        ensures { (from.new ≡ others_of from.old) × (result ≡ first_item from.old) }
     {
         let seat = self.table.shared.split_seat::<Apart>(&mut from.seat);
         Holder {
@@ -116,7 +116,7 @@ impl<E, T, K, L: Law<E, T, K>, N: Naming> Owner<E, T, K, L, N> {
 
     /// Gives the first item of `from` to `to`.
     pub fn deal(&self, from: &mut Holder<E, N>, to: &mut Holder<E, N>)
-        ensures { (from.new ≡ others_of from.old) × (to.new ≡ to.old ++ first_of from.old) }
+        ensures { (from.new ≡ others_of from.old) × (to.new ≡ to.old ++ first_item from.old) }
     {
         let one = self.part(from);
         self.join(to, one);

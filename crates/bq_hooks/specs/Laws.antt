@@ -10,15 +10,15 @@ use Rattle.bq_hooks.specs.Permitted.{may_place, may_preempt, may_pull}
 use Rattle.bq_hooks.specs.Settled.{settled}
 
 -- a list is of this length and consists of bytes
-abbrev pub AreBytes : ℕ → List ℕ → Type 0
-AreBytes n xs = (length xs ≡ n) × ((i b : ℕ) → slice_get xs i ≡ Some b → b < 256)
+abbrev pub AreBytesOfLength : ℕ → List ℕ → Type 0
+AreBytesOfLength n xs = (length xs ≡ n) × ((i b : ℕ) → slice_get xs i ≡ Some b → b < 256)
 
 -- each context has its length and consists of bytes, whatever it shows
 pub record ContextsAreBytes : Type 0 where
-  pub place_first : (f : PlaceFacts) → AreBytes 104 (place_bytes_first f)
-  pub place_second : (f : PlaceFacts) → AreBytes 296 (place_bytes_second f)
-  pub preempt : (f : PreemptFacts) → AreBytes 56 (preempt_bytes f)
-  pub pull : (f : PullFacts) → AreBytes 160 (pull_bytes f)
+  pub place_first : (f : PlaceFacts) → AreBytesOfLength 104 (place_bytes_first f)
+  pub place_second : (f : PlaceFacts) → AreBytesOfLength 296 (place_bytes_second f)
+  pub preempt : (f : PreemptFacts) → AreBytesOfLength 56 (preempt_bytes f)
+  pub pull : (f : PullFacts) → AreBytesOfLength 160 (pull_bytes f)
 
 -- the discipline's own choice is permitted: a place if the task may use some processor of the machine, and a task to pull if
 -- no two tasks of the queue share an id

@@ -20,7 +20,7 @@ use Rattle.bq_insn.proofs.CountLemmas.{slots_positive}
 use Rattle.bq_verify.proofs.EdgeLemmas.{start_inside}
 use Rattle.bq_verify.proofs.SpreadLemmas.{one_or_two}
 use Rattle.bq_import.specs.Copies.{is_reference, wide_copy, copied, IsCopyOfSlot}
-use Rattle.bq_import.specs.Backward.{AreGood, JumpsBack, GoesBack, IsPlaced, insns_of, IsBuilt, Keeps, IsLengthened, IsOneMore, MayStand}
+use Rattle.bq_import.specs.Backward.{AreGood, JumpsBack, GoesBack, IsPlacedCopy, insns_of, IsBuilt, KeepsCopies, IsLengthened, IsOneMore, MayBePut}
 use Rattle.bq_import.proofs.CopyLemmas.{reference_refers}
 use Rattle.bq_import.proofs.PathLemmas.{copy_has_shape}
 
@@ -114,7 +114,7 @@ module _ (maps : ℕ) (old back : List (Option Insn)) (origins : List ℕ) (from
       let long = length-replicate n x in
       get_or_append_left (replicate n x) (y ∷ []) d k (omega (arith, lt, long)) ∙ get_or-replicate n k x d lt
 
-  kept : Keeps back origins (back ++ tail) (origins ++ tail_from)
+  kept : KeepsCopies back origins (back ++ tail) (origins ++ tail_from)
   kept place f p = stands_left back tail origins tail_from place f built.as_long p
 
   -- where the new instruction stands
@@ -143,7 +143,7 @@ module _ (maps : ℕ) (old back : List (Option Insn)) (origins : List ℕ) (from
       append_right back tail place None low
       ∙ before_end (slots_of insn - 1) (place - length back) None (Some (copied maps insn distance)) None (omega (arith, low, high))
 
-  module _ (may : MayStand old back origins from insn distance) where
+  module _ (may : MayBePut old back origins from insn distance) where
     goes_back : goes_on insn ≡ true → GoesBack (back ++ tail) (origins ++ tail_from) place_of (slots_of insn) (from + slots_of insn)
     unfolding place_of
     goes_back on =
@@ -172,11 +172,11 @@ module _ (maps : ℕ) (old back : List (Option Insn)) (origins : List ℕ) (from
           stands = kept j.landing j.target j.stands;
         }
 
-    new_placed : (f : ℕ) → from ≡ f → IsPlaced maps old (back ++ tail) (origins ++ tail_from) place_of f
-    new_placed f e = subst (λ (n : ℕ). IsPlaced maps old (back ++ tail) (origins ++ tail_from) place_of n) e
+    new_placed : (f : ℕ) → from ≡ f → IsPlacedCopy maps old (back ++ tail) (origins ++ tail_from) place_of f
+    new_placed f e = subst (λ (n : ℕ). IsPlacedCopy maps old (back ++ tail) (origins ++ tail_from) place_of n) e
         (record { original = insn; distance = distance; here = may.here; copy = here_is; on = goes_back; jumps = jumps_back })
 
-  old_placed : (place f : ℕ) → IsPlaced maps old back origins place f → IsPlaced maps old (back ++ tail) (origins ++ tail_from) place f
+  old_placed : (place f : ℕ) → IsPlacedCopy maps old back origins place f → IsPlacedCopy maps old (back ++ tail) (origins ++ tail_from) place f
   old_placed place f p = record {
     original = p.original;
     distance = p.distance;
@@ -211,9 +211,9 @@ module _ (maps : ℕ) (old back : List (Option Insn)) (origins : List ℕ) (from
     | inr (inr gt) ↦ inr (inr (omega (arith, gt)))
   ]
 
-  all_placed : MayStand old back origins from insn distance
+  all_placed : MayBePut old back origins from insn distance
       → (place f : ℕ) → IsCopyOfSlot (back ++ tail) (origins ++ tail_from) place f
-      → IsPlaced maps old (back ++ tail) (origins ++ tail_from) place f
+      → IsPlacedCopy maps old (back ++ tail) (origins ++ tail_from) place f
   unfolding place_of
   all_placed may place f p = elim (compare place (length back)) [
     | inl lt ↦ old_placed place f (built.placed place f (stands_was back tail origins tail_from place f built.as_long lt p))
@@ -223,7 +223,7 @@ module _ (maps : ℕ) (old back : List (Option Insn)) (origins : List ℕ) (from
           | inl lt ↦ absurd (some_none _ p.start.insn p.start.here (none_between place low' lt))
           | inr (inl e) ↦
               let same : from ≡ f = sym origin_here ∙ (ap (λ (k : ℕ). slice_index (origins ++ tail_from) k) (sym e) ∙ p.origin_is) in
-              subst (λ (k : ℕ). IsPlaced maps old (back ++ tail) (origins ++ tail_from) k f) (sym e) (new_placed may f same)
+              subst (λ (k : ℕ). IsPlacedCopy maps old (back ++ tail) (origins ++ tail_from) k f) (sym e) (new_placed may f same)
           | inr (inr gt) ↦
               let inside = start_inside (back ++ tail) place p.start in
               let long = length-append back tail in
@@ -287,7 +287,7 @@ module _ (maps : ℕ) (old back : List (Option Insn)) (origins : List ℕ) (from
       (copy_has_shape maps insn distance).long
       ∙ (ap (λ (xs : List (Option Insn)). (Some (copied maps insn distance) ∷ second) ++ xs) built.spread_is ∙ sym reversed))
 
-  lengthened : maps ≤ 8 → FitsSigned w16 distance → AreGood old → MayStand old back origins from insn distance
+  lengthened : maps ≤ 8 → FitsSigned w16 distance → AreGood old → MayBePut old back origins from insn distance
       → length back + slots_of insn ≤ 4096
       → IsLengthened maps old back origins (back ++ tail) (origins ++ tail_from) from
   unfolding place_of
@@ -322,7 +322,7 @@ module _ (maps : ℕ) (old back : List (Option Insn)) (origins : List ℕ) (from
       }
 
   pub pushed : (slots : List (Option Insn)) (froms : List ℕ) → maps ≤ 8 → FitsSigned w16 distance
-      → AreGood old → MayStand old back origins from insn distance → length back + slots_of insn ≤ 4096
+      → AreGood old → MayBePut old back origins from insn distance → length back + slots_of insn ≤ 4096
       → slots ≡ (back ++ replicate (slots_of insn - 1) None) ++ (Some (copied maps insn distance) ∷ [])
       → froms ≡ (origins ++ replicate (slots_of insn - 1) (from + 1)) ++ (from ∷ [])
       → IsLengthened maps old back origins slots froms from

@@ -12,11 +12,11 @@ use Rattle.bq_verify.specs.Edges.{IsEdge}
 use Rattle.bq_import.specs.declared.fault.Disorder.{Disorder}
 use Rattle.bq_import.specs.declared.fault.Disorder.TheVariants.{Outside, Ends, Loop, Long, OutOfMemory}
 use Rattle.bq_import.specs.Backward.{IsFront}
-use Rattle.bq_import.specs.Budgets.{AreKeptFor, HasBudget, IsKept, waiting}
+use Rattle.bq_import.specs.Budgets.{AreKeptFor, HasBudget, IsBudgetKept, waiting}
 use Rattle.bq_import.specs.Faults.{IsFull, IsLinked, IsSearchFault}
-use Rattle.bq_import.specs.Lengths.{IsIn, IsLanding, run_at, width_at, width_of}
+use Rattle.bq_import.specs.Lengths.{IsSlotIn, IsLanding, run_slots, width_at, width_of_slot}
 use Rattle.bq_import.specs.Orders.{HasLongOrder}
-use Rattle.bq_import.specs.Search.{AreTargets, IsDone, IsLastOf, IsMissing, IsTop, Suffices, is_open, place_at}
+use Rattle.bq_import.specs.Search.{AreTargets, HasCopy, IsLastOf, IsMissing, IsTop, Suffices, is_open, copy_place}
 use Rattle.bq_import.proofs.LengthLemmas.{run_next}
 use Rattle.bq_import.proofs.RunningLemmas.{next_of}
 use Rattle.bq_import.proofs.StackLemmas.{equal_or_not}
@@ -52,28 +52,28 @@ top_of stack top rest is =
     })
 
 module _ (old : List (Option Insn)) (opens : List Bool) where
-  waiting_is : (slot : ℕ) → waiting old opens slot ≤ run_at old slot
+  waiting_is : (slot : ℕ) → waiting old opens slot ≤ run_slots old slot
   waiting_is slot = by (is_open opens slot)
     where
-      by : (b : Bool) → (if b then 0 else run_at old slot) ≤ run_at old slot
+      by : (b : Bool) → (if b then 0 else run_slots old slot) ≤ run_slots old slot
       by true = omega arith
       by false = omega arith
 
   -- no more than all runs wait
-  pub all_wait : (landings : List ℕ) → sum_by (waiting old opens) landings ≤ sum_by (run_at old) landings
-  all_wait landings = sum_by-le-sum_by (waiting old opens) (run_at old) landings waiting_is
+  pub all_wait : (landings : List ℕ) → sum_by (waiting old opens) landings ≤ sum_by (run_slots old) landings
+  all_wait landings = sum_by-le-sum_by (waiting old opens) (run_slots old) landings waiting_is
 
   module _ (slot : ℕ) (inside : slot < length opens) where
     waits_less : (k : ℕ) → waiting old (slice_set opens slot true) k ≤ waiting old opens k
     waits_less k = elim (equal_or_not k slot) [
       | inl e ↦
           let now : waiting old (slice_set opens slot true) k ≡ 0 =
-          ap (λ (b : Bool). if b then 0 else run_at old k)
+          ap (λ (b : Bool). if b then 0 else run_slots old k)
           (ap (is_open (slice_set opens slot true)) e ∙ get_or-set_same opens slot true false inside) in
           omega (arith, now)
       | inr apart ↦
           let same : waiting old (slice_set opens slot true) k ≡ waiting old opens k =
-          ap (λ (b : Bool). if b then 0 else run_at old k) (get_or-set_other opens slot k true false apart) in
+          ap (λ (b : Bool). if b then 0 else run_slots old k) (get_or-set_other opens slot k true false apart) in
           omega (arith, same)
     ]
 
@@ -82,15 +82,15 @@ module _ (old : List (Option Insn)) (opens : List Bool) where
     still_wait landings = sum_by-le-sum_by (waiting old (slice_set opens slot true)) (waiting old opens) landings waits_less
 
     -- the run of a landing that is begun waits no longer
-    pub wait_less : (landings : List ℕ) → is_open opens slot ≡ false → IsIn landings slot
-        → sum_by (waiting old (slice_set opens slot true)) landings + run_at old slot ≤ sum_by (waiting old opens) landings
+    pub wait_less : (landings : List ℕ) → is_open opens slot ≡ false → IsSlotIn landings slot
+        → sum_by (waiting old (slice_set opens slot true)) landings + run_slots old slot ≤ sum_by (waiting old opens) landings
     wait_less [] new at = absurd at
     wait_less (first ∷ rest) new (inl e) =
         let now : waiting old (slice_set opens slot true) slot ≡ 0 =
-        ap (λ (b : Bool). if b then 0 else run_at old slot) (get_or-set_same opens slot true false inside) in
-        let before : waiting old opens slot ≡ run_at old slot = ap (λ (b : Bool). if b then 0 else run_at old slot) new in
+        ap (λ (b : Bool). if b then 0 else run_slots old slot) (get_or-set_same opens slot true false inside) in
+        let before : waiting old opens slot ≡ run_slots old slot = ap (λ (b : Bool). if b then 0 else run_slots old slot) new in
         let now' : waiting old (slice_set opens slot true) first ≡ 0 = ap (waiting old (slice_set opens slot true)) (sym e) ∙ now in
-        let before' : waiting old opens first ≡ run_at old slot = ap (waiting old opens) (sym e) ∙ before in
+        let before' : waiting old opens first ≡ run_slots old slot = ap (waiting old opens) (sym e) ∙ before in
         let others = still_wait rest in
         let all = sum_by-cons (waiting old (slice_set opens slot true)) first rest in
         let all' = sum_by-cons (waiting old opens) first rest in
@@ -105,8 +105,8 @@ module _ (old : List (Option Insn)) (opens : List Bool) where
 module _ (old back : List (Option Insn)) (origins : List ℕ) (places : List (Option ℕ)) where
   -- what is kept for the last slot is kept for it below another one
   below_new : (slot : ℕ) (xs : List ℕ) (kept : ℕ)
-      → ((top : ℕ) (rest : List ℕ) → xs ≡ top ∷ rest → IsEdge old top slot × (place_at places slot ≡ None))
-      → IsKept old back origins places xs kept
+      → ((top : ℕ) (rest : List ℕ) → xs ≡ top ∷ rest → IsEdge old top slot × (copy_place places slot ≡ None))
+      → IsBudgetKept old back origins places xs kept
       → AreKeptFor old places slot xs kept
   below_new slot [] kept edge is = tt
   below_new slot (top ∷ rest) kept edge is = record {
@@ -122,13 +122,13 @@ module _ (old back : List (Option Insn)) (origins : List ℕ) (places : List (Op
 
   -- what is kept for a slot whose next one is begun is shared with that
   below_next : (linked : IsLinked old) (slot top : ℕ) (rest : List ℕ) (kept : ℕ)
-      → place_at places slot ≡ None → IsLastOf old places top slot → IsKept old back origins places (top ∷ rest) kept
-      → IsKept old back origins places (slot ∷ top ∷ rest) kept
+      → copy_place places slot ≡ None → IsLastOf old places top slot → IsBudgetKept old back origins places (top ∷ rest) kept
+      → IsBudgetKept old back origins places (slot ∷ top ∷ rest) kept
   below_next linked slot top rest kept away last is =
       let ends = run_next old top slot linked last.next in
       let at = last.next.is in
-      let wide : width_at old top ≡ slots_of last.next.insn = ap width_of last.next.here in
-      let whole : run_at old top ≤ is.own = elim is.enough [
+      let wide : width_at old top ≡ slots_of last.next.insn = ap width_of_slot last.next.here in
+      let whole : run_slots old top ≤ is.own = elim is.enough [
         | inl run ↦ run
         | inr (ready, suffices) ↦
             let done = ready slot (record { insn = last.next.insn; here = last.next.here; leaves = inl (last.next.on, last.next.is) }) in
@@ -136,12 +136,12 @@ module _ (old back : List (Option Insn)) (origins : List ℕ) (places : List (Op
       ] in
       let all = is.all in
       record {
-        own = run_at old slot;
-        more = is.own - run_at old slot + is.more;
+        own = run_slots old slot;
+        more = is.own - run_slots old slot + is.more;
         all = omega (arith, all, whole, ends, at);
         enough = inl (omega arith);
         rest = record {
-          own = is.own - run_at old slot;
+          own = is.own - run_slots old slot;
           more = is.more;
           all = refl;
           enough = inr (omega (arith, whole, ends, at, wide), last);
@@ -151,7 +151,7 @@ module _ (old back : List (Option Insn)) (origins : List ℕ) (places : List (Op
 
 -- what is kept for slots below is kept when more is in place
 kept_still : (old : List (Option Insn)) (places after : List (Option ℕ)) (above : ℕ) (xs : List ℕ) (kept : ℕ)
-    → ((s : ℕ) → IsDone places s → IsDone after s) → AreKeptFor old places above xs kept
+    → ((s : ℕ) → HasCopy places s → HasCopy after s) → AreKeptFor old places above xs kept
     → AreKeptFor old after above xs kept
 kept_still old places after above [] kept still is = tt
 kept_still old places after above (slot ∷ rest) kept still is = record {
@@ -174,9 +174,9 @@ kept_still old places after above (slot ∷ rest) kept still is = record {
 -- once a slot is in front, what is kept for the one from which it was begun is enough
 kept_left : (old after : List (Option Insn)) (origins' : List ℕ) (places places' : List (Option ℕ)) (slot : ℕ)
     (xs : List ℕ) (kept : ℕ)
-    → ((s : ℕ) → IsDone places s → IsDone places' s) → IsDone places' slot → IsFront after origins' slot
+    → ((s : ℕ) → HasCopy places s → HasCopy places' s) → HasCopy places' slot → IsFront after origins' slot
     → AreKeptFor old places slot xs kept
-    → IsKept old after origins' places' xs kept
+    → IsBudgetKept old after origins' places' xs kept
 kept_left old after origins' places places' slot [] kept still done front is = tt
 kept_left old after origins' places places' slot (top ∷ rest) kept still done front is = record {
   own = is.own;
@@ -186,7 +186,7 @@ kept_left old after origins' places places' slot (top ∷ rest) kept still done 
     | inl run ↦ inl run
     | inr (wide, last) ↦ inr (
       λ to edge. elim (last.others to edge)
-          [ inl same ↦ subst (λ (n : ℕ). IsDone places' n) (sym same) done | inr before ↦ still to before ],
+          [ inl same ↦ subst (λ (n : ℕ). HasCopy places' n) (sym same) done | inr before ↦ still to before ],
       inr (slot, last.next, front, wide),
     )
   ];
@@ -195,11 +195,11 @@ kept_left old after origins' places places' slot (top ∷ rest) kept still done 
 
 module _ (old back : List (Option Insn)) (origins : List ℕ) (places : List (Option ℕ)) (opens : List Bool) (stack : List ℕ)
     (extra : ℕ) (budget : HasBudget old back origins places opens stack extra) (slot : ℕ) where
-  module _ (inside : slot < length opens) (edge : (top : ℕ) → IsTop stack top → IsEdge old top slot × (place_at places slot ≡ None)) where
-    kept_new : (kept : ℕ) → kept ≡ run_at old slot + budget.kept → IsKept old back origins places (reverse (stack ++ slot ∷ [])) kept
+  module _ (inside : slot < length opens) (edge : (top : ℕ) → IsTop stack top → IsEdge old top slot × (copy_place places slot ≡ None)) where
+    kept_new : (kept : ℕ) → kept ≡ run_slots old slot + budget.kept → IsBudgetKept old back origins places (reverse (stack ++ slot ∷ [])) kept
     kept_new kept is =
-        subst (λ (xs : List ℕ). IsKept old back origins places xs kept) (sym (reverse_push stack slot)) (record {
-          own = run_at old slot;
+        subst (λ (xs : List ℕ). IsBudgetKept old back origins places xs kept) (sym (reverse_push stack slot)) (record {
+          own = run_slots old slot;
           more = budget.kept;
           all = is;
           enough = inl (omega arith);
@@ -212,18 +212,18 @@ module _ (old back : List (Option Insn)) (origins : List ℕ) (places : List (Op
     pub begun_landing : is_open opens slot ≡ false → IsLanding old slot
         → HasBudget old back origins places (slice_set opens slot true) (stack ++ slot ∷ []) extra
     begun_landing new landing = record {
-      kept = run_at old slot + budget.kept;
-      is_kept = kept_new (run_at old slot + budget.kept) refl;
+      kept = run_slots old slot + budget.kept;
+      is_kept = kept_new (run_slots old slot + budget.kept) refl;
       fits = λ landings has.
           let less = wait_less old opens slot inside landings new (has slot landing) in
           let before = budget.fits landings has in omega (arith, less, before);
     }
 
     -- a slot that is no landing is begun
-    pub begun_more : HasBudget old back origins places (slice_set opens slot true) (stack ++ slot ∷ []) (extra + run_at old slot)
+    pub begun_more : HasBudget old back origins places (slice_set opens slot true) (stack ++ slot ∷ []) (extra + run_slots old slot)
     begun_more = record {
-      kept = run_at old slot + budget.kept;
-      is_kept = kept_new (run_at old slot + budget.kept) refl;
+      kept = run_slots old slot + budget.kept;
+      is_kept = kept_new (run_slots old slot + budget.kept) refl;
       fits = λ landings has.
           let still = still_wait old opens slot inside landings in
           let before = budget.fits landings has in omega (arith, still, before);
@@ -235,18 +235,18 @@ module _ (old back : List (Option Insn)) (origins : List ℕ) (places : List (Op
     begun_next linked top is_top last = record {
       kept = budget.kept;
       is_kept =
-          subst (λ (xs : List ℕ). IsKept old back origins places xs budget.kept)
+          subst (λ (xs : List ℕ). IsBudgetKept old back origins places xs budget.kept)
           (sym (reverse_push stack slot ∙ ap (λ (xs : List ℕ). slot ∷ xs) (reverse_top stack top is_top)))
           (below_next old back origins places linked slot top (reverse (take (length stack - 1) stack)) budget.kept (edge top is_top).1 last
-          (subst (λ (xs : List ℕ). IsKept old back origins places xs budget.kept) (reverse_top stack top is_top) budget.is_kept));
+          (subst (λ (xs : List ℕ). IsBudgetKept old back origins places xs budget.kept) (reverse_top stack top is_top) budget.is_kept));
       fits = λ landings has.
           let still = still_wait old opens slot inside landings in
           let before = budget.fits landings has in omega (arith, still, before);
     }
 
   module _ (top : IsTop stack slot) where
-    pub kept_top : IsKept old back origins places (slot ∷ reverse (take (length stack - 1) stack)) budget.kept
-    kept_top = subst (λ (xs : List ℕ). IsKept old back origins places xs budget.kept) (reverse_top stack slot top) budget.is_kept
+    pub kept_top : IsBudgetKept old back origins places (slot ∷ reverse (take (length stack - 1) stack)) budget.kept
+    kept_top = subst (λ (xs : List ℕ). IsBudgetKept old back origins places xs budget.kept) (reverse_top stack slot top) budget.is_kept
 
     -- what is kept for the last slot suffices to put it in front
     pub suffices : Suffices old back origins slot kept_top.own
@@ -254,7 +254,7 @@ module _ (old back : List (Option Insn)) (origins : List ℕ) (places : List (Op
 
     -- the last slot is in front
     pub left_budget : (back' : List (Option Insn)) (origins' : List ℕ) (places' : List (Option ℕ))
-        → ((s : ℕ) → IsDone places s → IsDone places' s) → IsDone places' slot → IsFront back' origins' slot
+        → ((s : ℕ) → HasCopy places s → HasCopy places' s) → HasCopy places' slot → IsFront back' origins' slot
         → length back' ≤ length back + kept_top.own
         → HasBudget old back' origins' places' opens (take (length stack - 1) stack) extra
     left_budget back' origins' places' still done front grown = record {
@@ -268,7 +268,7 @@ module _ (old back : List (Option Insn)) (origins : List ℕ) (places : List (Op
 -- a program is too long whose copy is full within its budget and that of a forward order
 pub full_within : (old back : List (Option Insn)) (origins : List ℕ) (places : List (Option ℕ)) (opens : List Bool)
     (stack : List ℕ) (extra own most : ℕ) (d : Disorder)
-    → IsLinked old → (budget : HasBudget old back origins places opens stack extra) → own + extra ≤ budget.kept + run_at old 0
+    → IsLinked old → (budget : HasBudget old back origins places opens stack extra) → own + extra ≤ budget.kept + run_slots old 0
     → most ≤ length back + own → IsFull most d → (long : ℕ) → IsFull long d → (4096 < long → HasLongOrder old)
     → IsSearchFault old d
 full_within old back origins places opens stack extra own most (Outside slot) linked budget le fits full long over order = absurd full
@@ -284,7 +284,7 @@ pub nothing_written : (old back : List (Option Insn)) (origins : List ℕ) (plac
     → back ≡ [] → stack ≡ [] → HasBudget old back origins places opens stack 0
 nothing_written old back origins places opens stack nothing empty = record {
   kept = 0;
-  is_kept = subst (λ (s : List ℕ). IsKept old back origins places (reverse s) 0) (sym empty) tt;
+  is_kept = subst (λ (s : List ℕ). IsBudgetKept old back origins places (reverse s) 0) (sym empty) tt;
   fits =
       λ landings has.
       let all = all_wait old opens landings in let none : length back ≡ 0 = ap length nothing in omega (arith, all, none);

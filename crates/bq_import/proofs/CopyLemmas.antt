@@ -11,7 +11,7 @@ use Rattle.bq_bpf.specs.Runs.{Ends}
 use Rattle.bq_bpf.specs.Instructions.{distance_of, goes_on}
 use Rattle.bq_insn.proofs.OptionLemmas.{some_same}
 use Rattle.bq_verify.proofs.EdgeLemmas.{leads_same}
-use Rattle.bq_import.specs.Laws.{beside}
+use Rattle.bq_import.specs.Laws.{with_program}
 use Rattle.bq_import.specs.Copies.{is_reference, wide_copy, copied, IsCopyOfSlot, JumpsAlike, IsCopy}
 use Rattle.bq_import.proofs.StepLemmas.{moved, takes_moved}
 
@@ -53,14 +53,14 @@ module _ (maps : ℕ) (old new : List (Option Insn)) (origin : List ℕ) (f : Se
   -- the copy goes on from that slot, as the original does
   pub record Ahead (s : State) (k : ℕ) (c : Option CounterCall) (t : State) (insn : Insn) : Type 0 where
     pub slot : ℕ
-    pub takes : Takes (beside f new) insn (moved s k) c (moved t slot)
+    pub takes : Takes (with_program f new) insn (moved s k) c (moved t slot)
     pub stands : IsCopyOfSlot new origin slot t.slot
 
   -- the original goes on, as the copy does from that slot
   pub record Behind (s : State) (k : ℕ) (c : Option CounterCall) (t' : State) (insn : Insn) : Type 0 where
     pub state : State
     pub slot : ℕ
-    pub takes : Takes (beside f old) insn s c state
+    pub takes : Takes (with_program f old) insn s c state
     pub is : t' ≡ moved state slot
     pub stands : IsCopyOfSlot new origin slot state.slot
 
@@ -74,10 +74,10 @@ module _ (maps : ℕ) (old new : List (Option Insn)) (origin : List ℕ) (f : Se
 
     straight_ahead : (insn : Insn) (c : Option CounterCall) (t : State)
         → distance_of insn ≡ None → IsCopyOfSlot new origin (k + slots_of insn) (s.slot + slots_of insn)
-        → Takes (beside f old) insn s c t
+        → Takes (with_program f old) insn s c t
         → Ahead s k c t insn
     straight_ahead insn c t d on p =
-        let there = takes_moved (beside f old) new k insn s c t d p in
+        let there = takes_moved (with_program f old) new k insn s c t d p in
         record {
           slot = k + slots_of insn;
           takes = there.0;
@@ -86,10 +86,10 @@ module _ (maps : ℕ) (old new : List (Option Insn)) (origin : List ℕ) (f : Se
 
     straight_behind : (insn : Insn) (c : Option CounterCall) (t' : State)
         → distance_of insn ≡ None → IsCopyOfSlot new origin (k + slots_of insn) (s.slot + slots_of insn)
-        → Takes (beside f new) insn (moved s k) c t'
+        → Takes (with_program f new) insn (moved s k) c t'
         → Behind s k c t' insn
     straight_behind insn c t' d on p =
-        let there = takes_moved (beside f new) old s.slot insn (moved s k) c t' d p in
+        let there = takes_moved (with_program f new) old s.slot insn (moved s k) c t' d p in
         record {
           state = moved t' (s.slot + slots_of insn);
           slot = k + slots_of insn;
@@ -147,7 +147,7 @@ module _ (maps : ℕ) (old new : List (Option Insn)) (origin : List ℕ) (f : Se
 
     wide_behind : (b : Bool) (dst value : ℕ) (c : Option CounterCall) (t' : State)
         → is_reference maps value ≡ b → IsCopyOfSlot new origin (k + 2) (s.slot + 2)
-        → Takes (beside f new) (wide_copy b dst value) (moved s k) c t'
+        → Takes (with_program f new) (wide_copy b dst value) (moved s k) c t'
         → Behind s k c t' (Imm64 dst value)
     wide_behind false dst value c t' is on p = straight_behind (Imm64 dst value) c t' refl on p
     wide_behind true dst value (Some c) t' is on (asks, fits, e) = absurd asks
@@ -163,7 +163,7 @@ module _ (maps : ℕ) (old new : List (Option Insn)) (origin : List ℕ) (f : Se
         }
 
     pub takes_ahead : (insn : Insn) (c : Option CounterCall) (t : State)
-        → OnFrom insn → JumpsFrom insn → Takes (beside f old) insn s c t
+        → OnFrom insn → JumpsFrom insn → Takes (with_program f old) insn s c t
         → Ahead s k c t (copied maps insn distance)
     takes_ahead (Alu w op dst src) c t on jumps p = straight_ahead (Alu w op dst src) c t refl (on refl) p
     takes_ahead (MovSx w bits dst src) c t on jumps p = straight_ahead (MovSx w bits dst src) c t refl (on refl) p
@@ -198,7 +198,7 @@ module _ (maps : ℕ) (old new : List (Option Insn)) (origin : List ℕ) (f : Se
     takes_ahead Exit (Some c) t on jumps (asks, fits, e) = absurd asks
 
     pub takes_behind : (insn : Insn) (c : Option CounterCall) (t' : State)
-        → OnFrom insn → JumpsFrom insn → Takes (beside f new) (copied maps insn distance) (moved s k) c t'
+        → OnFrom insn → JumpsFrom insn → Takes (with_program f new) (copied maps insn distance) (moved s k) c t'
         → Behind s k c t' insn
     takes_behind (Alu w op dst src) c t' on jumps p = straight_behind (Alu w op dst src) c t' refl (on refl) p
     takes_behind (MovSx w bits dst src) c t' on jumps p = straight_behind (MovSx w bits dst src) c t' refl (on refl) p
@@ -230,25 +230,25 @@ module _ (maps : ℕ) (old new : List (Option Insn)) (origin : List ℕ) (f : Se
   -- the copy takes a step as the original does
   pub record StepAhead (s : State) (k : ℕ) (c : Option CounterCall) (t : State) : Type 0 where
     pub slot : ℕ
-    pub step : Step (beside f new) (moved s k) c (moved t slot)
+    pub step : Step (with_program f new) (moved s k) c (moved t slot)
     pub stands : IsCopyOfSlot new origin slot t.slot
 
   pub record StepBehind (s : State) (k : ℕ) (c : Option CounterCall) (t' : State) : Type 0 where
     pub state : State
     pub slot : ℕ
-    pub step : Step (beside f old) s c state
+    pub step : Step (with_program f old) s c state
     pub is : t' ≡ moved state slot
     pub stands : IsCopyOfSlot new origin slot state.slot
 
   module _ (copy : IsCopy maps old new origin) where
     pub step_ahead : (s : State) (k : ℕ) (c : Option CounterCall) (t : State)
-        → IsCopyOfSlot new origin k s.slot → Step (beside f old) s c t → StepAhead s k c t
+        → IsCopyOfSlot new origin k s.slot → Step (with_program f old) s c t → StepAhead s k c t
     step_ahead s k c t stands step =
         let at = copy.each k s.slot stands in
         let same = some_same _ step.insn at.original step.here at.here in
         let ahead =
         takes_ahead s k at.distance at.original c t at.on at.jumps
-        (subst (λ (i : Insn). Takes (beside f old) i s c t) same step.takes) in
+        (subst (λ (i : Insn). Takes (with_program f old) i s c t) same step.takes) in
         record {
           slot = ahead.slot;
           step = record { insn = copied maps at.original at.distance; here = at.copy; takes = ahead.takes };
@@ -256,13 +256,13 @@ module _ (maps : ℕ) (old new : List (Option Insn)) (origin : List ℕ) (f : Se
         }
 
     pub step_behind : (s : State) (k : ℕ) (c : Option CounterCall) (t' : State)
-        → IsCopyOfSlot new origin k s.slot → Step (beside f new) (moved s k) c t' → StepBehind s k c t'
+        → IsCopyOfSlot new origin k s.slot → Step (with_program f new) (moved s k) c t' → StepBehind s k c t'
     step_behind s k c t' stands step =
         let at = copy.each k s.slot stands in
         let same = some_same _ step.insn (copied maps at.original at.distance) step.here at.copy in
         let behind =
         takes_behind s k at.distance at.original c t' at.on at.jumps
-        (subst (λ (i : Insn). Takes (beside f new) i (moved s k) c t') same step.takes) in
+        (subst (λ (i : Insn). Takes (with_program f new) i (moved s k) c t') same step.takes) in
         record {
           state = behind.state;
           slot = behind.slot;
@@ -272,8 +272,8 @@ module _ (maps : ℕ) (old new : List (Option Insn)) (origin : List ℕ) (f : Se
         }
 
     pub ends_ahead : (s : State) (k answer : ℕ) (after : List (List ℕ))
-        → IsCopyOfSlot new origin k s.slot → Ends (beside f old) s answer after
-        → Ends (beside f new) (moved s k) answer after
+        → IsCopyOfSlot new origin k s.slot → Ends (with_program f old) s answer after
+        → Ends (with_program f new) (moved s k) answer after
     ends_ahead s k answer after stands ends =
         let at = copy.each k s.slot stands in
         let same : at.original ≡ Exit = some_same _ at.original Exit at.here ends.here in
@@ -284,8 +284,8 @@ module _ (maps : ℕ) (old new : List (Option Insn)) (origin : List ℕ) (f : Se
         }
 
     pub ends_behind : (s : State) (k answer : ℕ) (after : List (List ℕ))
-        → IsCopyOfSlot new origin k s.slot → Ends (beside f new) (moved s k) answer after
-        → Ends (beside f old) s answer after
+        → IsCopyOfSlot new origin k s.slot → Ends (with_program f new) (moved s k) answer after
+        → Ends (with_program f old) s answer after
     ends_behind s k answer after stands ends =
         let at = copy.each k s.slot stands in
         let same : at.original ≡ Exit =

@@ -8,26 +8,26 @@ use Rattle.bq_insn.specs.Slots.{slots_of}
 use Rattle.bq_insn.proofs.OptionLemmas.{some_none}
 use Rattle.bq_bpf.specs.Instructions.{goes_on}
 use Rattle.bq_verify.specs.Edges.{IsEdge, IsStart}
-use Rattle.bq_verify.specs.Paths.{IsPath, Path, end_of}
+use Rattle.bq_verify.specs.Paths.{IsPath, Path, path_end}
 use Rattle.bq_import.specs.Backward.{IsFront}
-use Rattle.bq_import.specs.Lengths.{IsIn, run_at, width_at, width_of}
-use Rattle.bq_import.specs.Orders.{HasLongOrder, IsForwardOrder, begins_with, share}
-use Rattle.bq_import.specs.Search.{IsCounted, IsDone, IsReady, Suffices, place_at}
+use Rattle.bq_import.specs.Lengths.{IsSlotIn, run_slots, width_at, width_of_slot}
+use Rattle.bq_import.specs.Orders.{HasLongOrder, IsForwardOrder, begins_with, slots_in_front}
+use Rattle.bq_import.specs.Search.{IsCounted, HasCopy, IsSlotReady, Suffices, copy_place}
 use Rattle.bq_import.proofs.LengthLemmas.{run_alone}
 use Rattle.bq_import.proofs.RoomLemmas.{one_slot}
 use Rattle.bq_import.proofs.StackLemmas.{equal_or_not, now_set, still_set}
 
 -- from the instructions of a forward order control stays in it
-goes_in : (slots : List (Option Insn)) (order : List ℕ) → IsForwardOrder slots order → (from next : ℕ) → IsIn order from
+goes_in : (slots : List (Option Insn)) (order : List ℕ) → IsForwardOrder slots order → (from next : ℕ) → IsSlotIn order from
     → IsEdge slots from next
-    → IsIn order next
+    → IsSlotIn order next
 goes_in slots [] forward from next at edge = absurd at
 goes_in slots (first ∷ later) forward from next (inl e) edge = inr (forward.3 next (subst (λ (n : ℕ). IsEdge slots n next) e edge))
 goes_in slots (first ∷ later) forward from next (inr more) edge = inr (goes_in slots later forward.4 from next more edge)
 
 stays_in : (slots : List (Option Insn)) (order : List ℕ) → IsForwardOrder slots order
-    → (from : ℕ) (way : List ℕ) → IsIn order from → IsPath slots from way
-    → IsIn order (end_of from way)
+    → (from : ℕ) (way : List ℕ) → IsSlotIn order from → IsPath slots from way
+    → IsSlotIn order (path_end from way)
 stays_in slots order forward from [] at path = at
 stays_in slots order forward from (next ∷ way) at (edge, path) =
     stays_in slots order forward next way (goes_in slots order forward from next at edge) path
@@ -46,34 +46,34 @@ same_first a b x y e = ap first_of e
 
 module _ (old back : List (Option Insn)) (origins : List ℕ) (places : List (Option ℕ)) (counted : IsCounted old back origins places) where
   -- the first instruction, once it is in place, stands in front: control comes from it to all others
-  pub first_in_front : IsDone places 0 → IsFront back origins 0
+  pub first_in_front : HasCopy places 0 → IsFront back origins 0
   first_in_front done = by counted.order refl
     where
       by : (order : List ℕ) → counted.order ≡ order → IsFront back origins 0
-      by [] e = absurd (subst (λ (o : List ℕ). IsIn o 0) e (counted.has 0 done))
+      by [] e = absurd (subst (λ (o : List ℕ). IsSlotIn o 0) e (counted.has 0 done))
       by (first ∷ later) e =
           let forward = subst (λ (o : List ℕ). IsForwardOrder old o) e counted.forward in
-          elim (subst (λ (o : List ℕ). IsIn o 0) e (counted.has 0 done)) [
+          elim (subst (λ (o : List ℕ). IsSlotIn o 0) e (counted.has 0 done)) [
             | inl same ↦ subst (λ (n : ℕ). IsFront back origins n) (sym same) (counted.front first later e)
             | inr at ↦
                 let way = forward.1 in
-                absurd (forward.2 (subst (λ (n : ℕ). IsIn later n) way.ends (stays_in old later forward.4 0 way.rest at way.is_path)))
+                absurd (forward.2 (subst (λ (n : ℕ). IsSlotIn later n) way.ends (stays_in old later forward.4 0 way.rest at way.is_path)))
           ]
 
   module _ (slot : ℕ) (start : IsStart old slot) where
     share_is : (b : Bool) → begins_with counted.order (slot + width_at old slot) ≡ b
-        → share old slot counted.order ≡ (if b then width_at old slot else run_at old slot)
-    share_is b e = ap (λ (v : Bool). if v then width_at old slot else run_at old slot) e
+        → slots_in_front old slot counted.order ≡ (if b then width_at old slot else run_slots old slot)
+    share_is b e = ap (λ (v : Bool). if v then width_at old slot else run_slots old slot) e
 
     -- its share of slots is enough to put the instruction in front
-    pub share_suffices : Suffices old back origins slot (share old slot counted.order)
+    pub share_suffices : Suffices old back origins slot (slots_in_front old slot counted.order)
     share_suffices = by (goes_on start.insn) refl (begins_with counted.order (slot + width_at old slot)) refl
       where
         wide : width_at old slot ≡ slots_of start.insn
-        wide = ap width_of start.here
+        wide = ap width_of_slot start.here
 
         by : (on : Bool) → goes_on start.insn ≡ on → (b : Bool) → begins_with counted.order (slot + width_at old slot) ≡ b
-            → Suffices old back origins slot (share old slot counted.order)
+            → Suffices old back origins slot (slots_in_front old slot counted.order)
         by on e false begins = inl (let is = share_is false begins in omega (arith, is))
         by true e true begins =
             let is = share_is true begins in
@@ -91,7 +91,7 @@ module _ (old back : List (Option Insn)) (origins : List ℕ) (places : List (Op
             let same = wide in
             inl (omega (arith, is, alone, one, same))
 
-    module _ (way : Path old 0 slot) (undone : place_at places slot ≡ None) (ready : IsReady old places slot) where
+    module _ (way : Path old 0 slot) (undone : copy_place places slot ≡ None) (ready : IsSlotReady old places slot) where
       one_more : IsForwardOrder old (slot ∷ counted.order)
       one_more = (
         start,
@@ -102,14 +102,14 @@ module _ (old back : List (Option Insn)) (origins : List ℕ) (places : List (Op
       )
 
       -- an order is too long whose copy does not fit with this instruction
-      pub too_long : 4096 < length back + share old slot counted.order → HasLongOrder old
+      pub too_long : 4096 < length back + slots_in_front old slot counted.order → HasLongOrder old
       too_long over =
           let short = counted.short in
           record { order = slot ∷ counted.order; forward = one_more; long = omega (arith, short, over) }
 
       -- the order once the instruction is in front
       pub counted_more : (place : ℕ) → slot < length places → (back' : List (Option Insn)) (origins' : List ℕ)
-          → IsFront back' origins' slot → length back' ≤ length back + share old slot counted.order
+          → IsFront back' origins' slot → length back' ≤ length back + slots_in_front old slot counted.order
           → IsCounted old back' origins' (slice_set places slot (Some place))
       counted_more place inside back' origins' front grown = record {
         order = slot ∷ counted.order;
@@ -119,7 +119,7 @@ module _ (old back : List (Option Insn)) (origins : List ℕ) (places : List (Op
           | inr apart ↦ inr (counted.has s (done.0, sym (get_or-set_other places slot s (Some place) None apart) ∙ done.1))
         ];
         only = λ s at. elim at [
-          | inl e ↦ subst (λ (n : ℕ). IsDone (slice_set places slot (Some place)) n) (sym e) (now_set places slot place inside)
+          | inl e ↦ subst (λ (n : ℕ). HasCopy (slice_set places slot (Some place)) n) (sym e) (now_set places slot place inside)
           | inr more ↦ still_set places slot place inside s (counted.only s more)
         ];
         front = λ first later e. subst (λ (n : ℕ). IsFront back' origins' n) (same_first slot first counted.order later e) front;

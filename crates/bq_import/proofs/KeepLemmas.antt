@@ -16,7 +16,7 @@ use Rattle.bq_import.specs.Backward.{IsBuilt, IsFront, IsLengthened, IsOneMore}
 use Rattle.bq_import.specs.Faults.{AllForward, HasGaps, IsFull, IsLinked}
 use Rattle.bq_import.specs.declared.fault.Disorder.{Disorder}
 use Rattle.bq_import.specs.declared.fault.Disorder.TheVariants.{Outside, Ends, Loop, Long, OutOfMemory}
-use Rattle.bq_import.specs.Search.{AreKnown, AreTargets, IsDone, IsReady, is_open, place_at}
+use Rattle.bq_import.specs.Search.{AreCopyPlaces, AreTargets, HasCopy, IsSlotReady, is_open, copy_place}
 use Rattle.bq_import.specs.Keeping.{AreFollowed, AreReached, IsKeeping, IsMarked}
 use Rattle.bq_import.proofs.RoomLemmas.{lies_within}
 
@@ -117,7 +117,7 @@ all_followed slots bound found past p = record {
 -- before the last instruction
 pub nothing_kept : (maps : ℕ) (old : List (Option Insn)) (found : List Bool) (back : List (Option Insn))
     (origins : List ℕ) (places : List (Option ℕ))
-    → AreReached old found → IsBuilt maps old back origins → back ≡ [] → ((k : ℕ) → place_at places k ≡ None)
+    → AreReached old found → IsBuilt maps old back origins → back ≡ [] → ((k : ℕ) → copy_place places k ≡ None)
     → length places ≡ length old
     → IsKeeping maps old found (length old) back origins places
 nothing_kept maps old found back origins places r built empty none room =
@@ -185,7 +185,7 @@ module _ (maps : ℕ) (old : List (Option Insn)) (found : List Bool) (slot : ℕ
           | inr lt ↦ absurd (gaps slot insn begins e (omega (arith, above)) lt start)
         ]
 
-    pub ready_to_keep : IsReady old places slot
+    pub ready_to_keep : IsSlotReady old places slot
     ready_to_keep to edge =
         let later = forward slot to edge in
         at.done to (omega (arith, later)) (reached.closed slot to here edge)
@@ -207,10 +207,10 @@ module _ (maps : ℕ) (old : List (Option Insn)) (found : List Bool) (slot : ℕ
           let inside = start_inside old slot (record { insn = insn; here = begins }) in
           let room = at.room in omega (arith, inside, room)
 
-      set_here : place_at (slice_set places slot (Some place)) slot ≡ Some place
+      set_here : copy_place (slice_set places slot (Some place)) slot ≡ Some place
       set_here = get_or-set_same places slot (Some place) None in_places
 
-      set_other : (k : ℕ) → k ≢ slot → place_at (slice_set places slot (Some place)) k ≡ place_at places k
+      set_other : (k : ℕ) → k ≢ slot → copy_place (slice_set places slot (Some place)) k ≡ copy_place places k
       set_other k apart = get_or-set_other places slot k (Some place) None apart
 
       front_there : IsCopyOfSlot back' origins' place slot
@@ -221,23 +221,23 @@ module _ (maps : ℕ) (old : List (Option Insn)) (found : List Bool) (slot : ℕ
           let same : front.place ≡ length back' - 1 = omega (arith, is) in
           subst (λ (n : ℕ). IsCopyOfSlot back' origins' n slot) same front.stands
 
-      known_now : AreKnown back' origins' (slice_set places slot (Some place))
+      known_now : AreCopyPlaces back' origins' (slice_set places slot (Some place))
       known_now k p e = elim (same_or_not k slot) [
         | inl same ↦
             let is : place ≡ p =
-            some_same _ place p set_here (ap (λ (n : ℕ). place_at (slice_set places slot (Some place)) n) (sym same) ∙ e) in
+            some_same _ place p set_here (ap (λ (n : ℕ). copy_place (slice_set places slot (Some place)) n) (sym same) ∙ e) in
             subst (λ (n : ℕ). IsCopyOfSlot back' origins' n k) is
             (subst (λ (n : ℕ). IsCopyOfSlot back' origins' place n) (sym same) front_there)
         | inr apart ↦ more.keeps p k (at.known k p (sym (set_other k apart) ∙ e))
       ]
 
-      done_now : (k : ℕ) → slot ≤ k → is_open found k ≡ true → IsDone (slice_set places slot (Some place)) k
+      done_now : (k : ℕ) → slot ≤ k → is_open found k ≡ true → HasCopy (slice_set places slot (Some place)) k
       done_now k le e = elim (same_or_not k slot) [
-        | inl same ↦ (place, ap (λ (n : ℕ). place_at (slice_set places slot (Some place)) n) same ∙ set_here)
+        | inl same ↦ (place, ap (λ (n : ℕ). copy_place (slice_set places slot (Some place)) n) same ∙ set_here)
         | inr apart ↦ let done = at.done k (omega (arith, le, apart)) e in (done.0, set_other k apart ∙ done.1)
       ]
 
-      once_now : (p from : ℕ) → IsCopyOfSlot back' origins' p from → place_at (slice_set places slot (Some place)) from ≡ Some p
+      once_now : (p from : ℕ) → IsCopyOfSlot back' origins' p from → copy_place (slice_set places slot (Some place)) from ≡ Some p
       unfolding place
       once_now p from s = elim (was.only p from s) [
         | inl old_one ↦
@@ -245,7 +245,7 @@ module _ (maps : ℕ) (old : List (Option Insn)) (found : List Bool) (slot : ℕ
             set_other from (λ e. omega (arith, above, e)) ∙ at.once p from old_one
         | inr (last, is) ↦
             let same : length back' - 1 ≡ p = omega (arith, last) in
-            ap (λ (n : ℕ). place_at (slice_set places slot (Some place)) n) is ∙ (set_here ∙ ap (λ (n : ℕ). Some n) same)
+            ap (λ (n : ℕ). copy_place (slice_set places slot (Some place)) n) is ∙ (set_here ∙ ap (λ (n : ℕ). Some n) same)
       ]
 
       pub one_kept : IsKeeping maps old found slot back' origins' (slice_set places slot (Some (length back' - 1)))

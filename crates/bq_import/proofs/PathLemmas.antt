@@ -8,7 +8,7 @@ use Rattle.bq_insn.specs.Slots.{slots_of}
 use Rattle.bq_bpf.specs.Steps.{LeadsTo}
 use Rattle.bq_verify.specs.Edges.{IsEdge, IsStart}
 use Rattle.bq_bpf.specs.Instructions.{distance_of, goes_on}
-use Rattle.bq_verify.specs.Paths.{IsPath, PathOut, end_of}
+use Rattle.bq_verify.specs.Paths.{IsPath, PathOut, path_end}
 use Rattle.bq_verify.specs.Faults.{IsBadJump, RunsOut}
 use Rattle.bq_insn.proofs.OptionLemmas.{some_same}
 use Rattle.bq_insn.proofs.CountLemmas.{slots_positive}
@@ -137,13 +137,13 @@ module _ (maps : ℕ) (old new : List (Option Insn)) (origin : List ℕ) (copy :
     pub way : List ℕ
     pub is_path : IsPath new slot way
     pub long : length way ≡ length rest
-    pub stands : IsCopyOfSlot new origin (end_of slot way) (end_of from rest)
+    pub stands : IsCopyOfSlot new origin (path_end slot way) (path_end from rest)
 
   record PathBehind (slot from : ℕ) (way : List ℕ) : Type 0 where
     pub rest : List ℕ
     pub is_path : IsPath old from rest
     pub long : length way ≡ length rest
-    pub stands : IsCopyOfSlot new origin (end_of slot way) (end_of from rest)
+    pub stands : IsCopyOfSlot new origin (path_end slot way) (path_end from rest)
 
   pub path_ahead : (slot from : ℕ) (rest : List ℕ) → IsCopyOfSlot new origin slot from → IsPath old from rest → PathAhead slot from rest
   path_ahead slot from [] stands path = record { way = []; is_path = tt; long = refl; stands = stands }

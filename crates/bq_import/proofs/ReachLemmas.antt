@@ -8,7 +8,7 @@ use Rattle.bq_insn.specs.Slots.{slots_of, spread}
 use Rattle.bq_insn.specs.Spelling.{is_well_formed}
 use Rattle.bq_bpf.specs.Steps.{LeadsTo, instruction_at}
 use Rattle.bq_bpf.specs.Instructions.{distance_of}
-use Rattle.bq_verify.specs.Paths.{end_of}
+use Rattle.bq_verify.specs.Paths.{path_end}
 use Rattle.bq_verify.specs.declared.edges.Targets.{Targets}
 use Rattle.bq_insn.proofs.OptionLemmas.{some_same, some_none}
 use Rattle.bq_verify.proofs.EdgeLemmas.{start_inside}
@@ -91,14 +91,14 @@ all_reached maps old found back origins places reached at slot start =
     reached.ways (slice_index (reverse origins) slot)
     (at.comes (length back - 1 - slot) (slice_index (reverse origins) slot) here) in
     let ahead = path_ahead maps old (reverse back) (reverse origins) copy 0 0 way.rest copy.first way.is_path in
-    let stands : IsCopyOfSlot (reverse back) (reverse origins) (end_of 0 ahead.way) (slice_index (reverse origins) slot) =
-    subst (λ (n : ℕ). IsCopyOfSlot (reverse back) (reverse origins) (end_of 0 ahead.way) n) way.ends ahead.stands in
-    let inside' = start_inside (reverse back) (end_of 0 ahead.way) stands.start in
-    let there : IsCopyOfSlot back origins (length back - 1 - end_of 0 ahead.way) (slice_index (reverse origins) slot) =
-    stands_here maps old back origins built (end_of 0 ahead.way) (length back - 1 - end_of 0 ahead.way)
+    let stands : IsCopyOfSlot (reverse back) (reverse origins) (path_end 0 ahead.way) (slice_index (reverse origins) slot) =
+    subst (λ (n : ℕ). IsCopyOfSlot (reverse back) (reverse origins) (path_end 0 ahead.way) n) way.ends ahead.stands in
+    let inside' = start_inside (reverse back) (path_end 0 ahead.way) stands.start in
+    let there : IsCopyOfSlot back origins (length back - 1 - path_end 0 ahead.way) (slice_index (reverse origins) slot) =
+    stands_here maps old back origins built (path_end 0 ahead.way) (length back - 1 - path_end 0 ahead.way)
     (slice_index (reverse origins) slot) (omega (arith, inside', long)) stands in
-    let same : length back - 1 - end_of 0 ahead.way ≡ length back - 1 - slot =
-    some_same _ (length back - 1 - end_of 0 ahead.way) (length back - 1 - slot) (at.once _ _ there) (at.once _ _ here) in
+    let same : length back - 1 - path_end 0 ahead.way ≡ length back - 1 - slot =
+    some_same _ (length back - 1 - path_end 0 ahead.way) (length back - 1 - slot) (at.once _ _ there) (at.once _ _ here) in
     record { rest = ahead.way; is_path = ahead.is_path; ends = omega (arith, same, inside, inside', long) }
 
 distance_cases : (v : Option ℤ) → (v ≡ None) ⊎ ((far : ℤ) × (v ≡ Some far))

@@ -8,7 +8,7 @@ use Rattle.bq_bpf.specs.Steps.{Step}
 use Rattle.bq_bpf.specs.Runs.{Ends, Steps, RunFrom, start}
 use Rattle.bq_bpf.specs.Safe.{GoesOn, GoesWell, IsSetting}
 use Rattle.bq_import.specs.Copies.{IsCopyOfSlot, IsCopy}
-use Rattle.bq_import.specs.Laws.{beside, SameRuns, SameSafety}
+use Rattle.bq_import.specs.Laws.{with_program, SameRuns, SameSafety}
 use Rattle.bq_import.proofs.StepLemmas.{moved}
 use Rattle.bq_import.proofs.CopyLemmas.{step_ahead, step_behind, ends_ahead, ends_behind}
 
@@ -16,18 +16,18 @@ module _ (maps : ℕ) (old new : List (Option Insn)) (origin : List ℕ) (copy :
     (as_many : length f.shapes ≡ maps) where
   record ChainAhead (s : State) (k n : ℕ) (calls : List CounterCall) (t : State) : Type 0 where
     pub slot : ℕ
-    pub chain : Steps (beside f new) (moved s k) n calls (moved t slot)
+    pub chain : Steps (with_program f new) (moved s k) n calls (moved t slot)
     pub stands : IsCopyOfSlot new origin slot t.slot
 
   record ChainBehind (s : State) (k n : ℕ) (calls : List CounterCall) (t' : State) : Type 0 where
     pub state : State
     pub slot : ℕ
-    pub chain : Steps (beside f old) s n calls state
+    pub chain : Steps (with_program f old) s n calls state
     pub is : t' ≡ moved state slot
     pub stands : IsCopyOfSlot new origin slot state.slot
 
   chain_ahead : (s : State) (k n : ℕ) (calls : List CounterCall) (t : State)
-      → IsCopyOfSlot new origin k s.slot → Steps (beside f old) s n calls t → ChainAhead s k n calls t
+      → IsCopyOfSlot new origin k s.slot → Steps (with_program f old) s n calls t → ChainAhead s k n calls t
   chain_ahead s k zero calls t stands (none, e) =
       record {
         slot = k;
@@ -40,14 +40,14 @@ module _ (maps : ℕ) (old new : List (Option Insn)) (origin : List ℕ) (copy :
       record { slot = last.slot; chain = (before, c, moved u first.slot, first.chain, last.step, e); stands = last.stands }
 
   chain_behind : (s : State) (k n : ℕ) (calls : List CounterCall) (t' : State)
-      → IsCopyOfSlot new origin k s.slot → Steps (beside f new) (moved s k) n calls t'
+      → IsCopyOfSlot new origin k s.slot → Steps (with_program f new) (moved s k) n calls t'
       → ChainBehind s k n calls t'
   chain_behind s k zero calls t' stands (none, e) = record { state = s; slot = k; chain = (none, refl); is = e; stands = stands }
   chain_behind s k (suc n) calls t' stands (before, c, u, chain, step, e) =
       let first = chain_behind s k n before u stands chain in
       let last =
       step_behind maps old new origin f as_many copy first.state first.slot c t' first.stands
-      (subst (λ (v : State). Step (beside f new) v c t') first.is step) in
+      (subst (λ (v : State). Step (with_program f new) v c t') first.is step) in
       record {
         state = last.state;
         slot = last.slot;
@@ -57,15 +57,15 @@ module _ (maps : ℕ) (old new : List (Option Insn)) (origin : List ℕ) (copy :
       }
 
   runs_ahead : (contents : List (List ℕ)) (n : ℕ) (calls : List CounterCall) (answer : ℕ) (after : List (List ℕ))
-      → RunFrom (beside f old) (start contents) n calls answer after
-      → RunFrom (beside f new) (start contents) n calls answer after
+      → RunFrom (with_program f old) (start contents) n calls answer after
+      → RunFrom (with_program f new) (start contents) n calls answer after
   runs_ahead contents n calls answer after (k, t, is, chain, ends) =
       let there = chain_ahead (start contents) 0 k calls t copy.first chain in
       (k, moved t there.slot, is, there.chain, ends_ahead maps old new origin f as_many copy t there.slot answer after there.stands ends)
 
   runs_behind : (contents : List (List ℕ)) (n : ℕ) (calls : List CounterCall) (answer : ℕ) (after : List (List ℕ))
-      → RunFrom (beside f new) (start contents) n calls answer after
-      → RunFrom (beside f old) (start contents) n calls answer after
+      → RunFrom (with_program f new) (start contents) n calls answer after
+      → RunFrom (with_program f old) (start contents) n calls answer after
   runs_behind contents n calls answer after (k, t, is, chain, ends) =
       let there = chain_behind (start contents) 0 k calls t copy.first chain in (
         k,
@@ -73,13 +73,13 @@ module _ (maps : ℕ) (old new : List (Option Insn)) (origin : List ℕ) (copy :
         is,
         there.chain,
         ends_behind maps old new origin f as_many copy there.state there.slot answer after there.stands
-            (subst (λ (v : State). Ends (beside f new) v answer after) there.is ends),
+            (subst (λ (v : State). Ends (with_program f new) v answer after) there.is ends),
       )
 
   Rests : Setting → State → Type 0
   Rests g t = ((answer : ℕ) × Ends g t answer t.maps) ⊎ GoesOn g t
 
-  on_ahead : (t : State) (slot : ℕ) → IsCopyOfSlot new origin slot t.slot → Rests (beside f old) t → Rests (beside f new) (moved t slot)
+  on_ahead : (t : State) (slot : ℕ) → IsCopyOfSlot new origin slot t.slot → Rests (with_program f old) t → Rests (with_program f new) (moved t slot)
   unfolding Rests
   on_ahead t slot stands (inl (answer, ends)) = inl (answer, ends_ahead maps old new origin f as_many copy t slot answer t.maps stands ends)
   on_ahead t slot stands (inr (inl (u, step))) =
@@ -91,7 +91,7 @@ module _ (maps : ℕ) (old new : List (Option Insn)) (origin : List ℕ) (copy :
       let there = step_ahead maps old new origin f as_many copy t slot (Some e.0) e.1 stands e.3 in
       (e.0, moved e.1 there.slot, e.2, there.step)))
 
-  on_behind : (t : State) (slot : ℕ) → IsCopyOfSlot new origin slot t.slot → Rests (beside f new) (moved t slot) → Rests (beside f old) t
+  on_behind : (t : State) (slot : ℕ) → IsCopyOfSlot new origin slot t.slot → Rests (with_program f new) (moved t slot) → Rests (with_program f old) t
   unfolding Rests
   on_behind t slot stands (inl (answer, ends)) =
       inl (answer, ends_behind maps old new origin f as_many copy t slot answer t.maps stands ends)
@@ -105,9 +105,9 @@ module _ (maps : ℕ) (old new : List (Option Insn)) (origin : List ℕ) (copy :
       (e.0, there.state, e.2, there.step)))
 
   module _ (contents : List (List ℕ)) (budget n : ℕ) (calls : List CounterCall) where
-    well_ahead : (t' : State) → ((t : State) → Steps (beside f old) (start contents) n calls t → GoesWell (beside f old) budget n calls t)
-        → Steps (beside f new) (start contents) n calls t'
-        → GoesWell (beside f new) budget n calls t'
+    well_ahead : (t' : State) → ((t : State) → Steps (with_program f old) (start contents) n calls t → GoesWell (with_program f old) budget n calls t)
+        → Steps (with_program f new) (start contents) n calls t'
+        → GoesWell (with_program f new) budget n calls t'
     unfolding Rests
     well_ahead t' safe chain =
         let there = chain_behind (start contents) 0 n calls t' copy.first chain in
@@ -116,14 +116,14 @@ module _ (maps : ℕ) (old new : List (Option Insn)) (origin : List ℕ) (copy :
           short = well.short;
           few = well.few;
           on =
-              subst (λ (v : State). Rests (beside f new) v) (sym there.is)
+              subst (λ (v : State). Rests (with_program f new) v) (sym there.is)
               (on_ahead there.state there.slot there.stands well.on);
         }
 
     well_behind : (t : State)
-        → ((t' : State) → Steps (beside f new) (start contents) n calls t' → GoesWell (beside f new) budget n calls t')
-        → Steps (beside f old) (start contents) n calls t
-        → GoesWell (beside f old) budget n calls t
+        → ((t' : State) → Steps (with_program f new) (start contents) n calls t' → GoesWell (with_program f new) budget n calls t')
+        → Steps (with_program f old) (start contents) n calls t
+        → GoesWell (with_program f old) budget n calls t
     unfolding Rests
     well_behind t safe chain =
         let there = chain_ahead (start contents) 0 n calls t copy.first chain in
@@ -139,7 +139,7 @@ same_runs maps old new origin copy f contents n calls answer after as_many = (
 
 -- a setting beside another program
 setting_beside : (old new : List (Option Insn)) (shapes : List MapShape) (context : ℕ) (f : Setting)
-    → IsSetting old shapes context f → IsSetting new shapes context (beside f new)
+    → IsSetting old shapes context f → IsSetting new shapes context (with_program f new)
 setting_beside old new shapes context f p = record {
   slots_are = refl;
   shapes_are = p.shapes_are;
@@ -150,8 +150,8 @@ setting_beside old new shapes context f p = record {
 }
 
 -- the setting is the one beside its own program
-its_own : (slots : List (Option Insn)) (f : Setting) → f.slots ≡ slots → f ≡ beside f slots
-its_own slots f e = ap (λ (v : List (Option Insn)). beside f v) e
+its_own : (slots : List (Option Insn)) (f : Setting) → f.slots ≡ slots → f ≡ with_program f slots
+its_own slots f e = ap (λ (v : List (Option Insn)). with_program f v) e
 
 -- a copy is safe within a budget exactly when its original is
 pub same_safety : SameSafety
@@ -160,12 +160,12 @@ same_safety maps old new origin copy shapes context budget as_many = (
       let own = its_own new f setting.slots_are in
       subst (λ (g : Setting). GoesWell g budget n calls t) (sym own)
       (well_ahead maps old new origin copy f (ap length setting.shapes_are ∙ as_many) contents budget n calls t
-      (λ u there. safe (beside f old) contents (setting_beside new old shapes context f setting) have n calls u there)
+      (λ u there. safe (with_program f old) contents (setting_beside new old shapes context f setting) have n calls u there)
       (subst (λ (g : Setting). Steps g (start contents) n calls t) own chain)),
   λ safe f contents setting have n calls t chain.
       let own = its_own old f setting.slots_are in
       subst (λ (g : Setting). GoesWell g budget n calls t) (sym own)
       (well_behind maps old new origin copy f (ap length setting.shapes_are ∙ as_many) contents budget n calls t
-      (λ u there. safe (beside f new) contents (setting_beside old new shapes context f setting) have n calls u there)
+      (λ u there. safe (with_program f new) contents (setting_beside old new shapes context f setting) have n calls u there)
       (subst (λ (g : Setting). Steps g (start contents) n calls t) own chain)),
 )

@@ -11,9 +11,9 @@ use Rattle.bq_verify.specs.declared.edges.Targets.{Targets}
 use Rattle.bq_import.specs.declared.fault.Disorder.{Disorder}
 use Rattle.bq_import.specs.Backward.{IsBuilt, IsFront, IsLengthened}
 use Rattle.bq_import.specs.Faults.{IsFull, IsLinked}
-use Rattle.bq_import.specs.Lengths.{width_at, width_of}
-use Rattle.bq_import.specs.Search.{AreClosed, AreTargets, IsNext, IsReady, Suffices}
-use Rattle.bq_import.specs.Running.{HasPlace, IsPut, IsPutting, IsRun}
+use Rattle.bq_import.specs.Lengths.{width_at, width_of_slot}
+use Rattle.bq_import.specs.Search.{AreClosed, AreTargets, IsNextSlot, IsSlotReady, Suffices}
+use Rattle.bq_import.specs.Running.{HasPlaceBefore, IsPutInFront, IsPutting, IsRunOfSlots}
 use Rattle.bq_import.proofs.LengthLemmas.{run_has, run_next}
 use Rattle.bq_import.proofs.RoomLemmas.{full_more}
 
@@ -28,46 +28,46 @@ order_of (suc a) (suc b) = elim (order_of a b)
 -- the next instruction of targets
 pub next_of : (slots : List (Option Insn)) (slot : ℕ) (insn : Insn) (targets : Targets) (next : ℕ)
     → instruction_at slots slot ≡ Some insn → AreTargets slots slot insn targets → targets.next ≡ Some next
-    → IsNext slots slot next
+    → IsNextSlot slots slot next
 next_of slots slot insn targets next here are is = record { insn = insn; here = here; on = are.on next is; is = are.behind next is }
 
 -- what is the next instruction of the slot is that of its targets
 pub next_is : (slots : List (Option Insn)) (slot : ℕ) (insn : Insn) (targets : Targets) (next : ℕ)
-    → instruction_at slots slot ≡ Some insn → AreTargets slots slot insn targets → IsNext slots slot next
+    → instruction_at slots slot ≡ Some insn → AreTargets slots slot insn targets → IsNextSlot slots slot next
     → targets.next ≡ Some next
 next_is slots slot insn targets next here are n =
     let same : n.insn ≡ insn = some_same _ n.insn insn n.here here in
     are.next (ap goes_on (sym same) ∙ n.on) ∙ ap (λ (k : ℕ). Some k) (sym (n.is ∙ ap (λ (i : Insn). slot + slots_of i) same))
 
 -- an instruction begins at the next slot
-pub next_start : (slots : List (Option Insn)) (slot next : ℕ) → IsLinked slots → IsNext slots slot next → IsStart slots next
+pub next_start : (slots : List (Option Insn)) (slot next : ℕ) → IsLinked slots → IsNextSlot slots slot next → IsStart slots next
 next_start slots slot next linked n = subst (λ (k : ℕ). IsStart slots k) (sym n.is) ((linked.leads slot n.insn n.here).0 n.on)
 
 -- control goes to the next slot
-pub next_edge : (slots : List (Option Insn)) (slot next : ℕ) → IsNext slots slot next → IsEdge slots slot next
+pub next_edge : (slots : List (Option Insn)) (slot next : ℕ) → IsNextSlot slots slot next → IsEdge slots slot next
 next_edge slots slot next n = record { insn = n.insn; here = n.here; leaves = inl (n.on, n.is) }
 
 -- there is one next instruction
-pub next_same : (slots : List (Option Insn)) (slot a b : ℕ) → IsNext slots slot a → IsNext slots slot b → a ≡ b
+pub next_same : (slots : List (Option Insn)) (slot a b : ℕ) → IsNextSlot slots slot a → IsNextSlot slots slot b → a ≡ b
 next_same slots slot a b p q =
     let same : p.insn ≡ q.insn = some_same _ p.insn q.insn p.here q.here in
     p.is ∙ (ap (λ (i : Insn). slot + slots_of i) same ∙ sym q.is)
 
 -- a run of one instruction
 pub run_of_one : (slots : List (Option Insn)) (places : List (Option ℕ)) (slot : ℕ)
-    → IsStart slots slot → IsReady slots places slot → IsRun slots places slot slot
+    → IsStart slots slot → IsSlotReady slots places slot → IsRunOfSlots slots places slot slot
 run_of_one slots places slot start ready = record {
   begins = omega arith;
   start = start;
   onward = λ j from below s. absurd (omega (arith, from, below));
-  ready = λ j from to s. let same : slot ≡ j = omega (arith, from, to) in subst (λ (n : ℕ). IsReady slots places n) same ready;
+  ready = λ j from to s. let same : slot ≡ j = omega (arith, from, to) in subst (λ (n : ℕ). IsSlotReady slots places n) same ready;
   ends = refl;
 }
 
 -- a run goes on
 pub run_on : (slots : List (Option Insn)) (places : List (Option ℕ)) (slot last next : ℕ)
-    → IsLinked slots → AreClosed slots places → IsRun slots places slot last → IsNext slots last next
-    → IsRun slots places slot next
+    → IsLinked slots → AreClosed slots places → IsRunOfSlots slots places slot last → IsNextSlot slots last next
+    → IsRunOfSlots slots places slot next
 run_on slots places slot last next linked closed run n =
     let begins = run.begins in
     let is = n.is in
@@ -79,7 +79,7 @@ run_on slots places slot last next linked closed run n =
       onward = λ j from below at. elim (order_of j last) [
         | inl before ↦ let o = run.onward j from before at in let le = o.2 in (o.0, o.1, omega (arith, le, is))
         | inr more ↦ elim more [
-          | inl same ↦ (next, subst (λ (k : ℕ). IsNext slots k next) (sym same) n, omega arith)
+          | inl same ↦ (next, subst (λ (k : ℕ). IsNextSlot slots k next) (sym same) n, omega arith)
           | inr after ↦ absurd (linked.gaps last n.insn n.here j after (omega (arith, below, is)) at)
         ]
       ];
@@ -87,7 +87,7 @@ run_on slots places slot last next linked closed run n =
         | inl after ↦ elim (order_of j next) [
           | inl below ↦ absurd (linked.gaps last n.insn n.here j after (omega (arith, below, is)) at)
           | inr more ↦ elim more [
-            | inl same ↦ subst (λ (k : ℕ). IsReady slots places k) (sym same) (λ to e. closed next to done e)
+            | inl same ↦ subst (λ (k : ℕ). IsSlotReady slots places k) (sym same) (λ to e. closed next to done e)
             | inr past ↦ absurd (omega (arith, past, to))
           ]
         ]
@@ -102,9 +102,9 @@ run_on slots places slot last next linked closed run n =
 -- where no instruction begins nothing is put
 pub not_put : (maps : ℕ) (old back : List (Option Insn)) (origins : List ℕ) (slot : ℕ)
     → instruction_at old slot ≡ None → IsBuilt maps old back origins
-    → IsPut maps old back origins back origins slot
+    → IsPutInFront maps old back origins back origins slot
 not_put maps old back origins slot none built =
-    let wide : width_at old slot ≡ 0 = ap width_of none in
+    let wide : width_at old slot ≡ 0 = ap width_of_slot none in
     record {
       built = built;
       keeps = λ place from s. s;
@@ -118,9 +118,9 @@ pub was_put : (maps : ℕ) (old before : List (Option Insn)) (origins : List ℕ
     (origins' : List ℕ) (slot : ℕ) (insn : Insn)
     → instruction_at old slot ≡ Some insn → IsLengthened maps old before origins after origins' slot
     → length after ≡ length before + slots_of insn
-    → IsPut maps old before origins after origins' slot
+    → IsPutInFront maps old before origins after origins' slot
 was_put maps old before origins after origins' slot insn here more grown =
-    let wide : width_at old slot ≡ slots_of insn = ap width_of here in
+    let wide : width_at old slot ≡ slots_of insn = ap width_of_slot here in
     record {
       built = more.built;
       keeps = more.keeps;
@@ -130,10 +130,10 @@ was_put maps old before origins after origins' slot insn here more grown =
     }
 
 module _ (maps : ℕ) (old before : List (Option Insn)) (origins : List ℕ) (places : List (Option ℕ)) (linked : IsLinked old)
-    (slot last : ℕ) (run : IsRun old places slot last) where
+    (slot last : ℕ) (run : IsRunOfSlots old places slot last) where
   -- the last instruction is in front
   pub first_put : (after : List (Option Insn)) (origins' : List ℕ)
-      → IsPut maps old before origins after origins' last
+      → IsPutInFront maps old before origins after origins' last
       → IsPutting maps old before origins last last after origins'
   first_put after origins' put =
       let grown = put.grown in
@@ -147,7 +147,7 @@ module _ (maps : ℕ) (old before : List (Option Insn)) (origins : List ℕ) (pl
       }
 
   -- what suffices for the slot suffices for the run
-  pub fits_in : ((next : ℕ) → IsNext old slot next → IsFront before origins next → last ≡ slot)
+  pub fits_in : ((next : ℕ) → IsNextSlot old slot next → IsFront before origins next → last ≡ slot)
       → (most : ℕ) → Suffices old before origins slot most
       → last + width_at old last ≤ slot + most
   fits_in short most (inl le) = let ends = run.ends in let has = run_has old last linked run.start in omega (arith, le, ends, has)
@@ -166,7 +166,7 @@ module _ (maps : ℕ) (old before : List (Option Insn)) (origins : List ℕ) (pl
 
   module _ (after : List (Option Insn)) (origins' : List ℕ) (at : ℕ) (from : slot ≤ at) (below : at < last)
       (p : IsPutting maps old before origins last (at + 1) after origins') where
-    pub next_front : (next : ℕ) → IsNext old at next → IsFront after origins' next
+    pub next_front : (next : ℕ) → IsNextSlot old at next → IsFront after origins' next
     next_front next n =
         let o = run.onward at from below (record { insn = n.insn; here = n.here }) in
         let same = next_same old at o.0 next o.1 n in
@@ -176,7 +176,7 @@ module _ (maps : ℕ) (old before : List (Option Insn)) (origins : List ℕ) (pl
         p.front next (omega (arith, is, positive)) (omega (arith, le, same)) (next_start old at next linked n)
         (λ j above under s. linked.gaps at n.insn n.here j (omega (arith, above)) (omega (arith, under, is)) s)
 
-    room_at : (o : Option Insn) → instruction_at old at ≡ o → at + width_of o ≤ p.room.from
+    room_at : (o : Option Insn) → instruction_at old at ≡ o → at + width_of_slot o ≤ p.room.from
     room_at None e = let above = p.room.above in omega (arith, above)
     room_at (Some insn) e =
         let above = p.room.above in
@@ -194,8 +194,8 @@ module _ (maps : ℕ) (old before : List (Option Insn)) (origins : List ℕ) (pl
         full_more (length after + width_at old at) (length before + most) d (omega (arith, enough, fits, room, from)) full
 
     room_more : (o : Option Insn) (more : List (Option Insn))
-        → instruction_at old at ≡ o → length more ≡ length after + width_of o
-        → HasPlace old at (length before + (last + width_at old last)) more
+        → instruction_at old at ≡ o → length more ≡ length after + width_of_slot o
+        → HasPlaceBefore old at (length before + (last + width_at old last)) more
     room_more None more e grown =
         let above = p.room.above in
         let fits = p.room.fits in
@@ -207,7 +207,7 @@ module _ (maps : ℕ) (old before : List (Option Insn)) (origins : List ℕ) (pl
 
     -- one instruction more is in front
     pub next_put : (more : List (Option Insn)) (origins'' : List ℕ)
-        → IsPut maps old after origins' more origins'' at
+        → IsPutInFront maps old after origins' more origins'' at
         → IsPutting maps old before origins last at more origins''
     next_put more origins'' put = record {
       built = put.built;

@@ -16,7 +16,7 @@ use Rattle.bq_insn.proofs.OptionLemmas.{some_same, some_none}
 use Rattle.bq_insn.proofs.CountLemmas.{slots_positive}
 use Rattle.bq_verify.proofs.EdgeLemmas.{leads_same, leads_out}
 use Rattle.bq_import.specs.Copies.{IsCopyOfSlot}
-use Rattle.bq_import.specs.Backward.{JumpsBack, IsFront, IsLengthened, MayStand}
+use Rattle.bq_import.specs.Backward.{JumpsBack, IsFront, IsLengthened, MayBePut}
 use Rattle.bq_import.specs.Lengths.{IsJump}
 use Rattle.bq_import.specs.Search.{AreTargets, JumpsTo}
 
@@ -116,7 +116,7 @@ module _ (old back : List (Option Insn)) (origins : List ℕ) (slot : ℕ) (insn
 
   pub may_stand : (distance : ℤ) → instruction_at old slot ≡ Some insn
       → ((n : ℕ) → targets.next ≡ Some n → IsFront back origins n) → IfSome targets.jump (JumpsTo back origins distance)
-      → MayStand old back origins slot insn distance
+      → MayBePut old back origins slot insn distance
   may_stand distance here front jumps = record {
     here = here;
     on = λ on. front (slot + slots_of insn) (are.next on);

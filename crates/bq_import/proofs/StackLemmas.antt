@@ -10,7 +10,7 @@ use Rattle.bq_insn.proofs.OptionLemmas.{some_same, some_none}
 use Rattle.bq_verify.proofs.EdgeLemmas.{start_inside, IsPath-push, end_of-push}
 use Rattle.bq_import.specs.Copies.{IsCopyOfSlot}
 use Rattle.bq_import.specs.Backward.{IsBuilt, IsLengthened}
-use Rattle.bq_import.specs.Search.{AllComeTo, AreWaiting, IsCounted, IsQueued, place_at, IsDone, AreKnown, AreClosed, IsReady, is_open, unopened, IsStacked, IsTop, IsSearching, KeepsOpen, left_of}
+use Rattle.bq_import.specs.Search.{AllComeTo, AreWaiting, IsCounted, IsQueued, copy_place, HasCopy, AreCopyPlaces, AreClosed, IsSlotReady, is_open, unopened, IsStacked, IsTop, IsSearching, KeepsOpen, left_of}
 
 -- two numbers are equal or not
 pub equal_or_not : (a b : ℕ) → (a ≡ b) ⊎ (a ≢ b)
@@ -20,14 +20,14 @@ equal_or_not (suc a) zero = inr (λ e. cc)
 equal_or_not (suc a) (suc b) = elim (equal_or_not a b) [ inl e ↦ inl (ap suc e) | inr apart ↦ inr (λ e. apart (omega (arith, e))) ]
 
 -- the slot that was put at a place is there
-pub now_set : (places : List (Option ℕ)) (slot place : ℕ) → slot < length places → IsDone (slice_set places slot (Some place)) slot
+pub now_set : (places : List (Option ℕ)) (slot place : ℕ) → slot < length places → HasCopy (slice_set places slot (Some place)) slot
 now_set places slot place inside = (place, get_or-set_same places slot (Some place) None inside)
 
 -- what was in place is still in place
-pub still_set : (places : List (Option ℕ)) (slot place : ℕ) → slot < length places → (s : ℕ) → IsDone places s
-    → IsDone (slice_set places slot (Some place)) s
+pub still_set : (places : List (Option ℕ)) (slot place : ℕ) → slot < length places → (s : ℕ) → HasCopy places s
+    → HasCopy (slice_set places slot (Some place)) s
 still_set places slot place inside s done = elim (equal_or_not s slot) [
-  | inl e ↦ subst (λ (n : ℕ). IsDone (slice_set places slot (Some place)) n) (sym e) (now_set places slot place inside)
+  | inl e ↦ subst (λ (n : ℕ). HasCopy (slice_set places slot (Some place)) n) (sym e) (now_set places slot place inside)
   | inr apart ↦ (done.0, get_or-set_other places slot s (Some place) None apart ∙ done.1)
 ]
 
@@ -91,7 +91,7 @@ module _ (maps : ℕ) (old back : List (Option Insn)) (origins : List ℕ) (plac
         ap (λ (n : ℕ). get_or (stack ++ slot ∷ []) n 0) (let e : length stack ≡ length stack + 0 = omega arith in e)
         ∙ get_or-append-add stack (slot ∷ []) 0 0
 
-    opened_more : (s : ℕ) → is_open (slice_set opens slot true) s ≡ true → IsDone places s ⊎ IsStacked (stack ++ slot ∷ []) s
+    opened_more : (s : ℕ) → is_open (slice_set opens slot true) s ≡ true → HasCopy places s ⊎ IsStacked (stack ++ slot ∷ []) s
     opened_more s begun = elim (equal_or_not s slot) [
       | inl e ↦
           inr (let long = length-append stack (slot ∷ []) in
@@ -150,10 +150,10 @@ module _ (maps : ℕ) (old back : List (Option Insn)) (origins : List ℕ) (plac
       | inr apart ↦ get_or-set_other opens slot s true false apart ∙ begun
     ]
 
-    shut_undone : place_at places slot ≡ None
-    shut_undone = by (place_at places slot) refl
+    shut_undone : copy_place places slot ≡ None
+    shut_undone = by (copy_place places slot) refl
       where
-        by : (v : Option ℕ) → place_at places slot ≡ v → place_at places slot ≡ None
+        by : (v : Option ℕ) → copy_place places slot ≡ v → copy_place places slot ≡ None
         by None e = e
         by (Some place) e = absurd (true≢false (sym (at.waiting.begun slot (place, e)) ∙ new))
 
@@ -188,7 +188,7 @@ module _ (maps : ℕ) (old back : List (Option Insn)) (origins : List ℕ) (plac
       opened =
           each_more (λ n. is_open (slice_set opens slot true) n ≡ true)
           (λ i lt. keeps_open (slice_index stack i) (at.waiting.opened i lt)) open_now;
-      undone = each_more (λ n. place_at places n ≡ None) at.waiting.undone shut_undone;
+      undone = each_more (λ n. copy_place places n ≡ None) at.waiting.undone shut_undone;
       apart = apart_more;
     }
 
@@ -214,15 +214,15 @@ module _ (maps : ℕ) (old back : List (Option Insn)) (origins : List ℕ) (plac
     pub top_comes : Path old 0 slot
     top_comes = let long = top.long in subst (λ (n : ℕ). Path old 0 n) top.slot_is (at.comes top.below (omega (arith, long)))
 
-    pub top_undone : place_at places slot ≡ None
+    pub top_undone : copy_place places slot ≡ None
     top_undone =
         let long = top.long in
-        subst (λ (n : ℕ). place_at places n ≡ None) top.slot_is (at.waiting.undone top.below (omega (arith, long)))
+        subst (λ (n : ℕ). copy_place places n ≡ None) top.slot_is (at.waiting.undone top.below (omega (arith, long)))
 
     pub top_starts : IsStart old slot
     top_starts = let long = top.long in subst (λ (n : ℕ). IsStart old n) top.slot_is (at.starts top.below (omega (arith, long)))
 
-  module _ (top : IsTop stack slot) (ready : IsReady old places slot) (back' : List (Option Insn)) (origins' : List ℕ)
+  module _ (top : IsTop stack slot) (ready : IsSlotReady old places slot) (back' : List (Option Insn)) (origins' : List ℕ)
       (more : IsLengthened maps old back origins back' origins' slot) where
     place : ℕ
     place = length back' - 1
@@ -234,19 +234,19 @@ module _ (maps : ℕ) (old back : List (Option Insn)) (origins : List ℕ) (plac
         let inside = start_inside old slot (subst (λ (n : ℕ). IsStart old n) top.slot_is (at.starts top.below (omega (arith, long)))) in
         omega (arith, inside, room)
 
-    done_now : IsDone (slice_set places slot (Some place)) slot
+    done_now : HasCopy (slice_set places slot (Some place)) slot
     done_now = now_set places slot place on_stack
 
-    done_still : (s : ℕ) → IsDone places s → IsDone (slice_set places slot (Some place)) s
+    done_still : (s : ℕ) → HasCopy places s → HasCopy (slice_set places slot (Some place)) s
     done_still = still_set places slot place on_stack
 
-    known_more : AreKnown back' origins' (slice_set places slot (Some place))
+    known_more : AreCopyPlaces back' origins' (slice_set places slot (Some place))
     unfolding place
     known_more s p e = elim (equal_or_not s slot) [
       | inl same ↦
           let is : place ≡ p =
           some_same _ place p (get_or-set_same places slot (Some place) None on_stack)
-          (ap (λ (n : ℕ). place_at (slice_set places slot (Some place)) n) (sym same) ∙ e) in
+          (ap (λ (n : ℕ). copy_place (slice_set places slot (Some place)) n) (sym same) ∙ e) in
           let front = more.front in
           let front_is = front.place_is in
           let there : front.place ≡ p = omega (arith, front_is, is) in
@@ -270,14 +270,14 @@ module _ (maps : ℕ) (old back : List (Option Insn)) (origins : List ℕ) (plac
     taken_long = let least = length-take (length stack - 1) stack in omega (arith, least)
 
     opened_less : (s : ℕ) → is_open opens s ≡ true
-        → IsDone (slice_set places slot (Some place)) s ⊎ IsStacked (take (length stack - 1) stack) s
+        → HasCopy (slice_set places slot (Some place)) s ⊎ IsStacked (take (length stack - 1) stack) s
     opened_less s begun = elim (at.opened s begun) [
       | inl done ↦ inl (done_still s done)
       | inr on ↦
           elim (equal_or_not on.index top.below) [
             | inl e ↦
                 let same : s ≡ slot = sym on.slot_is ∙ (ap (λ (n : ℕ). slice_index stack n) e ∙ top.slot_is) in
-                inl (subst (λ (n : ℕ). IsDone (slice_set places slot (Some place)) n) (sym same) done_now)
+                inl (subst (λ (n : ℕ). HasCopy (slice_set places slot (Some place)) n) (sym same) done_now)
             | inr apart ↦
                 let inside = on.inside in
                 let long = top.long in
@@ -325,7 +325,7 @@ module _ (maps : ℕ) (old back : List (Option Insn)) (origins : List ℕ) (plac
           let below : i < length stack - 1 = omega (arith, lt, taken) in
           let other : slice_index stack i ≢ slot =
           λ e. at.waiting.apart i top.below (omega (arith, below, long)) (omega (arith, long)) (e ∙ sym top.slot_is) in
-          ap (place_at (slice_set places slot (Some place))) (taken_index i below)
+          ap (copy_place (slice_set places slot (Some place))) (taken_index i below)
           ∙ (get_or-set_other places slot (slice_index stack i) (Some place) None other ∙ at.waiting.undone i (omega (arith, below)));
       apart = λ i j lt less.
           let taken = taken_long in
@@ -360,7 +360,7 @@ module _ (maps : ℕ) (old back : List (Option Insn)) (origins : List ℕ) (plac
 -- before the first slot
 pub nothing_begun : (maps : ℕ) (old back : List (Option Insn)) (origins : List ℕ) (places : List (Option ℕ))
     (opens : List Bool) (stack : List ℕ)
-    → IsBuilt maps old back origins → back ≡ [] → ((k : ℕ) → place_at places k ≡ None) → length places ≡ length old
+    → IsBuilt maps old back origins → back ≡ [] → ((k : ℕ) → copy_place places k ≡ None) → length places ≡ length old
     → ((k : ℕ) → is_open opens k ≡ false) → length opens ≡ length old → stack ≡ []
     → IsSearching maps old back origins places opens stack
 nothing_begun maps old back origins places opens stack built nothing none room shut room' empty =

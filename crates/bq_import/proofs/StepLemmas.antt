@@ -10,14 +10,14 @@ use Rattle.bq_bpf.specs.declared.board.CounterCall.TheVariants.{Add, Read}
 use Rattle.bq_bpf.specs.Memory.{Setting, State, Region, InContext, InStack, InEntry, IsGood, Reads, Writes, written}
 use Rattle.bq_bpf.specs.Steps.{Does, Helps, NamesEntry, Takes}
 use Rattle.bq_bpf.specs.Instructions.{distance_of}
-use Rattle.bq_import.specs.Laws.{beside}
+use Rattle.bq_import.specs.Laws.{with_program}
 
 -- the state at another slot
 abbrev pub moved : State → ℕ → State
 moved s slot = record s { slot = slot }
 
 module _ (f : Setting) (slots : List (Option Insn)) (k : ℕ) where
-  good_beside : (address count : ℕ) (r : Region) (o : ℕ) → IsGood f address count r o → IsGood (beside f slots) address count r o
+  good_beside : (address count : ℕ) (r : Region) (o : ℕ) → IsGood f address count r o → IsGood (with_program f slots) address count r o
   good_beside address count InContext o p =
       record { base = p.base; size = p.size; spans = p.spans; address_is = p.address_is; inside = p.inside }
   good_beside address count InStack o p =
@@ -25,7 +25,7 @@ module _ (f : Setting) (slots : List (Option Insn)) (k : ℕ) where
   good_beside address count (InEntry m first) o p =
       record { base = p.base; size = p.size; spans = p.spans; address_is = p.address_is; inside = p.inside }
 
-  reads_moved : (s : State) (address : ℕ) (bytes : List ℕ) → Reads f s address bytes → Reads (beside f slots) (moved s k) address bytes
+  reads_moved : (s : State) (address : ℕ) (bytes : List ℕ) → Reads f s address bytes → Reads (with_program f slots) (moved s k) address bytes
   reads_moved s address bytes p = record {
     region = p.region;
     offset = p.offset;
@@ -44,7 +44,7 @@ module _ (f : Setting) (slots : List (Option Insn)) (k : ℕ) where
   written_slot s (InEntry m first) o bytes = refl
 
   writes_moved : (s : State) (address : ℕ) (bytes : List ℕ) (t : State)
-      → Writes f s address bytes t → Writes (beside f slots) (moved s k) address bytes (moved t k)
+      → Writes f s address bytes t → Writes (with_program f slots) (moved s k) address bytes (moved t k)
   writes_moved s address bytes t p = record {
     region = p.region;
     offset = p.offset;
@@ -57,7 +57,7 @@ module _ (f : Setting) (slots : List (Option Insn)) (k : ℕ) where
   writes_slot s address bytes t p = ap (λ (u : State). u.slot) p.after ∙ written_slot s p.region p.offset bytes
 
   names_moved : (s : State) (m : ℕ) (shape : MapShape) (n : ℕ)
-      → NamesEntry f s m shape n → NamesEntry (beside f slots) (moved s k) m shape n
+      → NamesEntry f s m shape n → NamesEntry (with_program f slots) (moved s k) m shape n
   names_moved s m shape n p = record {
     known = p.known;
     reference_is = p.reference_is;
@@ -70,7 +70,7 @@ module _ (f : Setting) (slots : List (Option Insn)) (k : ℕ) where
   }
 
   helps_moved : (helper : ℤ) (s t : State) → Helps f helper s t
-      → Helps (beside f slots) helper (moved s k) (moved t (k + 1)) × (t.slot ≡ s.slot + 1)
+      → Helps (with_program f slots) helper (moved s k) (moved t (k + 1)) × (t.slot ≡ s.slot + 1)
   helps_moved helper s t (inl (one, (m, shape, n, entry, e))) =
       (inl (one, (m, shape, n, names_moved s m shape n entry, ap (λ (v : State). moved v (k + 1)) e)), ap (λ (v : State). v.slot) e)
   helps_moved helper s t (inr (inl (two, (m, shape, n, from, value, entry, is, long, reads, none, inl (there, u, writes, e))))) = (
@@ -121,7 +121,7 @@ module _ (f : Setting) (slots : List (Option Insn)) (k : ℕ) where
 
   -- what an instruction that does not jump does
   pub does_moved : (insn : Insn) (s t : State) → distance_of insn ≡ None → Does f insn s t
-      → Does (beside f slots) insn (moved s k) (moved t (k + slots_of insn)) × (t.slot ≡ s.slot + slots_of insn)
+      → Does (with_program f slots) insn (moved s k) (moved t (k + slots_of insn)) × (t.slot ≡ s.slot + slots_of insn)
   does_moved (Alu w op dst src) s t d (a, b, left, operand, target, e) =
       ((a, b, left, operand, target, ap (λ (v : State). moved v (k + 1)) e), ap (λ (v : State). v.slot) e)
   does_moved (MovSx w bits dst src) s t d (a, is, target, e) =
@@ -150,7 +150,7 @@ module _ (f : Setting) (slots : List (Option Insn)) (k : ℕ) where
 
   asks_moved : (insn : Insn) (s : State) (c : CounterCall) (t : State)
       → Takes f insn s (Some c) t
-      → Takes (beside f slots) insn (moved s k) (Some c) (moved t (k + slots_of insn)) × (t.slot ≡ s.slot + slots_of insn)
+      → Takes (with_program f slots) insn (moved s k) (Some c) (moved t (k + slots_of insn)) × (t.slot ≡ s.slot + slots_of insn)
   asks_moved (Call helper) s (Add i d x) t (asks, fits, e) =
       ((asks, fits, ap (λ (v : State). moved v (k + 1)) e), ap (λ (v : State). v.slot) e)
   asks_moved (Call helper) s (Read i x) t (asks, fits, e) =
@@ -172,6 +172,6 @@ module _ (f : Setting) (slots : List (Option Insn)) (k : ℕ) where
   -- what an instruction that does not jump does, with calls of counters
   pub takes_moved : (insn : Insn) (s : State) (c : Option CounterCall) (t : State)
       → distance_of insn ≡ None → Takes f insn s c t
-      → Takes (beside f slots) insn (moved s k) c (moved t (k + slots_of insn)) × (t.slot ≡ s.slot + slots_of insn)
+      → Takes (with_program f slots) insn (moved s k) c (moved t (k + slots_of insn)) × (t.slot ≡ s.slot + slots_of insn)
   takes_moved insn s None t d p = does_moved insn s t d p
   takes_moved insn s (Some c) t d p = asks_moved insn s c t p

@@ -32,7 +32,7 @@ pub record GoesBack (back : List (Option Insn)) (origins : List ℕ) (place slot
 
 -- a place of the copy has the copy of the instruction at a slot of the program, and control goes on from it to copies of where
 -- it goes on there
-pub record IsPlaced (maps : ℕ) (old back : List (Option Insn)) (origins : List ℕ) (place from : ℕ) : Type 0 where
+pub record IsPlacedCopy (maps : ℕ) (old back : List (Option Insn)) (origins : List ℕ) (place from : ℕ) : Type 0 where
   pub original : Insn
   pub distance : ℤ
   pub here : instruction_at old from ≡ Some original
@@ -48,15 +48,15 @@ insns_of back = filter_map (λ slot. slot) (reverse back)
 pub record IsBuilt (maps : ℕ) (old back : List (Option Insn)) (origins : List ℕ) : Type 0 where
   pub as_long : length origins ≡ length back
   pub short : length back ≤ 4096
-  pub placed : (place from : ℕ) → IsCopyOfSlot back origins place from → IsPlaced maps old back origins place from
+  pub placed : (place from : ℕ) → IsCopyOfSlot back origins place from → IsPlacedCopy maps old back origins place from
   pub spread_is : spread (insns_of back) ≡ reverse back
   pub in_range : list_all is_insn (insns_of back) ≡ true
   pub fit : AllFit (insns_of back)
   pub front : (place : ℕ) → length back ≡ place + 1 → IsStart back place
 
 -- each copy that was at a place is still there
-abbrev pub Keeps : List (Option Insn) → List ℕ → List (Option Insn) → List ℕ → Type 0
-Keeps old origins new origins' = (place from : ℕ) → IsCopyOfSlot old origins place from → IsCopyOfSlot new origins' place from
+abbrev pub KeepsCopies : List (Option Insn) → List ℕ → List (Option Insn) → List ℕ → Type 0
+KeepsCopies old origins new origins' = (place from : ℕ) → IsCopyOfSlot old origins place from → IsCopyOfSlot new origins' place from
 
 -- the first instruction of the copy until now is a copy of the one at this slot
 pub record IsFront (back : List (Option Insn)) (origins : List ℕ) (from : ℕ) : Type 0 where
@@ -67,7 +67,7 @@ pub record IsFront (back : List (Option Insn)) (origins : List ℕ) (from : ℕ)
 -- the copy has one more instruction in front: that of this slot
 pub record IsLengthened (maps : ℕ) (old before : List (Option Insn)) (origins : List ℕ) (after : List (Option Insn)) (origins' : List ℕ) (from : ℕ) : Type 0 where
   pub built : IsBuilt maps old after origins'
-  pub keeps : Keeps before origins after origins'
+  pub keeps : KeepsCopies before origins after origins'
   pub front : IsFront after origins' from
 
 -- the copy has what it had, and one instruction in front
@@ -75,7 +75,7 @@ pub record IsOneMore (before : List (Option Insn)) (origins : List ℕ) (after :
   pub only : (place slot : ℕ) → IsCopyOfSlot after origins' place slot → IsCopyOfSlot before origins place slot ⊎ ((length after ≡ place + 1) × (slot ≡ from))
 
 -- the instruction may be put in front with this distance
-pub record MayStand (old back : List (Option Insn)) (origins : List ℕ) (from : ℕ) (insn : Insn) (distance : ℤ) : Type 0 where
+pub record MayBePut (old back : List (Option Insn)) (origins : List ℕ) (from : ℕ) (insn : Insn) (distance : ℤ) : Type 0 where
   pub here : instruction_at old from ≡ Some insn
   pub on : goes_on insn ≡ true → IsFront back origins (from + slots_of insn)
   pub jumps : (far : ℤ) → distance_of insn ≡ Some far → JumpsBack back origins from (length back) far distance

@@ -8,7 +8,7 @@ use Rattle.bq_verify.specs.Edges.{IsEdge, IsStart}
 use Rattle.bq_verify.specs.Paths.{Path}
 use Rattle.bq_verify.specs.Faults.{RunsOut}
 use Rattle.bq_import.specs.Backward.{AreGood}
-use Rattle.bq_import.specs.Lengths.{IsTooLong}
+use Rattle.bq_import.specs.Lengths.{AreRunsTooLong}
 use Rattle.bq_import.specs.Orders.{HasLongOrder}
 use Rattle.bq_import.specs.declared.fault.Disorder.{Disorder}
 use Rattle.bq_import.specs.declared.fault.Disorder.TheVariants.{Outside, Ends, Loop, Long, OutOfMemory}
@@ -68,13 +68,13 @@ abbrev pub IsDisorder : List (Option Insn) → Disorder → Type 0
 IsDisorder slots (Ends slot) = RunsOut slots slot × WellBefore slots slot
 IsDisorder slots (Outside slot) = LeadsNowhere slots slot × (RunsOut slots slot → ⊥) × WellBefore slots slot
 IsDisorder slots (Loop from to) = IsLinked slots × IsLoop slots from to
-IsDisorder slots Long = IsLinked slots × (AllForward slots → ⊥) × IsTooLong slots × HasLongOrder slots × (64 ≤ length slots)
+IsDisorder slots Long = IsLinked slots × (AllForward slots → ⊥) × AreRunsTooLong slots × HasLongOrder slots × (64 ≤ length slots)
 IsDisorder slots OutOfMemory = Unit {0}
 
 -- why the search ends early: a loop, or a program that is too long
 abbrev pub IsSearchFault : List (Option Insn) → Disorder → Type 0
 IsSearchFault slots (Loop from to) = IsLinked slots × IsLoop slots from to
-IsSearchFault slots Long = IsLinked slots × IsTooLong slots × HasLongOrder slots
+IsSearchFault slots Long = IsLinked slots × AreRunsTooLong slots × HasLongOrder slots
 IsSearchFault slots OutOfMemory = Unit {0}
 IsSearchFault slots d = ⊥
 

@@ -5,7 +5,7 @@ use Rattle.bq_insn.specs.declared.Insn.{Insn}
 use Rattle.bq_insn.specs.declared.Insn.TheVariants.{Imm64}
 use Rattle.bq_insn.specs.declared.fault.Cause.{Cause}
 use Rattle.bq_insn.specs.declared.fault.DecodeFault.TheVariants as decode
-use Rattle.bq_insn.specs.Faults.{IsFault}
+use Rattle.bq_insn.specs.Faults.{IsDecodeFault}
 use Rattle.bq_insn.specs.Slots.{spread}
 use Rattle.bq_insn.specs.Spelling.{spelling, slot_count, is_well_formed}
 use Rattle.bq_insn.specs.Laws.{AllFit}
@@ -18,10 +18,10 @@ use Rattle.bq_import.specs.declared.section.ImportFault.TheVariants.{At, Order}
 use Rattle.bq_import.specs.Copies.{IsCopy}
 use Rattle.bq_import.specs.Faults.{IsDisorder}
 use Rattle.bq_import.specs.Keeping.{AllReached}
-use Rattle.bq_import.specs.Reasons.{reason_of}
+use Rattle.bq_import.specs.Reasons.{import_reason_of}
 
 -- the bytes spell this program
-pub record Spells (bytes : List ℕ) (program : List Insn) : Type 0 where
+pub record SpellsProgram (bytes : List ℕ) (program : List Insn) : Type 0 where
   pub spelled : bytes ≡ spelling program
   pub well_formed : is_well_formed program ≡ true
   pub numbers : AllFit program
@@ -48,7 +48,7 @@ pub record IsFirstAddress (program : List Insn) (slot : ℕ) : Type 0 where
 -- the bytes spell a program without addresses; the instructions are a copy of it and a program too, and control comes to each of them
 pub record Imports (maps : ℕ) (bytes : List ℕ) (insns : List Insn) (origins : List ℕ) : Type 0 where
   pub program : List Insn
-  pub spells : Spells bytes program
+  pub spells : SpellsProgram bytes program
   pub plain : list_any is_address program ≡ false
   pub copy : IsCopy maps (spread program) (spread insns) origins
   pub well_formed : is_well_formed insns ≡ true
@@ -56,25 +56,25 @@ pub record Imports (maps : ℕ) (bytes : List ℕ) (insns : List Insn) (origins 
   pub reached : AllReached (spread insns)
 
 -- a byte of a slot; 0 past the end
-abbrev pub byte_at : List ℕ → ℕ → ℕ → ℕ
-byte_at bytes slot offset = slice_index_or bytes (slot * 8 + offset) 0
+abbrev pub byte_of_slot : List ℕ → ℕ → ℕ → ℕ
+byte_of_slot bytes slot offset = slice_index_or bytes (slot * 8 + offset) 0
 
 -- the bytes are no program, by a cause at the slot; the reason follows from the cause, the opcode and the source field there
 pub record IsNoProgram (bytes : List ℕ) (slot : ℕ) (reason : Reason) : Type 0 where
   pub cause : Cause
-  pub fault : IsFault bytes (decode.At slot cause)
-  pub reason_is : reason ≡ reason_of cause (byte_at bytes slot 0) (byte_at bytes slot 1 / 16)
+  pub fault : IsDecodeFault bytes (decode.At slot cause)
+  pub reason_is : reason ≡ import_reason_of cause (byte_of_slot bytes slot 0) (byte_of_slot bytes slot 1 / 16)
 
 -- the bytes spell a program whose first address is at the slot
 pub record HasAddress (bytes : List ℕ) (slot : ℕ) : Type 0 where
   pub program : List Insn
-  pub spells : Spells bytes program
+  pub spells : SpellsProgram bytes program
   pub first : IsFirstAddress program slot
 
 -- the bytes spell a program without addresses, and this is wrong with it
 pub record IsInDisorder (bytes : List ℕ) (disorder : Disorder) : Type 0 where
   pub program : List Insn
-  pub spells : Spells bytes program
+  pub spells : SpellsProgram bytes program
   pub plain : list_any is_address program ≡ false
   pub wrong : IsDisorder (spread program) disorder
 

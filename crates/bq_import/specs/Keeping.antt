@@ -5,7 +5,7 @@ use Rattle.bq_verify.specs.Edges.{IsEdge, IsStart}
 use Rattle.bq_verify.specs.Paths.{Path}
 use Rattle.bq_import.specs.Copies.{IsCopyOfSlot}
 use Rattle.bq_import.specs.Backward.{IsBuilt, IsFront}
-use Rattle.bq_import.specs.Search.{AreKnown, IsDone, is_open, place_at}
+use Rattle.bq_import.specs.Search.{AreCopyPlaces, HasCopy, is_open, copy_place}
 
 -- from the slot control goes only to later ones
 abbrev pub LeadsForward : List (Option Insn) → ℕ → Type 0
@@ -35,7 +35,7 @@ pub record AreReached (slots : List (Option Insn)) (found : List Bool) : Type 0 
   pub closed : (k to : ℕ) → is_open found k ≡ true → IsEdge slots k to → is_open found to ≡ true
 
 -- an instruction begins at or after the bound, or the program ends there: there is room for what comes before
-pub record HasRoom (slots back : List (Option Insn)) (bound : ℕ) : Type 0 where
+pub record HasRoomBefore (slots back : List (Option Insn)) (bound : ℕ) : Type 0 where
   pub from : ℕ
   pub above : bound ≤ from
   pub is : (from ≡ length slots) ⊎ IsStart slots from
@@ -44,14 +44,14 @@ pub record HasRoom (slots back : List (Option Insn)) (bound : ℕ) : Type 0 wher
 -- the copy of what control comes to from the bound on, each instruction once
 pub record IsKeeping (maps : ℕ) (old : List (Option Insn)) (found : List Bool) (bound : ℕ) (back : List (Option Insn)) (origins : List ℕ) (places : List (Option ℕ)) : Type 0 where
   pub built : IsBuilt maps old back origins
-  pub known : AreKnown back origins places
+  pub known : AreCopyPlaces back origins places
   pub room : length places ≡ length old
-  pub done : (k : ℕ) → bound ≤ k → is_open found k ≡ true → IsDone places k
+  pub done : (k : ℕ) → bound ≤ k → is_open found k ≡ true → HasCopy places k
   pub above : (place from : ℕ) → IsCopyOfSlot back origins place from → bound ≤ from
   pub comes : (place from : ℕ) → IsCopyOfSlot back origins place from → is_open found from ≡ true
-  pub once : (place from : ℕ) → IsCopyOfSlot back origins place from → place_at places from ≡ Some place
+  pub once : (place from : ℕ) → IsCopyOfSlot back origins place from → copy_place places from ≡ Some place
   pub front : (k : ℕ) → bound ≤ k → is_open found k ≡ true → ((j : ℕ) → bound ≤ j → j < k → is_open found j ≡ true → ⊥) → IsFront back origins k
-  pub fits : HasRoom old back bound
+  pub fits : HasRoomBefore old back bound
 
 -- control comes to each instruction
 abbrev pub AllReached : List (Option Insn) → Type 0

@@ -12,15 +12,15 @@ use Rattle.bq_verify.specs.Faults.{IsBadJump, RunsOut}
 use Rattle.bq_import.specs.Copies.{IsCopy}
 
 -- the setting with another program
-abbrev pub beside : Setting → List (Option Insn) → Setting
-beside f slots = record f { slots = slots }
+abbrev pub with_program : Setting → List (Option Insn) → Setting
+with_program f slots = record f { slots = slots }
 
 -- whatever a run of one program gives, a run of the copy gives, in as many steps, with the same calls of counters
 abbrev pub SameRuns : Type 0
 SameRuns =
     (maps : ℕ) (old new : List (Option Insn)) (origin : List ℕ) → IsCopy maps old new origin →
     (f : Setting) (contents : List (List ℕ)) (n : ℕ) (calls : List CounterCall) (answer : ℕ) (after : List (List ℕ)) → length f.shapes ≡ maps →
-    RunFrom (beside f old) (start contents) n calls answer after ↔ RunFrom (beside f new) (start contents) n calls answer after
+    RunFrom (with_program f old) (start contents) n calls answer after ↔ RunFrom (with_program f new) (start contents) n calls answer after
 
 -- a copy is safe within a budget exactly if the original is
 abbrev pub SameSafety : Type 0

@@ -13,17 +13,17 @@ run_of (None ∷ slots) = 1 + run_of slots
 run_of (Some insn ∷ slots) = if goes_on insn then 1 + run_of slots else 1
 
 -- the slots of the run from that slot
-abbrev pub run_at : List (Option Insn) → ℕ → ℕ
-run_at slots slot = run_of (drop slot slots)
+abbrev pub run_slots : List (Option Insn) → ℕ → ℕ
+run_slots slots slot = run_of (drop slot slots)
 
 -- the number of slots of an instruction, or 0 without one
-abbrev pub width_of : Option Insn → ℕ
-width_of None = 0
-width_of (Some insn) = slots_of insn
+abbrev pub width_of_slot : Option Insn → ℕ
+width_of_slot None = 0
+width_of_slot (Some insn) = slots_of insn
 
 -- the slots of the instruction that begins at the slot; 0 if none does
 abbrev pub width_at : List (Option Insn) → ℕ → ℕ
-width_at slots slot = width_of (instruction_at slots slot)
+width_at slots slot = width_of_slot (instruction_at slots slot)
 
 -- the instruction at the one slot may jump to the other
 pub record IsJump (slots : List (Option Insn)) (from to : ℕ) : Type 0 where
@@ -38,14 +38,14 @@ abbrev pub IsLanding : List (Option Insn) → ℕ → Type 0
 IsLanding slots slot = (from : ℕ) × IsJump slots from slot
 
 -- a slot is in a list
-abbrev pub IsIn : List ℕ → ℕ → Type 0
-IsIn [] slot = ⊥
-IsIn (first ∷ rest) slot = (slot ≡ first) ⊎ IsIn rest slot
+abbrev pub IsSlotIn : List ℕ → ℕ → Type 0
+IsSlotIn [] slot = ⊥
+IsSlotIn (first ∷ rest) slot = (slot ≡ first) ⊎ IsSlotIn rest slot
 
 -- the list has each slot that a jump leads to
 abbrev pub HasLandings : List (Option Insn) → List ℕ → Type 0
-HasLandings slots landings = (slot : ℕ) → IsLanding slots slot → IsIn landings slot
+HasLandings slots landings = (slot : ℕ) → IsLanding slots slot → IsSlotIn landings slot
 
 -- the run from the first slot and those from all slots that jumps lead to have more than 4096 slots together
-abbrev pub IsTooLong : List (Option Insn) → Type 0
-IsTooLong slots = (landings : List ℕ) → HasLandings slots landings → 4096 < run_at slots 0 + sum_by (run_at slots) landings
+abbrev pub AreRunsTooLong : List (Option Insn) → Type 0
+AreRunsTooLong slots = (landings : List ℕ) → HasLandings slots landings → 4096 < run_slots slots 0 + sum_by (run_slots slots) landings

@@ -21,8 +21,8 @@ source_reason opcode source =
     else reason.Field
 
 -- the reason for a cause, by the opcode and the source of the instruction
-abbrev pub reason_of : Cause → ℕ → ℕ → Reason
-reason_of cause.Length opcode source = reason.Length
-reason_of cause.Opcode opcode source = opcode_reason opcode
-reason_of cause.Offset opcode source = source_reason opcode source
-reason_of _ opcode source = reason.Field
+abbrev pub import_reason_of : Cause → ℕ → ℕ → Reason
+import_reason_of cause.Length opcode source = reason.Length
+import_reason_of cause.Opcode opcode source = opcode_reason opcode
+import_reason_of cause.Offset opcode source = source_reason opcode source
+import_reason_of _ opcode source = reason.Field

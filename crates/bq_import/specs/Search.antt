@@ -10,7 +10,7 @@ use Rattle.bq_verify.specs.Passes.{LeadsOut, IsAmongTargets}
 use Rattle.bq_verify.specs.declared.edges.Targets.{Targets}
 use Rattle.bq_import.specs.Copies.{IsCopyOfSlot}
 use Rattle.bq_import.specs.Backward.{IsBuilt, IsFront}
-use Rattle.bq_import.specs.Lengths.{IsIn, IsJump, IsLanding, run_at, width_at}
+use Rattle.bq_import.specs.Lengths.{IsSlotIn, IsJump, IsLanding, run_slots, width_at}
 use Rattle.bq_import.specs.Orders.{IsForwardOrder, copy_length}
 
 -- the slots to which control may go from the instruction: the next one, and the one to which it jumps
@@ -25,33 +25,33 @@ pub record AreTargets (slots : List (Option Insn)) (slot : ℕ) (insn : Insn) (t
   pub on : (to : ℕ) → targets.next ≡ Some to → goes_on insn ≡ true
 
 -- control goes on from the instruction at the slot to that one
-pub record IsNext (slots : List (Option Insn)) (slot next : ℕ) : Type 0 where
+pub record IsNextSlot (slots : List (Option Insn)) (slot next : ℕ) : Type 0 where
   pub insn : Insn
   pub here : instruction_at slots slot ≡ Some insn
   pub on : goes_on insn ≡ true
   pub is : next ≡ slot + slots_of insn
 
 -- the place of the last copy of a slot, if there is one
-abbrev pub place_at : List (Option ℕ) → ℕ → Option ℕ
-place_at places slot = slice_index_or places slot None
+abbrev pub copy_place : List (Option ℕ) → ℕ → Option ℕ
+copy_place places slot = slice_index_or places slot None
 
 -- a slot has a copy
-abbrev pub IsDone : List (Option ℕ) → ℕ → Type 0
-IsDone places slot = (place : ℕ) × (place_at places slot ≡ Some place)
+abbrev pub HasCopy : List (Option ℕ) → ℕ → Type 0
+HasCopy places slot = (place : ℕ) × (copy_place places slot ≡ Some place)
 
 -- each place that is kept is that of a copy
-abbrev pub AreKnown : List (Option Insn) → List ℕ → List (Option ℕ) → Type 0
-AreKnown back origins places = (slot place : ℕ) → place_at places slot ≡ Some place → IsCopyOfSlot back origins place slot
+abbrev pub AreCopyPlaces : List (Option Insn) → List ℕ → List (Option ℕ) → Type 0
+AreCopyPlaces back origins places = (slot place : ℕ) → copy_place places slot ≡ Some place → IsCopyOfSlot back origins place slot
 
 -- if a slot is in place, so is each slot to which control goes from it
 abbrev pub AreClosed : List (Option Insn) → List (Option ℕ) → Type 0
-AreClosed old places = (from to : ℕ) → IsDone places from → IsEdge old from to → IsDone places to
+AreClosed old places = (from to : ℕ) → HasCopy places from → IsEdge old from to → HasCopy places to
 
 -- a target is not in place; each other target is, or this one is that of the jump
 abbrev pub IsMissing : List (Option ℕ) → Targets → ℕ → Type 0
 IsMissing places targets to =
-    (place_at places to ≡ None)
-    × ((targets.jump ≡ Some to) ⊎ ((targets.next ≡ Some to) × ((other : ℕ) → targets.jump ≡ Some other → IsDone places other)))
+    (copy_place places to ≡ None)
+    × ((targets.jump ≡ Some to) ⊎ ((targets.next ≡ Some to) × ((other : ℕ) → targets.jump ≡ Some other → HasCopy places other)))
 
 -- a jump in front of the copy so far that goes on over this number of slots goes to a copy of that slot
 pub record JumpsTo (back : List (Option Insn)) (origins : List ℕ) (distance : ℤ) (to : ℕ) : Type 0 where
@@ -62,22 +62,22 @@ pub record JumpsTo (back : List (Option Insn)) (origins : List ℕ) (distance : 
   pub stands : IsCopyOfSlot back origins landing to
 
 -- all to which control may go from the slot is in place
-abbrev pub IsReady : List (Option Insn) → List (Option ℕ) → ℕ → Type 0
-IsReady old places slot = (to : ℕ) → IsEdge old slot to → IsDone places to
+abbrev pub IsSlotReady : List (Option Insn) → List (Option ℕ) → ℕ → Type 0
+IsSlotReady old places slot = (to : ℕ) → IsEdge old slot to → HasCopy places to
 
 -- the copy so far is one of a forward order of what is in place, or shorter, and begins with the first of that
 pub record IsCounted (old back : List (Option Insn)) (origins : List ℕ) (places : List (Option ℕ)) : Type 0 where
   pub order : List ℕ
   pub forward : IsForwardOrder old order
-  pub has : (slot : ℕ) → IsDone places slot → IsIn order slot
-  pub only : (slot : ℕ) → IsIn order slot → IsDone places slot
+  pub has : (slot : ℕ) → HasCopy places slot → IsSlotIn order slot
+  pub only : (slot : ℕ) → IsSlotIn order slot → HasCopy places slot
   pub front : (first : ℕ) (later : List ℕ) → order ≡ first ∷ later → IsFront back origins first
   pub short : length back ≤ copy_length old order
 
 -- the copy until now, and the places in it
 pub record IsOrdered (maps : ℕ) (old back : List (Option Insn)) (origins : List ℕ) (places : List (Option ℕ)) : Type 0 where
   pub built : IsBuilt maps old back origins
-  pub known : AreKnown back origins places
+  pub known : AreCopyPlaces back origins places
   pub closed : AreClosed old places
   pub counted : IsCounted old back origins places
   pub room : length places ≡ length old
@@ -117,16 +117,16 @@ unopened false = 1
 
 -- the slots that were begun and are not done: each was opened, and none comes twice
 pub record AreWaiting (places : List (Option ℕ)) (opens : List Bool) (stack : List ℕ) : Type 0 where
-  pub begun : (slot : ℕ) → IsDone places slot → is_open opens slot ≡ true
+  pub begun : (slot : ℕ) → HasCopy places slot → is_open opens slot ≡ true
   pub opened : (i : ℕ) → i < length stack → is_open opens (slice_index stack i) ≡ true
-  pub undone : (i : ℕ) → i < length stack → place_at places (slice_index stack i) ≡ None
+  pub undone : (i : ℕ) → i < length stack → copy_place places (slice_index stack i) ≡ None
   pub apart : (i j : ℕ) → i < j → j < length stack → slice_index stack i ≢ slice_index stack j
 
 -- the stack is a path of slots that were opened and are not done
 pub record IsSearching (maps : ℕ) (old back : List (Option Insn)) (origins : List ℕ) (places : List (Option ℕ)) (opens : List Bool) (stack : List ℕ) : Type 0 where
   pub ordered : IsOrdered maps old back origins places
   pub room : length opens ≡ length old
-  pub opened : (slot : ℕ) → is_open opens slot ≡ true → IsDone places slot ⊎ IsStacked stack slot
+  pub opened : (slot : ℕ) → is_open opens slot ≡ true → HasCopy places slot ⊎ IsStacked stack slot
   pub ways : (i j : ℕ) → i ≤ j → j < length stack → Path old (slice_index stack i) (slice_index stack j)
   pub starts : (i : ℕ) → i < length stack → IsStart old (slice_index stack i)
   pub comes : AllComeTo old stack
@@ -143,9 +143,9 @@ left_of opens stack = 2 * sum_by unopened opens + length stack
 -- this many slots are enough to put the slot in front: the slots of its run, or only its own if the next instruction is in front
 abbrev pub Suffices : List (Option Insn) → List (Option Insn) → List ℕ → ℕ → ℕ → Type 0
 Suffices old back origins slot most =
-    (run_at old slot ≤ most) ⊎ ((next : ℕ) × IsNext old slot next × IsFront back origins next × (width_at old slot ≤ most))
+    (run_slots old slot ≤ most) ⊎ ((next : ℕ) × IsNextSlot old slot next × IsFront back origins next × (width_at old slot ≤ most))
 
 -- control goes on from the one slot to the other, and all else to which it may go from there is in place
 pub record IsLastOf (old : List (Option Insn)) (places : List (Option ℕ)) (from to : ℕ) : Type 0 where
-  pub next : IsNext old from to
-  pub others : (other : ℕ) → IsEdge old from other → (other ≡ to) ⊎ IsDone places other
+  pub next : IsNextSlot old from to
+  pub others : (other : ℕ) → IsEdge old from other → (other ≡ to) ⊎ HasCopy places other

@@ -21,9 +21,9 @@ pub record WentOn (maps : ℕ) (old : List (Option Insn)) (before after : Search
   pub less : left_of after.opens.items after.stack.items < left_of before.opens.items before.stack.items
 
 -- the search writes no more than all runs from landings and this many slots
-abbrev pub IsWithin : List (Option Insn) → Search → ℕ → Type 0
-IsWithin old search extra = HasBudget old search.copy.slots.items search.copy.origins.items search.places.items search.opens.items search.stack.items extra
+abbrev pub IsSearchWithin : List (Option Insn) → Search → ℕ → Type 0
+IsSearchWithin old search extra = HasBudget old search.copy.slots.items search.copy.origins.items search.places.items search.opens.items search.stack.items extra
 
 -- if the budget sufficed before, it suffices after
 abbrev pub KeepsBudget : List (Option Insn) → Search → Search → Type 0
-KeepsBudget old before after = (extra : ℕ) → IsWithin old before extra → IsWithin old after extra
+KeepsBudget old before after = (extra : ℕ) → IsSearchWithin old before extra → IsSearchWithin old after extra

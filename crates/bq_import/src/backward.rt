@@ -3,7 +3,7 @@ ghost use Rattle.std.specs.Prelude.{◌≡◌, ◌<◌, ◌≤◌, ◌+◌, ◌-
 ghost use Rattle.bq_insn.specs.Slots.{slots_of};
 ghost use Rattle.bq_insn.specs.declared.Insn.{Insn};
 ghost use Rattle.bq_import.specs.Copies.{copied, is_reference, wide_copy};
-ghost use Rattle.bq_import.specs.Backward.{AreGood, IsBuilt, IsFront, IsLengthened, IsOneMore, MayStand};
+ghost use Rattle.bq_import.specs.Backward.{AreGood, IsBuilt, IsFront, IsLengthened, IsOneMore, MayBePut};
 ghost use Rattle.bq_import.specs.Faults.{IsFull};
 
 use crate::fault::Disorder;
@@ -43,7 +43,7 @@ impl Backward {
         requires good { AreGood old.now }
         requires few { maps ≤ 8 }
         requires inside { from < 4096 }
-        requires may { MayStand old.now self.old.slots.items self.old.origins.items from insn distance }
+        requires may { MayBePut old.now self.old.slots.items self.old.origins.items from insn distance }
         ensures ok { OnOk result (IsLengthened maps old.now self.old.slots.items self.old.origins.items self.new.slots.items self.new.origins.items from) }
         ensures only { OnOk result (IsOneMore self.old.slots.items self.old.origins.items self.new.slots.items self.new.origins.items from) }
         ensures grown { OnOk result (length self.new.slots.items ≡ length self.old.slots.items + slots_of insn) }

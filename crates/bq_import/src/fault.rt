@@ -17,7 +17,7 @@ pub enum Disorder {
     #[error("slots {from} and {to}: a loop, by the jump from {from} to {to}; unroll it")]
     Loop { from: usize, to: usize },
     /// The copies take more than 4096 slots. This is said only if some jump goes back, the runs from the first slot and from each
-    /// slot that a jump leads to have more than 4096 slots together (`IsTooLong`), and the copy in some forward order has more than
+    /// slot that a jump leads to have more than 4096 slots together (`AreRunsTooLong`), and the copy in some forward order has more than
     /// 4096 (`HasLongOrder`). A program of fewer than 64 slots has no such fault.
     #[error("the program takes more than {most} slots once every jump goes forward; make it shorter", most = SLOTS)]
     Long,

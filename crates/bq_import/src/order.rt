@@ -11,7 +11,7 @@ ghost use Rattle.bq_import.specs.Faults.{AllForward, IsDisorder, IsLinked, IsSea
 ghost use Rattle.bq_import.specs.Keeping.{AllReached};
 ghost use Rattle.bq_import.specs.declared.fault.Disorder.TheVariants.{OutOfMemory};
 ghost use Rattle.bq_import.specs.Search.{AreLandings};
-ghost use Rattle.bq_import.specs.Searching.{IsDoneWith, IsWithin};
+ghost use Rattle.bq_import.specs.Searching.{IsDoneWith, IsSearchWithin};
 
 use crate::backward::Backward;
 use crate::fault::Disorder;
@@ -40,7 +40,7 @@ pub struct Ordered {
 /// An instruction may come several times, if control comes to it from several sides; its original is known for each slot.
 /// Instructions to which control never comes are left out. A wide number that is the reference of a map becomes that reference.
 /// If there is no such order, the error is a loop to which control comes, by its two slots. The error is `Long` only if some
-/// jump goes back and `IsTooLong` and `HasLongOrder` hold: a run is copied at most once for each slot to which a jump leads, and
+/// jump goes back and `AreRunsTooLong` and `HasLongOrder` hold: a run is copied at most once for each slot to which a jump leads, and
 /// not at all if an instruction is in front of the one to which control goes on from it.
 pub fn order(alloc: Global, insns: &[Insn], maps: usize) -> Result<Ordered, Disorder>
     requires whole { is_well_formed insns.now ≡ true }
@@ -117,7 +117,7 @@ impl Search {
         requires few { maps ≤ 8 }
         requires first { IsStart old.now 0 }
         requires done { IsDoneWith maps old.now self.old }
-        requires within { IsWithin old.now self.old 0 }
+        requires within { IsSearchWithin old.now self.old 0 }
         requires landings { AreLandings old.now landings.now }
         ensures built { OnOk result (IsBuilt maps old.now self.new.copy.slots.items self.new.copy.origins.items) }
         ensures front { OnOk result (IsFront self.new.copy.slots.items self.new.copy.origins.items 0) }
@@ -142,10 +142,10 @@ impl Search {
         requires linked { IsLinked old.now }
         requires few { maps ≤ 8 }
         requires done { IsDoneWith maps old.now self.old }
-        requires within { IsWithin old.now self.old 0 }
+        requires within { IsSearchWithin old.now self.old 0 }
         requires landings { AreLandings old.now landings.now }
         ensures ok { OnOk result (IsDoneWith maps old.now self.new) }
-        ensures within { OnOk result (IsWithin old.now self.new 0) }
+        ensures within { OnOk result (IsSearchWithin old.now self.new 0) }
         ensures err { IfErr result (IsSearchFault old.now) }
     {
         if slot >= landings.len() || !landings[slot] {

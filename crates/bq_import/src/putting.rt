@@ -6,9 +6,9 @@ ghost use Rattle.bq_bpf.specs.Steps.{instruction_at};
 ghost use Rattle.bq_verify.specs.Edges.{IsStart};
 ghost use Rattle.bq_import.specs.Backward.{IsBuilt, IsFront, IsLengthened, IsOneMore};
 ghost use Rattle.bq_import.specs.Faults.{IsFull, IsLinked};
-ghost use Rattle.bq_import.specs.Running.{IsPut, IsRun};
+ghost use Rattle.bq_import.specs.Running.{IsPutInFront, IsRunOfSlots};
 ghost use Rattle.bq_import.specs.Lengths.{width_at};
-ghost use Rattle.bq_import.specs.Search.{AreClosed, AreTargets, AreKnown, IsDone, IsNext, IsReady, JumpsTo, Suffices, place_at};
+ghost use Rattle.bq_import.specs.Search.{AreClosed, AreTargets, AreCopyPlaces, HasCopy, IsNextSlot, IsSlotReady, JumpsTo, Suffices, copy_place};
 
 use crate::backward::Backward;
 use crate::fault::Disorder;
@@ -33,8 +33,8 @@ impl Backward {
     /// Answers the distance from the next instruction to the copy of the jump's target; 0 if there is no target.
     fn distance(&self, places: &[Option<usize>], jump: Option<usize>) -> i16
         requires short { length self.now.slots.items ≤ SLOTS }
-        requires known { AreKnown self.now.slots.items self.now.origins.items places.now }
-        requires done { (to : ℕ) → jump ≡ Some to → IsDone places.now to }
+        requires known { AreCopyPlaces self.now.slots.items self.now.origins.items places.now }
+        requires done { (to : ℕ) → jump ≡ Some to → HasCopy places.now to }
         ensures { IfSome jump (JumpsTo self.now.slots.items self.now.origins.items result) }
     {
         let Some(to) = jump else {
@@ -58,11 +58,11 @@ impl Backward {
     ) -> Result<(), Disorder>
         requires built { IsBuilt maps old.now self.old.slots.items self.old.origins.items }
         requires linked { IsLinked old.now }
-        requires known { AreKnown self.old.slots.items self.old.origins.items places.now }
+        requires known { AreCopyPlaces self.old.slots.items self.old.origins.items places.now }
         requires few { maps ≤ 8 }
         requires here { instruction_at old.now slot ≡ Some insn }
         requires targets { AreTargets old.now slot insn targets }
-        requires ready { IsReady old.now places.now slot }
+        requires ready { IsSlotReady old.now places.now slot }
         requires front { (n : ℕ) → targets.next ≡ Some n → IsFront self.old.slots.items self.old.origins.items n }
         ensures ok { OnOk result (IsLengthened maps old.now self.old.slots.items self.old.origins.items self.new.slots.items self.new.origins.items slot) }
         ensures only { OnOk result (IsOneMore self.old.slots.items self.old.origins.items self.new.slots.items self.new.origins.items slot) }
@@ -83,11 +83,11 @@ impl Backward {
     ) -> Result<(), Disorder>
         requires built { IsBuilt maps old.now self.old.slots.items self.old.origins.items }
         requires linked { IsLinked old.now }
-        requires known { AreKnown self.old.slots.items self.old.origins.items places.now }
+        requires known { AreCopyPlaces self.old.slots.items self.old.origins.items places.now }
         requires closed { AreClosed old.now places.now }
         requires few { maps ≤ 8 }
         requires start { IsStart old.now slot }
-        requires ready { IsReady old.now places.now slot }
+        requires ready { IsSlotReady old.now places.now slot }
         ensures ok { OnOk result (IsLengthened maps old.now self.old.slots.items self.old.origins.items self.new.slots.items self.new.origins.items slot) }
         ensures grown { OnOk result ((most : ℕ) → Suffices old.now self.old.slots.items self.old.origins.items slot most
             → length self.new.slots.items ≤ length self.old.slots.items + most) }
@@ -107,10 +107,10 @@ impl Backward {
         requires linked { IsLinked old.now }
         requires closed { AreClosed old.now places.now }
         requires start { IsStart old.now slot }
-        requires ready { IsReady old.now places.now slot }
-        ensures run { IsRun old.now places.now slot result }
-        ensures ends { (next : ℕ) → IsNext old.now result next → IsFront self.now.slots.items self.now.origins.items next }
-        ensures short { (next : ℕ) → IsNext old.now slot next → IsFront self.now.slots.items self.now.origins.items next → result ≡ slot }
+        requires ready { IsSlotReady old.now places.now slot }
+        ensures run { IsRunOfSlots old.now places.now slot result }
+        ensures ends { (next : ℕ) → IsNextSlot old.now result next → IsFront self.now.slots.items self.now.origins.items next }
+        ensures short { (next : ℕ) → IsNextSlot old.now slot next → IsFront self.now.slots.items self.now.origins.items next → result ≡ slot }
     {
         let mut last = slot;
         while let Some(next) = self.next_missing(old, last) {
@@ -124,8 +124,8 @@ impl Backward {
         requires built { (maps : ℕ) × IsBuilt maps old.now self.now.slots.items self.now.origins.items }
         requires linked { IsLinked old.now }
         requires start { IsStart old.now slot }
-        ensures some { IfSome result (λ next. IsNext old.now slot next × ¬ IsFront self.now.slots.items self.now.origins.items next) }
-        ensures none { IfNone result ((next : ℕ) → IsNext old.now slot next → IsFront self.now.slots.items self.now.origins.items next) }
+        ensures some { IfSome result (λ next. IsNextSlot old.now slot next × ¬ IsFront self.now.slots.items self.now.origins.items next) }
+        ensures none { IfNone result ((next : ℕ) → IsNextSlot old.now slot next → IsFront self.now.slots.items self.now.origins.items next) }
     {
         let Some(insn) = instruction(old, slot) else {
             unreachable!()
@@ -144,12 +144,12 @@ impl Backward {
     ) -> Result<(), Disorder>
         requires built { IsBuilt maps old.now self.old.slots.items self.old.origins.items }
         requires linked { IsLinked old.now }
-        requires known { AreKnown self.old.slots.items self.old.origins.items places.now }
+        requires known { AreCopyPlaces self.old.slots.items self.old.origins.items places.now }
         requires few { maps ≤ 8 }
         requires inside { slot < length old.now }
-        requires ready { IsStart old.now slot → IsReady old.now places.now slot }
-        requires front { (next : ℕ) → IsNext old.now slot next → IsFront self.old.slots.items self.old.origins.items next }
-        ensures ok { OnOk result (IsPut maps old.now self.old.slots.items self.old.origins.items self.new.slots.items self.new.origins.items slot) }
+        requires ready { IsStart old.now slot → IsSlotReady old.now places.now slot }
+        requires front { (next : ℕ) → IsNextSlot old.now slot next → IsFront self.old.slots.items self.old.origins.items next }
+        ensures ok { OnOk result (IsPutInFront maps old.now self.old.slots.items self.old.origins.items self.new.slots.items self.new.origins.items slot) }
         ensures full { IfErr result (IsFull (length self.old.slots.items + width_at old.now slot)) }
     {
         let Some(insn) = instruction(old, slot) else {
@@ -162,7 +162,7 @@ impl Backward {
 
 /// Answers the place of the copy of a slot, if there is one.
 pub fn place_at(places: &[Option<usize>], slot: usize) -> Option<usize>
-    ensures { result ≡ place_at places.now slot }
+    ensures { result ≡ copy_place places.now slot }
 {
     if slot >= places.len() {
         return None;

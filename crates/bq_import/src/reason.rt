@@ -1,6 +1,6 @@
 //! Says in words why compiled code is no program here: what is in the code, and what to write instead.
 ghost use Rattle.std.specs.Prelude.{◌≡◌};
-ghost use Rattle.bq_import.specs.Reasons.{opcode_reason, reason_of, source_reason};
+ghost use Rattle.bq_import.specs.Reasons.{opcode_reason, import_reason_of, source_reason};
 
 use bq_bpf::with_program_bytes;
 use bq_insn::fault::Cause;
@@ -31,7 +31,7 @@ pub enum Reason {
 
 /// Why the bytes at a slot are not decoded, by the cause, the opcode and the number in the source register's field.
 pub(crate) fn reason_of(cause: Cause, opcode: u8, source: u8) -> Reason
-    ensures { result ≡ reason_of cause opcode source }
+    ensures { result ≡ import_reason_of cause opcode source }
 {
     match cause {
         Cause::Length => Reason::Length,

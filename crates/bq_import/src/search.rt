@@ -6,9 +6,9 @@ ghost use Rattle.bq_verify.specs.Edges.{IsEdge, IsStart};
 ghost use Rattle.bq_verify.specs.Passes.{IsAmongTargets};
 ghost use Rattle.bq_verify.specs.Paths.{Path};
 ghost use Rattle.bq_import.specs.Faults.{IsSearchFault, IsLinked};
-ghost use Rattle.bq_import.specs.Lengths.{IsLanding, run_at};
-ghost use Rattle.bq_import.specs.Search.{IsDone, IsLastOf, IsMissing, IsReady, IsTop, place_at, is_open};
-ghost use Rattle.bq_import.specs.Searching.{IsAt, IsDoneWith, IsWithin, KeepsBudget, WentOn};
+ghost use Rattle.bq_import.specs.Lengths.{IsLanding, run_slots};
+ghost use Rattle.bq_import.specs.Search.{HasCopy, IsLastOf, IsMissing, IsSlotReady, IsTop, copy_place, is_open};
+ghost use Rattle.bq_import.specs.Searching.{IsAt, IsDoneWith, IsSearchWithin, KeepsBudget, WentOn};
 
 use crate::backward::Backward;
 use crate::fault::Disorder;
@@ -34,7 +34,7 @@ impl Search {
     /// The search before its first slot.
     pub fn new(alloc: Global, old: &[Option<Insn>]) -> Result<Search, AllocError>
         ensures done { IfOk result (λ search. (maps : ℕ) → IsDoneWith maps old.now search) }
-        ensures within { IfOk result (λ search. IsWithin old.now search 0) }
+        ensures within { IfOk result (λ search. IsSearchWithin old.now search 0) }
     {
         Ok(Search {
             copy: Backward::new(alloc),
@@ -52,10 +52,10 @@ impl Search {
         requires reached { Path old.now 0 root }
         requires root { IsLanding old.now root ⊎ (root ≡ 0) }
         requires done { IsDoneWith maps old.now self.old }
-        requires within { IsWithin old.now self.old 0 }
+        requires within { IsSearchWithin old.now self.old 0 }
         ensures ok { OnOk result (IsDoneWith maps old.now self.new) }
-        ensures root { OnOk result (IsDone self.new.places.items root) }
-        ensures landing { OnOk result (IsLanding old.now root → IsWithin old.now self.new 0) }
+        ensures root { OnOk result (HasCopy self.new.places.items root) }
+        ensures landing { OnOk result (IsLanding old.now root → IsSearchWithin old.now self.new 0) }
         ensures err { IfErr result (IsSearchFault old.now) }
     {
         if self.is_open(root) {
@@ -73,7 +73,7 @@ impl Search {
         requires linked { IsLinked old.now }
         requires few { maps ≤ 8 }
         requires at { IsAt maps old.now self.old }
-        requires within { IsWithin old.now self.old (run_at old.now 0) }
+        requires within { IsSearchWithin old.now self.old (run_slots old.now 0) }
         requires top { IsTop self.old.stack.items slot }
         ensures ok { OnOk result (WentOn maps old.now self.old self.new) }
         ensures within { OnOk result (KeepsBudget old.now self.old self.new) }
@@ -92,7 +92,7 @@ impl Search {
     /// Answers a target that is not in place: that of the jump first, so that the next instruction ends up in front.
     fn missing(&self, targets: Targets) -> Option<usize>
         ensures some { IfSome result (IsMissing self.now.places.items targets) }
-        ensures none { IfNone result ((to : ℕ) → IsAmongTargets targets to → IsDone self.now.places.items to) }
+        ensures none { IfNone result ((to : ℕ) → IsAmongTargets targets to → HasCopy self.now.places.items to) }
     {
         if let Some(to) = self.not_done(targets.jump) {
             return Some(to);
@@ -102,8 +102,8 @@ impl Search {
 
     /// Answers the slot, if there is one and it is not in place.
     fn not_done(&self, to: Option<usize>) -> Option<usize>
-        ensures some { IfSome result (λ n. (to ≡ Some n) × (place_at self.now.places.items n ≡ None)) }
-        ensures none { IfNone result ((n : ℕ) → to ≡ Some n → IsDone self.now.places.items n) }
+        ensures some { IfSome result (λ n. (to ≡ Some n) × (copy_place self.now.places.items n ≡ None)) }
+        ensures none { IfNone result ((n : ℕ) → to ≡ Some n → HasCopy self.now.places.items n) }
     {
         let to = to?;
         match place_at(self.places.as_slice(), to) {
@@ -124,7 +124,7 @@ impl Search {
         requires at { IsAt maps old.now self.old }
         requires top { IsTop self.old.stack.items from }
         requires edge { IsEdge old.now from to }
-        requires new { place_at self.old.places.items to ≡ None }
+        requires new { copy_place self.old.places.items to ≡ None }
         requires way { IsLanding old.now to ⊎ IsLastOf old.now self.old.places.items from to }
         ensures ok { OnOk result (WentOn maps old.now self.old self.new) }
         ensures within { OnOk result (KeepsBudget old.now self.old self.new) }
@@ -143,12 +143,12 @@ impl Search {
         requires reached { Path old.now 0 slot }
         requires start { IsStart old.now slot }
         requires new { is_open self.old.opens.items slot ≡ false }
-        requires edge { (top : ℕ) → IsTop self.old.stack.items top → IsEdge old.now top slot × (place_at self.old.places.items slot ≡ None) }
+        requires edge { (top : ℕ) → IsTop self.old.stack.items top → IsEdge old.now top slot × (copy_place self.old.places.items slot ≡ None) }
         ensures ok { OnOk result (WentOn maps old.now self.old self.new) }
         ensures opened { OnOk result (is_open self.new.opens.items slot ≡ true) }
         ensures landing { OnOk result (IsLanding old.now slot → KeepsBudget old.now self.old self.new) }
         ensures next { OnOk result ((top : ℕ) → IsTop self.old.stack.items top → IsLastOf old.now self.old.places.items top slot → KeepsBudget old.now self.old self.new) }
-        ensures more { OnOk result ((extra : ℕ) → IsWithin old.now self.old extra → IsWithin old.now self.new (extra + run_at old.now slot)) }
+        ensures more { OnOk result ((extra : ℕ) → IsSearchWithin old.now self.old extra → IsSearchWithin old.now self.new (extra + run_slots old.now slot)) }
         ensures err { IfErr result (IsSearchFault old.now) }
     {
         self.opens[slot] = true;
@@ -161,9 +161,9 @@ impl Search {
         requires linked { IsLinked old.now }
         requires few { maps ≤ 8 }
         requires at { IsAt maps old.now self.old }
-        requires within { IsWithin old.now self.old (run_at old.now 0) }
+        requires within { IsSearchWithin old.now self.old (run_slots old.now 0) }
         requires top { IsTop self.old.stack.items slot }
-        requires ready { IsReady old.now self.old.places.items slot }
+        requires ready { IsSlotReady old.now self.old.places.items slot }
         ensures ok { OnOk result (WentOn maps old.now self.old self.new) }
         ensures within { OnOk result (KeepsBudget old.now self.old self.new) }
         ensures err { IfErr result (IsSearchFault old.now) }

@@ -1,9 +1,9 @@
 //! From the bytes of a compiled program to instructions in order.
 ghost use Rattle.std.specs.Prelude.{◌≡◌, ◌≤◌, true, false, IfOk, IfErr, IfSome, IfNone};
 ghost use Rattle.std.specs.List.{list_any};
-ghost use Rattle.bq_insn.specs.Faults.{IsFault};
+ghost use Rattle.bq_insn.specs.Faults.{IsDecodeFault};
 ghost use Rattle.bq_insn.specs.Spelling.{is_well_formed};
-ghost use Rattle.bq_import.specs.Importing.{Imports, IsFirstAddress, IsImportFault, byte_at, is_address, is_short};
+ghost use Rattle.bq_import.specs.Importing.{Imports, IsFirstAddress, IsImportFault, byte_of_slot, is_address, is_short};
 
 use crate::fault::Disorder;
 use crate::order::{Ordered, order};
@@ -75,7 +75,7 @@ pub fn import(alloc: Global, bytes: &[u8], maps: usize) -> Result<Ordered, Impor
 
 /// Why bytes that are no program are not imported.
 fn refusal(bytes: &[u8], fault: DecodeFault) -> ImportFault
-    requires { IsFault bytes.now fault }
+    requires { IsDecodeFault bytes.now fault }
     ensures { IsImportFault bytes.now result }
 {
     match fault {
@@ -89,7 +89,7 @@ fn refusal(bytes: &[u8], fault: DecodeFault) -> ImportFault
 
 /// A byte of a slot, or 0 past the end.
 fn byte_at(bytes: &[u8], slot: usize, offset: usize) -> u8
-    ensures { result ≡ byte_at bytes.now slot offset }
+    ensures { result ≡ byte_of_slot bytes.now slot offset }
 {
     let index = slot.saturating_mul(8).saturating_add(offset);
     if index >= bytes.len() {

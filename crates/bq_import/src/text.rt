@@ -6,7 +6,7 @@ ghost use Rattle.bq_import.specs.declared.text.ImportRefusal.TheVariants.{OutOfM
 ghost use Rattle.bq_object.specs.Objects.{IsObject};
 ghost use Rattle.bq_object.specs.Faults.{IsObjectFault};
 ghost use Rattle.bq_import.specs.Importing.{Imports};
-ghost use Rattle.bq_import.specs.Text.{IsImportedAs, IsNotedTextOf, IsRefused, IsTextOf, IsUnimported, is_hex_byte, maps_line, settings_marks};
+ghost use Rattle.bq_import.specs.Text.{IsImportedAs, IsNotedTextOf, IsImportRefused, IsTextOf, IsUnimported, is_hex_byte, maps_line, settings_marks};
 
 use crate::fault::Disorder;
 use crate::noted::{noted_listing, source_at};
@@ -89,7 +89,7 @@ pub fn imported(
     input: &[u8],
 ) -> Result<String, ImportRefusal>
     ensures text { IfOk result (λ text. IsImportedAs settings.now input.now (string_bytes text)) }
-    ensures refused { IfErr result (IsRefused input.now) }
+    ensures refused { IfErr result (IsImportRefused input.now) }
 {
     match imported_text(alloc, settings, input) {
         Ok(ImportedText { text, .. }) => Ok(text),
@@ -105,7 +105,7 @@ pub fn imported_text<'a>(
     input: &'a [u8],
 ) -> Result<ImportedText<'a>, ImportRefusal>
     ensures text { IfOk result (λ made. IsImportedAs settings.now input.now (string_bytes made.text)) }
-    ensures refused { IfErr result (IsRefused input.now) }
+    ensures refused { IfErr result (IsImportRefused input.now) }
 {
     if is_object(input) {
         return imported_object(alloc, settings, input);
@@ -128,7 +128,7 @@ fn imported_object<'a>(
 ) -> Result<ImportedText<'a>, ImportRefusal>
     requires { IsObject file.now }
     ensures text { IfOk result (λ made. IsImportedAs settings.now file.now (string_bytes made.text)) }
-    ensures refused { IfErr result (IsRefused file.now) }
+    ensures refused { IfErr result (IsImportRefused file.now) }
 {
     match policy_of(file) {
         Ok(policy) => {

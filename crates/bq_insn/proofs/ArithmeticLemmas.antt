@@ -16,7 +16,7 @@ use Rattle.bq_insn.specs.declared.slot.Slot.{Slot}
 use Rattle.bq_insn.specs.Table.{opcode_of, is_form, code_of, alu_class}
 use Rattle.bq_insn.specs.Uses.{variant_use}
 use Rattle.bq_insn.specs.Spelling.{is_insn, is_register, variant_of, bits_number}
-use Rattle.bq_insn.specs.Reading.{variant, bits_of, move_of, alu_of}
+use Rattle.bq_insn.specs.Reading.{variant, bits_of, register_move, alu_of}
 use Rattle.bq_insn.specs.Faults.{IsSlot, is_variant}
 use Rattle.bq_insn.proofs.FaultLemmas.{IsClean, kept}
 use Rattle.bq_insn.proofs.ReadsLemmas.{Reads, word32_of_signed32, reads_by, one_slot, two_registers, one_register}
@@ -99,7 +99,7 @@ extends W64 n z h = elim (one_of_three n 8 16 32 z h) as (λ _. Extends W64 n) [
 -- a move from a register, with a sign or without
 reads_move : (w : Width) (s : Slot) (next : Option Slot) → IsSlot s → s.opcode ≡ opcode_of (form.Alu w op.Mov true)
     → IsClean (form.Alu w op.Mov true) s next
-    → Reads s next (move_of w s)
+    → Reads s next (register_move w s)
 reads_move w s next fits opcode clean = by_test (s.offset == 0) refl
   where
     ranged : (is_register s.dst && is_register s.src) ≡ true

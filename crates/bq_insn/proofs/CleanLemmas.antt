@@ -19,7 +19,7 @@ use Rattle.bq_insn.specs.declared.form.Form.TheVariants as form
 use Rattle.bq_insn.specs.declared.slot.Slot.{Slot}
 use Rattle.bq_insn.specs.Table.{opcode_of}
 use Rattle.bq_insn.specs.Spelling.{slot, spelled, is_insn, is_register, word16, word32, variant_of}
-use Rattle.bq_insn.specs.Faults.{cause_at, cause_of_form, cause_of}
+use Rattle.bq_insn.specs.Faults.{cause_at_slot, cause_of_form, cause_of}
 use Rattle.bq_insn.proofs.FormLemmas.{plain, known_alu, known_branch}
 use Rattle.bq_insn.proofs.SpelledSlotsLemmas.{head_of, after}
 
@@ -34,7 +34,7 @@ clean_alu_imm : (w : Width) (o : Operation) (d n : ℕ) (next : Option Slot)
 clean_alu_imm w o d n next h =
     let e = in_range d h in
     ap (λ f. cause_of_form f (slot (opcode_of (form.Alu w o false)) d 0 (variant_of o) n) next) (known_alu w o false)
-    ∙ elim o as (λ x. cause_at (form.Alu w (plain x) false) (slot (opcode_of (form.Alu w x false)) d 0 (variant_of x) n) next ≡ None)
+    ∙ elim o as (λ x. cause_at_slot (form.Alu w (plain x) false) (slot (opcode_of (form.Alu w x false)) d 0 (variant_of x) n) next ≡ None)
     [ op.Add ↦ rw e refl | _ ↦ rw e refl ]
 
 -- an operation on a register has no fault
@@ -46,14 +46,14 @@ clean_alu_reg W32 o d s next h =
     let a = in_range d parts.0 in
     let b = in_range s parts.1 in
     ap (λ f. cause_of_form f (slot (opcode_of (form.Alu W32 o true)) d s (variant_of o) 0) next) (known_alu W32 o true)
-    ∙ elim o as (λ x. cause_at (form.Alu W32 (plain x) true) (slot (opcode_of (form.Alu W32 x true)) d s (variant_of x) 0) next ≡ None)
+    ∙ elim o as (λ x. cause_at_slot (form.Alu W32 (plain x) true) (slot (opcode_of (form.Alu W32 x true)) d s (variant_of x) 0) next ≡ None)
     [ op.Add ↦ rw (a, b) refl | _ ↦ rw (a, b) refl ]
 clean_alu_reg W64 o d s next h =
     let parts = and_parts (is_register d) (is_register s) h in
     let a = in_range d parts.0 in
     let b = in_range s parts.1 in
     ap (λ f. cause_of_form f (slot (opcode_of (form.Alu W64 o true)) d s (variant_of o) 0) next) (known_alu W64 o true)
-    ∙ elim o as (λ x. cause_at (form.Alu W64 (plain x) true) (slot (opcode_of (form.Alu W64 x true)) d s (variant_of x) 0) next ≡ None)
+    ∙ elim o as (λ x. cause_at_slot (form.Alu W64 (plain x) true) (slot (opcode_of (form.Alu W64 x true)) d s (variant_of x) 0) next ≡ None)
     [ op.Add ↦ rw (a, b) refl | _ ↦ rw (a, b) refl ]
 
 -- a branch on the immediate has no fault

@@ -13,7 +13,7 @@ use Rattle.bq_insn.specs.Table.{form_of}
 use Rattle.bq_insn.specs.Uses.{uses_of}
 use Rattle.bq_insn.specs.declared.fault.DecodeFault.TheVariants.{At}
 use Rattle.bq_insn.specs.Spelling.{slot, is_register}
-use Rattle.bq_insn.specs.Faults.{is_stray, has_bad_register, has_stray_field, has_stray_second, has_no_variant, has_no_width, is_cut, cause_at, cause_of_form, Faulty, IsFault, is_length}
+use Rattle.bq_insn.specs.Faults.{is_stray, has_bad_register, has_stray_field, has_stray_second, has_no_variant, has_no_width, is_cut, cause_at_slot, cause_of_form, Faulty, IsDecodeFault, is_program_length}
 
 -- none of the tests finds a fault
 pub record IsClean (f : Form) (s : Slot) (next : Option Slot) : Type 0 where
@@ -41,7 +41,7 @@ chain_none false false false false true h = absurd (let e : Some cause.WideCut �
 chain_none false false false false false h = (refl, refl, refl, refl, refl)
 
 -- a slot without a cause passes each test
-pub is_clean : (f : Form) (s : Slot) (next : Option Slot) → cause_at f s next ≡ None → IsClean f s next
+pub is_clean : (f : Form) (s : Slot) (next : Option Slot) → cause_at_slot f s next ≡ None → IsClean f s next
 unfolding chain
 is_clean f s next h =
     let all =
@@ -102,7 +102,7 @@ cause_is_none_of_length (Some f) s next h =
     (has_no_variant f s) (has_no_width f s) (is_cut f next) h
 
 -- a fault at a slot
-pub is_fault : (bytes : List ℕ) (slot : ℕ) (c : Cause) → is_length bytes ≡ true → Faulty bytes slot c → IsFault bytes (At slot c)
+pub is_fault : (bytes : List ℕ) (slot : ℕ) (c : Cause) → is_program_length bytes ≡ true → Faulty bytes slot c → IsDecodeFault bytes (At slot c)
 is_fault bytes slot cause.Length h f =
     absurd (cause_is_none_of_length (form_of f.front.slot.opcode) f.front.slot f.front.next f.front.cause_is)
 is_fault bytes slot cause.Opcode h f = (h, f)
@@ -113,7 +113,7 @@ is_fault bytes slot cause.Imm h f = (h, f)
 is_fault bytes slot cause.WideCut h f = (h, f)
 
 -- the length of 1 to 4096 slots
-pub has_length : (bytes : List ℕ) → length bytes % 8 ≡ 0 → 1 ≤ length bytes → length bytes ≤ 32768 → is_length bytes ≡ true
+pub has_length : (bytes : List ℕ) → length bytes % 8 ≡ 0 → 1 ≤ length bytes → length bytes ≤ 32768 → is_program_length bytes ≡ true
 has_length bytes whole low high =
     let a : (length bytes % 8 == 0) ≡ true = grind (arith, nat_tests) in
     let b : nat_le 1 (length bytes) ≡ true = grind (arith, nat_tests) in
@@ -122,8 +122,8 @@ has_length bytes whole low high =
     ∙ ap (λ (x : Bool). x && nat_le (length bytes) 32768) b ∙ d
 
 -- what a fault is: that of the length, or that of a slot
-pub fault_parts : (bytes : List ℕ) (s : ℕ) (c : Cause) → IsFault bytes (At s c)
-    → ((c ≡ cause.Length) × (s ≡ 0) × (is_length bytes ≡ false)) ⊎ ((is_length bytes ≡ true) × Faulty bytes s c)
+pub fault_parts : (bytes : List ℕ) (s : ℕ) (c : Cause) → IsDecodeFault bytes (At s c)
+    → ((c ≡ cause.Length) × (s ≡ 0) × (is_program_length bytes ≡ false)) ⊎ ((is_program_length bytes ≡ true) × Faulty bytes s c)
 fault_parts bytes s cause.Length f = inl (refl, f.0, f.1)
 fault_parts bytes s cause.Opcode f = inr f
 fault_parts bytes s cause.Register f = inr f

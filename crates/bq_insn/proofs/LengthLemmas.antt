@@ -8,7 +8,7 @@ use Rattle.std.proofs.lemmas.Bool.{and_parts}
 use Rattle.bq_insn.specs.declared.Insn.{Insn}
 use Rattle.bq_insn.specs.declared.slot.Slot.{Slot}
 use Rattle.bq_insn.specs.Spelling.{slot_bytes, spelled, is_insn, insn_bytes, spelling, slot_count, is_well_formed}
-use Rattle.bq_insn.specs.Faults.{is_length, NoProgramIsRefused}
+use Rattle.bq_insn.specs.Faults.{is_program_length, NoProgramIsRefused}
 use Rattle.bq_insn.proofs.ApartLemmas.{no_program_is_faulty}
 
 -- slots have eight bytes each
@@ -34,7 +34,7 @@ pub well_formed_in_range : (insns : List Insn) → is_well_formed insns ≡ true
 well_formed_in_range insns h = (and_parts (list_all is_insn insns) (nat_le 1 (slot_count insns) && nat_le (slot_count insns) 4096) h).0
 
 -- the length of a program is that of a program: it takes 1 to 4096 whole slots
-pub program_length : (insns : List Insn) → is_well_formed insns ≡ true → is_length (spelling insns) ≡ true
+pub program_length : (insns : List Insn) → is_well_formed insns ≡ true → is_program_length (spelling insns) ≡ true
 program_length insns h =
     let parts = and_parts (list_all is_insn insns) (nat_le 1 (slot_count insns) && nat_le (slot_count insns) 4096) h in
     let bounds = and_parts (nat_le 1 (slot_count insns)) (nat_le (slot_count insns) 4096) parts.1 in
@@ -46,7 +46,7 @@ program_length insns h =
 -- a program has neither fault
 pub no_program_is_refused : NoProgramIsRefused
 no_program_is_refused insns s c h f g = elim (fault_parts (spelling insns) s c g) as (λ _. ⊥) [
-  | inl p ↦ not_both (is_length (spelling insns)) (program_length insns h) p.2
+  | inl p ↦ not_both (is_program_length (spelling insns)) (program_length insns h) p.2
   | inr p ↦
       no_program_is_faulty insns s c
       (and_parts (list_all is_insn insns) (nat_le 1 (slot_count insns) && nat_le (slot_count insns) 4096) h).0 f p.1

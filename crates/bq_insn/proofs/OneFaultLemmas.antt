@@ -9,7 +9,7 @@ use Rattle.bq_insn.specs.declared.slot.Slot.{Slot}
 use Rattle.bq_insn.specs.declared.fault.Cause.{Cause}
 use Rattle.bq_insn.specs.Spelling.{slot_bytes, spelled, is_insn, insn_bytes, spelling, slot_count}
 use Rattle.bq_insn.specs.Laws.{Fits, AllFit}
-use Rattle.bq_insn.specs.Faults.{IsSlot, BeginsWith, FrontHasCause, cause_of, is_length, OneFault}
+use Rattle.bq_insn.specs.Faults.{IsSlot, BeginsWith, FrontHasCause, cause_of, is_program_length, BytesHaveOneFault}
 use Rattle.bq_insn.proofs.CleanLemmas.{spelled_is_clean}
 use Rattle.bq_insn.proofs.UniqueLemmas.{is_read, same_front, front_cancelled, one_spelling}
 use Rattle.bq_insn.proofs.FaultLemmas.{fault_parts, not_both}
@@ -75,14 +75,14 @@ one_way (a ∷ xs) (b ∷ ys) x y c d ha fa hb fb e p q =
     (ap (λ (i : Insn). i ∷ xs) same ∙ ap (λ (is : List Insn). b ∷ is) rest.0, rest.1)
 
 -- two faults of the same bytes are one
-pub one_fault : OneFault
+pub one_fault : BytesHaveOneFault
 one_fault bytes s t c d f g = elim (fault_parts bytes s c f) as (λ _. (s ≡ t) × (c ≡ d)) [
   | inl p ↦ elim (fault_parts bytes t d g) as (λ _. (s ≡ t) × (c ≡ d)) [
     | inl q ↦ (p.1 ∙ sym q.1, p.0 ∙ sym q.0)
-    | inr q ↦ not_both (is_length bytes) q.0 p.2
+    | inr q ↦ not_both (is_program_length bytes) q.0 p.2
   ]
   | inr p ↦ elim (fault_parts bytes t d g) as (λ _. (s ≡ t) × (c ≡ d)) [
-    | inl q ↦ not_both (is_length bytes) p.0 q.2
+    | inl q ↦ not_both (is_program_length bytes) p.0 q.2
     | inr q ↦
         let same =
         one_way p.1.before q.1.before p.1.rest q.1.rest c d p.1.are_insns p.1.numbers q.1.are_insns q.1.numbers

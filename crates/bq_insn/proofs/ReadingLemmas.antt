@@ -16,7 +16,7 @@ use Rattle.bq_insn.specs.declared.slot.Slot.{Slot}
 use Rattle.bq_insn.specs.Table.{opcode_of, form_of, is_form}
 use Rattle.bq_insn.specs.Spelling.{slot, is_insn, is_register, word32, bits_number}
 use Rattle.bq_insn.specs.Reading.{signed16, signed32, bits_of, insn_of}
-use Rattle.bq_insn.specs.Faults.{IsSlot, cause_at}
+use Rattle.bq_insn.specs.Faults.{IsSlot, cause_at_slot}
 use Rattle.bq_insn.proofs.FaultLemmas.{IsClean, is_clean, no_strays_is_kept, same_slot}
 use Rattle.bq_insn.proofs.ReadsLemmas.{Reads, word16_of_signed16, word32_of_signed32, reads_by, one_slot, two_registers, one_register}
 use Rattle.bq_insn.proofs.FormLemmas.{in_table}
@@ -166,7 +166,7 @@ reads_form form.Exit s next fits known opcode clean =
 
 -- slots without a fault spell the instruction that is read
 pub faultless_slots_read : (f : Form) (s : Slot) (next : Option Slot)
-    → IsSlot s → form_of s.opcode ≡ Some f → cause_at f s next ≡ None → Reads s next (insn_of f s next)
+    → IsSlot s → form_of s.opcode ≡ Some f → cause_at_slot f s next ≡ None → Reads s next (insn_of f s next)
 faultless_slots_read f s next fits known none =
     let table = in_table s.opcode f fits.opcode known in
     reads_form f s next fits table.1 table.0 (is_clean f s next none)

@@ -7,20 +7,20 @@ use Rattle.bq_insn.specs.declared.fault.DecodeFault.{DecodeFault}
 use Rattle.bq_insn.specs.declared.fault.DecodeFault.TheVariants.{At, OutOfMemory}
 
 -- the number of a cause, after the letter I
-abbrev pub cause_number : Cause → ℕ
-cause_number Length = 1
-cause_number Opcode = 2
-cause_number Register = 3
-cause_number Field = 4
-cause_number Offset = 5
-cause_number Imm = 6
-cause_number WideCut = 7
+abbrev pub decode_cause_number : Cause → ℕ
+decode_cause_number Length = 1
+decode_cause_number Opcode = 2
+decode_cause_number Register = 3
+decode_cause_number Field = 4
+decode_cause_number Offset = 5
+decode_cause_number Imm = 6
+decode_cause_number WideCut = 7
 
 -- the text of a cause: its letter, its number, and the line or slot that has it
 abbrev pub cause_and_place : List ℕ → ℕ → ℕ → List ℕ
 cause_and_place letter number place = letter ++ (decimal number ++ (codes " " ++ decimal place))
 
 -- the text of a fault: its cause and its slot; lack of memory is no fault of the bytes and has a text of its own
-abbrev pub fault_text : DecodeFault → List ℕ
-fault_text (At slot cause) = cause_and_place (codes "I") (cause_number cause) slot
-fault_text OutOfMemory = codes "out of memory"
+abbrev pub decode_fault_text : DecodeFault → List ℕ
+decode_fault_text (At slot cause) = cause_and_place (codes "I") (decode_cause_number cause) slot
+decode_fault_text OutOfMemory = codes "out of memory"

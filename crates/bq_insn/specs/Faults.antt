@@ -79,8 +79,8 @@ is_cut form.Wide None = true
 is_cut f next = false
 
 -- the least cause at a slot of a known form, with the slot after it if there is one; none if there is no fault
-abbrev pub cause_at : Form → Slot → Option Slot → Option Cause
-cause_at f s next =
+abbrev pub cause_at_slot : Form → Slot → Option Slot → Option Cause
+cause_at_slot f s next =
     if has_bad_register (uses_of f) s then Some cause.Register
     else if has_stray_field (uses_of f) s || has_stray_second f s next then Some cause.Field
     else if has_no_variant f s then Some cause.Offset
@@ -91,7 +91,7 @@ cause_at f s next =
 -- the least cause, by the form that the opcode has: without a form it is Opcode
 abbrev pub cause_of_form : Option Form → Slot → Option Slot → Option Cause
 cause_of_form None s next = Some cause.Opcode
-cause_of_form (Some f) s next = cause_at f s next
+cause_of_form (Some f) s next = cause_at_slot f s next
 
 -- the least cause at a slot, with the slot after it if there is one; none if there is no fault
 abbrev pub cause_of : Slot → Option Slot → Option Cause
@@ -129,14 +129,14 @@ pub record Faulty (bytes : List ℕ) (slot : ℕ) (cause : Cause) : Type 0 where
   pub front : FrontHasCause rest cause
 
 -- whether the bytes are from 1 to 4096 whole slots
-abbrev pub is_length : List ℕ → Bool
-is_length bytes = (length bytes % 8 == 0) && (nat_le 1 (length bytes) && nat_le (length bytes) 32768)
+abbrev pub is_program_length : List ℕ → Bool
+is_program_length bytes = (length bytes % 8 == 0) && (nat_le 1 (length bytes) && nat_le (length bytes) 32768)
 
 -- the bytes have this fault; if memory ran out, nothing is said about them
-abbrev pub IsFault : List ℕ → DecodeFault → Type 0
-IsFault bytes OutOfMemory = Unit {0}
-IsFault bytes (At slot cause.Length) = (slot ≡ 0) × (is_length bytes ≡ false)
-IsFault bytes (At slot c) = (is_length bytes ≡ true) × Faulty bytes slot c
+abbrev pub IsDecodeFault : List ℕ → DecodeFault → Type 0
+IsDecodeFault bytes OutOfMemory = Unit {0}
+IsDecodeFault bytes (At slot cause.Length) = (slot ≡ 0) × (is_program_length bytes ≡ false)
+IsDecodeFault bytes (At slot c) = (is_program_length bytes ≡ true) × Faulty bytes slot c
 
 -- the bytes begin with the spelling of this instruction, which is in range
 pub record HasFront (bytes : List ℕ) (insn : Insn) : Type 0 where
@@ -151,8 +151,8 @@ NoProgramIsFaulty = (insns : List Insn) (slot : ℕ) (c : Cause) → list_all is
 
 -- the bytes of a program have no fault, of length or of an instruction: they are refused only if memory runs out
 abbrev pub NoProgramIsRefused : Type 0
-NoProgramIsRefused = (insns : List Insn) (slot : ℕ) (c : Cause) → is_well_formed insns ≡ true → AllFit insns → IsFault (spelling insns) (At slot c) → ⊥
+NoProgramIsRefused = (insns : List Insn) (slot : ℕ) (c : Cause) → is_well_formed insns ≡ true → AllFit insns → IsDecodeFault (spelling insns) (At slot c) → ⊥
 
 -- bytes have at most one fault, with one slot and one cause
-abbrev pub OneFault : Type 0
-OneFault = (bytes : List ℕ) (s t : ℕ) (c d : Cause) → IsFault bytes (At s c) → IsFault bytes (At t d) → (s ≡ t) × (c ≡ d)
+abbrev pub BytesHaveOneFault : Type 0
+BytesHaveOneFault = (bytes : List ℕ) (s t : ℕ) (c d : Cause) → IsDecodeFault bytes (At s c) → IsDecodeFault bytes (At t d) → (s ≡ t) × (c ≡ d)

@@ -38,13 +38,13 @@ second_imm None = 0
 second_imm (Some t) = t.imm
 
 -- a move from a register; if the offset is not 0, the move extends the sign from that many bits
-abbrev pub move_of : Width → Slot → Insn
-move_of w s = if s.offset == 0 then insn.Alu w op.Mov s.dst (Reg s.src) else insn.MovSx w (bits_of s.offset) s.dst s.src
+abbrev pub register_move : Width → Slot → Insn
+register_move w s = if s.offset == 0 then insn.Alu w op.Mov s.dst (Reg s.src) else insn.MovSx w (bits_of s.offset) s.dst s.src
 
 -- an operation on the immediate or on a register
 abbrev pub alu_of : Width → Operation → Bool → Slot → Insn
 alu_of w o false s = insn.Alu w (variant o s.offset) s.dst (Imm (signed32 s.imm))
-alu_of w op.Mov true s = move_of w s
+alu_of w op.Mov true s = register_move w s
 alu_of w o true s = insn.Alu w (variant o s.offset) s.dst (Reg s.src)
 
 -- the instruction that a slot of this form spells, with the slot after it if there is one

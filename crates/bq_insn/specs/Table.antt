@@ -113,8 +113,8 @@ condition_of n =
     else None
 
 -- the size of a two-bit code
-abbrev pub size_of : ℕ → Size
-size_of n = if n == 0 then Word else if n == 1 then Half else if n == 2 then Byte else Double
+abbrev pub size_of_code : ℕ → Size
+size_of_code n = if n == 0 then Word else if n == 1 then Half else if n == 2 then Byte else Double
 
 -- byte orders, by class and source bit
 abbrev pub end_form_of : Width → Bool → Option Form
@@ -152,9 +152,9 @@ load_form_of size mode =
 abbrev pub form_of : ℕ → Option Form
 form_of n =
     if n % 8 == 0 then (if n == 0x18 then Some Wide else None)
-    else if n % 8 == 1 then load_form_of (size_of (n / 8 % 4)) (n / 32)
-    else if n % 8 == 2 then (if n / 32 == 3 then Some (StoreImm (size_of (n / 8 % 4))) else None)
-    else if n % 8 == 3 then (if n / 32 == 3 then Some (StoreReg (size_of (n / 8 % 4))) else None)
+    else if n % 8 == 1 then load_form_of (size_of_code (n / 8 % 4)) (n / 32)
+    else if n % 8 == 2 then (if n / 32 == 3 then Some (StoreImm (size_of_code (n / 8 % 4))) else None)
+    else if n % 8 == 3 then (if n / 32 == 3 then Some (StoreReg (size_of_code (n / 8 % 4))) else None)
     else if n % 8 == 4 then alu_form_of W32 (n / 16) (n / 8 % 2 == 1)
     else if n % 8 == 5 then jump_form_of W64 (n / 16) (n / 8 % 2 == 1)
     else if n % 8 == 6 then jump_form_of W32 (n / 16) (n / 8 % 2 == 1)

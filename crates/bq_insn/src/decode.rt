@@ -2,7 +2,7 @@
 ghost use Rattle.std.specs.Prelude.{◌≡◌, ◌≤◌, ◌%◌, ◌*◌, length, true, IfOk, IfErr};
 ghost use Rattle.bq_insn.specs.Spelling.{spelling, is_well_formed};
 ghost use Rattle.bq_insn.specs.Laws.{AllFit};
-ghost use Rattle.bq_insn.specs.Faults.{IsSlot, BeginsWith, FrontHasCause, HasFront, IsFault};
+ghost use Rattle.bq_insn.specs.Faults.{IsSlot, BeginsWith, FrontHasCause, HasFront, IsDecodeFault};
 
 use crate::fault::{Cause, DecodeFault};
 use crate::form::Form;
@@ -19,7 +19,7 @@ pub fn decode(alloc: Global, bytes: &[u8]) -> Result<Vec<Insn>, DecodeFault>
     ensures well_formed { IfOk result (λ insns. is_well_formed insns.items ≡ true) }
     ensures numbers { IfOk result (λ insns. AllFit insns.items) }
     ensures spelled { IfOk result (λ insns. bytes.now ≡ spelling insns.items) }
-    ensures fault { IfErr result (IsFault bytes.now) }
+    ensures fault { IfErr result (IsDecodeFault bytes.now) }
 {
     if bytes.is_empty() || bytes.len() % 8 != 0 || bytes.len() > 8 * SLOTS {
         return Err(DecodeFault::At {

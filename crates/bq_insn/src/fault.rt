@@ -1,6 +1,6 @@
 //! Why bytes are no program.
 ghost use Rattle.std.specs.Prelude.{◌≡◌};
-ghost use Rattle.bq_insn.specs.Causes.{cause_number};
+ghost use Rattle.bq_insn.specs.Causes.{decode_cause_number};
 
 use std::alloc::AllocFailed;
 use std::error::Error;
@@ -30,7 +30,7 @@ pub enum Cause {
 impl Cause {
     /// The number of the cause, as texts name it after the letter I.
     pub fn number(self) -> u8
-        ensures { result ≡ cause_number self }
+        ensures { result ≡ decode_cause_number self }
     {
         match self {
             Cause::Length => 1,
@@ -57,9 +57,9 @@ pub enum DecodeFault {
 /// The text of a fault, such as `I2 5`: the number of the cause, then the slot.
 impl fmt::Display for DecodeFault {
     ghost use Rattle.std.specs.Prelude.{Some};
-    ghost use Rattle.bq_insn.specs.Causes.{fault_text};
+    ghost use Rattle.bq_insn.specs.Causes.{decode_fault_text};
 
-    ghost output = { λ fault. Some (fault_text fault) };
+    ghost output = { λ fault. Some (decode_fault_text fault) };
 
     fn fmt<W: fmt::Write>(&self, f: &mut fmt::Formatter<W>) -> fmt::Result {
         match *self {

@@ -1,6 +1,6 @@
 //! What an opcode says about an instruction.
 ghost use Rattle.std.specs.Prelude.{◌≡◌, option_map};
-ghost use Rattle.bq_insn.specs.Table.{operation_of, condition_of, size_of, form_of, alu_form_of, jump_form_of, load_form_of, end_form_of};
+ghost use Rattle.bq_insn.specs.Table.{operation_of, condition_of, size_of_code, form_of, alu_form_of, jump_form_of, load_form_of, end_form_of};
 
 use crate::{Condition, Operation, Order, Size, Width};
 
@@ -213,7 +213,7 @@ fn load_form_of(size: Size, mode: u8) -> Option<Form>
 
 /// The size of a code.
 fn size_of(code: u8) -> Size
-    ensures { result ≡ size_of code }
+    ensures { result ≡ size_of_code code }
 {
     match code {
         0 => Size::Word,

@@ -1,6 +1,6 @@
 //! What is wrong with the instruction that begins at a slot.
 ghost use Rattle.std.specs.Prelude.{◌≡◌};
-ghost use Rattle.bq_insn.specs.Faults.{is_no_register, is_stray, has_bad_register, has_stray_field, has_stray_second, is_variant, has_no_variant, has_no_width, is_cut, cause_at};
+ghost use Rattle.bq_insn.specs.Faults.{is_no_register, is_stray, has_bad_register, has_stray_field, has_stray_second, is_variant, has_no_variant, has_no_width, is_cut, cause_at_slot};
 
 use crate::fault::Cause;
 use crate::form::Form;
@@ -11,7 +11,7 @@ use crate::{Operation, Width};
 /// The least cause at a slot of this form, with the slot after it if there is one; `None` if there is no fault. The
 /// decoder finds an opcode without a form and a wrong length before it asks this.
 pub fn cause_at(form: Form, slot: Slot, next: Option<Slot>) -> Option<Cause>
-    ensures { result ≡ cause_at form slot next }
+    ensures { result ≡ cause_at_slot form slot next }
 {
     if has_bad_register(form.uses(), slot) {
         return Some(Cause::Register);

@@ -1,6 +1,6 @@
 //! Laws of the spelling.
 ghost use Rattle.bq_insn.specs.Laws.{OneSpelling, OneProgram, OneTable};
-ghost use Rattle.bq_insn.specs.Faults.{NoProgramIsFaulty, NoProgramIsRefused, OneFault};
+ghost use Rattle.bq_insn.specs.Faults.{NoProgramIsFaulty, NoProgramIsRefused, BytesHaveOneFault};
 
 /// If bytes begin with the spellings of two instructions, both are the same instruction.
 pub fn one_spelling()
@@ -24,7 +24,7 @@ pub fn no_program_is_refused()
 
 /// Bytes have at most one fault: one slot and one cause.
 pub fn one_fault()
-    ensures { OneFault }
+    ensures { BytesHaveOneFault }
 {}
 
 /// The table of opcodes says the same whether you read it from the opcode or from the form.

@@ -1,6 +1,6 @@
 //! The instruction that slots without a fault spell.
 ghost use Rattle.std.specs.Prelude.{◌≡◌, None};
-ghost use Rattle.bq_insn.specs.Reading.{bits_of, variant, second_imm, move_of, alu_of, insn_of};
+ghost use Rattle.bq_insn.specs.Reading.{bits_of, variant, second_imm, register_move, alu_of, insn_of};
 
 use crate::form::Form;
 use crate::slot::Slot;
@@ -81,7 +81,7 @@ fn variant(op: Operation, offset: u16) -> Operation
 
 /// A move from a register. If the offset is not 0, the move extends the sign from that many bits.
 fn move_of(width: Width, slot: Slot) -> Insn
-    ensures { result ≡ move_of width slot }
+    ensures { result ≡ register_move width slot }
 {
     if slot.offset == 0 {
         return Insn::Alu {

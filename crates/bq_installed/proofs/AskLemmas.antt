@@ -7,7 +7,7 @@ use Rattle.bq_hooks.specs.Hooks.{context_length_of}
 use Rattle.bq_bpf.specs.Memory.{HaveShapes}
 use Rattle.bq_bpf.specs.declared.runs.Done.{Done}
 use Rattle.bq_verify.specs.Accepted.{Accepted}
-use Rattle.bq_installed.specs.Answers.{Answers, IsWithin}
+use Rattle.bq_installed.specs.Answers.{Answers, RunsWithin}
 use Rattle.bq_installed.specs.Attachments.{Attached, AnswersAt, policy_in, maps_in}
 use Rattle.bq_installed.specs.Standing.{IsEquipped, HasAnswered}
 
@@ -32,7 +32,7 @@ pub remembered : (generation : ℕ) (equipped : Option (Accepted × List (List �
     → attached_of generation equipped ≡ a → equipped ≡ Some e → IsEquipped (policy_in equipped) (maps_in equipped)
     → IfSome a.policy (λ p. length context ≡ context_length_of p.hook p.version) → ((i : ℕ) → slice_index context i < 256)
     → now < 2 ^ 64 → processor < 2 ^ 32 → Answers e.0 context e.1 now processor done.r0 left.1 done.steps calls
-    → IsWithin e.0 done.steps calls → left.0 ≡ e.0
+    → RunsWithin e.0 done.steps calls → left.0 ≡ e.0
     → HasAnswered left.0 done
 remembered generation equipped e left a context now processor calls done view some ready asked bytes l k answers within same =
     let long =
@@ -55,14 +55,14 @@ remembered generation equipped e left a context now processor calls done view so
 pub asked : (generation : ℕ) (equipped : Option (Accepted × List (List ℕ))) (e left : Accepted × List (List ℕ)) (a : Attached)
     (context : List ℕ) (now processor : ℕ) (calls : List CounterCall) (done : Done)
     → attached_of generation equipped ≡ a → equipped ≡ Some e
-    → Answers e.0 context e.1 now processor done.r0 left.1 done.steps calls → IsWithin e.0 done.steps calls
+    → Answers e.0 context e.1 now processor done.r0 left.1 done.steps calls → RunsWithin e.0 done.steps calls
     → HaveShapes left.0.shapes left.1 → left.0 ≡ e.0
-    → AnswersAt a context now processor done.r0 left.1 done.steps calls × IfSome a.policy (λ p. IsWithin p done.steps calls) ×
+    → AnswersAt a context now processor done.r0 left.1 done.steps calls × IfSome a.policy (λ p. RunsWithin p done.steps calls) ×
     IfSome a.policy (λ p. HaveShapes p.shapes left.1) × (attached_of generation (Some left) ≡ record a { maps = left.1 })
 asked generation equipped e left a context now processor calls done view some answers within shapes same =
     let here = stands generation equipped e a view some in (
       subst (λ (b : Attached). AnswersAt b context now processor done.r0 left.1 done.steps calls) here answers,
-      subst (λ (b : Attached). IfSome b.policy (λ p. IsWithin p done.steps calls)) here within,
+      subst (λ (b : Attached). IfSome b.policy (λ p. RunsWithin p done.steps calls)) here within,
       subst (λ (b : Attached). IfSome b.policy (λ p. HaveShapes p.shapes left.1)) here
           (subst (λ (p : Accepted). HaveShapes p.shapes left.1) same shapes),
       ap (λ (p : Accepted). attached_of generation (Some (p, left.1))) same ∙ ap (λ (b : Attached). record b { maps = left.1 }) here,

@@ -22,5 +22,5 @@ abbrev pub Answers : Accepted → List ℕ → List (List ℕ) → ℕ → ℕ �
 Answers policy context maps now processor r0 maps' steps calls = RunFrom (setting_of policy context now processor) (start maps) steps calls r0 maps'
 
 -- this many steps and these calls of counters are no more than a run of the policy may take and make
-abbrev pub IsWithin : Accepted → ℕ → List CounterCall → Type 0
-IsWithin policy steps calls = (steps ≤ policy.budget) × (length calls ≤ most_calls)
+abbrev pub RunsWithin : Accepted → ℕ → List CounterCall → Type 0
+RunsWithin policy steps calls = (steps ≤ policy.budget) × (length calls ≤ most_calls)

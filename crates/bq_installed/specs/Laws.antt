@@ -3,7 +3,7 @@ use Rattle.std.specs.Prelude.{◌≡◌, ℕ, List}
 use Rattle.bq_bpf.specs.declared.board.CounterCall.{CounterCall}
 use Rattle.bq_interp.specs.Laws.{AnswerAlike}
 use Rattle.bq_verify.specs.Accepted.{Accepted}
-use Rattle.bq_installed.specs.Answers.{Answers, IsWithin}
+use Rattle.bq_installed.specs.Answers.{Answers, RunsWithin}
 use Rattle.bq_installed.specs.Standing.{IsAsked}
 
 -- a policy that is asked answers within its budget, with at most sixteen calls of counters
@@ -11,7 +11,7 @@ abbrev pub AnswersWithin : Type 0
 AnswersWithin =
     (policy : Accepted) (context : List ℕ) (maps maps' : List (List ℕ)) (now processor r0 steps : ℕ) (calls : List CounterCall) →
     IsAsked policy context maps now processor → Answers policy context maps now processor r0 maps' steps calls →
-    IsWithin policy steps calls
+    RunsWithin policy steps calls
 
 -- if the counters answer alike, a policy gives one answer, in as many steps, and leaves the same maps
 abbrev pub AnswersOnce : Type 0

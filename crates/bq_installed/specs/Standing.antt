@@ -6,7 +6,7 @@ use Rattle.bq_verify.specs.Accepted.{Accepted, IsAccepted}
 use Rattle.bq_hooks.specs.Hooks.{context_length_of}
 use Rattle.bq_bpf.specs.declared.board.CounterCall.{CounterCall}
 use Rattle.bq_bpf.specs.declared.runs.Done.{Done}
-use Rattle.bq_installed.specs.Answers.{Answers, IsWithin}
+use Rattle.bq_installed.specs.Answers.{Answers, RunsWithin}
 use Rattle.bq_installed.specs.Attachments.{Attached, Attachments, at_hook, IsFor}
 
 -- the policy is within the limits of images, and safe within its budget
@@ -19,12 +19,12 @@ IsEquipped None maps = Unit {0}
 IsEquipped (Some policy) maps = WasAccepted policy × HaveShapes policy.shapes maps
 
 -- what is attached may be at this hook: its policy, if any, was accepted for it
-abbrev pub MayStand : Hook → Attached → Type 0
-MayStand hook attached = IsFor hook attached.policy × IsEquipped attached.policy attached.maps
+abbrev pub MayBeAttached : Hook → Attached → Type 0
+MayBeAttached hook attached = IsFor hook attached.policy × IsEquipped attached.policy attached.maps
 
 -- whatever is attached at the hooks of a processor may be there
 abbrev pub AreReady : Attachments → Type 0
-AreReady hooks = (hook : Hook) → MayStand hook (at_hook hook hooks)
+AreReady hooks = (hook : Hook) → MayBeAttached hook (at_hook hook hooks)
 
 -- a policy was accepted, and is shown a context of its length, maps of its shapes, a clock reading and a processor's number
 pub record IsAsked (policy : Accepted) (context : List ℕ) (maps : List (List ℕ)) (now processor : ℕ) : Type 0 where
@@ -45,7 +45,7 @@ pub record HasAnswered (policy : Accepted) (done : Done) : Type 0 where
   pub calls : List CounterCall
   pub asked : IsAsked policy context maps now processor
   pub answers : Answers policy context maps now processor done.r0 left done.steps calls
-  pub within : IsWithin policy done.steps calls
+  pub within : RunsWithin policy done.steps calls
 
 -- what is remembered is an answer of that policy; nothing is remembered if there is no policy
 abbrev pub WasAnswered : Option Accepted → Option Done → Type 0

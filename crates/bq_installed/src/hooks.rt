@@ -4,7 +4,7 @@ ghost use Rattle.std.specs.Option.{option_map};
 ghost use Rattle.bq_bpf.specs.Counters.{Through};
 ghost use Rattle.bq_hooks.specs.Hooks.{context_length_of};
 ghost use Rattle.bq_bpf.specs.Memory.{HaveShapes};
-ghost use Rattle.bq_installed.specs.Answers.{IsWithin};
+ghost use Rattle.bq_installed.specs.Answers.{RunsWithin};
 ghost use Rattle.bq_installed.specs.Standing.{WasAnswered};
 ghost use Rattle.bq_installed.specs.Attachments.{AnswersAt, none_attached, at_hook, with_attached, IsFor};
 
@@ -103,7 +103,7 @@ impl Hooks {
         requires there { is_some (at_hook hook self.old).policy ≡ true }
         requires context { IfSome (at_hook hook self.old).policy (λ p. length context.now ≡ context_length_of hook p.version) }
         ensures answers { AnswersAt (at_hook hook self.old) context.now env.now env.processor result.r0 (at_hook hook self.new).maps result.steps scratch.new }
-        ensures within { IfSome (at_hook hook self.old).policy (λ p. IsWithin p result.steps scratch.new) }
+        ensures within { IfSome (at_hook hook self.old).policy (λ p. RunsWithin p result.steps scratch.new) }
         ensures shapes { IfSome (at_hook hook self.old).policy (λ p. HaveShapes p.shapes (at_hook hook self.new).maps) }
         ensures stays { self.new ≡ with_attached hook self.old (record (at_hook hook self.old) { maps = (at_hook hook self.new).maps }) }
         ensures board { Through B.leads board.old scratch.new board.new }

@@ -4,7 +4,7 @@ ghost use Rattle.std.specs.Option.{option_map};
 ghost use Rattle.bq_bpf.specs.Counters.{Through};
 ghost use Rattle.bq_hooks.specs.Hooks.{context_length_of};
 ghost use Rattle.bq_bpf.specs.Memory.{HaveShapes};
-ghost use Rattle.bq_installed.specs.Answers.{Answers, IsWithin, fresh_maps};
+ghost use Rattle.bq_installed.specs.Answers.{Answers, RunsWithin, fresh_maps};
 ghost use Rattle.bq_installed.specs.Standing.{IsEquipped, WasAnswered};
 ghost use Rattle.bq_installed.specs.Attachments.{AnswersAt, nothing_attached};
 
@@ -132,7 +132,7 @@ impl Installed {
         requires there { is_some self.old.policy ≡ true }
         requires context { IfSome self.old.policy (λ p. length context.now ≡ context_length_of p.hook p.version) }
         ensures answers { AnswersAt self.old context.now env.now env.processor result.r0 self.new.maps result.steps scratch.new }
-        ensures within { IfSome self.old.policy (λ p. IsWithin p result.steps scratch.new) }
+        ensures within { IfSome self.old.policy (λ p. RunsWithin p result.steps scratch.new) }
         ensures shapes { IfSome self.old.policy (λ p. HaveShapes p.shapes self.new.maps) }
         ensures stays { self.new ≡ record self.old { maps = self.new.maps } }
         ensures board { Through B.leads board.old scratch.new board.new }
@@ -198,7 +198,7 @@ impl Equipped {
     ) -> Done
         requires context { length context.now ≡ context_length_of self.old.0.hook self.old.0.version }
         ensures answers { Answers self.old.0 context.now self.old.1 env.now env.processor result.r0 self.new.1 result.steps scratch.new }
-        ensures within { IsWithin self.old.0 result.steps scratch.new }
+        ensures within { RunsWithin self.old.0 result.steps scratch.new }
         ensures equipped { IsEquipped (Some self.new.0) self.new.1 }
         ensures policy { self.new.0 ≡ self.old.0 }
         ensures board { Through B.leads board.old scratch.new board.new }

@@ -4,12 +4,12 @@ use Rattle.std.specs.Prelude.{slice_index}
 use Rattle.std.specs.Str.Lines.{strip_carriage_return}
 use Rattle.std.proofs.lemmas.Bool.Decides.{nat_tests}
 use Rattle.std.proofs.lemmas.Grind.{common_steps}
-use Rattle.bq_lines.specs.Kept.{StandsFor, short_line}
+use Rattle.bq_lines.specs.Kept.{KeepsLine, short_line}
 use Rattle.bq_lines.specs.Lines.{reading_of, reading_of_short_line}
 use Rattle.bq_lines.specs.declared.command.LineReading.TheVariants.{Bad}
 
 -- where nothing is kept the line is too long
-length_unkept : (line : List ℕ) → StandsFor None line → 131073 < length line
+length_unkept : (line : List ℕ) → KeepsLine None line → 131073 < length line
 length_unkept line h = unkept (length line) (ltb 131073 (length line)) refl h.kept_is
   where
     unkept : (n : ℕ) (b : Bool) → ltb 131073 n ≡ b → None ≡ cond b None (Some line) → 131073 < n
@@ -32,11 +32,11 @@ length-strip line = stripped (eqb (slice_index line (length line - 1)) 13)
     stripped false = omega arith
 
 -- of a line of which nothing is kept nothing is heard
-pub short_line-unkept : (line : List ℕ) → StandsFor None line → short_line line ≡ None
+pub short_line-unkept : (line : List ℕ) → KeepsLine None line → short_line line ≡ None
 short_line-unkept line h = short_line-long line (omega (arith, length_unkept line h))
 
 -- of a line of which nothing is kept nothing is heard without its carriage return either
-pub short_line-strip_unkept : (line : List ℕ) → StandsFor None line → short_line (strip_carriage_return line) ≡ None
+pub short_line-strip_unkept : (line : List ℕ) → KeepsLine None line → short_line (strip_carriage_return line) ≡ None
 short_line-strip_unkept line h = short_line-long (strip_carriage_return line) (omega (arith, length_unkept line h, length-strip line))
 
 -- what is heard of a line says what the line says

@@ -8,13 +8,13 @@ abbrev pub IsOneLine : List ℕ → Type 0
 IsOneLine line = All (λ b. (b == 10) ≡ false) line
 
 -- the line itself, or nothing if it is longer than 131073 bytes: then it is too long even without a CR at its end
-abbrev pub kept_of : List ℕ → Option (List ℕ)
-kept_of line = if nat_lt 131073 (length line) then None else Some line
+abbrev pub line_kept : List ℕ → Option (List ℕ)
+line_kept line = if nat_lt 131073 (length line) then None else Some line
 
 -- what is kept stands for this line, which has no line feed
-pub record StandsFor (kept : Option (List ℕ)) (line : List ℕ) : Type 0 where
+pub record KeepsLine (kept : Option (List ℕ)) (line : List ℕ) : Type 0 where
   pub one_line : IsOneLine line
-  pub kept_is : kept ≡ kept_of line
+  pub kept_is : kept ≡ line_kept line
 
 -- the line, or nothing if it is too long
 abbrev pub short_line : List ℕ → Option (List ℕ)

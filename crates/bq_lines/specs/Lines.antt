@@ -8,7 +8,7 @@ use Rattle.bq_parts.specs.declared.event.Event.TheVariants.{Admit, Retire, Draw,
 use Rattle.bq_hooks.specs.Hooks.{hook_of}
 use Rattle.bq_hooks.specs.declared.hook.Hook.{Hook}
 use Rattle.bq_lines.specs.Bytes.{is_allowed}
-use Rattle.bq_words.specs.Quantities.{size_of, decimal_of, processor_of, task_of, mask_of, nice_of}
+use Rattle.bq_words.specs.Quantities.{size_in_word, decimal_of, processor_in_word, task_in_word, mask_in_word, nice_in_word}
 use Rattle.bq_words.specs.declared.processor_count.ProcessorCount.{ProcessorCount}
 use Rattle.bq_words.specs.declared.rule.Rule.{Rule}
 use Rattle.bq_words.specs.Sizes.{rule_of}
@@ -24,125 +24,125 @@ use Rattle.bq_lines.specs.declared.command.LineReading.TheVariants.{Skipped, Bad
 
 -- a rule and a number of processors
 abbrev pub machine_words : List (List ℕ) → Option (Rule × ProcessorCount)
-machine_words operands = option_and_then (λ w. option_and_then (λ r. option_map (λ s. (r, s)) (size_of w.1)) (rule_of w.0)) (two_of operands)
+machine_words operands = option_and_then (λ w. option_and_then (λ r. option_map (λ s. (r, s)) (size_in_word w.1)) (rule_of w.0)) (two_of operands)
 
 -- a task, its nice value, its mask and its slice
 abbrev pub admit_words : List (List ℕ) → Option (ℕ × ℤ × ℕ × ℕ)
 admit_words operands =
     option_and_then
-    (λ w. option_and_then (λ t. option_and_then (λ n. option_and_then (λ m. option_map (λ s. (t, n, m, s)) (decimal_of w.3)) (mask_of w.2)) (nice_of w.1)) (task_of w.0))
+    (λ w. option_and_then (λ t. option_and_then (λ n. option_and_then (λ m. option_map (λ s. (t, n, m, s)) (decimal_of w.3)) (mask_in_word w.2)) (nice_in_word w.1)) (task_in_word w.0))
     (four_of operands)
 
 -- a processor, a generation, a hook, and the word that spells an image
 abbrev pub install_words : List (List ℕ) → Option (ℕ × ℕ × Hook × List ℕ)
 install_words operands =
-    option_and_then (λ w. option_and_then (λ c. option_and_then (λ g. option_map (λ h. (c, g, h, w.3)) (hook_of w.2)) (decimal_of w.1)) (processor_of w.0)) (four_of operands)
+    option_and_then (λ w. option_and_then (λ c. option_and_then (λ g. option_map (λ h. (c, g, h, w.3)) (hook_of w.2)) (decimal_of w.1)) (processor_in_word w.0)) (four_of operands)
 
 -- a task
 abbrev pub one_task : List (List ℕ) → Option ℕ
-one_task operands = option_and_then task_of (one_of operands)
+one_task operands = option_and_then task_in_word (one_of operands)
 
 -- a processor, or a counter
 abbrev pub one_number : List (List ℕ) → Option ℕ
-one_number operands = option_and_then processor_of (one_of operands)
+one_number operands = option_and_then processor_in_word (one_of operands)
 
 -- a processor and a task
 abbrev pub processor_and_task : List (List ℕ) → Option (ℕ × ℕ)
-processor_and_task operands = option_and_then (λ w. option_and_then (λ c. option_map (λ i. (c, i)) (task_of w.1)) (processor_of w.0)) (two_of operands)
+processor_and_task operands = option_and_then (λ w. option_and_then (λ c. option_map (λ i. (c, i)) (task_in_word w.1)) (processor_in_word w.0)) (two_of operands)
 
 -- a processor and a clock reading
 abbrev pub processor_and_time : List (List ℕ) → Option (ℕ × ℕ)
-processor_and_time operands = option_and_then (λ w. option_and_then (λ c. option_map (λ t. (c, t)) (decimal_of w.1)) (processor_of w.0)) (two_of operands)
+processor_and_time operands = option_and_then (λ w. option_and_then (λ c. option_map (λ t. (c, t)) (decimal_of w.1)) (processor_in_word w.0)) (two_of operands)
 
 -- a processor, a task and a clock reading
 abbrev pub wake_words : List (List ℕ) → Option (ℕ × ℕ × ℕ)
 wake_words operands =
-    option_and_then (λ w. option_and_then (λ c. option_and_then (λ i. option_map (λ t. (c, i, t)) (decimal_of w.2)) (task_of w.1)) (processor_of w.0)) (three_of operands)
+    option_and_then (λ w. option_and_then (λ c. option_and_then (λ i. option_map (λ t. (c, i, t)) (decimal_of w.2)) (task_in_word w.1)) (processor_in_word w.0)) (three_of operands)
 
 -- two processors and a clock reading
 abbrev pub pull_words : List (List ℕ) → Option (ℕ × ℕ × ℕ)
 pull_words operands =
-    option_and_then (λ w. option_and_then (λ c. option_and_then (λ s. option_map (λ t. (c, s, t)) (decimal_of w.2)) (processor_of w.1)) (processor_of w.0)) (three_of operands)
+    option_and_then (λ w. option_and_then (λ c. option_and_then (λ s. option_map (λ t. (c, s, t)) (decimal_of w.2)) (processor_in_word w.1)) (processor_in_word w.0)) (three_of operands)
 
 -- what each command asks for
 
 -- `machine` makes a machine
-abbrev pub machine_of : List (List ℕ) → Option Command
-machine_of operands = option_map (λ w. Machine w.0 w.1) (machine_words operands)
+abbrev pub machine_command : List (List ℕ) → Option Command
+machine_command operands = option_map (λ w. Machine w.0 w.1) (machine_words operands)
 
 -- `admit` admits a task
-abbrev pub admit_of : List (List ℕ) → Option Command
-admit_of operands = option_map (λ w. Does (Admit w.0 w.1 w.2 w.3)) (admit_words operands)
+abbrev pub admit_command : List (List ℕ) → Option Command
+admit_command operands = option_map (λ w. Does (Admit w.0 w.1 w.2 w.3)) (admit_words operands)
 
 -- `retire` makes a task leave
-abbrev pub retire_of : List (List ℕ) → Option Command
-retire_of operands = option_map (λ t. Does (Retire t)) (one_task operands)
+abbrev pub retire_command : List (List ℕ) → Option Command
+retire_command operands = option_map (λ t. Does (Retire t)) (one_task operands)
 
 -- `draw` draws a generation, and has no words after it
-abbrev pub draw_of : List (List ℕ) → Option Command
-draw_of [] = Some (Does Draw)
-draw_of other = None
+abbrev pub draw_command : List (List ℕ) → Option Command
+draw_command [] = Some (Does Draw)
+draw_command other = None
 
 -- `none` takes a policy away, and another word is an image to load
-abbrev pub installing : ℕ × ℕ × Hook × List ℕ → Command
-installing (c, g, h, image) = if bytes_eq image (codes "none") then Does (Install c h g None) else Load c h g image
+abbrev pub install_or_load : ℕ × ℕ × Hook × List ℕ → Command
+install_or_load (c, g, h, image) = if bytes_eq image (codes "none") then Does (Install c h g None) else Load c h g image
 
 -- `install` installs a policy or takes one away
-abbrev pub install_of : List (List ℕ) → Option Command
-install_of operands = option_map installing (install_words operands)
+abbrev pub install_command : List (List ℕ) → Option Command
+install_command operands = option_map install_or_load (install_words operands)
 
 -- `begin` begins a wake
-abbrev pub begin_of : List (List ℕ) → Option Command
-begin_of operands = option_map (λ w. Does (BeginWake w.0 w.1)) (processor_and_task operands)
+abbrev pub begin_command : List (List ℕ) → Option Command
+begin_command operands = option_map (λ w. Does (BeginWake w.0 w.1)) (processor_and_task operands)
 
 -- `end` ends a wake
-abbrev pub end_of : List (List ℕ) → Option Command
-end_of operands = option_map (λ w. Does (EndWake w.0 w.1)) (processor_and_time operands)
+abbrev pub end_command : List (List ℕ) → Option Command
+end_command operands = option_map (λ w. Does (EndWake w.0 w.1)) (processor_and_time operands)
 
 -- `wake` begins a wake and ends it at once
-abbrev pub wake_of : List (List ℕ) → Option Command
-wake_of operands = option_map (λ w. Wake w.0 w.1 w.2) (wake_words operands)
+abbrev pub wake_command : List (List ℕ) → Option Command
+wake_command operands = option_map (λ w. Wake w.0 w.1 w.2) (wake_words operands)
 
 -- `drain` makes a processor take in the tasks that were placed on it
-abbrev pub drain_of : List (List ℕ) → Option Command
-drain_of operands = option_map (λ w. Does (Drain w.0 w.1)) (processor_and_time operands)
+abbrev pub drain_command : List (List ℕ) → Option Command
+drain_command operands = option_map (λ w. Does (Drain w.0 w.1)) (processor_and_time operands)
 
 -- `tick` lets a processor's clock tick
-abbrev pub tick_of : List (List ℕ) → Option Command
-tick_of operands = option_map (λ w. Does (Tick w.0 w.1)) (processor_and_time operands)
+abbrev pub tick_command : List (List ℕ) → Option Command
+tick_command operands = option_map (λ w. Does (Tick w.0 w.1)) (processor_and_time operands)
 
 -- `block` puts the running task to sleep
-abbrev pub block_of : List (List ℕ) → Option Command
-block_of operands = option_map (λ w. Does (Block w.0 w.1)) (processor_and_time operands)
+abbrev pub block_command : List (List ℕ) → Option Command
+block_command operands = option_map (λ w. Does (Block w.0 w.1)) (processor_and_time operands)
 
 -- `pull` makes a processor take a task from another
-abbrev pub pull_of : List (List ℕ) → Option Command
-pull_of operands = option_map (λ w. Does (Pull w.0 w.1 w.2)) (pull_words operands)
+abbrev pub pull_command : List (List ℕ) → Option Command
+pull_command operands = option_map (λ w. Does (Pull w.0 w.1 w.2)) (pull_words operands)
 
 -- `show` shows a processor
-abbrev pub show_of : List (List ℕ) → Option Command
-show_of operands = option_map (λ c. Show c) (one_number operands)
+abbrev pub show_command : List (List ℕ) → Option Command
+show_command operands = option_map (λ c. Show c) (one_number operands)
 
 -- `counter` shows a counter
-abbrev pub counter_of : List (List ℕ) → Option Command
-counter_of operands = option_map (λ i. Counter i) (one_number operands)
+abbrev pub counter_command : List (List ℕ) → Option Command
+counter_command operands = option_map (λ i. Counter i) (one_number operands)
 
 -- what the words after a keyword ask for
 abbrev pub command_after : Keyword → List (List ℕ) → Option Command
-command_after keywords.Install operands = install_of operands
-command_after keywords.Machine operands = machine_of operands
-command_after keywords.Admit operands = admit_of operands
-command_after keywords.Retire operands = retire_of operands
-command_after keywords.Draw operands = draw_of operands
-command_after keywords.Begin operands = begin_of operands
-command_after keywords.End operands = end_of operands
-command_after keywords.Wake operands = wake_of operands
-command_after keywords.Drain operands = drain_of operands
-command_after keywords.Tick operands = tick_of operands
-command_after keywords.Block operands = block_of operands
-command_after keywords.Pull operands = pull_of operands
-command_after keywords.Show operands = show_of operands
-command_after keywords.Counter operands = counter_of operands
+command_after keywords.Install operands = install_command operands
+command_after keywords.Machine operands = machine_command operands
+command_after keywords.Admit operands = admit_command operands
+command_after keywords.Retire operands = retire_command operands
+command_after keywords.Draw operands = draw_command operands
+command_after keywords.Begin operands = begin_command operands
+command_after keywords.End operands = end_command operands
+command_after keywords.Wake operands = wake_command operands
+command_after keywords.Drain operands = drain_command operands
+command_after keywords.Tick operands = tick_command operands
+command_after keywords.Block operands = block_command operands
+command_after keywords.Pull operands = pull_command operands
+command_after keywords.Show operands = show_command operands
+command_after keywords.Counter operands = counter_command operands
 
 -- what a command asks for, by its name and the words after it
 abbrev pub command_of : List ℕ → List (List ℕ) → Option Command

@@ -3,7 +3,7 @@ ghost use Rattle.std.specs.Prelude.{◌≡◌, ◌↔◌, IsTrue, ◌==◌, ◌+
 ghost use Rattle.std.specs.Borrow.{Bor};
 ghost use Rattle.std.specs.Option.{option_map};
 ghost use Rattle.std.specs.Str.Lines.{strip_carriage_return};
-ghost use Rattle.bq_lines.specs.Kept.{IsOneLine, StandsFor, short_line};
+ghost use Rattle.bq_lines.specs.Kept.{IsOneLine, KeepsLine, short_line};
 
 use crate::lines::LONGEST;
 use memchr::memchr;
@@ -45,7 +45,7 @@ impl PartialLine {
     /// Whether nothing has begun.
     pub fn is_empty(&self) -> bool
         ensures kept { IsTrue result ↔ (self.now ≡ Some []) }
-        ensures line { (line : List ℕ) → StandsFor self.now line → result ≡ (length line == 0) }
+        ensures line { (line : List ℕ) → KeepsLine self.now line → result ≡ (length line == 0) }
     {
         !self.is_too_long && self.bytes.is_empty()
     }
@@ -65,7 +65,7 @@ impl PartialLine {
     /// The line goes on with this piece. An `Err` changes nothing.
     pub fn extend(&mut self, piece: &[u8]) -> Result<(), AllocError>
         requires { IsOneLine piece.now }
-        ensures ok { OnOk result ((line : List ℕ) → StandsFor self.old line → StandsFor self.new (line ++ piece.now)) }
+        ensures ok { OnOk result ((line : List ℕ) → KeepsLine self.old line → KeepsLine self.new (line ++ piece.now)) }
         ensures err { OnErr result (self.new ≡ self.old) }
     {
         if self.is_too_long {
@@ -81,7 +81,7 @@ impl PartialLine {
 
     /// The line, if the text ends here. `None` if the line is too long.
     pub fn last(&self) -> Option<&[u8]>
-        ensures { (line : List ℕ) → StandsFor self.now line → option_map (λ (l : Bor (List ℕ)). l.now) result ≡ short_line line }
+        ensures { (line : List ℕ) → KeepsLine self.now line → option_map (λ (l : Bor (List ℕ)). l.now) result ≡ short_line line }
     {
         if self.is_too_long {
             None
@@ -92,7 +92,7 @@ impl PartialLine {
 
     /// The line, if a line feed ends it here: without the CR at its end. `None` if the line is too long.
     pub fn ended(&self) -> Option<&[u8]>
-        ensures { (line : List ℕ) → StandsFor self.now line → option_map (λ (l : Bor (List ℕ)). l.now) result ≡ short_line (strip_carriage_return line) }
+        ensures { (line : List ℕ) → KeepsLine self.now line → option_map (λ (l : Bor (List ℕ)). l.now) result ≡ short_line (strip_carriage_return line) }
     {
         if self.is_too_long {
             None

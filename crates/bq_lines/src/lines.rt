@@ -3,7 +3,7 @@ ghost use Rattle.std.specs.Prelude.{◌≡◌, ℕ, List};
 ghost use Rattle.std.specs.Borrow.{Bor};
 ghost use Rattle.std.specs.Option.{option_map};
 ghost use Rattle.bq_words.specs.Words.{words};
-ghost use Rattle.bq_lines.specs.Lines.{machine_of, admit_of, retire_of, draw_of, install_words, install_of, begin_of, end_of, wake_of, drain_of, tick_of, block_of, pull_of, show_of, counter_of, command_of, machine_words, admit_words, one_task, one_number, processor_and_task, processor_and_time, wake_words, pull_words, reading_of_command, reading_of_words, reading_of, reading_of_short_line};
+ghost use Rattle.bq_lines.specs.Lines.{machine_command, admit_command, retire_command, draw_command, install_words, install_command, begin_command, end_command, wake_command, drain_command, tick_command, block_command, pull_command, show_command, counter_command, command_of, machine_words, admit_words, one_task, one_number, processor_and_task, processor_and_time, wake_words, pull_words, reading_of_command, reading_of_words, reading_of, reading_of_short_line};
 
 use crate::bytes::is_allowed_line;
 use crate::command::{Command, LineReading};
@@ -181,7 +181,7 @@ fn pull_words(operands: &[u8]) -> Option<(u8, (u8, u64))>
 
 /// What the words after `machine` say.
 fn machine(operands: &[u8]) -> LineReading<'_>
-    ensures { result ≡ reading_of_command (machine_of (words operands.now)) }
+    ensures { result ≡ reading_of_command (machine_command (words operands.now)) }
 {
     match machine_words(operands) {
         Some((rule, size)) => LineReading::Asks(Command::Machine { rule, size }),
@@ -191,7 +191,7 @@ fn machine(operands: &[u8]) -> LineReading<'_>
 
 /// What the words after `admit` say.
 fn admit(operands: &[u8]) -> LineReading<'_>
-    ensures { result ≡ reading_of_command (admit_of (words operands.now)) }
+    ensures { result ≡ reading_of_command (admit_command (words operands.now)) }
 {
     match admit_words(operands) {
         Some((task, (nice, (mask, slice)))) => LineReading::Asks(Command::Does(Event::Admit {
@@ -206,7 +206,7 @@ fn admit(operands: &[u8]) -> LineReading<'_>
 
 /// What the words after `retire` say.
 fn retire(operands: &[u8]) -> LineReading<'_>
-    ensures { result ≡ reading_of_command (retire_of (words operands.now)) }
+    ensures { result ≡ reading_of_command (retire_command (words operands.now)) }
 {
     match one_task(operands) {
         Some(task) => LineReading::Asks(Command::Does(Event::Retire { task })),
@@ -216,7 +216,7 @@ fn retire(operands: &[u8]) -> LineReading<'_>
 
 /// What the words after `draw` say.
 fn draw(operands: &[u8]) -> LineReading<'_>
-    ensures { result ≡ reading_of_command (draw_of (words operands.now)) }
+    ensures { result ≡ reading_of_command (draw_command (words operands.now)) }
 {
     match end_of_words(operands) {
         Some(()) => LineReading::Asks(Command::Does(Event::Draw)),
@@ -226,7 +226,7 @@ fn draw(operands: &[u8]) -> LineReading<'_>
 
 /// What the words after `install` say.
 fn install(operands: &[u8]) -> LineReading<'_>
-    ensures { result ≡ reading_of_command (install_of (words operands.now)) }
+    ensures { result ≡ reading_of_command (install_command (words operands.now)) }
 {
     let Some((processor, (generation, (hook, image)))) = install_words(operands) else {
         return LineReading::Bad;
@@ -249,7 +249,7 @@ fn install(operands: &[u8]) -> LineReading<'_>
 
 /// What the words after `begin` say.
 fn begin(operands: &[u8]) -> LineReading<'_>
-    ensures { result ≡ reading_of_command (begin_of (words operands.now)) }
+    ensures { result ≡ reading_of_command (begin_command (words operands.now)) }
 {
     match processor_and_task(operands) {
         Some((processor, task)) => {
@@ -261,7 +261,7 @@ fn begin(operands: &[u8]) -> LineReading<'_>
 
 /// What the words after `end` say.
 fn end(operands: &[u8]) -> LineReading<'_>
-    ensures { result ≡ reading_of_command (end_of (words operands.now)) }
+    ensures { result ≡ reading_of_command (end_command (words operands.now)) }
 {
     match processor_and_time(operands) {
         Some((processor, now)) => {
@@ -273,7 +273,7 @@ fn end(operands: &[u8]) -> LineReading<'_>
 
 /// What the words after `wake` say.
 fn wake(operands: &[u8]) -> LineReading<'_>
-    ensures { result ≡ reading_of_command (wake_of (words operands.now)) }
+    ensures { result ≡ reading_of_command (wake_command (words operands.now)) }
 {
     match wake_words(operands) {
         Some((processor, task, now)) => LineReading::Asks(Command::Wake {
@@ -287,7 +287,7 @@ fn wake(operands: &[u8]) -> LineReading<'_>
 
 /// What the words after `drain` say.
 fn drain(operands: &[u8]) -> LineReading<'_>
-    ensures { result ≡ reading_of_command (drain_of (words operands.now)) }
+    ensures { result ≡ reading_of_command (drain_command (words operands.now)) }
 {
     match processor_and_time(operands) {
         Some((processor, now)) => LineReading::Asks(Command::Does(Event::Drain { processor, now })),
@@ -297,7 +297,7 @@ fn drain(operands: &[u8]) -> LineReading<'_>
 
 /// What the words after `tick` say.
 fn tick(operands: &[u8]) -> LineReading<'_>
-    ensures { result ≡ reading_of_command (tick_of (words operands.now)) }
+    ensures { result ≡ reading_of_command (tick_command (words operands.now)) }
 {
     match processor_and_time(operands) {
         Some((processor, now)) => LineReading::Asks(Command::Does(Event::Tick { processor, now })),
@@ -307,7 +307,7 @@ fn tick(operands: &[u8]) -> LineReading<'_>
 
 /// What the words after `block` say.
 fn block(operands: &[u8]) -> LineReading<'_>
-    ensures { result ≡ reading_of_command (block_of (words operands.now)) }
+    ensures { result ≡ reading_of_command (block_command (words operands.now)) }
 {
     match processor_and_time(operands) {
         Some((processor, now)) => LineReading::Asks(Command::Does(Event::Block { processor, now })),
@@ -317,7 +317,7 @@ fn block(operands: &[u8]) -> LineReading<'_>
 
 /// What the words after `pull` say.
 fn pull(operands: &[u8]) -> LineReading<'_>
-    ensures { result ≡ reading_of_command (pull_of (words operands.now)) }
+    ensures { result ≡ reading_of_command (pull_command (words operands.now)) }
 {
     match pull_words(operands) {
         Some((processor, (from, now))) => LineReading::Asks(Command::Does(Event::Pull {
@@ -331,7 +331,7 @@ fn pull(operands: &[u8]) -> LineReading<'_>
 
 /// What the words after `show` say.
 fn show(operands: &[u8]) -> LineReading<'_>
-    ensures { result ≡ reading_of_command (show_of (words operands.now)) }
+    ensures { result ≡ reading_of_command (show_command (words operands.now)) }
 {
     match one_number(operands) {
         Some(processor) => LineReading::Asks(Command::Show { processor }),
@@ -341,7 +341,7 @@ fn show(operands: &[u8]) -> LineReading<'_>
 
 /// What the words after `counter` say.
 fn counter(operands: &[u8]) -> LineReading<'_>
-    ensures { result ≡ reading_of_command (counter_of (words operands.now)) }
+    ensures { result ≡ reading_of_command (counter_command (words operands.now)) }
 {
     match one_number(operands) {
         Some(counter) => LineReading::Asks(Command::Counter { counter }),

@@ -17,18 +17,18 @@ use Rattle.bq_hooks.specs.declared.hook.Version.TheVariants.{First, Second}
 use Rattle.bq_hooks.specs.Hooks.{version_number}
 use Rattle.bq_load.specs.declared.fault.LoadFault.{LoadFault}
 use Rattle.bq_load.specs.declared.fault.LoadFault.TheVariants as fault
-use Rattle.bq_load.specs.Layout.{magic, hook_byte, shape_bytes, shapes_bytes, opening, Header, header_bytes, IsHeader}
-use Rattle.bq_load.specs.Fields.{Front, Nothing, Marked, Versioned, Hooked, Mapped, Headed, IsGood, front_bytes, next_width, IsBadNext}
-use Rattle.bq_load.specs.Faults.{HasBadField, HasFaultyProgram, IsFault}
-use Rattle.bq_load.specs.Reading.{◌>>=◌, magic_at, version_at, hook_at, number_at, count_at, is_shape, shape_at, shapes_at, Spelled, header_at, ended, frame_at}
+use Rattle.bq_load.specs.Layout.{magic, hook_byte, shape_bytes, shapes_bytes, image_opening, Header, header_bytes, IsHeader}
+use Rattle.bq_load.specs.Fields.{Front, Nothing, Marked, Versioned, Hooked, Mapped, Headed, AreGoodFields, front_bytes, next_width, IsBadNext}
+use Rattle.bq_load.specs.Faults.{HasBadField, HasFaultyProgram, IsLoadFault}
+use Rattle.bq_load.specs.Reading.{◌>>=◌, magic_at, version_at, hook_at, read_number, count_at, is_shape, shape_at, shapes_at, Spelled, header_at, ended, frame_at}
 use Rattle.bq_load.proofs.FieldLemmas.{AreBytes, AreBytes-front, AreBytes-after, half_ok, is_shape-limits, shape_of, shape_of-bytes}
 use Rattle.bq_load.proofs.HeaderLemmas.{after_shapes, after_count, after_hook, after_version, after_magic}
 use Rattle.bq_load.proofs.SpelledHeaderLemmas.{spelled, number_again, half_again, shape_again, shapes_again, read_marked, read_versioned, read_hooked, read_counted, header_again}
 
 -- ---- a bad or cut field gives its fault
 
-number_cut : (width : ℕ) (bytes : List ℕ) → length bytes < width → number_at width bytes ≡ Err fault.Cut
-unfolding number_at
+number_cut : (width : ℕ) (bytes : List ℕ) → length bytes < width → read_number width bytes ≡ Err fault.Cut
+unfolding read_number
 number_cut width bytes h = rw (lt-ltb _ _ h) refl
 
 magic_cut : (bytes : List ℕ) → length bytes < 4 → magic_at bytes ≡ Err fault.Cut
@@ -70,7 +70,7 @@ hook_cut (b ∷ bytes) h = absurd (omega arith)
 
 -- a number that was read from two bytes is spelled by them
 two_bytes : (field rest : List ℕ) → AreBytes field → length field ≡ 2
-    → (n : ℕ) × (n < 2 ^ 16) × (field ≡ to_le_bytes w16 n) × (number_at 2 (field ++ rest) ≡ Ok (n, rest))
+    → (n : ℕ) × (n < 2 ^ 16) × (field ≡ to_le_bytes w16 n) × (read_number 2 (field ++ rest) ≡ Ok (n, rest))
 two_bytes field rest fits two =
     let made = half_ok field (little_number 2 field) (drop 2 field) fits (record { long = omega (arith, two); is = refl; after = refl }) in
     let none : drop 2 field ≡ [] = nil_from_length (drop 2 field) (omega (arith, length-drop 2 field, two)) in
@@ -80,7 +80,7 @@ two_bytes field rest fits two =
       little_number 2 field,
       made.1,
       is,
-      ap (λ (x : List ℕ). number_at 2 (x ++ rest)) is ∙ half_again (little_number 2 field) rest made.1,
+      ap (λ (x : List ℕ). read_number 2 (x ++ rest)) is ∙ half_again (little_number 2 field) rest made.1,
     )
 
 count_bad : (field rest : List ℕ) → AreBytes field → length field ≡ 2
@@ -111,7 +111,7 @@ shape_bad (a ∷ b ∷ c ∷ d ∷ []) rest fits four bad =
     bad (shape_of size.0 entries.0 (is_shape-limits size.0 entries.0 e))
     (joined ∙ sym (shape_of-bytes size.0 entries.0 (is_shape-limits size.0 entries.0 e)))) in
     ap (λ (r : Result (ℕ × List ℕ) LoadFault).
-    r >>= λ size. number_at 2 size.1 >>= λ entries. cond (is_shape size.0 entries.0) (Ok entries.1) (Err fault.Shape)) size.3
+    r >>= λ size. read_number 2 size.1 >>= λ entries. cond (is_shape size.0 entries.0) (Ok entries.1) (Err fault.Shape)) size.3
     ∙ ap (λ (r : Result (ℕ × List ℕ) LoadFault). r >>= λ entries. cond (is_shape size.0 entries.0) (Ok entries.1) (Err fault.Shape))
     entries.3
     ∙ ap (λ (t : Bool). cond t (Ok rest) (Err fault.Shape)) out
@@ -127,11 +127,11 @@ shape_cut bytes h =
     elim (cases_lt (length bytes) 2) [
       | inl lt ↦
           ap (λ (r : Result (ℕ × List ℕ) LoadFault).
-          r >>= λ size. number_at 2 size.1 >>= λ entries. cond (is_shape size.0 entries.0) (Ok entries.1) (Err fault.Shape))
+          r >>= λ size. read_number 2 size.1 >>= λ entries. cond (is_shape size.0 entries.0) (Ok entries.1) (Err fault.Shape))
           (number_cut 2 bytes lt)
       | inr le ↦
           ap (λ (r : Result (ℕ × List ℕ) LoadFault).
-          r >>= λ size. number_at 2 size.1 >>= λ entries. cond (is_shape size.0 entries.0) (Ok entries.1) (Err fault.Shape))
+          r >>= λ size. read_number 2 size.1 >>= λ entries. cond (is_shape size.0 entries.0) (Ok entries.1) (Err fault.Shape))
           (number_again 2 bytes le)
           ∙ ap (λ (r : Result (ℕ × List ℕ) LoadFault).
           r >>= λ entries. cond (is_shape (little_number 2 bytes) entries.0) (Ok entries.1) (Err fault.Shape))
@@ -168,7 +168,7 @@ one_byte (b ∷ c ∷ more) h = absurd (omega arith)
 
 -- good fields and then a bad one
 bad_at : (front : Front) (field rest : List ℕ) (f : LoadFault)
-    → AreBytes field → IsGood front → length field ≡ next_width front → IsBadNext front field f
+    → AreBytes field → AreGoodFields front → length field ≡ next_width front → IsBadNext front field f
     → header_at (front_bytes front ++ (field ++ rest)) ≡ Err f
 unfolding header_at
 bad_at Nothing field rest fault.Magic fits good whole bad =
@@ -187,7 +187,7 @@ bad_at (Hooked v h) field rest fault.Shape fits good whole bad =
     read_hooked v h (field ++ rest)
     ∙ ap (λ (r : Result (ℕ × List ℕ) LoadFault). r >>= after_count v h) (count_bad field rest fits whole bad)
 bad_at (Mapped v h n shapes) field rest fault.Shape fits good whole bad =
-    ap header_at (append_assoc (opening v h n) (shapes_bytes shapes) (field ++ rest))
+    ap header_at (append_assoc (image_opening v h n) (shapes_bytes shapes) (field ++ rest))
     ∙ read_counted v h n (shapes_bytes shapes ++ (field ++ rest)) good.0
     ∙ ap (λ (r : Result (List ℕ) LoadFault). r >>= after_shapes v h n (shapes_bytes shapes ++ (field ++ rest)))
     (shapes_stop n shapes (field ++ rest) fault.Shape bad.0 (shape_bad field rest fits whole bad.1))
@@ -198,7 +198,7 @@ abbrev IsCutAt : Front → List ℕ → Type 0
 IsCutAt (Headed h) part = header_at (header_bytes h ++ part) ≡ Ok (spelled h, part)
 IsCutAt front part = header_at (front_bytes front ++ part) ≡ Err fault.Cut
 
-cut_at : (front : Front) (part : List ℕ) → IsGood front → length part < next_width front → IsCutAt front part
+cut_at : (front : Front) (part : List ℕ) → AreGoodFields front → length part < next_width front → IsCutAt front part
 unfolding header_at
 cut_at Nothing part good short = ap (λ (r : Result (List ℕ) LoadFault). r >>= after_magic) (magic_cut part short)
 cut_at Marked part good short =
@@ -208,7 +208,7 @@ cut_at (Versioned v) part good short =
 cut_at (Hooked v h) part good short =
     read_hooked v h part ∙ ap (λ (r : Result (ℕ × List ℕ) LoadFault). r >>= after_count v h) (count_cut part short)
 cut_at (Mapped v h n shapes) part good short =
-    ap header_at (append_assoc (opening v h n) (shapes_bytes shapes) part)
+    ap header_at (append_assoc (image_opening v h n) (shapes_bytes shapes) part)
     ∙ read_counted v h n (shapes_bytes shapes ++ part) good.0
     ∙ elim (cases_lt (length shapes) n) [
       | inl lt ↦
@@ -241,7 +241,7 @@ bad_again bytes f fits b =
     let after : AreBytes (b.field ++ b.rest) = AreBytes-after (front_bytes b.front) (b.field ++ b.rest) (subst AreBytes b.bytes_are fits) in
     ap header_at b.bytes_are ∙ bad_at b.front b.field b.rest f (AreBytes-front b.field b.rest after) b.good b.whole b.bad
 
-cut_again : (front : Front) (part : List ℕ) → IsGood front → length part < next_width front
+cut_again : (front : Front) (part : List ℕ) → AreGoodFields front → length part < next_width front
     → frame_at (front_bytes front ++ part) ≡ Err fault.Cut
 cut_again (Headed h) part good short = frame_short h part good short
 cut_again Nothing part good short = frame_stop part fault.Cut (cut_at Nothing part good short)
@@ -256,7 +256,7 @@ IsFound bytes (fault.Decode slot Length) = HasFaultyProgram bytes slot Length
 IsFound bytes f = frame_at bytes ≡ Err f
 
 -- a fault of the bytes is found: reading them gives it, or it is that of the program's length
-pub fault_again : (bytes : List ℕ) (f : LoadFault) → AreBytes bytes → IsFault bytes f → IsFound bytes f
+pub fault_again : (bytes : List ℕ) (f : LoadFault) → AreBytes bytes → IsLoadFault bytes f → IsFound bytes f
 fault_again bytes fault.Cut fits b = ap frame_at b.bytes_are ∙ cut_again b.front b.part b.good b.short
 fault_again bytes fault.Rest fits b = ap frame_at b.bytes_are ∙ frame_long b.header b.rest b.good b.more
 fault_again bytes (fault.Decode slot Length) fits b = b

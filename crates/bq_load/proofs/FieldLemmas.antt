@@ -22,7 +22,7 @@ use Rattle.bq_load.specs.declared.fault.LoadFault.TheVariants as fault
 use Rattle.bq_load.specs.Layout.{magic, hook_byte, shape_bytes, shapes_bytes}
 use Rattle.bq_load.specs.Fields.{Front, Nothing, Marked, Versioned, Hooked, next_width, IsBadNext}
 pub use Rattle.bq_load.specs.Laws.{AreBytes}
-use Rattle.bq_load.specs.Reading.{◌>>=◌, magic_at, version_at, hook_at, number_at, count_at, is_shape, shape_at, shapes_at}
+use Rattle.bq_load.specs.Reading.{◌>>=◌, magic_at, version_at, hook_at, read_number, count_at, is_shape, shape_at, shapes_at}
 use Rattle.bq_load.proofs.ReadingLemmas.{bind_ok, met_ok, ok_is, IsNumber, number_ok}
 
 -- numbers of which each fits in 8 bits are bytes
@@ -210,8 +210,8 @@ hook_err v (b ∷ bs) f e =
 -- ---- numbers
 
 -- reading a number fails only as cut, where there are fewer bytes than it has
-pub number_err : (width : ℕ) (bytes : List ℕ) (f : LoadFault) → number_at width bytes ≡ Err f → (f ≡ fault.Cut) × (length bytes < width)
-unfolding number_at
+pub number_err : (width : ℕ) (bytes : List ℕ) (f : LoadFault) → read_number width bytes ≡ Err f → (f ≡ fault.Cut) × (length bytes < width)
+unfolding read_number
 number_err width bytes f e =
     let g = guard_err (ltb (length bytes) width) fault.Cut f (little_number width bytes, drop width bytes) e in
     (sym g.1, ltb-true _ _ g.0)
@@ -261,7 +261,7 @@ pub count_ok : (bytes : List ℕ) (n : ℕ) (rest : List ℕ) → AreBytes bytes
     → (bytes ≡ to_le_bytes w16 n ++ rest) × (n ≤ 8)
 unfolding count_at
 count_ok bytes n rest fits e =
-    let a = bind_ok (number_at 2 bytes) (λ count. cond (nat_le count.0 8) (Ok count) (Err fault.Shape)) (n, rest) e in
+    let a = bind_ok (read_number 2 bytes) (λ count. cond (nat_le count.0 8) (Ok count) (Err fault.Shape)) (n, rest) e in
     let g = met_ok (nat_le a.0.0 8) fault.Shape a.0 (n, rest) a.2 in
     let made = half_ok bytes a.0.0 a.0.1 fits (number_ok 2 bytes a.0.0 a.0.1 a.1) in
     subst (λ (x : ℕ × List ℕ). (bytes ≡ to_le_bytes w16 x.0 ++ x.1) × (x.0 ≤ 8)) g.1 (made.0, leb-true _ _ g.0)
@@ -271,7 +271,7 @@ pub count_err : (v : Version) (h : Hook) (bytes : List ℕ) (f : LoadFault)
     → AreBytes bytes → count_at bytes ≡ Err f → IsRefusedField (Hooked v h) bytes f
 unfolding count_at
 count_err v h bytes f fits e =
-    elim (bind_err (number_at 2 bytes) (λ count. cond (nat_le count.0 8) (Ok count) (Err fault.Shape)) f e) [
+    elim (bind_err (read_number 2 bytes) (λ count. cond (nat_le count.0 8) (Ok count) (Err fault.Shape)) f e) [
       | inl p ↦ inl (number_err 2 bytes f p)
       | inr p ↦
           let x = p.0 in
@@ -345,7 +345,7 @@ pub record IsRead (bytes rest : List ℕ) (size entries : ℕ) : Type 0 where
 
 -- two numbers that were read, from two bytes each, stand there one after the other, and are below 2 to the 16th
 pub two_halves : (bytes : List ℕ) (size entries : ℕ) (middle rest : List ℕ)
-    → AreBytes bytes → number_at 2 bytes ≡ Ok (size, middle) → number_at 2 middle ≡ Ok (entries, rest)
+    → AreBytes bytes → read_number 2 bytes ≡ Ok (size, middle) → read_number 2 middle ≡ Ok (entries, rest)
     → IsRead bytes rest size entries
 two_halves bytes size entries middle rest fits e f =
     let a = half_ok bytes size middle fits (number_ok 2 bytes size middle e) in
@@ -362,9 +362,9 @@ pub shape_ok : (bytes rest : List ℕ) → AreBytes bytes → shape_at bytes ≡
 unfolding shape_at shape_of
 shape_ok bytes rest fits e =
     let a =
-    bind_ok (number_at 2 bytes)
-    (λ size. number_at 2 size.1 >>= λ entries. cond (is_shape size.0 entries.0) (Ok entries.1) (Err fault.Shape)) rest e in
-    let b = bind_ok (number_at 2 a.0.1) (λ entries. cond (is_shape a.0.0 entries.0) (Ok entries.1) (Err fault.Shape)) rest a.2 in
+    bind_ok (read_number 2 bytes)
+    (λ size. read_number 2 size.1 >>= λ entries. cond (is_shape size.0 entries.0) (Ok entries.1) (Err fault.Shape)) rest e in
+    let b = bind_ok (read_number 2 a.0.1) (λ entries. cond (is_shape a.0.0 entries.0) (Ok entries.1) (Err fault.Shape)) rest a.2 in
     let g = met_ok (is_shape a.0.0 b.0.0) fault.Shape b.0.1 rest b.2 in
     let read = two_halves bytes a.0.0 b.0.0 a.0.1 b.0.1 fits a.1 b.1 in
     let s = shape_of a.0.0 b.0.0 (is_shape-limits a.0.0 b.0.0 g.0) in
@@ -393,11 +393,11 @@ no_shape size entries ls le out s e =
 pub shape_err : (bytes : List ℕ) (f : LoadFault) → AreBytes bytes → shape_at bytes ≡ Err f → IsRefusedShape bytes f
 unfolding shape_at
 shape_err bytes f fits e =
-    elim (bind_err (number_at 2 bytes)
-    (λ size. number_at 2 size.1 >>= λ entries. cond (is_shape size.0 entries.0) (Ok entries.1) (Err fault.Shape)) f e) [
+    elim (bind_err (read_number 2 bytes)
+    (λ size. read_number 2 size.1 >>= λ entries. cond (is_shape size.0 entries.0) (Ok entries.1) (Err fault.Shape)) f e) [
       | inl p ↦ let n = number_err 2 bytes f p in inl (n.0, omega (arith, n.1))
       | inr p ↦
-          elim (bind_err (number_at 2 p.0.1) (λ entries. cond (is_shape p.0.0 entries.0) (Ok entries.1) (Err fault.Shape)) f p.2) [
+          elim (bind_err (read_number 2 p.0.1) (λ entries. cond (is_shape p.0.0 entries.0) (Ok entries.1) (Err fault.Shape)) f p.2) [
             | inl q ↦
                 let n = number_err 2 p.0.1 f q in
                 let first = number_ok 2 bytes p.0.0 p.0.1 p.1 in

@@ -8,9 +8,9 @@ use Rattle.bq_insn.specs.declared.fault.Cause.TheVariants.{Length}
 use Rattle.bq_bpf.specs.declared.shape.MapShape.{MapShape}
 use Rattle.bq_load.specs.declared.fault.LoadFault.{LoadFault}
 use Rattle.bq_load.specs.declared.fault.LoadFault.TheVariants as fault
-use Rattle.bq_load.specs.Layout.{shapes_bytes, opening, header_bytes, IsImage}
+use Rattle.bq_load.specs.Layout.{shapes_bytes, image_opening, header_bytes, IsImage}
 use Rattle.bq_load.specs.Fields.{Front, Nothing, Marked, Versioned, Hooked, Mapped, Headed, IsBadNext}
-use Rattle.bq_load.specs.Faults.{HasFaultyProgram, IsFault}
+use Rattle.bq_load.specs.Faults.{HasFaultyProgram, IsLoadFault}
 use Rattle.bq_load.specs.Headers.{with_shapes, HasHeader, Frames, HasParts}
 use Rattle.bq_load.specs.Answers.{HasImage, IsUnread}
 use Rattle.bq_load.specs.Reading.{Spelled, header_at, ended, frame_at}
@@ -48,24 +48,24 @@ frame_ok bytes x fits e =
     })
 
 -- a program that does not end as the header says
-ended_err : (bytes : List ℕ) (x : Spelled × List ℕ) (f : LoadFault) → HasHeader bytes x.0 x.1 → ended x ≡ Err f → IsFault bytes f
+ended_err : (bytes : List ℕ) (x : Spelled × List ℕ) (f : LoadFault) → HasHeader bytes x.0 x.1 → ended x ≡ Err f → IsLoadFault bytes f
 ended_err bytes x f there e =
     let h = with_shapes x.0 there.shapes in
     elim (chosen_by_test (ltb (length x.1) (8 * x.0.slots)) (Err fault.Cut)
     (cond (ltb (8 * x.0.slots) (length x.1)) (Err fault.Rest) (Ok x)) (Err f) e) [
       | inl p ↦
-          subst (IsFault bytes) (err_is {A = Spelled × List ℕ} fault.Cut f p.1)
+          subst (IsLoadFault bytes) (err_is {A = Spelled × List ℕ} fault.Cut f p.1)
           (record { front = Headed h; part = x.1; good = there.good; bytes_are = there.bytes_are; short = ltb-true _ _ p.0 })
       | inr p ↦ elim (chosen_by_test (ltb (8 * x.0.slots) (length x.1)) (Err fault.Rest) (Ok x) (Err f) p.1) [
         | inl q ↦
-            subst (IsFault bytes) (err_is {A = Spelled × List ℕ} fault.Rest f q.1)
+            subst (IsLoadFault bytes) (err_is {A = Spelled × List ℕ} fault.Rest f q.1)
             (record { header = h; rest = x.1; good = there.good; bytes_are = there.bytes_are; more = ltb-true _ _ q.0 })
         | inr q ↦ absurd (let r = q.1 in cc)
       ]
     ]
 
 -- what reading header and program fails with is a fault of the bytes
-pub frame_err : (bytes : List ℕ) (f : LoadFault) → AreBytes bytes → frame_at bytes ≡ Err f → IsFault bytes f
+pub frame_err : (bytes : List ℕ) (f : LoadFault) → AreBytes bytes → frame_at bytes ≡ Err f → IsLoadFault bytes f
 unfolding frame_at
 frame_err bytes f fits e =
     elim (bind_err (header_at bytes) ended f e) [
@@ -85,7 +85,7 @@ no_memory (Mapped v k n s) field h = h
 no_memory (Headed k) field h = h
 
 -- a fault of the bytes says why no image is read of them
-pub fault_is_unread : (bytes : List ℕ) (f : LoadFault) → IsFault bytes f → IsUnread bytes f
+pub fault_is_unread : (bytes : List ℕ) (f : LoadFault) → IsLoadFault bytes f → IsUnread bytes f
 fault_is_unread bytes fault.OutOfMemory b = absurd (no_memory b.front b.field b.bad)
 fault_is_unread bytes fault.Magic b = b
 fault_is_unread bytes fault.Version b = b
@@ -126,8 +126,8 @@ same_header : (s : Spelled) (shapes others : List MapShape) → shapes_bytes sha
     → header_bytes (with_shapes s shapes) ≡ header_bytes (with_shapes s others)
 same_header s shapes others same =
     let count : length shapes ≡ length others = omega (arith, length-shapes_bytes shapes, length-shapes_bytes others, ap length same) in
-    ap (λ (n : ℕ). opening s.version s.hook n ++ (shapes_bytes shapes ++ to_le_bytes w32 s.slots)) count
-    ∙ ap (λ (x : List ℕ). opening s.version s.hook (length others) ++ (x ++ to_le_bytes w32 s.slots)) same
+    ap (λ (n : ℕ). image_opening s.version s.hook n ++ (shapes_bytes shapes ++ to_le_bytes w32 s.slots)) count
+    ∙ ap (λ (x : List ℕ). image_opening s.version s.hook (length others) ++ (x ++ to_le_bytes w32 s.slots)) same
 
 -- a header and its program of 1 to 4096 slots are an image of any shapes that have the header's bytes
 pub is_image : (bytes : List ℕ) (s : Spelled) (program : List ℕ) (shapes : List MapShape)

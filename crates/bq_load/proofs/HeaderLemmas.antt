@@ -10,11 +10,11 @@ use Rattle.bq_hooks.specs.declared.hook.Version.{Version}
 use Rattle.bq_hooks.specs.Hooks.{version_number}
 use Rattle.bq_load.specs.declared.fault.LoadFault.{LoadFault}
 use Rattle.bq_load.specs.declared.fault.LoadFault.TheVariants as fault
-use Rattle.bq_load.specs.Layout.{magic, hook_byte, shape_bytes, shapes_bytes, opening, Header, header_bytes}
-use Rattle.bq_load.specs.Fields.{Front, Nothing, Marked, Versioned, Hooked, Mapped, Headed, IsGood, front_bytes, IsBadNext}
-use Rattle.bq_load.specs.Faults.{HasBadField, IsFault}
+use Rattle.bq_load.specs.Layout.{magic, hook_byte, shape_bytes, shapes_bytes, image_opening, Header, header_bytes}
+use Rattle.bq_load.specs.Fields.{Front, Nothing, Marked, Versioned, Hooked, Mapped, Headed, AreGoodFields, front_bytes, IsBadNext}
+use Rattle.bq_load.specs.Faults.{HasBadField, IsLoadFault}
 use Rattle.bq_load.specs.Headers.{HasHeader}
-use Rattle.bq_load.specs.Reading.{◌>>=◌, magic_at, version_at, hook_at, number_at, count_at, shapes_at, Spelled, header_at}
+use Rattle.bq_load.specs.Reading.{◌>>=◌, magic_at, version_at, hook_at, read_number, count_at, shapes_at, Spelled, header_at}
 use Rattle.bq_load.proofs.ReadingLemmas.{bind_ok, ok_is, number_ok}
 use Rattle.bq_load.proofs.FieldLemmas.{AreBytes, AreBytes-after, IsRefusedField, IsRefusedShape, HasRefusedShape, bind_err, magic_ok, magic_err, version_ok, version_err, hook_ok, hook_err, number_err, word_ok, count_ok, count_err, shapes_ok, shapes_err}
 
@@ -30,39 +30,39 @@ length-shapes_bytes (s ∷ shapes) = omega (
 
 -- the header as one
 pub regroup_header : (h : Header) (rest : List ℕ)
-    → opening h.version h.hook (length h.shapes) ++ (shapes_bytes h.shapes ++ (to_le_bytes w32 h.slots ++ rest)) ≡ header_bytes h ++ rest
+    → image_opening h.version h.hook (length h.shapes) ++ (shapes_bytes h.shapes ++ (to_le_bytes w32 h.slots ++ rest)) ≡ header_bytes h ++ rest
 regroup_header h rest =
-    ap (λ (x : List ℕ). opening h.version h.hook (length h.shapes) ++ x)
+    ap (λ (x : List ℕ). image_opening h.version h.hook (length h.shapes) ++ x)
     (sym (append_assoc (shapes_bytes h.shapes) (to_le_bytes w32 h.slots) rest))
-    ∙ sym (append_assoc (opening h.version h.hook (length h.shapes)) (shapes_bytes h.shapes ++ to_le_bytes w32 h.slots) rest)
+    ∙ sym (append_assoc (image_opening h.version h.hook (length h.shapes)) (shapes_bytes h.shapes ++ to_le_bytes w32 h.slots) rest)
 
 -- the shapes and the number of slots behind what stands before them
 spelled_maps : (v : Version) (h : Hook) (n : ℕ) (maps : List ℕ) (shapes : List MapShape) (slots : ℕ) (after rest : List ℕ)
     → length shapes ≡ n → maps ≡ shapes_bytes shapes ++ after → after ≡ to_le_bytes w32 slots ++ rest
-    → opening v h n ++ maps ≡ header_bytes (record { version = v; hook = h; shapes = shapes; slots = slots }) ++ rest
+    → image_opening v h n ++ maps ≡ header_bytes (record { version = v; hook = h; shapes = shapes; slots = slots }) ++ rest
 spelled_maps v h n maps shapes slots after rest count maps-is after-is =
-    let counted : opening v h n ++ maps ≡ opening v h (length shapes) ++ maps = ap (λ (m : ℕ). opening v h m ++ maps) (sym count) in
+    let counted : image_opening v h n ++ maps ≡ image_opening v h (length shapes) ++ maps = ap (λ (m : ℕ). image_opening v h m ++ maps) (sym count) in
     let whole : maps ≡ shapes_bytes shapes ++ (to_le_bytes w32 slots ++ rest) =
     maps-is ∙ ap (λ (y : List ℕ). shapes_bytes shapes ++ y) after-is in
-    counted ∙ ap (λ (y : List ℕ). opening v h (length shapes) ++ y) whole
+    counted ∙ ap (λ (y : List ℕ). image_opening v h (length shapes) ++ y) whole
     ∙ regroup_header (record { version = v; hook = h; shapes = shapes; slots = slots }) rest
 
 -- good fields and then one that is refused
 pub record IsRefused (bytes : List ℕ) (f : LoadFault) : Type 0 where
   pub front : Front
   pub rest : List ℕ
-  pub good : IsGood front
+  pub good : AreGoodFields front
   pub bytes_are : bytes ≡ front_bytes front ++ rest
   pub refused : IsRefusedField front rest f
 
 -- from a refused shape
 from_shape : (v : Version) (h : Hook) (n : ℕ) (rest : List ℕ) (f : LoadFault)
-    → n ≤ 8 → HasRefusedShape n rest f → IsRefused (opening v h n ++ rest) f
+    → n ≤ 8 → HasRefusedShape n rest f → IsRefused (image_opening v h n ++ rest) f
 from_shape v h n rest f few r = record {
   front = Mapped v h n r.shapes;
   rest = r.rest;
   good = (few, omega (arith, r.few));
-  bytes_are = ap (λ (x : List ℕ). opening v h n ++ x) r.bytes_are ∙ sym (append_assoc (opening v h n) (shapes_bytes r.shapes) r.rest);
+  bytes_are = ap (λ (x : List ℕ). image_opening v h n ++ x) r.bytes_are ∙ sym (append_assoc (image_opening v h n) (shapes_bytes r.shapes) r.rest);
   refused = refuse r.refused;
 }
   where
@@ -77,7 +77,7 @@ from_shape v h n rest f few r = record {
 -- behind the shapes: the number of slots, and the header is whole
 abbrev pub after_shapes : Version → Hook → ℕ → List ℕ → List ℕ → Result (Spelled × List ℕ) LoadFault
 after_shapes v h n maps after =
-    number_at 4 after >>= λ slots. Ok (record { version = v; hook = h; shapes = take (4 * n) maps; slots = slots.0 }, slots.1)
+    read_number 4 after >>= λ slots. Ok (record { version = v; hook = h; shapes = take (4 * n) maps; slots = slots.0 }, slots.1)
 
 -- behind the number of maps: as many shapes, and what follows them
 abbrev pub after_count : Version → Hook → (ℕ × List ℕ) → Result (Spelled × List ℕ) LoadFault
@@ -98,20 +98,20 @@ after_magic rest = version_at rest >>= λ version. after_version version
 -- ---- a header that is refused
 
 refused_maps : (v : Version) (h : Hook) (n : ℕ) (maps : List ℕ) (f : LoadFault)
-    → AreBytes maps → n ≤ 8 → after_count v h (n, maps) ≡ Err f → IsRefused (opening v h n ++ maps) f
+    → AreBytes maps → n ≤ 8 → after_count v h (n, maps) ≡ Err f → IsRefused (image_opening v h n ++ maps) f
 refused_maps v h n maps f fits few e =
     elim (bind_err (shapes_at n maps) (after_shapes v h n maps) f e) [
       | inl p ↦ from_shape v h n maps f few (shapes_err n maps f fits p)
       | inr p ↦
           let s = shapes_ok n maps p.0 fits p.1 in
-          elim (bind_err (number_at 4 p.0)
+          elim (bind_err (read_number 4 p.0)
           (λ slots. Ok (record { version = v; hook = h; shapes = take (4 * n) maps; slots = slots.0 }, slots.1)) f p.2) [
             | inl q ↦
                 record {
                   front = Mapped v h n s.0;
                   rest = p.0;
                   good = (few, omega (arith, s.1));
-                  bytes_are = ap (λ (x : List ℕ). opening v h n ++ x) s.2 ∙ sym (append_assoc (opening v h n) (shapes_bytes s.0) p.0);
+                  bytes_are = ap (λ (x : List ℕ). image_opening v h n ++ x) s.2 ∙ sym (append_assoc (image_opening v h n) (shapes_bytes s.0) p.0);
                   refused = inl (number_err 4 p.0 f q);
                 }
             | inr q ↦ absurd (let r = q.2 in cc)
@@ -167,18 +167,18 @@ header_err bytes f fits e =
 -- ---- a header that is read
 
 read_maps : (v : Version) (h : Hook) (n : ℕ) (maps : List ℕ) (x : Spelled × List ℕ)
-    → AreBytes maps → n ≤ 8 → after_count v h (n, maps) ≡ Ok x → HasHeader (opening v h n ++ maps) x.0 x.1
+    → AreBytes maps → n ≤ 8 → after_count v h (n, maps) ≡ Ok x → HasHeader (image_opening v h n ++ maps) x.0 x.1
 read_maps v h n maps x fits few e =
     let g = bind_ok (shapes_at n maps) (after_shapes v h n maps) x e in
     let s = shapes_ok n maps g.0 fits g.1 in
     let after : AreBytes g.0 = AreBytes-after (shapes_bytes s.0) g.0 (subst AreBytes s.2 fits) in
     let k =
-    bind_ok (number_at 4 g.0)
+    bind_ok (read_number 4 g.0)
     (λ slots. Ok (record { version = v; hook = h; shapes = take (4 * n) maps; slots = slots.0 }, slots.1)) x g.2 in
     let w = word_ok g.0 k.0.0 k.0.1 after (number_ok 4 g.0 k.0.0 k.0.1 k.1) in
     let made : Spelled = record { version = v; hook = h; shapes = take (4 * n) maps; slots = k.0.0 } in
     let long : length (shapes_bytes s.0) ≡ 4 * n = omega (arith, length-shapes_bytes s.0, s.1) in
-    subst (λ (y : Spelled × List ℕ). HasHeader (opening v h n ++ maps) y.0 y.1) (ok_is (made, k.0.1) x k.2)
+    subst (λ (y : Spelled × List ℕ). HasHeader (image_opening v h n ++ maps) y.0 y.1) (ok_is (made, k.0.1) x k.2)
     (record {
       shapes = s.0;
       shapes_are = ap (take (4 * n)) s.2 ∙ take_at (shapes_bytes s.0) g.0 (4 * n) long;
@@ -250,7 +250,7 @@ no_decode slot cause (Mapped v k n s) field h = h
 no_decode slot cause (Headed k) field h = h
 
 -- a bad field is a fault of the bytes
-pub bad_field : (bytes : List ℕ) (f : LoadFault) → HasBadField bytes f → IsFault bytes f
+pub bad_field : (bytes : List ℕ) (f : LoadFault) → HasBadField bytes f → IsLoadFault bytes f
 bad_field bytes fault.Magic b = b
 bad_field bytes fault.Version b = b
 bad_field bytes fault.Hook b = b
@@ -262,11 +262,11 @@ bad_field bytes (fault.Refused slot cause) b = b
 bad_field bytes fault.OutOfMemory b = b
 
 -- where a field behind good ones is cut or bad, that is a fault of the bytes
-pub refused_is : (bytes : List ℕ) (f : LoadFault) → IsRefused bytes f → IsFault bytes f
+pub refused_is : (bytes : List ℕ) (f : LoadFault) → IsRefused bytes f → IsLoadFault bytes f
 refused_is bytes f r =
     elim r.refused [
       | inl p ↦
-          subst (IsFault bytes) (sym p.0)
+          subst (IsLoadFault bytes) (sym p.0)
           (record { front = r.front; part = r.rest; good = r.good; bytes_are = r.bytes_are; short = p.1 })
       | inr p ↦
           bad_field bytes f (record {

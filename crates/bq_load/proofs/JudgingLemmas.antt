@@ -6,10 +6,10 @@ use Rattle.std.proofs.lemmas.Bool.{cases_lt}
 use Rattle.std.proofs.lemmas.List.{take-append-drop, length-take, take_all, take-append-le, nil_from_length, append-nil}
 use Rattle.bq_load.specs.declared.fault.LoadFault.{LoadFault}
 use Rattle.bq_load.specs.declared.fault.LoadFault.TheVariants as fault
-use Rattle.bq_load.specs.Layout.{shapes_bytes, opening, Header, header_bytes, IsHeader}
-use Rattle.bq_load.specs.Fields.{Front, Nothing, Marked, Versioned, Hooked, Mapped, Headed, IsGood, front_bytes, next_width, IsBadNext}
-use Rattle.bq_load.specs.Faults.{HasBadField, IsFault}
-use Rattle.bq_load.specs.Feeding.{IsFinal, HasFailed, IsTooLong, Holds}
+use Rattle.bq_load.specs.Layout.{shapes_bytes, image_opening, Header, header_bytes, IsHeader}
+use Rattle.bq_load.specs.Fields.{Front, Nothing, Marked, Versioned, Hooked, Mapped, Headed, AreGoodFields, front_bytes, next_width, IsBadNext}
+use Rattle.bq_load.specs.Faults.{HasBadField, IsLoadFault}
+use Rattle.bq_load.specs.Feeding.{IsFinal, HasFailed, HasTooManySlots, Holds}
 use Rattle.bq_load.specs.Headers.{with_shapes, HasHeader}
 use Rattle.bq_load.specs.Laws.{AreBytes}
 use Rattle.bq_load.specs.Reading.{Spelled, header_at, frame_at}
@@ -48,13 +48,13 @@ AreBytes-take n a h = AreBytes-front (take n a) (drop n a) (subst AreBytes (sym 
 -- a header has twelve bytes, and four for each shape
 pub length-header_bytes : (h : Header) → length (header_bytes h) ≡ 12 + 4 * length h.shapes
 length-header_bytes h =
-    let opened : length (opening h.version h.hook (length h.shapes)) ≡ 8 = refl in
+    let opened : length (image_opening h.version h.hook (length h.shapes)) ≡ 8 = refl in
     let slots : length (to_le_bytes w32 h.slots) ≡ 4 = refl in
     omega (
       arith,
       opened,
       slots,
-      length-append (opening h.version h.hook (length h.shapes)) (shapes_bytes h.shapes ++ to_le_bytes w32 h.slots),
+      length-append (image_opening h.version h.hook (length h.shapes)) (shapes_bytes h.shapes ++ to_le_bytes w32 h.slots),
       length-append (shapes_bytes h.shapes) (to_le_bytes w32 h.slots),
       length-shapes_bytes h.shapes,
     )
@@ -71,7 +71,7 @@ one_header h k x y gh gk e =
     (one_spelled h k (ap (λ (p : Spelled × List ℕ). p.0) same), ap (λ (p : Spelled × List ℕ). p.1) same)
 
 -- a header that is cut is short
-short_front : (front : Front) (rest : List ℕ) → IsGood front → length rest < next_width front
+short_front : (front : Front) (rest : List ℕ) → AreGoodFields front → length rest < next_width front
     → header_at (front_bytes front ++ rest) ≡ Err fault.Cut
     → length (front_bytes front ++ rest) < 44
 short_front Nothing rest good short e = omega arith
@@ -79,14 +79,14 @@ short_front Marked rest good short e = omega arith
 short_front (Versioned v) rest good short e = omega arith
 short_front (Hooked v h) rest good short e = omega arith
 short_front (Mapped v h n shapes) rest good short e =
-    let opened : length (opening v h n) ≡ 8 = refl in
+    let opened : length (image_opening v h n) ≡ 8 = refl in
     omega (
       arith,
       opened,
       good.0,
       good.1,
-      length-append (opening v h n ++ shapes_bytes shapes) rest,
-      length-append (opening v h n) (shapes_bytes shapes),
+      length-append (image_opening v h n ++ shapes_bytes shapes) rest,
+      length-append (image_opening v h n) (shapes_bytes shapes),
       length-shapes_bytes shapes,
     )
 short_front (Headed h) rest good short e = absurd (let ok = header_again h rest good in cc)
@@ -111,14 +111,14 @@ all_held held bytes past none h =
     h.bytes_are ∙ ap (λ (x : List ℕ). held ++ x) empty ∙ append-nil held
 
 -- the first 44 bytes behind a program that is too long have its header
-front_too_long : (held piece : List ℕ) (l : IsTooLong held)
+front_too_long : (held piece : List ℕ) (l : HasTooManySlots held)
     → take 44 (held ++ piece) ≡ header_bytes l.header ++ take (44 - length (header_bytes l.header)) (l.part ++ piece)
 front_too_long held piece l =
     ap (λ (x : List ℕ). take 44 (x ++ piece)) l.held_is ∙ ap (take 44) (append_assoc (header_bytes l.header) l.part piece)
     ∙ take_past 44 (header_bytes l.header) (l.part ++ piece) (header_fits l.header l.good)
 
 -- where the first 44 bytes of held and piece are refused, no program that is too long is held
-pub not_too_long : (held piece : List ℕ) (f : LoadFault) → header_at (take 44 (held ++ piece)) ≡ Err f → IsTooLong held → ⊥
+pub not_too_long : (held piece : List ℕ) (f : LoadFault) → header_at (take 44 (held ++ piece)) ≡ Err f → HasTooManySlots held → ⊥
 not_too_long held piece f e l =
     let ok =
     ap header_at (front_too_long held piece l)
@@ -126,7 +126,7 @@ not_too_long held piece f e l =
     absurd cc
 
 -- without a program that is too long all is held
-pub only_held : (held bytes : List ℕ) (past : ℕ) → (IsTooLong held → ⊥) → Holds held past bytes → past ≡ 0
+pub only_held : (held bytes : List ℕ) (past : ℕ) → (HasTooManySlots held → ⊥) → Holds held past bytes → past ≡ 0
 only_held held bytes past not_long h = elim h.only [ inl e ↦ e | inr l ↦ absurd (not_long l) ]
 
 -- ---- all bytes have the header of the first 44
@@ -139,7 +139,7 @@ pub record Joined (front held piece bytes : List ℕ) (past : ℕ) (s : Spelled)
   pub front_is : front ≡ header_bytes header ++ r
   pub tail : List ℕ
   pub bytes_are : bytes ++ piece ≡ header_bytes header ++ tail
-  pub long_is : (l : IsTooLong held) → l.header ≡ header
+  pub long_is : (l : HasTooManySlots held) → l.header ≡ header
 
 -- the header of the first 44 bytes is that of all bytes, and of a program held that is too long
 pub header_of_all : (held piece bytes : List ℕ) (past : ℕ) (s : Spelled) (r : List ℕ)
@@ -150,7 +150,7 @@ header_of_all held piece bytes past s r there h = elim h.only [ inl e ↦ whole 
     header : Header
     header = with_shapes s there.shapes
 
-    same : (l : IsTooLong held) → l.header ≡ header
+    same : (l : HasTooManySlots held) → l.header ≡ header
     same l =
         (one_header l.header header (take (44 - length (header_bytes l.header)) (l.part ++ piece)) r l.good there.good
         (sym (front_too_long held piece l) ∙ there.bytes_are)).0
@@ -169,7 +169,7 @@ header_of_all held piece bytes past s r there h = elim h.only [ inl e ↦ whole 
       long_is = same;
     }
 
-    counted : IsTooLong held → Joined (take 44 (held ++ piece)) held piece bytes past s r
+    counted : HasTooManySlots held → Joined (take 44 (held ++ piece)) held piece bytes past s r
     counted l = record {
       header = header;
       good = there.good;
@@ -289,8 +289,8 @@ cut_going held piece bytes past f fits e h whole_fits failed =
     let none = only_held held bytes past (not_too_long held piece fault.Cut e) h in
     let is : take 44 (held ++ piece) ≡ bytes ++ piece =
     (cut_is_all held piece fits e).0 ∙ ap (λ (x : List ℕ). x ++ piece) (sym (all_held held bytes past none h)) in
-    let cut : IsFault (bytes ++ piece) fault.Cut =
-    subst (λ (x : List ℕ). IsFault x fault.Cut) is
+    let cut : IsLoadFault (bytes ++ piece) fault.Cut =
+    subst (λ (x : List ℕ). IsLoadFault x fault.Cut) is
     (refused_is (take 44 (held ++ piece)) fault.Cut (header_err (take 44 (held ++ piece)) fault.Cut fits e)) in
     cut_is_not_final f (one_fault (bytes ++ piece) fault.Cut f whole_fits cut failed.1) failed.0
 
@@ -329,7 +329,7 @@ pub past_fails : (bytes : List ℕ) (h : Header) (tail : List ℕ)
 past_fails bytes h tail good is more = (tt, record { header = h; rest = tail; good = good; bytes_are = is; more = more })
 
 -- all of the piece is kept
-pub kept_stands : (held piece bytes : List ℕ) (past : ℕ) → (IsTooLong held → ⊥) → Holds held past bytes
+pub kept_stands : (held piece bytes : List ℕ) (past : ℕ) → (HasTooManySlots held → ⊥) → Holds held past bytes
     → Holds (held ++ take (length piece) piece) (past + (length piece - length piece)) (bytes ++ piece)
 kept_stands held piece bytes past not_long h =
     let none = only_held held bytes past not_long h in
@@ -347,7 +347,7 @@ kept_stands held piece bytes past not_long h =
 up_to_header : (held piece whole : List ℕ) (h : Header) (tail : List ℕ) (kept : ℕ)
     → IsHeader h → 4096 < h.slots → whole ≡ held → whole ++ piece ≡ header_bytes h ++ tail
     → length (header_bytes h) ≤ length held + kept
-    → IsTooLong (held ++ take kept piece)
+    → HasTooManySlots (held ++ take kept piece)
 up_to_header held piece whole h tail kept good over is bytes_are reach =
     let first : take (length held + kept) (held ++ piece) ≡ held ++ take kept piece =
     take_past (length held + kept) held piece (omega arith)
@@ -394,14 +394,14 @@ counted_stands front held piece bytes past s r kept j over kept_is h =
                 ap (λ (x : List ℕ). x ++ piece) h.bytes_are ∙ append_assoc held h.rest piece
                 ∙ ap (λ (x : List ℕ). x ++ (h.rest ++ piece)) (sym empty);
             counted = omega (arith, length-append h.rest piece, h.counted, none);
-            only = inr (subst IsTooLong (sym empty) l);
+            only = inr (subst HasTooManySlots (sym empty) l);
           }
     ]
 
 -- the program is not too long
 pub not_over : (front held piece bytes : List ℕ) (past : ℕ) (s : Spelled) (r : List ℕ)
     (j : Joined front held piece bytes past s r)
-    → s.slots ≤ 4096 → IsTooLong held → ⊥
+    → s.slots ≤ 4096 → HasTooManySlots held → ⊥
 not_over front held piece bytes past s r j most l =
     let same : l.header.slots ≡ j.header.slots = ap (λ (k : Header). k.slots) (j.long_is l) in
     absurd (omega (arith, l.over, j.slots_are, same))

@@ -3,12 +3,12 @@ use Rattle.std.proofs.Common.{◌≡◌, ℕ, ◌*◌, ◌%◌, ◌≤◌, true,
 use Rattle.std.specs.Prelude.{◌==◌, ◌&&◌, nat_le}
 use Rattle.std.proofs.lemmas.Bool.Decides.{nat_tests}
 use Rattle.bq_insn.specs.declared.fault.Cause.TheVariants.{Length}
-use Rattle.bq_insn.specs.Faults.{is_length}
+use Rattle.bq_insn.specs.Faults.{is_program_length}
 use Rattle.bq_load.specs.declared.fault.LoadFault.{LoadFault}
 use Rattle.bq_load.specs.declared.fault.LoadFault.TheVariants as fault
 use Rattle.bq_load.specs.Layout.{Header, IsFramed}
 use Rattle.bq_load.specs.Faults.{HasFaultyProgram}
-use Rattle.bq_load.specs.Laws.{OneImage, NoImageIsFaulty, OneFault}
+use Rattle.bq_load.specs.Laws.{OneImage, NoImageIsFaulty, ImageHasOneFault}
 use Rattle.bq_load.specs.Reading.{Spelled, frame_at}
 use Rattle.bq_load.proofs.SpelledHeaderLemmas.{spelled}
 use Rattle.bq_load.proofs.FaultLemmas.{IsFound, fault_again}
@@ -43,9 +43,9 @@ whole_program : (bytes : List ℕ) (h : Header) (program : List ℕ) (slot : ℕ
     → IsFramed bytes h program → 1 ≤ h.slots → h.slots ≤ 4096 → HasFaultyProgram bytes slot Length → ⊥
 whole_program bytes h program slot framed some most b =
     let same = one_frame bytes h b.header program b.program framed b.framed in
-    let good : is_length program ≡ true = good_length (length program) h.slots framed.whole some most in
-    let bad : is_length b.program ≡ false = b.faulty.1 in
-    let moved : is_length program ≡ false = ap is_length same.1 ∙ bad in
+    let good : is_program_length program ≡ true = good_length (length program) h.slots framed.whole some most in
+    let bad : is_program_length b.program ≡ false = b.faulty.1 in
+    let moved : is_program_length program ≡ false = ap is_program_length same.1 ∙ bad in
     cc
 
 no_fault : (bytes : List ℕ) (h : Header) (program : List ℕ) (f : LoadFault)
@@ -74,5 +74,5 @@ same_faults bytes f (fault.Decode slot Length) b d = sym (of_length bytes slot f
 same_faults bytes f g b d = same_found bytes f g b d
 
 -- two first faults of the same bytes are one
-pub one_fault : OneFault
+pub one_fault : ImageHasOneFault
 one_fault bytes f g fits b d = same_faults bytes f g (fault_again bytes f fits b) (fault_again bytes g fits d)

@@ -8,7 +8,7 @@ use Rattle.bq_insn.specs.declared.fault.DecodeFault.TheVariants as program
 use Rattle.bq_insn.specs.Spelling.{spelling, is_well_formed}
 use Rattle.bq_insn.specs.Slots.{spread}
 use Rattle.bq_insn.specs.Laws.{AllFit}
-use Rattle.bq_insn.specs.Faults.{IsFault as IsProgramFault}
+use Rattle.bq_insn.specs.Faults.{IsDecodeFault as IsProgramFault}
 use Rattle.bq_insn.proofs.UniqueLemmas as insn
 use Rattle.bq_insn.proofs.LengthLemmas as lengths
 use Rattle.bq_bpf.specs.declared.shape.MapShape.{MapShape}
@@ -26,11 +26,11 @@ use Rattle.bq_load.specs.declared.fault.LoadFault.{LoadFault}
 use Rattle.bq_load.specs.declared.fault.LoadFault.TheVariants as fault
 use Rattle.bq_load.specs.Layout.{shapes_bytes, Header, IsImage}
 use Rattle.bq_load.specs.Fields.{Front, Nothing, Marked, Versioned, Hooked, Mapped, Headed, IsBadNext}
-use Rattle.bq_load.specs.Faults.{IsFault}
+use Rattle.bq_load.specs.Faults.{IsLoadFault}
 use Rattle.bq_load.specs.Headers.{with_shapes, HasParts}
 use Rattle.bq_load.specs.Answers.{Loads, IsUnloaded}
 use Rattle.bq_load.specs.Laws.{AreBytes}
-use Rattle.bq_load.specs.Naming.{of_program, of_refusal}
+use Rattle.bq_load.specs.Naming.{load_fault_of_program, load_fault_of_refusal}
 use Rattle.bq_load.specs.Reading.{Spelled}
 use Rattle.bq_load.specs.Straight.{HasStraightProgram}
 use Rattle.bq_load.proofs.FramingLemmas.{no_memory, is_image, has_image}
@@ -48,7 +48,7 @@ no_refusal slot cause (Mapped v k n s) field h = h
 no_refusal slot cause (Headed k) field h = h
 
 -- a fault of the bytes is answered
-pub fault_is_unloaded : (bytes : List ℕ) (f : LoadFault) → IsFault bytes f → IsUnloaded bytes f
+pub fault_is_unloaded : (bytes : List ℕ) (f : LoadFault) → IsLoadFault bytes f → IsUnloaded bytes f
 fault_is_unloaded bytes fault.Magic b = b
 fault_is_unloaded bytes fault.Version b = b
 fault_is_unloaded bytes fault.Hook b = b
@@ -67,7 +67,7 @@ fault_is_unloaded bytes (fault.Decode slot WideCut) b = absurd (no_decode slot W
 
 -- a fault of the program is answered
 pub unloaded_program : (bytes : List ℕ) (s : Spelled) (code : List ℕ) (f : DecodeFault)
-    → HasParts bytes s code → IsProgramFault code f → IsUnloaded bytes (of_program f)
+    → HasParts bytes s code → IsProgramFault code f → IsUnloaded bytes (load_fault_of_program f)
 unloaded_program bytes s code program.OutOfMemory parts b = has_image bytes s code parts
 unloaded_program bytes s code (program.At slot cause) parts b = record {
   header = with_shapes s parts.frames.shapes;
@@ -85,7 +85,7 @@ pub unloaded_refusal : (bytes : List ℕ) (s : Spelled) (code : List ℕ) (insns
     → HasParts bytes s code → code ≡ spelling insns → is_well_formed insns ≡ true → AllFit insns
     → s.shapes ≡ shapes_bytes shapes → IsVerdictOn (subject_of_insns insns s.hook s.version shapes) r
     → (HasStraightProgram bytes → r ≡ refused.OutOfMemory)
-    → IsUnloaded bytes (of_refusal r)
+    → IsUnloaded bytes (load_fault_of_refusal r)
 unloaded_refusal bytes s code insns shapes refused.OutOfMemory parts is well_formed numbers shapes-are verdict memory =
     has_image bytes s code parts
 unloaded_refusal bytes s code insns shapes (refused.At slot cause) parts is well_formed numbers shapes-are verdict memory = (
@@ -129,7 +129,7 @@ accepted_is_loaded bytes s code insns shapes v parts is well_formed numbers shap
 -- ---- straight programs
 
 -- bytes that are an image of a straight program have no fault
-pub straight_bytes : (bytes : List ℕ) (f : LoadFault) → AreBytes bytes → HasStraightProgram bytes → IsFault bytes f → ⊥
+pub straight_bytes : (bytes : List ℕ) (f : LoadFault) → AreBytes bytes → HasStraightProgram bytes → IsLoadFault bytes f → ⊥
 straight_bytes bytes f fits st b = no_image_is_faulty bytes st.version st.hook st.shapes (spelling st.insns) f fits st.image b
 
 -- the parts are those of the straight image
@@ -153,7 +153,7 @@ is_of bytes s code st parts =
 -- the program of a straight image is refused only if memory runs out
 pub straight_code : (bytes : List ℕ) (s : Spelled) (code : List ℕ) (f : DecodeFault)
     → HasParts bytes s code → HasStraightProgram bytes → IsProgramFault code f
-    → of_program f ≡ fault.OutOfMemory
+    → load_fault_of_program f ≡ fault.OutOfMemory
 straight_code bytes s code program.OutOfMemory parts st b = refl
 straight_code bytes s code (program.At slot cause) parts st b =
     let of = is_of bytes s code st parts in

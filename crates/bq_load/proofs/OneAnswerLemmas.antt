@@ -3,7 +3,7 @@ use Rattle.std.proofs.Common.{◌≡◌, ℕ, List, Option, Result, Ok, Err, ref
 use Rattle.bq_insn.specs.declared.fault.Cause.{Cause}
 use Rattle.bq_insn.specs.declared.fault.DecodeFault.TheVariants.{At}
 use Rattle.bq_insn.specs.declared.Insn.{Insn}
-use Rattle.bq_insn.specs.Faults.{IsFault as IsProgramFault}
+use Rattle.bq_insn.specs.Faults.{IsDecodeFault as IsProgramFault}
 use Rattle.bq_insn.specs.Slots.{spread}
 use Rattle.bq_insn.specs.Spelling.{spelling}
 use Rattle.bq_insn.proofs.LengthLemmas as lengths

@@ -8,15 +8,15 @@ use Rattle.bq_insn.specs.declared.fault.Cause.TheVariants.{Length}
 use Rattle.bq_load.specs.declared.fault.LoadFault.{LoadFault}
 use Rattle.bq_load.specs.declared.fault.LoadFault.TheVariants as fault
 use Rattle.bq_load.specs.Answers.{HasImage}
-use Rattle.bq_load.specs.Faults.{IsFault}
+use Rattle.bq_load.specs.Faults.{IsLoadFault}
 use Rattle.bq_load.specs.Feeding.{Fed, unfed, StandsFor}
-use Rattle.bq_load.specs.Laws.{AreBytes, EachIsAnswered, TakesAll, PiecesJoin}
+use Rattle.bq_load.specs.Laws.{AreBytes, EachIsAnswered, FeedsAll, PiecesJoin}
 use Rattle.bq_load.specs.Reading.{Spelled, frame_at}
 use Rattle.bq_load.proofs.FramingLemmas.{frame_ok, frame_err, bad_length, has_image}
 
 -- by what reading gives
 answer : (bytes : List ℕ) → AreBytes bytes → (r : Result (Spelled × List ℕ) LoadFault) → frame_at bytes ≡ r
-    → HasImage bytes ⊎ ((f : LoadFault) × IsFault bytes f)
+    → HasImage bytes ⊎ ((f : LoadFault) × IsLoadFault bytes f)
 answer bytes fits (Err f) e = inr (f, frame_err bytes f fits e)
 answer bytes fits (Ok x) e =
     let frames = frame_ok bytes x fits e in
@@ -34,7 +34,7 @@ each_is_answered bytes fits = answer bytes fits (frame_at bytes) refl
 
 -- from any bytes on
 joins : (pieces : List (List ℕ)) (old new : Fed) (bytes : List ℕ)
-    → StandsFor old bytes → TakesAll old pieces new
+    → StandsFor old bytes → FeedsAll old pieces new
     → StandsFor new (bytes ++ flat_map (λ piece. piece) pieces)
 joins [] old new bytes h same =
     subst (λ (x : List ℕ). StandsFor new x) (sym (append-nil bytes)) (subst (λ (f : Fed). StandsFor f bytes) same h)

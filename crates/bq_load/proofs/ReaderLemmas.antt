@@ -6,7 +6,7 @@ use Rattle.bq_load.specs.declared.fault.LoadFault.TheVariants as fault
 use Rattle.bq_load.specs.Layout.{Header, header_bytes, IsHeader}
 use Rattle.bq_load.specs.Fields.{Headed}
 use Rattle.bq_load.specs.Faults.{IsCut, HasMore, HasFaultyProgram}
-use Rattle.bq_load.specs.Feeding.{Fed, HasFailed, IsTooLong, Holds, stands, StandsFor, FeedsPiece}
+use Rattle.bq_load.specs.Feeding.{Fed, HasFailed, HasTooManySlots, Holds, stands, StandsFor, FeedsPiece}
 use Rattle.bq_load.specs.Headers.{with_shapes}
 use Rattle.bq_load.specs.Laws.{AreBytes}
 use Rattle.bq_load.specs.Reading.{Spelled, header_at}
@@ -74,7 +74,7 @@ not_failed_holds fed held past failed bytes view not_failed h =
 -- ---- a program that is too long
 
 -- where bytes were counted beyond those held, a program that is too long is held
-pub past_is_too_long : (held bytes : List ℕ) (past : ℕ) → 0 < past → Holds held past bytes → IsTooLong held
+pub past_is_too_long : (held bytes : List ℕ) (past : ℕ) → 0 < past → Holds held past bytes → HasTooManySlots held
 past_is_too_long held bytes past some h = elim h.only [ inl none ↦ absurd (omega arith) | inr l ↦ l ]
 
 -- where bytes were counted beyond those held, reading the header of those does not fail

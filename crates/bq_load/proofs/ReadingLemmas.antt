@@ -4,7 +4,7 @@ use Rattle.std.proofs.lemmas.Bool.{ltb-false}
 use Rattle.byteorder.specs.Endian.{little_number}
 use Rattle.bq_load.specs.declared.fault.LoadFault.{LoadFault}
 use Rattle.bq_load.specs.declared.fault.LoadFault.TheVariants as fault
-use Rattle.bq_load.specs.Reading.{◌>>=◌, number_at, shape_at, shapes_at, is_shape}
+use Rattle.bq_load.specs.Reading.{◌>>=◌, read_number, shape_at, shapes_at, is_shape}
 
 -- the value of a step that did not fail
 pub bind_ok : {A B : Type 0} (r : Result A LoadFault) (f : A → Result B LoadFault) (y : B)
@@ -36,8 +36,8 @@ pub record IsNumber (width : ℕ) (bytes : List ℕ) (n : ℕ) (rest : List ℕ)
   pub after : drop width bytes ≡ rest
 
 -- a number that was read is what its bytes spell, they are all there, and what was left follows them
-pub number_ok : (width : ℕ) (bytes : List ℕ) (n : ℕ) (rest : List ℕ) → number_at width bytes ≡ Ok (n, rest) → IsNumber width bytes n rest
-unfolding number_at
+pub number_ok : (width : ℕ) (bytes : List ℕ) (n : ℕ) (rest : List ℕ) → read_number width bytes ≡ Ok (n, rest) → IsNumber width bytes n rest
+unfolding read_number
 number_ok width bytes n rest e =
     let g = guard_ok (ltb (length bytes) width) fault.Cut (little_number width bytes, drop width bytes) (n, rest) e in
     record {
@@ -51,9 +51,9 @@ pub shape_length : (bytes rest : List ℕ) → shape_at bytes ≡ Ok rest → le
 unfolding shape_at
 shape_length bytes rest e =
     let a =
-    bind_ok (number_at 2 bytes)
-    (λ size. number_at 2 size.1 >>= λ entries. cond (is_shape size.0 entries.0) (Ok entries.1) (Err fault.Shape)) rest e in
-    let b = bind_ok (number_at 2 a.0.1) (λ entries. cond (is_shape a.0.0 entries.0) (Ok entries.1) (Err fault.Shape)) rest a.2 in
+    bind_ok (read_number 2 bytes)
+    (λ size. read_number 2 size.1 >>= λ entries. cond (is_shape size.0 entries.0) (Ok entries.1) (Err fault.Shape)) rest e in
+    let b = bind_ok (read_number 2 a.0.1) (λ entries. cond (is_shape a.0.0 entries.0) (Ok entries.1) (Err fault.Shape)) rest a.2 in
     let g = met_ok (is_shape a.0.0 b.0.0) fault.Shape b.0.1 rest b.2 in
     let first = number_ok 2 bytes a.0.0 a.0.1 a.1 in
     let second = number_ok 2 a.0.1 b.0.0 b.0.1 b.1 in

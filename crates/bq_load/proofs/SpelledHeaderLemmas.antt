@@ -15,25 +15,25 @@ use Rattle.bq_hooks.specs.declared.hook.Version.TheVariants.{First, Second}
 use Rattle.bq_hooks.specs.Hooks.{version_number}
 use Rattle.bq_load.specs.declared.fault.LoadFault.{LoadFault}
 use Rattle.bq_load.specs.declared.fault.LoadFault.TheVariants as fault
-use Rattle.bq_load.specs.Layout.{magic, hook_byte, shape_bytes, shapes_bytes, opening, Header, header_bytes, IsHeader}
-use Rattle.bq_load.specs.Reading.{◌>>=◌, magic_at, version_at, hook_at, number_at, count_at, is_shape, shape_at, shapes_at, Spelled, header_at}
+use Rattle.bq_load.specs.Layout.{magic, hook_byte, shape_bytes, shapes_bytes, image_opening, Header, header_bytes, IsHeader}
+use Rattle.bq_load.specs.Reading.{◌>>=◌, magic_at, version_at, hook_at, read_number, count_at, is_shape, shape_at, shapes_at, Spelled, header_at}
 use Rattle.bq_load.proofs.FieldLemmas.{is_shape-met, shape_facts}
 use Rattle.bq_load.proofs.HeaderLemmas.{length-shapes_bytes, regroup_header, after_shapes, after_count, after_hook, after_version, after_magic}
 
 -- a number with enough bytes
 pub number_again : (width : ℕ) (bytes : List ℕ) → width ≤ length bytes
-    → number_at width bytes ≡ Ok (little_number width bytes, drop width bytes)
-unfolding number_at
+    → read_number width bytes ≡ Ok (little_number width bytes, drop width bytes)
+unfolding read_number
 number_again width bytes h = rw (le-ltb _ _ h) refl
 
 -- a number below 2 to the 16th that two bytes spell is read again, and the rest is left
-pub half_again : (n : ℕ) (rest : List ℕ) → n < 2 ^ 16 → number_at 2 (to_le_bytes w16 n ++ rest) ≡ Ok (n, rest)
+pub half_again : (n : ℕ) (rest : List ℕ) → n < 2 ^ 16 → read_number 2 (to_le_bytes w16 n ++ rest) ≡ Ok (n, rest)
 half_again n rest lt =
     number_again 2 (to_le_bytes w16 n ++ rest) (omega (arith, length-append (to_le_bytes w16 n) rest))
     ∙ ap (λ (m : ℕ). Ok (m, rest)) (little_number-reads_back 2 n rest lt)
 
 -- a number below 2 to the 32nd that four bytes spell is read again, and the rest is left
-pub word_again : (n : ℕ) (rest : List ℕ) → n < 2 ^ 32 → number_at 4 (to_le_bytes w32 n ++ rest) ≡ Ok (n, rest)
+pub word_again : (n : ℕ) (rest : List ℕ) → n < 2 ^ 32 → read_number 4 (to_le_bytes w32 n ++ rest) ≡ Ok (n, rest)
 word_again n rest lt =
     number_again 4 (to_le_bytes w32 n ++ rest) (omega (arith, length-append (to_le_bytes w32 n) rest))
     ∙ ap (λ (m : ℕ). Ok (m, rest)) (little_number-reads_back 4 n rest lt)
@@ -75,7 +75,7 @@ shape_again s rest =
     let entries = half_again s.entries rest (omega (arith, facts.greatest_entries)) in
     let met : is_shape s.value_size s.entries ≡ true = is_shape-met s.value_size s.entries facts in
     ap (λ (r : Result (ℕ × List ℕ) LoadFault).
-    r >>= λ size. number_at 2 size.1 >>= λ entries. cond (is_shape size.0 entries.0) (Ok entries.1) (Err fault.Shape)) size
+    r >>= λ size. read_number 2 size.1 >>= λ entries. cond (is_shape size.0 entries.0) (Ok entries.1) (Err fault.Shape)) size
     ∙ ap (λ (r : Result (ℕ × List ℕ) LoadFault). r >>= λ entries. cond (is_shape s.value_size entries.0) (Ok entries.1) (Err fault.Shape))
     entries
     ∙ ap (λ (b : Bool). cond b (Ok rest) (Err fault.Shape)) met
@@ -110,7 +110,7 @@ read_hooked v h rest =
     read_versioned v (hook_byte h ∷ rest) ∙ ap (λ (r : Result (Hook × List ℕ) LoadFault). r >>= after_hook v) (hook_again h rest)
 
 -- where all up to a number of at most 8 maps stands, the header is read on from the shapes
-pub read_counted : (v : Version) (h : Hook) (n : ℕ) (rest : List ℕ) → n ≤ 8 → header_at (opening v h n ++ rest) ≡ after_count v h (n, rest)
+pub read_counted : (v : Version) (h : Hook) (n : ℕ) (rest : List ℕ) → n ≤ 8 → header_at (image_opening v h n ++ rest) ≡ after_count v h (n, rest)
 read_counted v h n rest few =
     read_hooked v h (to_le_bytes w16 n ++ rest) ∙ ap (λ (r : Result (ℕ × List ℕ) LoadFault). r >>= after_count v h) (count_again n rest few)
 

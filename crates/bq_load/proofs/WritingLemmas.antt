@@ -2,11 +2,11 @@
 use Rattle.std.proofs.Common.{◌≡◌, ℕ, ◌*◌, ◌/◌, ◌%◌, ◌≤◌, true, length, List, ◌++◌, ◌∙◌, ap, sym, append_assoc, arith}
 use Rattle.std.specs.Prelude.{◌==◌, ◌&&◌, nat_le}
 use Rattle.std.proofs.lemmas.Bool.Decides.{nat_tests}
-use Rattle.bq_insn.specs.Faults.{is_length}
+use Rattle.bq_insn.specs.Faults.{is_program_length}
 use Rattle.bq_load.specs.declared.image.Image.{Image}
-use Rattle.bq_load.specs.Answers.{Spells}
+use Rattle.bq_load.specs.Answers.{SpellsImage}
 use Rattle.bq_load.specs.Layout.{Header}
-use Rattle.bq_load.specs.Writing.{written}
+use Rattle.bq_load.specs.Writing.{written_image}
 use Rattle.bq_load.proofs.HeaderLemmas.{regroup_header}
 
 eights : (n : ℕ) → ((n % 8 == 0) && (nat_le 1 n && nat_le n 32768)) ≡ true → n ≡ 8 * (n / 8)
@@ -19,7 +19,7 @@ at_most : (n : ℕ) → ((n % 8 == 0) && (nat_le 1 n && nat_le n 32768)) ≡ tru
 at_most n h = grind (arith, nat_tests)
 
 -- what is written for an image of a program of good length is that image
-pub is_written : (image : Image) → is_length image.program.items ≡ true → Spells (written image) image
+pub is_written : (image : Image) → is_program_length image.program.items ≡ true → SpellsImage (written_image image) image
 is_written image whole =
     let slots = length image.program.items / 8 in
     let header : Header =

@@ -19,12 +19,12 @@ use Rattle.bq_load.specs.declared.fault.LoadFault.{LoadFault}
 use Rattle.bq_load.specs.declared.fault.LoadFault.TheVariants as fault
 use Rattle.bq_load.specs.declared.image.Image.{Image}
 use Rattle.bq_load.specs.Layout.{IsImage}
-use Rattle.bq_load.specs.Faults.{IsFault, HasFaultyProgram}
+use Rattle.bq_load.specs.Faults.{IsLoadFault, HasFaultyProgram}
 use Rattle.bq_load.specs.Straight.{HasStraightProgram}
 
 -- the bytes are this image
-abbrev pub Spells : List ℕ → Image → Type 0
-Spells bytes image = IsImage bytes image.form.version image.form.hook image.form.shapes.items image.program.items
+abbrev pub SpellsImage : List ℕ → Image → Type 0
+SpellsImage bytes image = IsImage bytes image.form.version image.form.hook image.form.shapes.items image.program.items
 
 -- the bytes are some image
 pub record HasImage (bytes : List ℕ) : Type 0 where
@@ -37,7 +37,7 @@ pub record HasImage (bytes : List ℕ) : Type 0 where
 -- why no image is read from the bytes: they have this fault, or they are an image and memory ran out
 abbrev pub IsUnread : List ℕ → LoadFault → Type 0
 IsUnread bytes fault.OutOfMemory = HasImage bytes
-IsUnread bytes named = IsFault bytes named
+IsUnread bytes named = IsLoadFault bytes named
 
 -- the bytes are an image of these instructions
 pub record HasProgram (bytes : List ℕ) (insns : List Insn) : Type 0 where
@@ -71,8 +71,8 @@ abbrev pub IsUnloaded : List ℕ → LoadFault → Type 0
 IsUnloaded bytes fault.OutOfMemory = HasImage bytes
 IsUnloaded bytes (fault.Decode slot cause) = HasFaultyProgram bytes slot cause
 IsUnloaded bytes (fault.Refused slot cause) = HasRefusedProgram bytes (refused.At slot cause) × (HasStraightProgram bytes → ⊥)
-IsUnloaded bytes named = IsFault bytes named
+IsUnloaded bytes named = IsLoadFault bytes named
 
 -- the new bytes are the old bytes, followed by bytes that spell this image
 abbrev pub AppendsImage : List ℕ → List ℕ → Image → Type 0
-AppendsImage old new image = (bytes : List ℕ) × Spells bytes image × (new ≡ old ++ bytes)
+AppendsImage old new image = (bytes : List ℕ) × SpellsImage bytes image × (new ≡ old ++ bytes)

@@ -3,18 +3,18 @@ use Rattle.std.specs.Prelude.{◌≡◌, ℕ, ◌*◌, ◌<◌, List, ◌++◌, 
 use Rattle.bq_insn.specs.declared.fault.Cause.{Cause}
 use Rattle.bq_insn.specs.declared.fault.Cause.TheVariants.{Length}
 use Rattle.bq_insn.specs.declared.fault.DecodeFault.TheVariants.{At}
-use Rattle.bq_insn.specs.Faults.{IsFault as IsProgramFault}
+use Rattle.bq_insn.specs.Faults.{IsDecodeFault as IsProgramFault}
 use Rattle.bq_load.specs.declared.fault.LoadFault.{LoadFault}
 use Rattle.bq_load.specs.declared.fault.LoadFault.TheVariants as fault
 use Rattle.bq_load.specs.Layout.{Header, IsHeader, IsFramed, header_bytes}
-use Rattle.bq_load.specs.Fields.{Front, IsGood, front_bytes, next_width, IsBadNext}
+use Rattle.bq_load.specs.Fields.{Front, AreGoodFields, front_bytes, next_width, IsBadNext}
 
 -- the bytes begin with good fields, followed by a whole field that is bad
 pub record HasBadField (bytes : List ℕ) (named : LoadFault) : Type 0 where
   pub front : Front
   pub field : List ℕ
   pub rest : List ℕ
-  pub good : IsGood front
+  pub good : AreGoodFields front
   pub bytes_are : bytes ≡ front_bytes front ++ (field ++ rest)
   pub whole : length field ≡ next_width front
   pub bad : IsBadNext front field named
@@ -23,7 +23,7 @@ pub record HasBadField (bytes : List ℕ) (named : LoadFault) : Type 0 where
 pub record IsCut (bytes : List ℕ) : Type 0 where
   pub front : Front
   pub part : List ℕ
-  pub good : IsGood front
+  pub good : AreGoodFields front
   pub bytes_are : bytes ≡ front_bytes front ++ part
   pub short : length part < next_width front
 
@@ -44,8 +44,8 @@ pub record HasFaultyProgram (bytes : List ℕ) (slot : ℕ) (cause : Cause) : Ty
 
 -- the first fault of bytes: they are cut; bytes are left after the program; the program has a wrong length; or a field
 -- is bad. A bad field is Magic, Version, Hook or Shape, because IsBadNext has no others
-abbrev pub IsFault : List ℕ → LoadFault → Type 0
-IsFault bytes fault.Cut = IsCut bytes
-IsFault bytes fault.Rest = HasMore bytes
-IsFault bytes (fault.Decode slot Length) = HasFaultyProgram bytes slot Length
-IsFault bytes named = HasBadField bytes named
+abbrev pub IsLoadFault : List ℕ → LoadFault → Type 0
+IsLoadFault bytes fault.Cut = IsCut bytes
+IsLoadFault bytes fault.Rest = HasMore bytes
+IsLoadFault bytes (fault.Decode slot Length) = HasFaultyProgram bytes slot Length
+IsLoadFault bytes named = HasBadField bytes named

@@ -3,7 +3,7 @@ use Rattle.std.specs.Prelude.{◌≡◌, ℕ, ◌<◌, List, [], ◌++◌, lengt
 use Rattle.bq_load.specs.declared.fault.LoadFault.{LoadFault}
 use Rattle.bq_load.specs.declared.fault.LoadFault.TheVariants as fault
 use Rattle.bq_load.specs.Layout.{Header, IsHeader, header_bytes}
-use Rattle.bq_load.specs.Faults.{IsFault}
+use Rattle.bq_load.specs.Faults.{IsLoadFault}
 
 -- the state of a reader: the bytes that it holds, how many bytes came after them, and the fault that it has answered
 pub record Fed : Type 0 where
@@ -26,10 +26,10 @@ IsFinal _ = ⊥
 
 -- the bytes have a fault that no further bytes take away
 abbrev pub HasFailed : List ℕ → LoadFault → Type 0
-HasFailed bytes named = IsFinal named × IsFault bytes named
+HasFailed bytes named = IsFinal named × IsLoadFault bytes named
 
 -- the bytes begin with a header whose program has too many slots, so only the length of the program matters
-pub record IsTooLong (held : List ℕ) : Type 0 where
+pub record HasTooManySlots (held : List ℕ) : Type 0 where
   pub header : Header
   pub part : List ℕ
   pub good : IsHeader header
@@ -41,7 +41,7 @@ pub record Holds (held : List ℕ) (past : ℕ) (bytes : List ℕ) : Type 0 wher
   pub rest : List ℕ
   pub bytes_are : bytes ≡ held ++ rest
   pub counted : length rest ≡ past
-  pub only : (past ≡ 0) ⊎ IsTooLong held
+  pub only : (past ≡ 0) ⊎ HasTooManySlots held
 
 -- the fields of a reader fit these bytes: it holds them, or they have the fault that it has answered
 abbrev pub stands : List ℕ → ℕ → Option LoadFault → List ℕ → Type 0

@@ -7,7 +7,7 @@ use Rattle.bq_hooks.specs.declared.hook.Version.{Version}
 use Rattle.bq_hooks.specs.Hooks.{version_number}
 use Rattle.bq_load.specs.declared.fault.LoadFault.{LoadFault}
 use Rattle.bq_load.specs.declared.fault.LoadFault.TheVariants as fault
-use Rattle.bq_load.specs.Layout.{magic, hook_byte, shape_bytes, shapes_bytes, opening, Header, header_bytes, IsHeader}
+use Rattle.bq_load.specs.Layout.{magic, hook_byte, shape_bytes, shapes_bytes, image_opening, Header, header_bytes, IsHeader}
 
 -- the fields at the front: none; the letters; also the version; also the hook; also the number of maps and some shapes;
 -- or the whole header
@@ -20,10 +20,10 @@ pub data Front : Type 0 where
   Headed : Header → Front
 
 -- all fields at the front are good
-abbrev pub IsGood : Front → Type 0
-IsGood (Mapped version hook count shapes) = (count ≤ 8) × (length shapes ≤ count)
-IsGood (Headed h) = IsHeader h
-IsGood _ = Unit {0}
+abbrev pub AreGoodFields : Front → Type 0
+AreGoodFields (Mapped version hook count shapes) = (count ≤ 8) × (length shapes ≤ count)
+AreGoodFields (Headed h) = IsHeader h
+AreGoodFields _ = Unit {0}
 
 -- the bytes of the fields at the front
 abbrev pub front_bytes : Front → List ℕ
@@ -31,7 +31,7 @@ front_bytes Nothing = []
 front_bytes Marked = magic
 front_bytes (Versioned version) = magic ++ (version_number version ∷ [])
 front_bytes (Hooked version hook) = magic ++ (version_number version ∷ hook_byte hook ∷ [])
-front_bytes (Mapped version hook count shapes) = opening version hook count ++ shapes_bytes shapes
+front_bytes (Mapped version hook count shapes) = image_opening version hook count ++ shapes_bytes shapes
 front_bytes (Headed h) = header_bytes h
 
 -- how many bytes the next field has. After the last shape the next field is the number of slots, and after the header

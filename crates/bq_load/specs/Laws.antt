@@ -7,7 +7,7 @@ use Rattle.bq_hooks.specs.declared.hook.Hook.{Hook}
 use Rattle.bq_hooks.specs.declared.hook.Version.{Version}
 use Rattle.bq_load.specs.declared.fault.LoadFault.{LoadFault}
 use Rattle.bq_load.specs.Layout.{IsImage}
-use Rattle.bq_load.specs.Faults.{IsFault}
+use Rattle.bq_load.specs.Faults.{IsLoadFault}
 use Rattle.bq_load.specs.declared.fault.LoadFault.TheVariants as fault
 use Rattle.bq_load.specs.Answers.{HasImage, IsUnloaded, Loads}
 use Rattle.bq_verify.specs.Accepted.{Accepted}
@@ -26,15 +26,15 @@ OneImage =
 -- an image has no fault
 abbrev pub NoImageIsFaulty : Type 0
 NoImageIsFaulty =
-    (bytes : List ℕ) (v : Version) (h : Hook) (shapes : List MapShape) (program : List ℕ) (f : LoadFault) → AreBytes bytes → IsImage bytes v h shapes program → IsFault bytes f → ⊥
+    (bytes : List ℕ) (v : Version) (h : Hook) (shapes : List MapShape) (program : List ℕ) (f : LoadFault) → AreBytes bytes → IsImage bytes v h shapes program → IsLoadFault bytes f → ⊥
 
 -- bytes have at most one first fault
-abbrev pub OneFault : Type 0
-OneFault = (bytes : List ℕ) (f g : LoadFault) → AreBytes bytes → IsFault bytes f → IsFault bytes g → f ≡ g
+abbrev pub ImageHasOneFault : Type 0
+ImageHasOneFault = (bytes : List ℕ) (f g : LoadFault) → AreBytes bytes → IsLoadFault bytes f → IsLoadFault bytes g → f ≡ g
 
 -- bytes are an image or have a first fault
 abbrev pub EachIsAnswered : Type 0
-EachIsAnswered = (bytes : List ℕ) → AreBytes bytes → HasImage bytes ⊎ ((f : LoadFault) × IsFault bytes f)
+EachIsAnswered = (bytes : List ℕ) → AreBytes bytes → HasImage bytes ⊎ ((f : LoadFault) × IsLoadFault bytes f)
 
 -- the answer is right for these bytes: the program that loads from them, or why none does
 abbrev pub IsAnswer : List ℕ → Result Accepted LoadFault → Type 0
@@ -60,10 +60,10 @@ abbrev pub OneLoaded : Type 0
 OneLoaded = (bytes : List ℕ) (v w : Accepted) → Loads bytes v → Loads bytes w → v ≡ w
 
 -- a reader took these pieces, one after another
-abbrev pub TakesAll : Fed → List (List ℕ) → Fed → Type 0
-TakesAll old [] new = old ≡ new
-TakesAll old (piece ∷ pieces) new = (fed : Fed) × FeedsPiece old piece fed × TakesAll fed pieces new
+abbrev pub FeedsAll : Fed → List (List ℕ) → Fed → Type 0
+FeedsAll old [] new = old ≡ new
+FeedsAll old (piece ∷ pieces) new = (fed : Fed) × FeedsPiece old piece fed × FeedsAll fed pieces new
 
 -- a reader that took pieces stands for all of them joined
 abbrev pub PiecesJoin : Type 0
-PiecesJoin = (pieces : List (List ℕ)) (fed : Fed) → TakesAll unfed pieces fed → StandsFor fed (flat_map (λ piece. piece) pieces)
+PiecesJoin = (pieces : List (List ℕ)) (fed : Fed) → FeedsAll unfed pieces fed → StandsFor fed (flat_map (λ piece. piece) pieces)

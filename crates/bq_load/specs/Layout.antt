@@ -28,8 +28,8 @@ abbrev pub shapes_bytes : List MapShape → List ℕ
 shapes_bytes shapes = flat_map shape_bytes shapes
 
 -- the eight bytes before the shapes: the letters, the version, the hook and the number of maps
-abbrev pub opening : Version → Hook → ℕ → List ℕ
-opening version hook count = magic ++ (version_number version ∷ hook_byte hook ∷ to_le_bytes w16 count)
+abbrev pub image_opening : Version → Hook → ℕ → List ℕ
+image_opening version hook count = magic ++ (version_number version ∷ hook_byte hook ∷ to_le_bytes w16 count)
 
 -- a header: all that an image has before its program
 pub record Header : Type 0 where
@@ -40,7 +40,7 @@ pub record Header : Type 0 where
 
 -- the bytes of a header
 abbrev pub header_bytes : Header → List ℕ
-header_bytes h = opening h.version h.hook (length h.shapes) ++ (shapes_bytes h.shapes ++ to_le_bytes w32 h.slots)
+header_bytes h = image_opening h.version h.hook (length h.shapes) ++ (shapes_bytes h.shapes ++ to_le_bytes w32 h.slots)
 
 -- the header has at most 8 maps, and its number of slots fits four bytes
 pub record IsHeader (h : Header) : Type 0 where

@@ -41,13 +41,13 @@ hook_at (b ∷ rest) =
     if b == 0 then Ok (Place, rest) else if b == 1 then Ok (Preempt, rest) else if b == 2 then Ok (Pull, rest) else Err fault.Hook
 
 -- a little-endian number of this many bytes, and the bytes after it
-unfoldable pub number_at : ℕ → List ℕ → Result (ℕ × List ℕ) LoadFault
-number_at width bytes = if nat_lt (length bytes) width then Err fault.Cut else Ok (little_number width bytes, drop width bytes)
+unfoldable pub read_number : ℕ → List ℕ → Result (ℕ × List ℕ) LoadFault
+read_number width bytes = if nat_lt (length bytes) width then Err fault.Cut else Ok (little_number width bytes, drop width bytes)
 
 -- the number of maps, at most 8, and the bytes after it
 unfoldable pub count_at : List ℕ → Result (ℕ × List ℕ) LoadFault
 count_at bytes = do
-  count ← number_at 2 bytes
+  count ← read_number 2 bytes
   if nat_le count.0 8 then Ok count else Err fault.Shape
 
 -- whether the size of a value and the number of entries are within their limits
@@ -57,8 +57,8 @@ is_shape size entries = (nat_le 8 size && (nat_le size 256 && (size % 8 == 0))) 
 -- the bytes after a shape that is within its limits
 unfoldable pub shape_at : List ℕ → Result (List ℕ) LoadFault
 shape_at bytes = do
-  size ← number_at 2 bytes
-  entries ← number_at 2 size.1
+  size ← read_number 2 bytes
+  entries ← read_number 2 size.1
   if is_shape size.0 entries.0 then Ok entries.1 else Err fault.Shape
 
 -- the bytes after this many shapes
@@ -83,7 +83,7 @@ header_at bytes = do
   hook ← hook_at version.1
   count ← count_at hook.1
   after ← shapes_at count.0 count.1
-  slots ← number_at 4 after
+  slots ← read_number 4 after
   Ok (record { version = version.0; hook = hook.0; shapes = take (4 * count.0) count.1; slots = slots.0 }, slots.1)
 
 -- the program is as long as the header says; else the bytes are cut, or bytes are left after it

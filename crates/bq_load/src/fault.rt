@@ -42,9 +42,9 @@ pub enum LoadFault {
 /// for cause 4.
 impl fmt::Display for LoadFault {
     ghost use Rattle.std.specs.Prelude.{Some};
-    ghost use Rattle.bq_load.specs.Naming.{fault_text};
+    ghost use Rattle.bq_load.specs.Naming.{load_fault_text};
 
-    ghost output = { λ fault. Some (fault_text fault) };
+    ghost output = { λ fault. Some (load_fault_text fault) };
 
     fn fmt<W: fmt::Write>(&self, f: &mut fmt::Formatter<W>) -> fmt::Result {
         match *self {
@@ -90,9 +90,9 @@ impl<T: Drop> From<AllocFailed<T>> for LoadFault {
 }
 
 impl From<DecodeFault> for LoadFault {
-    ghost use Rattle.bq_load.specs.Naming.{of_program};
+    ghost use Rattle.bq_load.specs.Naming.{load_fault_of_program};
 
-    ghost from_gives = { λ f e. e ≡ of_program f };
+    ghost from_gives = { λ f e. e ≡ load_fault_of_program f };
 
     fn from(fault: DecodeFault) -> LoadFault {
         match fault {
@@ -103,9 +103,9 @@ impl From<DecodeFault> for LoadFault {
 }
 
 impl From<Refused> for LoadFault {
-    ghost use Rattle.bq_load.specs.Naming.{of_refusal};
+    ghost use Rattle.bq_load.specs.Naming.{load_fault_of_refusal};
 
-    ghost from_gives = { λ r e. e ≡ of_refusal r };
+    ghost from_gives = { λ r e. e ≡ load_fault_of_refusal r };
 
     fn from(refused: Refused) -> LoadFault {
         match refused {

@@ -2,7 +2,7 @@
 ghost use Rattle.std.specs.Prelude.{◌≡◌, IfOk, IfErr};
 ghost use Rattle.bq_load.specs.Layout.{shapes_bytes};
 ghost use Rattle.bq_load.specs.Headers.{spelled_of, AreShapes, HasParts};
-ghost use Rattle.bq_load.specs.Faults.{IsFault};
+ghost use Rattle.bq_load.specs.Faults.{IsLoadFault};
 ghost use Rattle.bq_load.specs.Reading.{Gives, frame_at};
 ghost use Rattle.bq_load.specs.declared.fault.LoadFault.TheVariants.{OutOfMemory};
 
@@ -19,7 +19,7 @@ const MOST: u32 = SLOTS as u32;
 /// The header and the program of an image, or the first fault of the bytes.
 pub fn parts(bytes: &[u8]) -> Result<(Header<'_>, &[u8]), LoadFault>
     ensures ok { IfOk result (λ x. HasParts bytes.now (spelled_of x.0) x.1.now) }
-    ensures err { IfErr result (IsFault bytes.now) }
+    ensures err { IfErr result (IsLoadFault bytes.now) }
 {
     let (header, program) = frame(bytes)?;
     if header.slots == 0 || header.slots > MOST {

@@ -1,7 +1,7 @@
 //! Reads what an image has before its program, field after field.
 ghost use Rattle.std.specs.Prelude.{◌≡◌, ◌+◌, ◌*◌, ◌++◌, length, IfOk};
 ghost use Rattle.bq_load.specs.Layout.{shape_bytes};
-ghost use Rattle.bq_load.specs.Reading.{Gives, magic_at, version_at, hook_at, number_at, count_at, shape_at, shapes_at, header_at};
+ghost use Rattle.bq_load.specs.Reading.{Gives, magic_at, version_at, hook_at, read_number, count_at, shape_at, shapes_at, header_at};
 ghost use Rattle.bq_load.specs.Headers.{spelled_of};
 
 use crate::fault::LoadFault;
@@ -65,9 +65,9 @@ fn hook(bytes: &[u8]) -> Result<(Hook, &[u8]), LoadFault>
 }
 
 /// A number of two bytes, and the bytes after it.
-#[tactic(auto, unfolding(crate::specs::Reading::number_at))]
+#[tactic(auto, unfolding(crate::specs::Reading::read_number))]
 fn half(bytes: &[u8]) -> Result<(u16, &[u8]), LoadFault>
-    ensures { Gives (λ x. (x.0, x.1.now)) result (number_at 2 bytes.now) }
+    ensures { Gives (λ x. (x.0, x.1.now)) result (read_number 2 bytes.now) }
 {
     if bytes.len() < 2 {
         return Err(LoadFault::Cut);
@@ -76,9 +76,9 @@ fn half(bytes: &[u8]) -> Result<(u16, &[u8]), LoadFault>
 }
 
 /// A number of four bytes, and the bytes after it.
-#[tactic(auto, unfolding(crate::specs::Reading::number_at))]
+#[tactic(auto, unfolding(crate::specs::Reading::read_number))]
 fn word(bytes: &[u8]) -> Result<(u32, &[u8]), LoadFault>
-    ensures { Gives (λ x. (x.0, x.1.now)) result (number_at 4 bytes.now) }
+    ensures { Gives (λ x. (x.0, x.1.now)) result (read_number 4 bytes.now) }
 {
     if bytes.len() < 4 {
         return Err(LoadFault::Cut);

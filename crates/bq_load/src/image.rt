@@ -1,6 +1,6 @@
 //! Images as values, and how they are read from bytes.
 ghost use Rattle.std.specs.Prelude.{IfOk, IfErr};
-ghost use Rattle.bq_load.specs.Answers.{Spells, IsUnread};
+ghost use Rattle.bq_load.specs.Answers.{SpellsImage, IsUnread};
 
 use crate::fault::LoadFault;
 use crate::framing::{parts, shapes_in};
@@ -33,7 +33,7 @@ pub struct Image {
 /// assert_eq!(rt; image.program.len(), 16);
 /// ```
 pub fn read_image(alloc: Global, bytes: &[u8]) -> Result<Image, LoadFault>
-    ensures image { IfOk result (Spells bytes.now) }
+    ensures image { IfOk result (SpellsImage bytes.now) }
     ensures unread { IfErr result (IsUnread bytes.now) }
 {
     let (header, program) = parts(bytes)?;

@@ -1,5 +1,5 @@
 //! Laws of the format. Each law is a theorem over its definitions; the function of a law does nothing.
-ghost use Rattle.bq_load.specs.Laws.{OneImage, NoImageIsFaulty, OneFault, EachIsAnswered, OneAnswer, OneLoaded, PiecesJoin};
+ghost use Rattle.bq_load.specs.Laws.{OneImage, NoImageIsFaulty, ImageHasOneFault, EachIsAnswered, OneAnswer, OneLoaded, PiecesJoin};
 
 /// Bytes are at most one image, so writing an image and reading the bytes gives the image back.
 pub fn one_image()
@@ -13,7 +13,7 @@ pub fn no_image_is_faulty()
 
 /// Bytes have at most one first fault.
 pub fn one_fault()
-    ensures { OneFault }
+    ensures { ImageHasOneFault }
 {}
 
 /// Bytes are an image or have a first fault.

@@ -1,7 +1,7 @@
 //! Images that come in pieces.
 ghost use Rattle.std.specs.Prelude.{◌≡◌, ◌≢◌, ◌<◌, ◌≤◌, ◌++◌, ℕ, List, length, OnOk, IfOk, IfErr, IfSome, IfNone, Some, None, Err};
-ghost use Rattle.bq_load.specs.Answers.{Spells, IsUnread, Loads, IsUnloaded};
-ghost use Rattle.bq_load.specs.Faults.{IsFault};
+ghost use Rattle.bq_load.specs.Answers.{SpellsImage, IsUnread, Loads, IsUnloaded};
+ghost use Rattle.bq_load.specs.Faults.{IsLoadFault};
 ghost use Rattle.bq_load.specs.Feeding.{Holds, HasFailed, StandsFor, FeedsPiece, unfed};
 ghost use Rattle.bq_load.specs.Laws.{AreBytes};
 ghost use Rattle.bq_load.specs.Straight.{HasStraightProgram};
@@ -95,7 +95,7 @@ impl ImageReader {
 
     /// Answers what `read_image` answers for all bytes fed, however they were cut.
     pub fn finish(self) -> Result<Image, LoadFault>
-        ensures image { IfOk result (λ image. (bytes : List ℕ) → StandsFor self bytes → Spells bytes image) }
+        ensures image { IfOk result (λ image. (bytes : List ℕ) → StandsFor self bytes → SpellsImage bytes image) }
         ensures unread { IfErr result (λ fault. (bytes : List ℕ) → StandsFor self bytes → IsUnread bytes fault) }
     {
         if let Some(fault) = self.known() {
@@ -119,7 +119,7 @@ impl ImageReader {
     /// The fault of the bytes fed, if a fault was answered or not all bytes are held; `None` if the reader holds all of
     /// them.
     fn known(&self) -> Option<LoadFault>
-        ensures fault { IfSome result (λ fault. (bytes : List ℕ) → StandsFor self.now bytes → IsFault bytes fault) }
+        ensures fault { IfSome result (λ fault. (bytes : List ℕ) → StandsFor self.now bytes → IsLoadFault bytes fault) }
         ensures none { IfNone result ((bytes : List ℕ) → StandsFor self.now bytes → bytes ≡ self.now.held) }
     {
         if let Some(fault) = self.failed {
@@ -135,7 +135,7 @@ impl ImageReader {
 /// The fault of an image whose program is too long, after this many bytes of the program were only counted.
 fn fault_past(held: &[u8], past: usize) -> LoadFault
     requires { 0 < past }
-    ensures { (bytes : List ℕ) → Holds held.now past bytes → IsFault bytes result }
+    ensures { (bytes : List ℕ) → Holds held.now past bytes → IsLoadFault bytes result }
 {
     let (header, part) = match read_header(held) {
         Ok(read) => read,

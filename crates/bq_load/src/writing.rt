@@ -2,10 +2,10 @@
 ghost use Rattle.std.specs.Prelude.{◌≡◌, ◌≤◌, ◌<◌, ◌*◌, ◌++◌, length, true, OnOk, OnErr};
 ghost use Rattle.std.specs.Int.{to_le_bytes};
 ghost use Rattle.bq_insn.specs.Appending.{StartsWith};
-ghost use Rattle.bq_insn.specs.Faults.{is_length};
+ghost use Rattle.bq_insn.specs.Faults.{is_program_length};
 ghost use Rattle.bq_load.specs.Answers.{AppendsImage};
-ghost use Rattle.bq_load.specs.Layout.{hook_byte, shape_bytes, shapes_bytes, opening};
-ghost use Rattle.bq_load.specs.Writing.{written};
+ghost use Rattle.bq_load.specs.Layout.{hook_byte, shape_bytes, shapes_bytes, image_opening};
+ghost use Rattle.bq_load.specs.Writing.{written_image};
 
 use crate::image::Image;
 use bq_bpf::MapShape;
@@ -35,7 +35,7 @@ use std::alloc::AllocError;
 /// assert_eq!(rt; bytes.as_slice(), expected.as_slice());
 /// ```
 pub fn write_image(image: &Image, out: &mut Vec<u8>) -> Result<(), AllocError>
-    requires { is_length image.now.program.items ≡ true }
+    requires { is_program_length image.now.program.items ≡ true }
     ensures ok { OnOk result (AppendsImage out.old.items out.new.items image.now) }
     ensures err { OnErr result (out.new.items ≡ out.old.items) }
 {
@@ -49,8 +49,8 @@ pub fn write_image(image: &Image, out: &mut Vec<u8>) -> Result<(), AllocError>
 
 /// Appends the bytes of an image. If memory runs out, a part of the bytes may remain appended.
 fn append(image: &Image, out: &mut Vec<u8>) -> Result<(), AllocError>
-    requires { is_length image.now.program.items ≡ true }
-    ensures ok { OnOk result (out.new.items ≡ out.old.items ++ written image.now) }
+    requires { is_program_length image.now.program.items ≡ true }
+    ensures ok { OnOk result (out.new.items ≡ out.old.items ++ written_image image.now) }
     ensures err { OnErr result (StartsWith out.old.items out.new.items) }
 {
     let form = &image.form;
@@ -76,7 +76,7 @@ fn append_shapes(shapes: &[MapShape], out: &mut Vec<u8>) -> Result<(), AllocErro
 
 /// The eight bytes before the shapes.
 fn opening(version: Version, hook: Hook, count: u16) -> [u8; 8]
-    ensures { result ≡ opening version hook count }
+    ensures { result ≡ image_opening version hook count }
 {
     let mut bytes = [
         b'B',

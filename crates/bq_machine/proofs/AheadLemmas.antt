@@ -4,7 +4,7 @@ use Rattle.bq_bpf.specs.declared.board.CounterCall.{CounterCall}
 use Rattle.bq_bpf.specs.Counters.{Through}
 use Rattle.bq_history.specs.declared.shared_state.Receipt.{Receipt}
 use Rattle.bq_shared.specs.declared.account.Account.{Account}
-use Rattle.bq_shared.specs.Sums.{calling}
+use Rattle.bq_shared.specs.Sums.{account_called}
 use Rattle.bq_shared.specs.Calls.{account_of, ahead}
 use Rattle.bq_shared.proofs.AccountLemmas.{goes_ahead}
 use Rattle.bq_shared.specs.declared.record.Record.{Record}
@@ -14,7 +14,7 @@ use Rattle.bq_shared.specs.Parts.{reported_calls}
 pub ahead_of : {B : Type 0} (account : B → Account) (b d : B) (xs ys : List (Receipt Record))
     (made : List CounterCall) (a : Account)
     → account b ≡ account_of reported_calls xs
-    → Through (λ (old : B) (c : CounterCall) (new : B). account new ≡ calling (account old) c) b made d
+    → Through (λ (old : B) (c : CounterCall) (new : B). account new ≡ account_called (account old) c) b made d
     → a ≡ account d → ys ≡ xs
     → a ≡ ahead reported_calls ys made
 ahead_of account b d xs ys made a e t s same =

@@ -14,10 +14,10 @@ use Rattle.bq_machine.specs.declared.loading_calls.LoadRefused.{LoadRefused}
 use Rattle.bq_machine.specs.declared.loading_calls.LoadRefused.TheVariants as why
 
 -- the policy of an image, or none if there is no image
-abbrev pub IsPolicyOf : Option (List ℕ) → Option Accepted → Type 0
-IsPolicyOf None None = Unit {0}
-IsPolicyOf (Some bytes) (Some v) = Loads bytes v
-IsPolicyOf image policy = ⊥
+abbrev pub IsPolicyOfImage : Option (List ℕ) → Option Accepted → Type 0
+IsPolicyOfImage None None = Unit {0}
+IsPolicyOfImage (Some bytes) (Some v) = Loads bytes v
+IsPolicyOfImage image policy = ⊥
 
 -- what a load of an image, or of none, recorded for this hook at all processors: it drew a generation, and under that it
 -- installed the image's policy, or none, at each of them
@@ -26,7 +26,7 @@ pub record IsLoad (count : ℕ) (hook : Hook) (image : Option (List ℕ)) (loade
   pub generation : ℕ
   pub drawn : loaded.draw.entry.reply ≡ Ok (Drawn generation)
   pub policy : Option Accepted
-  pub of_image : IsPolicyOf image policy
+  pub of_image : IsPolicyOfImage image policy
   pub fits : is_for hook policy ≡ true
   pub installs : AreInstalls 0 count hook generation policy loaded.installs.items
 
@@ -40,5 +40,5 @@ IsFaultOf (Some bytes) f = IsUnloaded bytes f
 abbrev pub IsLoadRefused : Hook → Option (List ℕ) → LoadRefused → Type 0
 IsLoadRefused hook image (why.Fault f) = IsFaultOf image f
 IsLoadRefused hook image (why.Refusal e) =
-    (policy : Option Accepted) × IsPolicyOf image policy
+    (policy : Option Accepted) × IsPolicyOfImage image policy
     × (((is_for hook policy ≡ false) × (e ≡ no.WrongHook)) ⊎ ((is_for hook policy ≡ true) × (e ≡ no.OutOfMemory)))

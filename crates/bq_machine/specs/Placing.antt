@@ -6,5 +6,5 @@ use Rattle.bq_parts.specs.declared.reply.Reply.TheVariants.{Placed}
 use Rattle.bq_parts.specs.declared.refusal.Refusal.{Refusal}
 
 -- the task was placed
-abbrev pub IsPlaced : ℕ → Result Reply Refusal → Type 0
-IsPlaced task r = (to : ℕ) × (by : By) × (steps : ℕ) × (r ≡ Ok (Placed task to by steps))
+abbrev pub WasPlaced : ℕ → Result Reply Refusal → Type 0
+WasPlaced task r = (to : ℕ) × (by : By) × (steps : ℕ) × (r ≡ Ok (Placed task to by steps))

@@ -6,7 +6,7 @@ ghost use Rattle.bq_parts.specs.Refusals.{is_for};
 ghost use Rattle.bq_parts.specs.declared.reply.Reply.TheVariants.{Drawn};
 ghost use Rattle.bq_shared.specs.Parts.{reported_calls};
 ghost use Rattle.bq_machine.specs.Calls.{AreInstalls};
-ghost use Rattle.bq_machine.specs.Loading.{IsPolicyOf, IsLoad, IsLoadRefused};
+ghost use Rattle.bq_machine.specs.Loading.{IsPolicyOfImage, IsLoad, IsLoadRefused};
 
 use crate::clock::Clock;
 use crate::locks::Machine;
@@ -55,7 +55,7 @@ struct Loading<'a> {
 
 /// The policy of an image, which must be for this hook; None if there is no image.
 fn policy_of(alloc: Global, hook: Hook, image: Option<&[u8]>) -> Result<Option<Policy>, LoadRefused>
-    ensures policy { IfOk result (λ p. IsPolicyOf (option_map (λ b. b.now) image.entry) p) }
+    ensures policy { IfOk result (λ p. IsPolicyOfImage (option_map (λ b. b.now) image.entry) p) }
     ensures hook { IfOk result (λ p. is_for hook p ≡ true) }
     ensures refused { IfErr result (IsLoadRefused hook (option_map (λ b. b.now) image.entry)) }
 {

@@ -1,6 +1,6 @@
 //! A machine at the start.
 ghost use Rattle.std.specs.Prelude.{◌≡◌, ◌≤◌, ◌^◌, [], All, IfOk, length};
-ghost use Rattle.bq_shared.specs.Calls.{fresh};
+ghost use Rattle.bq_shared.specs.Calls.{fresh_callers};
 
 use crate::clock::Clock;
 use crate::locks::Machine;
@@ -29,7 +29,7 @@ impl<Q: RunQueue + Drop, K: Clock + Drop, N: Naming + Counting, const P: usize> 
         requires name { prepared.0 ≡ N.table }
         requires counters { unnamed.0 ≡ N.counters }
         requires counts { (prepared.1.about ≡ P) × (prepared.1.callers ≡ seat_count) × (unnamed.1 ≡ seat_count) }
-        ensures seats { IfOk result (λ r. r.1.items ≡ fresh 0 seat_count) }
+        ensures seats { IfOk result (λ r. r.1.items ≡ fresh_callers 0 seat_count) }
         ensures about { IfOk result (λ r. (r.0.recorder.history.about ≡ P) × (r.0.recorder.history.callers ≡ seat_count)) }
     {
         let queues = no_tasks(alloc, P)?;
@@ -52,7 +52,7 @@ impl<Q: RunQueue + Drop, K: Clock + Drop, N: Naming + Counting, const P: usize> 
         requires counts { (prepared.1.about ≡ P) × (prepared.1.callers ≡ seat_count) × (unnamed.1 ≡ seat_count) }
         requires many { length queues.items ≡ P }
         requires empty { All (λ q. (Q.members q ≡ []) × (Q.kept_mark q ≡ 2 ^ 32)) queues.items }
-        ensures seats { IfOk result (λ r. r.1.items ≡ fresh 0 seat_count) }
+        ensures seats { IfOk result (λ r. r.1.items ≡ fresh_callers 0 seat_count) }
         ensures about { IfOk result (λ r. (r.0.recorder.history.about ≡ P) × (r.0.recorder.history.callers ≡ seat_count)) }
     {
         let (opening, seats) = Opening::over(alloc, queues, prepared, unnamed, seat_count)?;

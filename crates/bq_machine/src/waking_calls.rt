@@ -10,7 +10,7 @@ ghost use Rattle.bq_parts.specs.Shares.{Places};
 ghost use Rattle.bq_parts.specs.declared.refusal.Refusal.TheVariants as no;
 ghost use Rattle.bq_shared.specs.Parts.{cpu_part, reported_calls};
 ghost use Rattle.bq_machine.specs.Calls.{IsCallRefused};
-ghost use Rattle.bq_machine.specs.Placing.{IsPlaced};
+ghost use Rattle.bq_machine.specs.Placing.{WasPlaced};
 ghost use Rattle.bq_machine.specs.Waking.{IsWake};
 
 use crate::clock::Clock;
@@ -190,7 +190,7 @@ impl<Q: RunQueue + Drop, K: Clock + Drop, N: Naming + Counting, const P: usize> 
         ensures caller { working.new.caller ≡ (working.old.caller.0, working.old.caller.1 ++ result ∷ []) }
         ensures tally { working.new.tally ≡ account_of reported_calls working.new.caller.1 }
         ensures event { result.entry.event ≡ Event.EndWake cpu.old.content.number now }
-        ensures placed { IsPlaced task result.entry.reply }
+        ensures placed { WasPlaced task result.entry.reply }
         ensures held { cpu.new.holder ≡ part_item (cpu_part cpu.new.content.number cpu.new.content.state) ∷ [] }
         ensures rests { cpu.new.content.state.hand ≡ None }
     {

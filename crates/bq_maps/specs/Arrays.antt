@@ -31,12 +31,12 @@ abbrev pub bytes_of : Arrays → ℕ → List ℕ
 bytes_of a m = slice_index_or a.bytes m []
 
 -- the byte of map `m` at which entry `k` begins
-abbrev pub first_of : Arrays → ℕ → ℕ → ℕ
-first_of a m k = k * value_size_of a m
+abbrev pub entry_begin : Arrays → ℕ → ℕ → ℕ
+entry_begin a m k = k * value_size_of a m
 
 -- the bytes of entry `k` of map `m`
 abbrev pub entry_of : Arrays → ℕ → ℕ → List ℕ
-entry_of a m k = slice_range (bytes_of a m) (first_of a m k) (first_of a m k + value_size_of a m)
+entry_of a m k = slice_range (bytes_of a m) (entry_begin a m k) (entry_begin a m k + value_size_of a m)
 
 -- the maps with these bytes written into map `m` from its byte `at` on; all else stays
 abbrev pub with_bytes : Arrays → ℕ → ℕ → List ℕ → Arrays

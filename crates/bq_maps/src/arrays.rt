@@ -28,7 +28,7 @@ impl Model for Maps {
 impl Maps {
     ghost use Rattle.std.specs.Prelude.{◌<◌, ℕ, Some, slice_get, slice_index, IsTrue, ◌↔◌};
     ghost use Rattle.std.specs.Bool.{OnTrue, OnFalse};
-    ghost use Rattle.bq_maps.specs.Arrays.{HasEntry, value_size_of, first_of, bytes_of, entry_of, with_bytes};
+    ghost use Rattle.bq_maps.specs.Arrays.{HasEntry, value_size_of, entry_begin, bytes_of, entry_of, with_bytes};
     ghost use Rattle.bq_bpf.specs.Memory.{HaveShapes};
 
     /// Maps of these shapes, with all bytes 0. The only error is that memory runs out.
@@ -102,7 +102,7 @@ impl Maps {
     pub fn put(&mut self, m: usize, k: u32, at: usize, bytes: &[u8])
         requires there { HasEntry self.old m k }
         requires inside { at + length bytes.now ≤ value_size_of self.old m }
-        ensures { self.new ≡ with_bytes self.old m (first_of self.old m k + at) bytes.now }
+        ensures { self.new ≡ with_bytes self.old m (entry_begin self.old m k + at) bytes.now }
     {
         let size = usize::from(self.shape(m).value_size);
         self.write(m, k as usize * size + at, bytes);
@@ -112,7 +112,7 @@ impl Maps {
     pub fn update(&mut self, m: usize, k: u32, bytes: &[u8]) -> bool
         requires { HasEntry self.old m k → length bytes.now ≡ value_size_of self.old m }
         ensures answer { IsTrue result ↔ HasEntry self.old m k }
-        ensures written { OnTrue result (self.new ≡ with_bytes self.old m (first_of self.old m k + 0) bytes.now) }
+        ensures written { OnTrue result (self.new ≡ with_bytes self.old m (entry_begin self.old m k + 0) bytes.now) }
         ensures unchanged { OnFalse result (self.new ≡ self.old) }
     {
         if !self.lookup(m, k) {

@@ -13,8 +13,8 @@ use Rattle.bq_states.specs.declared.abstract_state.ValueKind.TheVariants as kind
 use Rattle.bq_states.specs.declared.abstract_state.AbstractValue.{AbstractValue}
 use Rattle.bq_states.specs.declared.abstract_state.AbstractState.{AbstractState}
 use Rattle.bq_policy_file.specs.declared.policy_source.PolicySource.{PolicySource}
-use Rattle.bq_verify.specs.Subjects.{context_of}
-use Rattle.bq_needs.specs.Accesses.{AreSet, Follows, GoesBeyond, IsMoved, IsShown, ReachesLast, Stays, DescribesBegin, Wraps, across, across_text, begin_of, counted, by_register, register_text}
+use Rattle.bq_verify.specs.Subjects.{context_size_of}
+use Rattle.bq_needs.specs.Accesses.{AreBytesSet, MayBeFollowed, GoesBeyond, IsMoved, IsAccessShown, ReachesLast, StaysBelow, DescribesBegin, Wraps, across, across_text, access_begin, counted, by_register, pointer_register_text}
 use Rattle.bq_needs.specs.Texts.{kind_text}
 use Rattle.bq_needs.specs.declared.operands.Access.{Access}
 
@@ -42,7 +42,7 @@ turned_range_wraps off offsets turned new moved =
     omega (arith, lo, hi, ordered, turned)
 
 -- with the greatest offset all bytes lie below the bound, and so with each
-pub all_below : (a : Access) (offsets at : Range) (bound : ℕ) → IsMoved a.off offsets at → at.hi + a.bytes ≤ bound → Stays a offsets bound
+pub all_below : (a : Access) (offsets at : Range) (bound : ℕ) → IsMoved a.off offsets at → at.hi + a.bytes ≤ bound → StaysBelow a offsets bound
 all_below a offsets at bound moved below o within =
     let in_range : Within at (address_of o a.off) = moved.each o within in
     omega (arith, in_range.1)
@@ -68,14 +68,14 @@ range_of_followed off offsets F follows (Some at) range wraps = (follows, range)
 
 -- the range says where the access begins
 pub describes_counted : (shapes : List MapShape) (a : Access) (k : AbstractValue) (at : Range) (text : List ℕ)
-    → Follows k.kind × IsMoved a.off k.offset at → text ≡ kind_text shapes k.kind at
+    → MayBeFollowed k.kind × IsMoved a.off k.offset at → text ≡ kind_text shapes k.kind at
     → DescribesBegin shapes a k text
 describes_counted shapes a k at text (follows, moved) is =
     subst (λ (t : List ℕ). DescribesBegin shapes a k t) (sym is) (counted at follows moved)
 
 -- the access begins from below to above, where no range has it
 pub describes_across : (shapes : List MapShape) (a : Access) (k : AbstractValue) (text : List ℕ)
-    → Follows k.kind → (Follows k.kind → ⊥) ⊎ Wraps a.off k.offset → text ≡ across_text shapes a k
+    → MayBeFollowed k.kind → (MayBeFollowed k.kind → ⊥) ⊎ Wraps a.off k.offset → text ≡ across_text shapes a k
     → DescribesBegin shapes a k text
 describes_across shapes a k text follows (inl not) is = absurd (not follows)
 describes_across shapes a k text follows (inr wraps) is =
@@ -83,15 +83,15 @@ describes_across shapes a k text follows (inr wraps) is =
 
 -- the text names the register of the access, where nothing says where it begins
 pub describes_register : (shapes : List MapShape) (a : Access) (k : AbstractValue) (text : List ℕ)
-    → (Follows k.kind → ⊥) → text ≡ register_text shapes a.register k → DescribesBegin shapes a k text
+    → (MayBeFollowed k.kind → ⊥) → text ≡ pointer_register_text shapes a.register k → DescribesBegin shapes a k text
 describes_register shapes a k text not is = subst (λ (t : List ℕ). DescribesBegin shapes a k t) (sym is) (by_register not)
 
 -- a read of the context within its length
 pub shown_in_context : (p : PolicySource) (state : AbstractState) (a : Access) (k : AbstractValue)
-    → k.kind ≡ kind.Context → a.writes ≡ false → Stays a k.offset (context_of p.form) → IsShown p state a k
+    → k.kind ≡ kind.Context → a.writes ≡ false → StaysBelow a k.offset (context_size_of p.form) → IsAccessShown p state a k
 shown_in_context p state a k of read stays =
     record {
-      bound = context_of p.form;
+      bound = context_size_of p.form;
       bound_is = rw of refl;
       stays = stays;
       writable = λ writes. cc;
@@ -100,7 +100,7 @@ shown_in_context p state a k of read stays =
 
 -- a write of the stack within its bytes
 pub written_on_stack : (p : PolicySource) (state : AbstractState) (a : Access) (k : AbstractValue)
-    → k.kind ≡ kind.Stack → a.writes ≡ true → Stays a k.offset 512 → IsShown p state a k
+    → k.kind ≡ kind.Stack → a.writes ≡ true → StaysBelow a k.offset 512 → IsAccessShown p state a k
 written_on_stack p state a k of written stays =
     record {
       bound = 512;
@@ -112,9 +112,9 @@ written_on_stack p state a k of written stays =
 
 -- a read of bytes of it that are set
 pub read_from_stack : (p : PolicySource) (state : AbstractState) (a : Access) (k : AbstractValue)
-    → k.kind ≡ kind.Stack → a.writes ≡ false → Stays a k.offset 512
-    → AreSet state.set (begin_of a k.offset.lo) (begin_of a k.offset.hi + a.bytes)
-    → IsShown p state a k
+    → k.kind ≡ kind.Stack → a.writes ≡ false → StaysBelow a k.offset 512
+    → AreBytesSet state.set (access_begin a k.offset.lo) (access_begin a k.offset.hi + a.bytes)
+    → IsAccessShown p state a k
 read_from_stack p state a k of read stays set =
     record {
       bound = 512;
@@ -126,8 +126,8 @@ read_from_stack p state a k of read stays set =
 
 -- an access within a value of the map
 pub shown_in_value : (p : PolicySource) (state : AbstractState) (a : Access) (k : AbstractValue) (map size : ℕ)
-    → k.kind ≡ kind.Entry map → size_of_shape (slice_get p.form.shapes.items map) ≡ Some size → Stays a k.offset size
-    → IsShown p state a k
+    → k.kind ≡ kind.Entry map → size_of_shape (slice_get p.form.shapes.items map) ≡ Some size → StaysBelow a k.offset size
+    → IsAccessShown p state a k
 shown_in_value p state a k map size of is stays =
     record {
       bound = size;

@@ -15,7 +15,7 @@ use Rattle.bq_states.specs.declared.abstract_state.ValueKind.{ValueKind}
 use Rattle.bq_states.specs.declared.abstract_state.ValueKind.TheVariants.{Number, Context, Stack, Entry, EntryOrNull, Map}
 use Rattle.bq_states.specs.declared.abstract_state.AbstractValue.{AbstractValue}
 use Rattle.bq_needs.specs.DescribedWords.{DescribesWord, any_number, number, number_below, context, stack_begin, stack_end, entry, entry_or_null, map_reference, IsEntryOf, DescribesMap, itself, alike, DescribesPlace, there, above, under}
-use Rattle.bq_needs.specs.Texts.{below_text, is_shared, map_name, minus_text, range_text, number_text, offset_text, same_shape, stack_text, kind_text, known_text}
+use Rattle.bq_needs.specs.Texts.{below_text, is_shared, map_name, minus_text, range_text, number_text, offset_text, same_shape, stack_pointer_text, kind_text, known_text}
 
 -- with what made the sum wrap taken away, the address is the place itself
 pub wrap_taken_away : (place o n : ℕ) → o + n ≡ 2 ^ 64 → ((place + o) % 2 ^ 64 + n) % 2 ^ 64 ≡ place % 2 ^ 64
@@ -53,7 +53,7 @@ describes_offset r o place word within is =
 
 -- a pointer into the stack is said
 pub describes_stack : (shapes : List MapShape) (r : Range) (o word : ℕ)
-    → Within r o → word ≡ (stack_base + o) % 2 ^ 64 → DescribesWord shapes (stack_text r) word
+    → Within r o → word ≡ (stack_base + o) % 2 ^ 64 → DescribesWord shapes (stack_pointer_text r) word
 describes_stack shapes r o word within is =
     elim (nat_lt 512 r.hi) as (λ b.
     nat_lt 512 r.hi ≡ b →

@@ -8,10 +8,10 @@ use Rattle.bq_states.specs.declared.abstract_state.ValueKind.TheVariants as kind
 use Rattle.bq_states.specs.declared.abstract_state.AbstractValue.{AbstractValue}
 use Rattle.bq_states.specs.declared.abstract_state.AbstractState.{AbstractState}
 use Rattle.bq_policy_file.specs.declared.policy_source.PolicySource.{PolicySource}
-use Rattle.bq_verify.specs.Subjects.{context_of}
-use Rattle.bq_needs.specs.Accesses.{IsShown, Lacks}
+use Rattle.bq_verify.specs.Subjects.{context_size_of}
+use Rattle.bq_needs.specs.Accesses.{IsAccessShown, Lacks}
 use Rattle.bq_needs.specs.Arguments.{PointsTo, PointsToValue}
-use Rattle.bq_needs.specs.Needs.{AreKnown, AreNumbers, AreUnknown, IsFirstPointer, IsGoodAccess, is_unknown}
+use Rattle.bq_needs.specs.Needs.{AreReadsKnown, AreNumbers, AreUnknown, IsFirstPointer, IsGoodAccess, is_unknown}
 use Rattle.bq_bpf.specs.declared.shape.MapShape.{MapShape}
 use Rattle.bq_needs.specs.Operands.{access_of, known_in, reads, works_on}
 use Rattle.bq_needs.specs.declared.accesses.Lack.TheVariants as lack
@@ -20,14 +20,14 @@ use Rattle.bq_needs.specs.declared.operands.Access.{Access}
 
 -- what is lacking of an access is not shown of it
 pub lacks_not_shown : (p : PolicySource) (state : AbstractState) (a : Access) (k : AbstractValue) (why : Lack)
-    → Lacks p state a k why → IsShown p state a k → ⊥
+    → Lacks p state a k why → IsAccessShown p state a k → ⊥
 lacks_not_shown p state a k lack.Number of shown = let e = rw of at shown.bound_is in cc
 lacks_not_shown p state a k lack.Answer (map, of) shown = let e = rw of at shown.bound_is in cc
 lacks_not_shown p state a k lack.MovedAnswer ((map, of), moved) shown = let e = rw of at shown.bound_is in cc
 lacks_not_shown p state a k lack.Reference (map, of) shown = let e = rw of at shown.bound_is in cc
 lacks_not_shown p state a k lack.WritesContext (of, writes) shown = shown.writable writes of
 lacks_not_shown p state a k lack.BeyondContext (of, read, (o, within, beyond)) shown =
-    let bound : context_of p.form ≡ shown.bound = same_Some _ _ (rw of at shown.bound_is) in
+    let bound : context_size_of p.form ≡ shown.bound = same_Some _ _ (rw of at shown.bound_is) in
     let below = shown.stays o within in
     omega arith
 lacks_not_shown p state a k lack.BeyondStack (of, (o, within, beyond)) shown =
@@ -43,11 +43,11 @@ lacks_not_shown p state a k lack.InNoMap (map, of, is) shown = let e = sym is �
 
 -- an access that is shown by what is known of its register is good
 pub shown_good : (p : PolicySource) (state : AbstractState) (insn : Insn) (a : Access) (k : AbstractValue)
-    → access_of insn ≡ Some a → known_in state a.register ≡ Some k → IsShown p state a k
+    → access_of insn ≡ Some a → known_in state a.register ≡ Some k → IsAccessShown p state a k
     → IsGoodAccess p state insn
 shown_good p state insn a k is known shown b other =
     let same : a ≡ b = same_Some a b (sym is ∙ other) in
-    subst (λ (x : Access). (k : AbstractValue) × (known_in state x.register ≡ Some k) × IsShown p state x k) same (k, known, shown)
+    subst (λ (x : Access). (k : AbstractValue) × (known_in state x.register ≡ Some k) × IsAccessShown p state x k) same (k, known, shown)
 
 -- a register that points to bytes of which something is lacking does not point to what may be read
 pub lacking_not_pointing : (p : PolicySource) (state : AbstractState) (r bytes : ℕ) (k : AbstractValue) (why : Lack)
@@ -56,12 +56,12 @@ pub lacking_not_pointing : (p : PolicySource) (state : AbstractState) (r bytes :
 lacking_not_pointing p state r bytes k why known lacks (other, is, shown) =
     let a : Access = record { writes = false; bytes = bytes; register = r; off = pos 0 } in
     let same : other ≡ k = same_Some _ _ (sym is ∙ known) in
-    lacks_not_shown p state a k why lacks (subst (λ (x : AbstractValue). IsShown p state a x) same shown)
+    lacks_not_shown p state a k why lacks (subst (λ (x : AbstractValue). IsAccessShown p state a x) same shown)
 
 -- where none of the registers is one that is read and not known, each that is read is known
 pub all_known : (state : AbstractState) (insn : Insn) (registers : List Bool)
     → AreUnknown state insn registers → ((r : ℕ) → r < 11 → slice_index_or registers r false ≡ true → ⊥)
-    → AreKnown state insn
+    → AreReadsKnown state insn
 all_known state insn registers are none r below read unset =
     let unknown : is_unknown state insn r ≡ true = rw (read, unset) refl in
     none r below (are r below ∙ unknown)
@@ -74,7 +74,7 @@ not_known true (Some k) e = absurd cc
 -- where one of them is, not each that is read is known
 pub one_unknown : (state : AbstractState) (insn : Insn) (registers : List Bool)
     → AreUnknown state insn registers → (r : ℕ) → r < 11 → slice_index_or registers r false ≡ true
-    → ¬ (AreKnown state insn)
+    → ¬ (AreReadsKnown state insn)
 one_unknown state insn registers are r below one known =
     let both = not_known (reads insn r) (known_in state r) (sym (are r below) ∙ one) in
     known r below both.0 both.1

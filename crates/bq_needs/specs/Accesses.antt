@@ -6,7 +6,7 @@ use Rattle.bq_bpf.specs.Steps.{address_of}
 use Rattle.bq_ranges.specs.Within.{Within}
 use Rattle.bq_ranges.specs.declared.range.Range.{Range}
 use Rattle.bq_hooks.specs.Hooks.{hook_word, version_number}
-use Rattle.bq_verify.specs.Subjects.{context_of}
+use Rattle.bq_verify.specs.Subjects.{context_size_of}
 use Rattle.bq_verify.specs.declared.policy_form.PolicyForm.{PolicyForm}
 use Rattle.bq_bpf.specs.Memory.{stack_size}
 use Rattle.bq_states.specs.AbstractStates.{bound_of, size_of_shape}
@@ -21,24 +21,24 @@ use Rattle.bq_needs.specs.declared.operands.Access.{Access}
 use Rattle.bq_needs.specs.Texts.{kind_text, known_text, map_name}
 
 -- the place where the access begins, as an offset, if its pointer has this offset
-abbrev pub begin_of : Access → ℕ → ℕ
-begin_of a offset = address_of offset a.off
+abbrev pub access_begin : Access → ℕ → ℕ
+access_begin a offset = address_of offset a.off
 
 -- the bytes from the first up to the one past the last are set
-abbrev pub AreSet : List Bool → ℕ → ℕ → Type 0
-AreSet set first past = (i : ℕ) → first ≤ i → i < past → slice_index_or set i false ≡ true
+abbrev pub AreBytesSet : List Bool → ℕ → ℕ → Type 0
+AreBytesSet set first past = (i : ℕ) → first ≤ i → i < past → slice_index_or set i false ≡ true
 
 -- with each offset that the pointer may have all bytes lie below the bound
-abbrev pub Stays : Access → Range → ℕ → Type 0
-Stays a offsets bound = (o : ℕ) → Within offsets o → begin_of a o + a.bytes ≤ bound
+abbrev pub StaysBelow : Access → Range → ℕ → Type 0
+StaysBelow a offsets bound = (o : ℕ) → Within offsets o → access_begin a o + a.bytes ≤ bound
 
 -- with one of the offsets that the pointer may have, some byte does not lie below the bound
 abbrev pub GoesBeyond : Access → Range → ℕ → Type 0
-GoesBeyond a offsets bound = (o : ℕ) × Within offsets o × (bound < begin_of a o + a.bytes)
+GoesBeyond a offsets bound = (o : ℕ) × Within offsets o × (bound < access_begin a o + a.bytes)
 
 -- one of the bytes that the access may touch is not known to be set
 abbrev pub TouchesUnset : AbstractState → Access → Range → Type 0
-TouchesUnset state a offsets = (i : ℕ) × (begin_of a offsets.lo ≤ i) × (i < begin_of a offsets.hi + a.bytes) × (slice_index_or state.set i false ≡ false)
+TouchesUnset state a offsets = (i : ℕ) × (access_begin a offsets.lo ≤ i) × (i < access_begin a offsets.hi + a.bytes) × (slice_index_or state.set i false ≡ false)
 
 -- each word of the range, so far on, is in the other one, and so are its ends
 pub record IsMoved (off : ℤ) (old new : Range) : Type 0 where
@@ -55,19 +55,19 @@ abbrev pub Wraps : ℤ → Range → Type 0
 Wraps off old = (new : Range) → IsMoved off old new → ⊥
 
 -- a pointer of the kind may be followed: into the context, the stack or a value of a map
-abbrev pub Follows : ValueKind → Type 0
-Follows kind.Context = Unit {0}
-Follows kind.Stack = Unit {0}
-Follows (kind.Entry map) = Unit {0}
-Follows _ = ⊥
+abbrev pub MayBeFollowed : ValueKind → Type 0
+MayBeFollowed kind.Context = Unit {0}
+MayBeFollowed kind.Stack = Unit {0}
+MayBeFollowed (kind.Entry map) = Unit {0}
+MayBeFollowed _ = ⊥
 
 -- by what is known of its pointer the access is good: it stays in what the pointer points to, it does not write the context, and what it reads of the stack is set
-pub record IsShown (p : PolicySource) (state : AbstractState) (a : Access) (k : AbstractValue) : Type 0 where
+pub record IsAccessShown (p : PolicySource) (state : AbstractState) (a : Access) (k : AbstractValue) : Type 0 where
   pub bound : ℕ
-  pub bound_is : bound_of p.form.shapes.items (context_of p.form) k.kind ≡ Some bound
-  pub stays : Stays a k.offset bound
+  pub bound_is : bound_of p.form.shapes.items (context_size_of p.form) k.kind ≡ Some bound
+  pub stays : StaysBelow a k.offset bound
   pub writable : a.writes ≡ true → k.kind ≢ kind.Context
-  pub set : a.writes ≡ false → k.kind ≡ kind.Stack → AreSet state.set (begin_of a k.offset.lo) (begin_of a k.offset.hi + a.bytes)
+  pub set : a.writes ≡ false → k.kind ≡ kind.Stack → AreBytesSet state.set (access_begin a k.offset.lo) (access_begin a k.offset.hi + a.bytes)
 
 -- what is not so of the access
 abbrev pub Lacks : PolicySource → AbstractState → Access → AbstractValue → Lack → Type 0
@@ -76,15 +76,15 @@ Lacks p state a k lack.Answer = (map : ℕ) × (k.kind ≡ kind.EntryOrNull map)
 Lacks p state a k lack.MovedAnswer = ((map : ℕ) × (k.kind ≡ kind.EntryOrNull map)) × (0 < k.offset.hi)
 Lacks p state a k lack.Reference = (map : ℕ) × (k.kind ≡ kind.Map map)
 Lacks p state a k lack.WritesContext = (k.kind ≡ kind.Context) × (a.writes ≡ true)
-Lacks p state a k lack.BeyondContext = (k.kind ≡ kind.Context) × (a.writes ≡ false) × GoesBeyond a k.offset (context_of p.form)
+Lacks p state a k lack.BeyondContext = (k.kind ≡ kind.Context) × (a.writes ≡ false) × GoesBeyond a k.offset (context_size_of p.form)
 Lacks p state a k lack.BeyondStack = (k.kind ≡ kind.Stack) × GoesBeyond a k.offset stack_size
-Lacks p state a k lack.ReadsUnset = (k.kind ≡ kind.Stack) × (a.writes ≡ false) × Stays a k.offset stack_size × TouchesUnset state a k.offset
+Lacks p state a k lack.ReadsUnset = (k.kind ≡ kind.Stack) × (a.writes ≡ false) × StaysBelow a k.offset stack_size × TouchesUnset state a k.offset
 Lacks p state a k (lack.BeyondValue map size) = (k.kind ≡ kind.Entry map) × (size_of_shape (slice_get p.form.shapes.items map) ≡ Some size) × GoesBeyond a k.offset size
 Lacks p state a k lack.InNoMap = (map : ℕ) × (k.kind ≡ kind.Entry map) × (size_of_shape (slice_get p.form.shapes.items map) ≡ None)
 
 -- how many bytes the context has
 abbrev pub length_text : PolicyForm → List ℕ
-length_text form = codes ", has " ++ (decimal (context_of form) ++ codes " bytes")
+length_text form = codes ", has " ++ (decimal (context_size_of form) ++ codes " bytes")
 
 -- what is said of an access that lacks that
 abbrev pub lack_text : PolicySource → Lack → List ℕ
@@ -105,28 +105,28 @@ may_be_null (kind.EntryOrNull map) = true
 may_be_null _ = false
 
 -- the register and what is known of it; if it is the answer of a look-up, that it may be null
-abbrev pub register_text : List MapShape → ℕ → AbstractValue → List ℕ
-register_text shapes r k =
+abbrev pub pointer_register_text : List MapShape → ℕ → AbstractValue → List ℕ
+pointer_register_text shapes r k =
     if may_be_null k.kind then codes "r" ++ (decimal r ++ codes ", which may be null") else codes "r" ++ (decimal r ++ (codes ", which is " ++ known_text shapes k))
 
 -- what a pointer that may be followed counts from
-abbrev pub place_text : List MapShape → ValueKind → List ℕ
-place_text shapes (kind.Entry map) = codes "entry of " ++ map_name shapes map
-place_text shapes kind.Stack = codes "stack begin"
-place_text shapes _ = codes "context"
+abbrev pub pointed_place_text : List MapShape → ValueKind → List ℕ
+pointed_place_text shapes (kind.Entry map) = codes "entry of " ++ map_name shapes map
+pointed_place_text shapes kind.Stack = codes "stack begin"
+pointed_place_text shapes _ = codes "context"
 
 -- the place of an access that may begin below or above what its pointer counts from: the distance below and the distance above
 abbrev pub across_text : List MapShape → Access → AbstractValue → List ℕ
 across_text shapes a k =
-    place_text shapes k.kind ++ (codes " -" ++ (decimal ((2 ^ 64 - address_of k.offset.lo a.off) % 2 ^ 64) ++ (codes ".." ++ decimal (address_of k.offset.hi a.off))))
+    pointed_place_text shapes k.kind ++ (codes " -" ++ (decimal ((2 ^ 64 - address_of k.offset.lo a.off) % 2 ^ 64) ++ (codes ".." ++ decimal (address_of k.offset.hi a.off))))
 
 -- The text says where the access begins. If its pointer may be followed, it says the offset as a range of words, or, if the
 -- words begin again from 0 on the way, the distance below and the distance above. If not, it says the register and what is known
 -- of it.
 pub data DescribesBegin (shapes : List MapShape) (a : Access) (k : AbstractValue) : List ℕ → Type 0 where
-  counted : (at : Range) → Follows k.kind → IsMoved a.off k.offset at → DescribesBegin shapes a k (kind_text shapes k.kind at)
-  across : Follows k.kind → Wraps a.off k.offset → DescribesBegin shapes a k (across_text shapes a k)
-  by_register : (Follows k.kind → ⊥) → DescribesBegin shapes a k (register_text shapes a.register k)
+  counted : (at : Range) → MayBeFollowed k.kind → IsMoved a.off k.offset at → DescribesBegin shapes a k (kind_text shapes k.kind at)
+  across : MayBeFollowed k.kind → Wraps a.off k.offset → DescribesBegin shapes a k (across_text shapes a k)
+  by_register : (MayBeFollowed k.kind → ⊥) → DescribesBegin shapes a k (pointer_register_text shapes a.register k)
 
 -- the verb of an access
 abbrev pub verb : Bool → List ℕ

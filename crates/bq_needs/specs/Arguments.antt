@@ -11,7 +11,7 @@ use Rattle.bq_states.specs.declared.abstract_state.AbstractState.{AbstractState}
 use Rattle.bq_policy_file.specs.declared.policy_source.PolicySource.{PolicySource}
 use Rattle.bq_needs.specs.declared.arguments.Argument.TheVariants as argument
 use Rattle.bq_needs.specs.declared.arguments.Argument.{Argument}
-use Rattle.bq_needs.specs.Accesses.{IsShown}
+use Rattle.bq_needs.specs.Accesses.{IsAccessShown}
 use Rattle.bq_needs.specs.Operands.{known_in}
 
 -- the helper has that argument
@@ -25,7 +25,7 @@ Wants helper argument.Amount = helper ≡ number_of_helper AddCounter
 
 -- the register points to this many bytes that may be read
 abbrev pub PointsTo : PolicySource → AbstractState → ℕ → ℕ → Type 0
-PointsTo p state r bytes = (k : AbstractValue) × (known_in state r ≡ Some k) × IsShown p state (record { writes = false; bytes = bytes; register = r; off = pos 0 }) k
+PointsTo p state r bytes = (k : AbstractValue) × (known_in state r ≡ Some k) × IsAccessShown p state (record { writes = false; bytes = bytes; register = r; off = pos 0 }) k
 
 -- register 1 is the reference of a map, and register 3 points to as many as a value of it has
 abbrev pub PointsToValue : PolicySource → AbstractState → Type 0
@@ -38,31 +38,31 @@ IsCounter None = ⊥
 IsCounter (Some k) = (k.kind ≡ Number) × (k.offset.hi < COUNTERS)
 
 -- the abstract state shows the argument to be what the helper needs
-abbrev pub IsGood : PolicySource → AbstractState → Argument → Type 0
-IsGood p state argument.Map = (m : ℕ) × CertaintyHoldsAt (Pointer (Map m) 0) state 1
-IsGood p state argument.Entry = PointsTo p state 2 4
-IsGood p state argument.Value = PointsToValue p state
-IsGood p state argument.Zero = CertaintyHoldsAt (Exact 0) state 4
-IsGood p state argument.Counter = IsCounter (known_in state 1)
-IsGood p state argument.Amount = CertaintyHoldsAt Scalar state 2
+abbrev pub IsArgumentShown : PolicySource → AbstractState → Argument → Type 0
+IsArgumentShown p state argument.Map = (m : ℕ) × CertaintyHoldsAt (Pointer (Map m) 0) state 1
+IsArgumentShown p state argument.Entry = PointsTo p state 2 4
+IsArgumentShown p state argument.Value = PointsToValue p state
+IsArgumentShown p state argument.Zero = CertaintyHoldsAt (Exact 0) state 4
+IsArgumentShown p state argument.Counter = IsCounter (known_in state 1)
+IsArgumentShown p state argument.Amount = CertaintyHoldsAt Scalar state 2
 
 -- the state gives each argument that the helper wants
 abbrev pub GivesHelper : PolicySource → AbstractState → ℤ → Type 0
-GivesHelper p state helper = (a : Argument) → Wants helper a → IsGood p state a
+GivesHelper p state helper = (a : Argument) → Wants helper a → IsArgumentShown p state a
 
 -- the state does not give this argument of the helper
 pub record IsBad (p : PolicySource) (state : AbstractState) (helper : ℤ) (a : Argument) : Type 0 where
   pub wanted : Wants helper a
-  pub not_given : ¬ (IsGood p state a)
+  pub not_given : ¬ (IsArgumentShown p state a)
 
 -- the register of an argument
-abbrev pub register_of : Argument → ℕ
-register_of argument.Map = 1
-register_of argument.Entry = 2
-register_of argument.Value = 3
-register_of argument.Zero = 4
-register_of argument.Counter = 1
-register_of argument.Amount = 2
+abbrev pub argument_register : Argument → ℕ
+argument_register argument.Map = 1
+argument_register argument.Entry = 2
+argument_register argument.Value = 3
+argument_register argument.Zero = 4
+argument_register argument.Counter = 1
+argument_register argument.Amount = 2
 
 -- what the helper wants as this argument
 abbrev pub wanted_text : Argument → List ℕ

@@ -15,13 +15,13 @@ use Rattle.bq_needs.specs.declared.needs.Need.TheVariants as need
 use Rattle.bq_needs.specs.declared.needs.Need.{Need}
 use Rattle.bq_needs.specs.declared.needs.Pointer.{Pointer}
 use Rattle.bq_needs.specs.declared.operands.Access.{Access as Accessed}
-use Rattle.bq_needs.specs.Accesses.{IsShown, Lacks}
+use Rattle.bq_needs.specs.Accesses.{IsAccessShown, Lacks}
 use Rattle.bq_needs.specs.Arguments.{GivesHelper, IsBad}
 use Rattle.bq_needs.specs.Operands.{access_of, known_in, reads, works_on}
 
 -- each register that the instruction reads is known to be set
-abbrev pub AreKnown : AbstractState → Insn → Type 0
-AreKnown state insn = (r : ℕ) → r < 11 → reads insn r ≡ true → known_in state r ≢ None
+abbrev pub AreReadsKnown : AbstractState → Insn → Type 0
+AreReadsKnown state insn = (r : ℕ) → r < 11 → reads insn r ≡ true → known_in state r ≢ None
 
 -- each register below this one that the instruction works on, and of which something is known, is a number
 abbrev pub AreNumbersBelow : ℕ → AbstractState → Insn → Type 0
@@ -33,21 +33,21 @@ AreNumbers state insn = AreNumbersBelow 11 state insn
 
 -- a load or a store is known to be good
 abbrev pub IsGoodAccess : PolicySource → AbstractState → Insn → Type 0
-IsGoodAccess p state insn = (a : Accessed) → access_of insn ≡ Some a → (k : AbstractValue) × (known_in state a.register ≡ Some k) × IsShown p state a k
+IsGoodAccess p state insn = (a : Accessed) → access_of insn ≡ Some a → (k : AbstractValue) × (known_in state a.register ≡ Some k) × IsAccessShown p state a k
 
 -- there is a map of that number
-abbrev pub IsMap : PolicySource → ℤ → Type 0
-IsMap p index = (m : ℕ) × (index ≡ pos m) × (m < length p.form.shapes.items)
+abbrev pub IsMapNumber : PolicySource → ℤ → Type 0
+IsMapNumber p index = (m : ℕ) × (index ≡ pos m) × (m < length p.form.shapes.items)
 
 -- there is a map of that number; of a call, the arguments are what its helper wants
 abbrev pub AreGoodArguments : PolicySource → AbstractState → Insn → Type 0
-AreGoodArguments p state (MapRef dst index) = IsMap p index
+AreGoodArguments p state (MapRef dst index) = IsMapNumber p index
 AreGoodArguments p state (Call helper) = GivesHelper p state helper
 AreGoodArguments p state insn = Unit {0}
 
 -- the abstract state gives the instruction what the cause says that it lacks
 abbrev pub IsMet : PolicySource → AbstractState → Insn → Cause → Type 0
-IsMet p state insn (State Unset) = AreKnown state insn
+IsMet p state insn (State Unset) = AreReadsKnown state insn
 IsMet p state insn (State Access) = IsGoodAccess p state insn
 IsMet p state insn (State PointerUse) = AreNumbers state insn
 IsMet p state insn (State Argument) = AreGoodArguments p state insn

@@ -19,20 +19,20 @@ reads_left Mov = false
 reads_left _ = true
 
 -- the second operand is that register
-abbrev pub is_register : Source → ℕ → Bool
-is_register (Imm i) r = false
-is_register (Reg s) r = s == r
+abbrev pub is_that_register : Source → ℕ → Bool
+is_that_register (Imm i) r = false
+is_that_register (Reg s) r = s == r
 
 -- the instruction reads the register as an operand
 abbrev pub reads : Insn → ℕ → Bool
-reads (Alu w op dst src) r = (reads_left op && (dst == r)) || is_register src r
+reads (Alu w op dst src) r = (reads_left op && (dst == r)) || is_that_register src r
 reads (MovSx w bits dst src) r = src == r
 reads (Neg w dst) r = dst == r
 reads (End order bits dst) r = dst == r
 reads (Load size signed dst src off) r = src == r
 reads (StoreImm size dst off imm) r = dst == r
 reads (StoreReg size dst off src) r = (dst == r) || (src == r)
-reads (Branch w c dst src off) r = (dst == r) || is_register src r
+reads (Branch w c dst src off) r = (dst == r) || is_that_register src r
 reads insn r = false
 
 -- what the instruction works on: a store of a register on that one, and each other instruction on those that it reads

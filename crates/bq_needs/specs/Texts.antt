@@ -37,8 +37,8 @@ offset_text r =
     if r.hi == 0 then [] else if nat_lt r.lo (2 ^ 63) then codes " + " ++ range_text r else below_text (2 ^ 64 - r.lo) (2 ^ 64 - r.hi)
 
 -- a pointer into the stack: how far it is below the stack's end, unless it may be beyond the end
-abbrev pub stack_text : Range → List ℕ
-stack_text r =
+abbrev pub stack_pointer_text : Range → List ℕ
+stack_pointer_text r =
     if nat_lt stack_size r.hi then codes "stack begin" ++ offset_text r
     else if r.lo == stack_size then codes "stack end" else codes "stack end" ++ below_text (stack_size - r.lo) (stack_size - r.hi)
 
@@ -60,7 +60,7 @@ map_name shapes map =
 abbrev pub kind_text : List MapShape → ValueKind → Range → List ℕ
 kind_text shapes Number r = number_text r
 kind_text shapes Context r = codes "context" ++ offset_text r
-kind_text shapes Stack r = stack_text r
+kind_text shapes Stack r = stack_pointer_text r
 kind_text shapes (Entry map) r = codes "entry of " ++ (map_name shapes map ++ offset_text r)
 kind_text shapes (EntryOrNull map) r = codes "entry of " ++ (map_name shapes map ++ (codes " or null" ++ (offset_text r ++ codes ", not tested")))
 kind_text shapes (Map map) r = map_name shapes map ++ offset_text r

@@ -16,27 +16,27 @@ use Rattle.bq_needs.specs.declared.needs.Need.{Need}
 use Rattle.bq_needs.specs.declared.needs.Need.TheVariants.{Unknown, Address, Access, Number, Map, Argument, Answer, Unshown}
 use Rattle.bq_needs.specs.declared.needs.Pointer.{Pointer}
 use Rattle.bq_needs.specs.declared.operands.Access.{Access as Accessed}
-use Rattle.bq_needs.specs.Accesses.{DescribesBegin, access_text, lack_text, may_be_null, noun, register_text, verb}
-use Rattle.bq_needs.specs.Arguments.{register_of, wanted_text}
+use Rattle.bq_needs.specs.Accesses.{DescribesBegin, access_text, lack_text, may_be_null, noun, pointer_register_text, verb}
+use Rattle.bq_needs.specs.Arguments.{argument_register, wanted_text}
 use Rattle.bq_needs.specs.Operands.{known_in}
 use Rattle.bq_needs.specs.Texts.{known_text}
 
 -- the name of a register, if it is named; `and` comes before it, unless it is the first
-abbrev pub name_text : ℕ → Bool → Bool → List ℕ
-name_text r is_first named = if named then (if is_first then codes " r" ++ decimal r else codes " and r" ++ decimal r) else []
+abbrev pub register_name_text : ℕ → Bool → Bool → List ℕ
+register_name_text r is_first named = if named then (if is_first then codes " r" ++ decimal r else codes " and r" ++ decimal r) else []
 
 -- the names of the marked registers among the first ones, this many
 abbrev pub names_below : ℕ → List Bool → List ℕ
 names_below zero registers = []
-names_below (suc n) registers = names_below n registers ++ name_text n (length (names_below n registers) == 0) (slice_index_or registers n false)
+names_below (suc n) registers = names_below n registers ++ register_name_text n (length (names_below n registers) == 0) (slice_index_or registers n false)
 
 -- nothing is known of it
 abbrev pub unknown_here : List ℕ
 unknown_here = codes ", of which nothing is known here"
 
 -- the registers that are read and of which nothing is known
-abbrev pub unknown_text : List Bool → List ℕ
-unknown_text registers = codes "reads" ++ (names_below 11 registers ++ unknown_here)
+abbrev pub unknown_reads_text : List Bool → List ℕ
+unknown_reads_text registers = codes "reads" ++ (names_below 11 registers ++ unknown_here)
 
 -- an access by a register of which nothing is known
 abbrev pub address_text : Accessed → List ℕ
@@ -73,17 +73,17 @@ pointer_rule insn p = other_rule insn p
 
 -- a pointer that is worked on
 abbrev pub pointer_text : List MapShape → Pointer → Insn → List ℕ
-pointer_text shapes pointer insn = codes "works on " ++ (register_text shapes pointer.register pointer.known ++ (codes "; " ++ pointer_rule insn pointer))
+pointer_text shapes pointer insn = codes "works on " ++ (pointer_register_text shapes pointer.register pointer.known ++ (codes "; " ++ pointer_rule insn pointer))
 
 -- how many maps a program has, and their numbers
-abbrev pub maps_text : ℕ → List ℕ
-maps_text count =
+abbrev pub map_numbers_text : ℕ → List ℕ
+map_numbers_text count =
     if count == 0 then codes "no maps"
     else if count == 1 then codes "1 map, number 0" else decimal count ++ (codes " maps, numbers 0 to " ++ decimal (count - 1))
 
 -- a number that is no map's, and how many maps there are
 abbrev pub map_text : ℤ → ℕ → List ℕ
-map_text index count = codes "names map " ++ (signed_decimal index ++ (codes "; the program has " ++ maps_text count))
+map_text index count = codes "names map " ++ (signed_decimal index ++ (codes "; the program has " ++ map_numbers_text count))
 
 -- what is known of an argument
 abbrev pub here_text : List MapShape → ℕ → Option AbstractValue → List ℕ
@@ -97,7 +97,7 @@ register_here shapes state r = here_text shapes r (known_in state r)
 -- what a helper needs an argument to be, and what is known of it
 abbrev pub argument_text : List MapShape → AbstractState → ℤ → Wanted → List ℕ
 argument_text shapes state helper a =
-    codes "calls helper " ++ (signed_decimal helper ++ (codes ", which wants " ++ (wanted_text a ++ (codes "; here " ++ register_here shapes state (register_of a)))))
+    codes "calls helper " ++ (signed_decimal helper ++ (codes ", which wants " ++ (wanted_text a ++ (codes "; here " ++ register_here shapes state (argument_register a)))))
 
 -- what is known of register 0 at an EXIT
 abbrev pub answer_text : List MapShape → Option AbstractValue → List ℕ
@@ -106,7 +106,7 @@ answer_text shapes (Some k) = codes "ends, and r0, the answer, is " ++ (known_te
 
 -- the text tells the need of the instruction
 abbrev pub DescribesNeed : PolicySource → AbstractState → Insn → Need → List ℕ → Type 0
-DescribesNeed p state insn (Unknown registers) text = text ≡ unknown_text registers
+DescribesNeed p state insn (Unknown registers) text = text ≡ unknown_reads_text registers
 DescribesNeed p state insn (Address a) text = text ≡ address_text a
 DescribesNeed p state insn (Access a k lack) text = (described : List ℕ) × DescribesAccess p.form.shapes.items a k described × (text ≡ described ++ (codes "; " ++ lack_text p lack))
 DescribesNeed p state insn (Number pointer) text = text ≡ pointer_text p.form.shapes.items pointer insn

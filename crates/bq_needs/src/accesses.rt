@@ -1,6 +1,6 @@
 //! Decides whether what is known of its pointer shows an access to be good, and says in words why not.
 ghost use Rattle.std.specs.Prelude.{◌≡◌, ◌⊎◌, ◌↔◌, ◌<◌, ◌≤◌, ◌+◌, IfOk, IfNone, IsTrue, MatchBool, MatchOption, Some, false, true, string_bytes};
-ghost use Rattle.bq_needs.specs.Accesses.{AreSet, Follows, GoesBeyond, IsMoved, IsShown, Lacks, ReachesLast, Stays, DescribesBegin, TouchesUnset, Wraps, across_text, begin_of, lack_text, may_be_null, place_text, register_text};
+ghost use Rattle.bq_needs.specs.Accesses.{AreBytesSet, MayBeFollowed, GoesBeyond, IsMoved, IsAccessShown, Lacks, ReachesLast, StaysBelow, DescribesBegin, TouchesUnset, Wraps, across_text, access_begin, lack_text, may_be_null, pointed_place_text, pointer_register_text};
 
 use crate::known::{kind_text, known_text, map_name};
 use crate::operands::Access;
@@ -46,7 +46,7 @@ pub(crate) fn lack_of(
     pointer: AbstractValue,
 ) -> Option<Lack>
     requires { access.bytes ≤ 256 }
-    ensures { MatchOption result (IsShown policy.now state.now access pointer) (Lacks policy.now state.now access pointer) }
+    ensures { MatchOption result (IsAccessShown policy.now state.now access pointer) (Lacks policy.now state.now access pointer) }
 {
     match pointer.kind {
         ValueKind::Number => Some(Lack::Number),
@@ -69,7 +69,7 @@ fn context_lack(
 ) -> Option<Lack>
     requires few { access.bytes ≤ 256 }
     requires kind { pointer.kind ≡ ValueKind.Context }
-    ensures { MatchOption result (IsShown policy.now state.now access pointer) (Lacks policy.now state.now access pointer) }
+    ensures { MatchOption result (IsAccessShown policy.now state.now access pointer) (Lacks policy.now state.now access pointer) }
 {
     if access.writes {
         return Some(Lack::WritesContext);
@@ -92,7 +92,7 @@ fn stack_lack(
 ) -> Option<Lack>
     requires few { access.bytes ≤ 256 }
     requires kind { pointer.kind ≡ ValueKind.Stack }
-    ensures { MatchOption result (IsShown policy.now state.now access pointer) (Lacks policy.now state.now access pointer) }
+    ensures { MatchOption result (IsAccessShown policy.now state.now access pointer) (Lacks policy.now state.now access pointer) }
 {
     if !stays(access, pointer.offset, STACK_SIZE as usize) {
         return Some(Lack::BeyondStack);
@@ -118,7 +118,7 @@ fn value_lack(
 ) -> Option<Lack>
     requires few { access.bytes ≤ 256 }
     requires kind { pointer.kind ≡ ValueKind.Entry map }
-    ensures { MatchOption result (IsShown policy.now state.now access pointer) (Lacks policy.now state.now access pointer) }
+    ensures { MatchOption result (IsAccessShown policy.now state.now access pointer) (Lacks policy.now state.now access pointer) }
 {
     let Some(shape) = shape_of(policy.form.shapes.as_slice(), map) else {
         return Some(Lack::InNoMap);
@@ -135,7 +135,7 @@ fn value_lack(
 fn stays(access: Access, offsets: Range, bound: usize) -> bool
     requires few { access.bytes ≤ 256 }
     requires small { bound < 65536 }
-    ensures { MatchBool result (Stays access offsets bound) (GoesBeyond access offsets bound) }
+    ensures { MatchBool result (StaysBelow access offsets bound) (GoesBeyond access offsets bound) }
 {
     let Some(at) = moved(offsets, access.off) else {
         return false;
@@ -149,8 +149,8 @@ fn stays(access: Access, offsets: Range, bound: usize) -> bool
 /// Answers whether all bytes of the stack that the access may touch are known to be set.
 fn touches_set(state: &AbstractState, access: Access, offsets: Range) -> bool
     requires few { access.bytes ≤ 256 }
-    requires inside { Stays access offsets STACK_SIZE }
-    ensures { MatchBool result (AreSet state.now.set (begin_of access offsets.lo) (begin_of access offsets.hi + access.bytes)) (TouchesUnset state.now access offsets) }
+    requires inside { StaysBelow access offsets STACK_SIZE }
+    ensures { MatchBool result (AreBytesSet state.now.set (access_begin access offsets.lo) (access_begin access offsets.hi + access.bytes)) (TouchesUnset state.now access offsets) }
 {
     let first = address(offsets.lo, access.off) as usize;
     let past = address(offsets.hi, access.off) as usize + access.bytes;
@@ -212,7 +212,7 @@ fn across_text(
 
 /// What a pointer that may be followed counts from.
 fn place_text(alloc: Global, shapes: &[MapShape], kind: ValueKind) -> Result<String, AllocError>
-    ensures { IfOk result (λ text. string_bytes text ≡ place_text shapes.now kind) }
+    ensures { IfOk result (λ text. string_bytes text ≡ pointed_place_text shapes.now kind) }
 {
     match kind {
         ValueKind::Entry(map) => {
@@ -226,7 +226,7 @@ fn place_text(alloc: Global, shapes: &[MapShape], kind: ValueKind) -> Result<Str
 
 /// Answers at what offsets the access begins, if its pointer may be followed and a range says it.
 fn begin_range(access: Access, pointer: AbstractValue) -> Option<Range>
-    ensures { MatchOption result ((Follows pointer.kind → ⊥) ⊎ Wraps access.off pointer.offset) (λ at. Follows pointer.kind × IsMoved access.off pointer.offset at) }
+    ensures { MatchOption result ((MayBeFollowed pointer.kind → ⊥) ⊎ Wraps access.off pointer.offset) (λ at. MayBeFollowed pointer.kind × IsMoved access.off pointer.offset at) }
 {
     if is_followed(pointer.kind) {
         moved(pointer.offset, access.off)
@@ -242,7 +242,7 @@ pub(crate) fn register_text(
     register: u8,
     known: AbstractValue,
 ) -> Result<String, AllocError>
-    ensures { IfOk result (λ text. string_bytes text ≡ register_text shapes.now register known) }
+    ensures { IfOk result (λ text. string_bytes text ≡ pointer_register_text shapes.now register known) }
 {
     if may_be_null(known.kind) {
         return format!(in alloc; "r{register}, which may be null");
@@ -263,7 +263,7 @@ pub(crate) fn may_be_null(kind: ValueKind) -> bool
 
 /// Answers whether a pointer of the kind may be followed.
 fn is_followed(kind: ValueKind) -> bool
-    ensures { IsTrue result ↔ Follows kind }
+    ensures { IsTrue result ↔ MayBeFollowed kind }
 {
     matches!(
         kind,

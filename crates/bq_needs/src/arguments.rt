@@ -1,7 +1,7 @@
 //! What helpers need their arguments to be, and which argument of a call is not shown to be that.
 ghost use Rattle.std.specs.Prelude.{◌≡◌, ◌↔◌, ◌≤◌, ℕ, IfOk, IsTrue, MatchBool, MatchOption, string_bytes};
 ghost use Rattle.bq_states.specs.Certainty.{Exact, Pointer, Scalar, CertaintyHoldsAt};
-ghost use Rattle.bq_needs.specs.Arguments.{GivesHelper, IsBad, IsCounter, IsGood, PointsTo, PointsToValue, Wants, register_of, wanted_text};
+ghost use Rattle.bq_needs.specs.Arguments.{GivesHelper, IsBad, IsCounter, IsArgumentShown, PointsTo, PointsToValue, Wants, argument_register, wanted_text};
 ghost use Rattle.bq_needs.specs.Operands.{known_in};
 
 use crate::accesses::lack_of;
@@ -34,11 +34,11 @@ pub enum Argument {
 }
 
 impl Argument {
-    ghost use Rattle.bq_needs.specs.Arguments.{register_of};
+    ghost use Rattle.bq_needs.specs.Arguments.{argument_register};
 
     /// Its register.
     pub fn register(self) -> u8
-        ensures { result ≡ register_of self }
+        ensures { result ≡ argument_register self }
     {
         match self {
             Argument::Map | Argument::Counter => 1,
@@ -81,7 +81,7 @@ pub(crate) fn bad_argument(
 
 /// Answers whether the helper wants the argument, and it is not shown.
 fn is_bad(policy: &PolicySource, state: &AbstractState, helper: i32, argument: Argument) -> bool
-    ensures { MatchBool result (IsBad policy.now state.now helper argument) (Wants helper argument → IsGood policy.now state.now argument) }
+    ensures { MatchBool result (IsBad policy.now state.now helper argument) (Wants helper argument → IsArgumentShown policy.now state.now argument) }
 {
     wants(helper, argument) && !is_good(policy, state, argument)
 }
@@ -100,7 +100,7 @@ fn wants(helper: i32, argument: Argument) -> bool
 
 /// Answers whether the argument is shown to be what the helper wants.
 fn is_good(policy: &PolicySource, state: &AbstractState, argument: Argument) -> bool
-    ensures { IsTrue result ↔ IsGood policy.now state.now argument }
+    ensures { IsTrue result ↔ IsArgumentShown policy.now state.now argument }
 {
     match argument {
         Argument::Map => names_map(state),

@@ -3,7 +3,7 @@ ghost use Rattle.std.specs.Prelude.{◌≡◌, ◌-◌, ◌^◌, ◌<◌, ◌++�
 ghost use Rattle.std.specs.String.{string_bytes};
 ghost use Rattle.bq_states.specs.AbstractStates.{Describes};
 ghost use Rattle.bq_needs.specs.DescribedWords.{DescribesWord};
-ghost use Rattle.bq_needs.specs.Texts.{below_text, between, is_shared, kind_text, known_text, map_name, minus_text, number_text, offset_text, range_text, same_shape, stack_text};
+ghost use Rattle.bq_needs.specs.Texts.{below_text, between, is_shared, kind_text, known_text, map_name, minus_text, number_text, offset_text, range_text, same_shape, stack_pointer_text};
 
 use bq_bpf::MapShape;
 use bq_bpf::addresses::STACK_SIZE;
@@ -187,7 +187,7 @@ fn below(offset: u64) -> u64
 
 /// A pointer into the stack, by its distance from the end, at which r10 points.
 fn stack_text(alloc: Global, range: Range) -> Result<String, AllocError>
-    ensures { IfOk result (λ text. string_bytes text ≡ stack_text range) }
+    ensures { IfOk result (λ text. string_bytes text ≡ stack_pointer_text range) }
 {
     if range.hi > STACK_SIZE {
         return pointer_text(alloc, "stack begin", range);

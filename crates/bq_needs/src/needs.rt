@@ -2,7 +2,7 @@
 ghost use Rattle.std.specs.Prelude.{◌≡◌, ◌↔◌, ◌<◌, ℕ, false, true, IfSome, IsTrue, MatchOption, slice_index_or};
 ghost use Rattle.bq_states.specs.Certainty.{Scalar, CertaintyHoldsAt};
 ghost use Rattle.bq_needs.specs.Arguments.{GivesHelper};
-ghost use Rattle.bq_needs.specs.Needs.{AreGoodArguments, AreKnown, AreNumbers, AreUnknown, IsFirstPointer, IsGoodAccess, IsHelperNeed, IsMap, IsMet, IsNeed, IsPointerNeed, IsPointerWorkedOn, IsUnknownNeed, Lacking, WorksOnNumber, is_unknown};
+ghost use Rattle.bq_needs.specs.Needs.{AreGoodArguments, AreReadsKnown, AreNumbers, AreUnknown, IsFirstPointer, IsGoodAccess, IsHelperNeed, IsMapNumber, IsMet, IsNeed, IsPointerNeed, IsPointerWorkedOn, IsUnknownNeed, Lacking, WorksOnNumber, is_unknown};
 ghost use Rattle.bq_needs.specs.Operands.{known_in};
 
 use crate::accesses::{Lack, lack_of};
@@ -76,7 +76,7 @@ fn lacking(policy: &PolicySource, state: &AbstractState, insn: Insn, cause: Caus
 
 /// The registers that the instruction reads and of which nothing is known, if there are any.
 fn unknown_need(state: &AbstractState, insn: Insn) -> Option<Need>
-    ensures { MatchOption result (AreKnown state.now insn) (λ need. IsUnknownNeed state.now insn need × ¬ (AreKnown state.now insn)) }
+    ensures { MatchOption result (AreReadsKnown state.now insn) (λ need. IsUnknownNeed state.now insn need × ¬ (AreReadsKnown state.now insn)) }
 {
     let registers = unknown_registers(state, insn);
     if has_one(&registers) {
@@ -197,7 +197,7 @@ fn argument_need(policy: &PolicySource, state: &AbstractState, insn: Insn) -> Op
 
 /// The number, if it is no map's.
 fn map_need(policy: &PolicySource, index: i32) -> Option<Need>
-    ensures { MatchOption result (IsMap policy.now index) (λ need. (need ≡ Need.Map index) × ¬ (IsMap policy.now index)) }
+    ensures { MatchOption result (IsMapNumber policy.now index) (λ need. (need ≡ Need.Map index) × ¬ (IsMapNumber policy.now index)) }
 {
     if is_map(policy, index) {
         None
@@ -208,7 +208,7 @@ fn map_need(policy: &PolicySource, index: i32) -> Option<Need>
 
 /// Answers whether there is a map of that number.
 fn is_map(policy: &PolicySource, index: i32) -> bool
-    ensures { IsTrue result ↔ IsMap policy.now index }
+    ensures { IsTrue result ↔ IsMapNumber policy.now index }
 {
     index >= 0 && (index as usize) < policy.form.shapes.len()
 }

@@ -1,7 +1,7 @@
 //! The registers that an instruction reads, and the memory that it accesses.
 ghost use Rattle.std.specs.Prelude.{◌≡◌, ◌≤◌, ℕ, IfSome, IsTrue, false, slice_index_or, true};
 ghost use Rattle.bq_insn.specs.Slots.{byte_count};
-ghost use Rattle.bq_needs.specs.Operands.{NeedsSet, access_of, is_register, reads, reads_left, works_on};
+ghost use Rattle.bq_needs.specs.Operands.{NeedsSet, access_of, is_that_register, reads, reads_left, works_on};
 
 use bq_insn::{Insn, Operation, REGISTERS, Size, Source};
 
@@ -74,7 +74,7 @@ fn reads_left(op: Operation) -> bool
 
 /// Answers whether the second operand is that register.
 fn is_register(src: Source, register: u8) -> bool
-    ensures { result ≡ is_register src register }
+    ensures { result ≡ is_that_register src register }
 {
     match src {
         Source::Imm(_) => false,

@@ -2,7 +2,7 @@
 ghost use Rattle.std.specs.Prelude.{◌≡◌, IfOk, string_bytes};
 ghost use Rattle.bq_needs.specs.Accesses.{noun, verb};
 ghost use Rattle.bq_needs.specs.Operands.{known_in};
-ghost use Rattle.bq_needs.specs.Words.{DescribesAccess, DescribesNeed, address_text, answer_text, argument_text, here_text, kind_rule, map_text, maps_text, moves, name_text, names_below, other_rule, pointer_rule, pointer_text, unknown_text};
+ghost use Rattle.bq_needs.specs.Words.{DescribesAccess, DescribesNeed, address_text, answer_text, argument_text, here_text, kind_rule, map_text, map_numbers_text, moves, register_name_text, names_below, other_rule, pointer_rule, pointer_text, unknown_reads_text};
 
 use crate::accesses::{begin_text, lack_text, may_be_null, register_text};
 use crate::arguments::{Argument, wanted_text};
@@ -51,7 +51,7 @@ pub fn need_text(
 
 /// The registers that are read and of which nothing is known.
 fn unknown_text(alloc: Global, registers: &Registers) -> Result<String, AllocError>
-    ensures { IfOk result (λ text. string_bytes text ≡ unknown_text registers.now) }
+    ensures { IfOk result (λ text. string_bytes text ≡ unknown_reads_text registers.now) }
 {
     let names = names(alloc, registers)?;
     format!(in alloc; "reads{names}, of which nothing is known here")
@@ -77,7 +77,7 @@ fn name_text(
     is_first: bool,
     is_named: bool,
 ) -> Result<String, AllocError>
-    ensures { IfOk result (λ text. string_bytes text ≡ name_text register is_first is_named) }
+    ensures { IfOk result (λ text. string_bytes text ≡ register_name_text register is_first is_named) }
 {
     match (is_named, is_first) {
         (true, true) => format!(in alloc; " r{register}"),
@@ -215,7 +215,7 @@ fn map_text(alloc: Global, index: i32, count: usize) -> Result<String, AllocErro
 
 /// Says how many maps a program has, and their numbers.
 fn maps_text(alloc: Global, count: usize) -> Result<String, AllocError>
-    ensures { IfOk result (λ text. string_bytes text ≡ maps_text count) }
+    ensures { IfOk result (λ text. string_bytes text ≡ map_numbers_text count) }
 {
     if count == 0 {
         return String::from_str(alloc, "no maps");

@@ -5,7 +5,7 @@ use Rattle.bq_object.specs.declared.section.Section.{Section}
 use Rattle.bq_object.specs.declared.symbol.Symbol.{Symbol}
 use Rattle.bq_object.specs.Numbers.{IsPart}
 use Rattle.bq_object.specs.Sections.{IsSection}
-use Rattle.bq_object.specs.Relocations.{IsRelocation, IsSectionClear, IsWithin, entry_size}
+use Rattle.bq_object.specs.Relocations.{IsRelocation, IsSectionClear, HoldsOffset, entry_size}
 use Rattle.bq_object.proofs.SameLemmas.{one_section}
 
 -- an entry that fits is one of those that are counted
@@ -25,7 +25,7 @@ clear_section file headers index a policy p clear b q =
 -- where none of the entries that were read changes the function, the section does not
 pub clear_entries : (file : List ℕ) (section : Section) (policy : Symbol) (ours : List ℕ) (size count : ℕ)
     → size ≢ 0 → size ≡ entry_size section.kind → IsPart file section.at section.long ours → length ours / size ≤ count
-    → ((k : ℕ) → k < count → (at kind : ℕ) → IsRelocation ours size k at kind → IsWithin policy at → ⊥)
+    → ((k : ℕ) → k < count → (at kind : ℕ) → IsRelocation ours size k at kind → HoldsOffset policy at → ⊥)
     → IsSectionClear file section policy
 clear_entries file section policy ours size count some size_is ours_is all none =
     λ of entries index at kind entries_are here within.

@@ -26,17 +26,17 @@ IsHeaderFault file (Cut piece.Headers) =
 IsHeaderFault file fault = ⊥
 
 -- the bytes of a section go on past the end of the file
-abbrev pub IsCut : List ℕ → Section → Type 0
-IsCut file section = length file < section.at + section.long
+abbrev pub IsSectionCut : List ℕ → Section → Type 0
+IsSectionCut file section = length file < section.at + section.long
 
 -- there is no section of that number, or its bytes go on past the end of the file
 abbrev pub IsLost : List ℕ → List ℕ → ℕ → Type 0
-IsLost file headers index = (length headers < index * 64 + 64) ⊎ ((section : Section) × IsSection headers index section × IsCut file section)
+IsLost file headers index = (length headers < index * 64 + 64) ⊎ ((section : Section) × IsSection headers index section × IsSectionCut file section)
 
 -- what is wrong with symbols and names
 abbrev pub IsTableFault : List ℕ → List ℕ → ObjectFault → Type 0
 IsTableFault file headers NoPolicy = HasNone 2 headers
-IsTableFault file headers (Cut piece.Symbols) = (table : Section) × IsFirstOf 2 headers table × IsCut file table
+IsTableFault file headers (Cut piece.Symbols) = (table : Section) × IsFirstOf 2 headers table × IsSectionCut file table
 IsTableFault file headers (Cut piece.Names) = (table : Section) × IsFirstOf 2 headers table × IsLost file headers table.link
 IsTableFault file headers fault = ⊥
 

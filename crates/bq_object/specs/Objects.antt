@@ -58,7 +58,7 @@ pub record IsFunction (file headers policy : List ℕ) : Type 0 where
   pub code : IsCode file headers symbol policy
 
 -- the bytes are the object's policy
-pub record IsPolicyOf (file policy : List ℕ) : Type 0 where
+pub record IsPolicyOfObject (file policy : List ℕ) : Type 0 where
   pub headers : List ℕ
   pub has : HasHeaders file headers
   pub function : IsFunction file headers policy

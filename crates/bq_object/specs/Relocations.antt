@@ -26,14 +26,14 @@ pub record IsRelocation (entries : List ℕ) (size index at kind : ℕ) : Type 0
   pub kind_is : kind ≡ number_at 4 entry 8
 
 -- what is at that offset of its section belongs to the function
-abbrev pub IsWithin : Symbol → ℕ → Type 0
-IsWithin symbol at = (symbol.at ≤ at) × (at < symbol.at + symbol.long)
+abbrev pub HoldsOffset : Symbol → ℕ → Type 0
+HoldsOffset symbol at = (symbol.at ≤ at) × (at < symbol.at + symbol.long)
 
 -- no relocation of the section changes the function
 abbrev pub IsSectionClear : List ℕ → Section → Symbol → Type 0
 IsSectionClear file section symbol =
     IsOf section symbol → (entries : List ℕ) (index at kind : ℕ) → AreBytesOf file section entries
-    → IsRelocation entries (entry_size section.kind) index at kind → IsWithin symbol at → ⊥
+    → IsRelocation entries (entry_size section.kind) index at kind → HoldsOffset symbol at → ⊥
 
 -- no relocation of any section does
 abbrev pub AreClear : List ℕ → List ℕ → Symbol → Type 0
@@ -49,7 +49,7 @@ pub record IsChanged (entries : List ℕ) (size : ℕ) (symbol : Symbol) (slot :
   pub at : ℕ
   pub kind : ℕ
   pub here : IsRelocation entries size index at kind
-  pub within : IsWithin symbol at
+  pub within : HoldsOffset symbol at
   pub slot_is : slot ≡ (at - symbol.at) / 8
   pub what_is : what ≡ filled kind
 

@@ -1,7 +1,7 @@
 //! The function `policy` of an object file.
 ghost use Rattle.std.specs.Prelude.{◌≡◌, ◌↔◌, IsTrue, IfOk, IfErr};
 ghost use Rattle.bq_object.specs.Symbols.{IsFirstPolicy};
-ghost use Rattle.bq_object.specs.Objects.{HasHeaders, HasTables, IsCode, IsFunction, IsObject, IsPolicyOf};
+ghost use Rattle.bq_object.specs.Objects.{HasHeaders, HasTables, IsCode, IsFunction, IsObject, IsPolicyOfObject};
 ghost use Rattle.bq_object.specs.Relocations.{AreClear};
 ghost use Rattle.bq_object.specs.Faults.{IsCodeFault, IsFunctionFault, IsObjectFault, IsTableFault};
 
@@ -30,7 +30,7 @@ pub(crate) struct Tables<'a> {
 
 /// Answers the instructions of the function `policy`, as they are in the file.
 pub fn policy_of(file: &[u8]) -> Result<&[u8], ObjectFault>
-    ensures ok { IfOk result (λ policy. IsPolicyOf file.now policy.now) }
+    ensures ok { IfOk result (λ policy. IsPolicyOfObject file.now policy.now) }
     ensures err { IfErr result (IsObjectFault file.now) }
 {
     let headers = headers_of(file)?;

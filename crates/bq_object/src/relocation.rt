@@ -2,7 +2,7 @@
 ghost use Rattle.std.specs.Prelude.{◌≡◌, ◌≤◌, ◌↔◌, ℕ, IsTrue, OnOk, IfErr};
 ghost use Rattle.bq_object.specs.declared.section.Section.{Section as Header};
 ghost use Rattle.bq_object.specs.Sections.{IsSection};
-ghost use Rattle.bq_object.specs.Relocations.{AreClear, IsEntryFault, IsRelocation, IsRelocationFault, IsSectionClear, IsSectionFault, IsWithin, entry_size, filled};
+ghost use Rattle.bq_object.specs.Relocations.{AreClear, IsEntryFault, IsRelocation, IsRelocationFault, IsSectionClear, IsSectionFault, HoldsOffset, entry_size, filled};
 
 use crate::fault::{Filled, ObjectFault, Piece};
 use crate::numbers::{part, wide, word};
@@ -64,7 +64,7 @@ fn check_section(file: &[u8], section: Section, policy: Symbol) -> Result<(), Ob
 /// Refuses the function if the relocation of that number is within it.
 fn check_entry(entries: &[u8], size: u64, index: u64, policy: Symbol) -> Result<(), ObjectFault>
     requires { 16 ≤ size }
-    ensures ok { OnOk result ((at kind : ℕ) → IsRelocation entries.now size index at kind → ¬ IsWithin policy at) }
+    ensures ok { OnOk result ((at kind : ℕ) → IsRelocation entries.now size index at kind → ¬ HoldsOffset policy at) }
     ensures err { IfErr result (IsEntryFault entries.now size policy) }
 {
     let Some(start) = size.checked_mul(index) else {
@@ -95,7 +95,7 @@ fn filled(kind: u32) -> Filled
 
 /// Answers whether the bytes at the offset belong to the function.
 fn is_within(policy: Symbol, at: u64) -> bool
-    ensures { IsTrue result ↔ IsWithin policy at }
+    ensures { IsTrue result ↔ HoldsOffset policy at }
 {
     policy.at <= at && at - policy.at < policy.long
 }

@@ -5,7 +5,7 @@ use Rattle.std.proofs.lemmas.List.{map_push}
 use Rattle.std.proofs.lemmas.List.Sums.{sum_by-cons}
 use Rattle.bq_history.specs.Whole.{total, Each}
 use Rattle.bq_history.specs.declared.shared_state.Receipt.{Receipt}
-use Rattle.bq_shared.specs.Calls.{fresh}
+use Rattle.bq_shared.specs.Calls.{fresh_callers}
 
 module _ {A : Type 0} where
   -- one sum, in two words
@@ -68,25 +68,25 @@ module _ {A B X : Type 0} (f : A → List X) (g : B → List X) where
           omega (arith, here, rest)
 
 -- this many seats
-pub fresh_many : (R : Type 0) (s n : ℕ) → let l : List (ℕ × List (Receipt R)) = fresh s n in length l ≡ n
+pub fresh_many : (R : Type 0) (s n : ℕ) → let l : List (ℕ × List (Receipt R)) = fresh_callers s n in length l ≡ n
 fresh_many R s zero = refl
 fresh_many R s (suc n) = ap suc (fresh_many R (s + 1) n)
 
 -- their numbers are below that, and none has a receipt
-pub fresh_none : (R : Type 0) (s n : ℕ) → Each (λ (c : ℕ × List (Receipt R)). (c.0 < s + n) × (c.1 ≡ [])) (fresh s n)
+pub fresh_none : (R : Type 0) (s n : ℕ) → Each (λ (c : ℕ × List (Receipt R)). (c.0 < s + n) × (c.1 ≡ [])) (fresh_callers s n)
 fresh_none R s zero = tt
 fresh_none R s (suc n) =
     let low : s < s + suc n = omega arith in
     let more : s + 1 + n ≡ s + suc n = omega arith in (
       (low, refl),
-      subst (λ (k : ℕ). Each (λ (c : ℕ × List (Receipt R)). (c.0 < k) × (c.1 ≡ [])) (fresh (s + 1) n)) more
+      subst (λ (k : ℕ). Each (λ (c : ℕ × List (Receipt R)). (c.0 < k) × (c.1 ≡ [])) (fresh_callers (s + 1) n)) more
           (fresh_none R (s + 1) n),
     )
 
 -- the number of each fresh seat is below that, and none has a receipt
 pub fresh_at : (R : Type 0) (n : ℕ) (js : List (ℕ × List (Receipt R)))
-    → js ≡ fresh 0 n → All (λ (c : ℕ × List (Receipt R)). (c.0 < n) × (c.1 ≡ [])) js
+    → js ≡ fresh_callers 0 n → All (λ (c : ℕ × List (Receipt R)). (c.0 < n) × (c.1 ≡ [])) js
 fresh_at R n js e =
     let zero_more : 0 + n ≡ n = omega arith in
-    let each = subst (λ (k : ℕ). Each (λ (c : ℕ × List (Receipt R)). (c.0 < k) × (c.1 ≡ [])) (fresh 0 n)) zero_more (fresh_none R 0 n) in
-    rw e (each_at (λ (c : ℕ × List (Receipt R)). (c.0 < n) × (c.1 ≡ [])) (fresh 0 n) each)
+    let each = subst (λ (k : ℕ). Each (λ (c : ℕ × List (Receipt R)). (c.0 < k) × (c.1 ≡ [])) (fresh_callers 0 n)) zero_more (fresh_none R 0 n) in
+    rw e (each_at (λ (c : ℕ × List (Receipt R)). (c.0 < n) × (c.1 ≡ [])) (fresh_callers 0 n) each)

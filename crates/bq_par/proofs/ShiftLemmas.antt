@@ -6,8 +6,8 @@ use Rattle.bq_history.specs.declared.shared_state.Receipt.{Receipt}
 use Rattle.bq_history.proofs.RecordingLemmas.{each_more}
 use Rattle.bq_parts.specs.declared.event.Event.TheVariants.{Admit, BeginWake, EndWake, Drain}
 use Rattle.bq_shared.specs.declared.record.Record.{Record}
-use Rattle.bq_par.specs.Shifts.{IsShift, IsStart, IsTickAt, TicksMore}
-use Rattle.bq_par.specs.Ticks.{one_tick, tick_of}
+use Rattle.bq_par.specs.Shifts.{IsShift, IsShiftStart, IsTickAt, TicksMore}
+use Rattle.bq_par.specs.Ticks.{one_tick, one_if_tick}
 
 -- no tick yet
 pub none_more : (p : ℕ) (l : List (Receipt Record)) → TicksMore p 0 l l
@@ -41,7 +41,7 @@ pub start_is : (p : ℕ) (l0 l1 l2 l3 : List (Receipt Record)) (a b d : Receipt 
     → a.entry.event ≡ Admit p (pos 0) (2 ^ 64 - 1) 3000000 → b.entry.event ≡ BeginWake p p
     → IfSome o (λ (r : Receipt Record). (now : ℕ) × (r.entry.event ≡ EndWake p now)) → (IsSome o ↔ IsOk b.entry.reply)
     → (now : ℕ) × (d.entry.event ≡ Drain p now)
-    → IsStart p l3
+    → IsShiftStart p l3
 start_is p l0 l1 l2 l3 a b d o e0 e1 e2 e3 admitted begun woken ended drained = record {
   admit = a;
   begin = b;
@@ -67,20 +67,20 @@ ticks_append (x ∷ xs) ys =
 beats_count : (p : ℕ) (l : List (Receipt Record)) → Each (IsTickAt p) l → ticks_of l ≡ length l
 beats_count p [] each = refl
 beats_count p (x ∷ xs) ((now, tick), more) =
-    let here : one_tick x.entry ≡ 1 = ap tick_of tick in
+    let here : one_tick x.entry ≡ 1 = ap one_if_tick tick in
     let rest = beats_count p xs more in
     omega (arith, here, rest)
 
 end_counts : (p : ℕ) (end : Option (Receipt Record)) → IfSome end (λ (r : Receipt Record). (now : ℕ) × (r.entry.event ≡ EndWake p now))
     → ticks_of (option_to_list end) ≡ 0
 end_counts p None woken = refl
-end_counts p (Some r) (now, is) = let here : one_tick r.entry ≡ 0 = ap tick_of is in omega (arith, here)
+end_counts p (Some r) (now, is) = let here : one_tick r.entry ≡ 0 = ap one_if_tick is in omega (arith, here)
 
-start_counts : (p : ℕ) (l : List (Receipt Record)) → IsStart p l → ticks_of l ≡ 0
+start_counts : (p : ℕ) (l : List (Receipt Record)) → IsShiftStart p l → ticks_of l ≡ 0
 start_counts p l s =
-    let a : one_tick s.admit.entry ≡ 0 = ap tick_of s.admitted in
-    let b : one_tick s.begin.entry ≡ 0 = ap tick_of s.begun in
-    let d : one_tick s.drain.entry ≡ 0 = ap tick_of s.drained.1 in
+    let a : one_tick s.admit.entry ≡ 0 = ap one_if_tick s.admitted in
+    let b : one_tick s.begin.entry ≡ 0 = ap one_if_tick s.begun in
+    let d : one_tick s.drain.entry ≡ 0 = ap one_if_tick s.drained.1 in
     let e = end_counts p s.end s.woken in
     let parts = ticks_append (option_to_list s.end) (s.drain ∷ []) in
     rw s.whole (omega (arith, a, b, d, e, parts))

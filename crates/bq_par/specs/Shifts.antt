@@ -13,7 +13,7 @@ IsTickAt p r = (now : ℕ) × (r.entry.event ≡ Tick p now)
 
 -- The processor's task, whose id is the processor's number, is admitted for all processors, then woken and drained at this
 -- one. The wake ends exactly when its beginning was not refused
-pub record IsStart (p : ℕ) (l : List (Receipt Record)) : Type 0 where
+pub record IsShiftStart (p : ℕ) (l : List (Receipt Record)) : Type 0 where
   pub admit : Receipt Record
   pub begin : Receipt Record
   pub end : Option (Receipt Record)
@@ -35,5 +35,5 @@ pub record TicksMore (p ticks : ℕ) (before after : List (Receipt Record)) : Ty
 -- the receipts of a shift: the processor's task is admitted, woken and drained there, then the processor ticks this many times
 pub record IsShift (p ticks : ℕ) (l : List (Receipt Record)) : Type 0 where
   pub start : List (Receipt Record)
-  pub started : IsStart p start
+  pub started : IsShiftStart p start
   pub ticked : TicksMore p ticks start l

@@ -14,7 +14,7 @@ use Rattle.bq_par.specs.declared.summary.HistorySummary.{HistorySummary}
 
 -- The summary has the history of a machine of that many processors under the discipline, each asked for that many ticks, and
 -- the history's numbers
-pub record IsSummary (d : Discipline) (processors ticks : ℕ) (s : HistorySummary) : Type 0 where
+pub record IsHistorySummary (d : Discipline) (processors ticks : ℕ) (s : HistorySummary) : Type 0 where
   pub world : World
   pub callers : List (ℕ × List (Receipt Record))
   -- each record is a step of the scheduler

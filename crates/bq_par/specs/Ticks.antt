@@ -6,13 +6,13 @@ use Rattle.bq_parts.specs.declared.event.Event.TheVariants.{Tick}
 use Rattle.bq_shared.specs.declared.record.Record.{Record}
 
 -- 1 for a tick, and 0 for another event
-abbrev pub tick_of : Event → ℕ
-tick_of (Tick c now) = 1
-tick_of e = 0
+abbrev pub one_if_tick : Event → ℕ
+one_if_tick (Tick c now) = 1
+one_if_tick e = 0
 
 -- 1 for the record of a tick, else 0
 abbrev pub one_tick : Record → ℕ
-one_tick r = tick_of r.event
+one_tick r = one_if_tick r.event
 
 -- how many of the records are of ticks
 abbrev pub ticks_in : List Record → ℕ

@@ -3,7 +3,7 @@ ghost use Rattle.std.specs.Prelude.{◌≡◌, ◌<◌, ◌≤◌, [], IfOk, vec
 ghost use Rattle.std.specs.List.{All};
 ghost use Rattle.bq_words.specs.Sizes.{processors_in};
 ghost use Rattle.bq_par.specs.Shifts.{IsShift};
-ghost use Rattle.bq_par.specs.Summaries.{IsSummary};
+ghost use Rattle.bq_par.specs.Summaries.{IsHistorySummary};
 
 use crate::metronome::Metronome;
 use crate::shift::{ReturnedSeat, drive};
@@ -33,7 +33,7 @@ pub fn run<Q: RunQueue + Drop + Send, T: Threads + Wait + Sync>(
 ) -> Result<HistorySummary, AllocError>
 where
     Q::R: Send,
-    ensures { IfOk result (IsSummary Q.R.discipline (processors_in size) ticks) }
+    ensures { IfOk result (IsHistorySummary Q.R.discipline (processors_in size) ticks) }
 {
     let processors = u64::from(size.processors());
     let (prepared, unnamed) = prepare::<Q>(alloc, processors, processors)?;
@@ -58,7 +58,7 @@ where
     requires name { prepared.0 ≡ N.table }
     requires counters { unnamed.0 ≡ N.counters }
     requires counts { (prepared.1.about ≡ processors_in size) × (prepared.1.callers ≡ processors_in size) × (unnamed.1 ≡ processors_in size) }
-    ensures { IfOk result (IsSummary Q.R.discipline (processors_in size) ticks) }
+    ensures { IfOk result (IsHistorySummary Q.R.discipline (processors_in size) ticks) }
 {
     match size {
         ProcessorCount::One => run_machine::<Q, N, T, 1>(rt, alloc, prepared, unnamed, ticks),
@@ -94,7 +94,7 @@ where
     requires name { prepared.0 ≡ N.table }
     requires counters { unnamed.0 ≡ N.counters }
     requires counts { (prepared.1.about ≡ P) × (prepared.1.callers ≡ P) × (unnamed.1 ≡ P) }
-    ensures { IfOk result (IsSummary Q.R.discipline P ticks) }
+    ensures { IfOk result (IsHistorySummary Q.R.discipline P ticks) }
 {
     let clock = Metronome::new(alloc, P as u8)?;
     let (machine, seats) = Machine::<Q, Metronome, N, P>::new(

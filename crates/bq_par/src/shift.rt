@@ -1,7 +1,7 @@
 //! What one thread does: it admits the task of its processor, wakes it there, and lets the processor tick.
 ghost use Rattle.std.specs.Prelude.{◌≡◌, ◌<◌, ◌++◌, ◌∷◌, [], IfOk, OnOk};
 ghost use Rattle.std.specs.Option.{option_to_list};
-ghost use Rattle.bq_par.specs.Shifts.{IsShift, IsStart, TicksMore};
+ghost use Rattle.bq_par.specs.Shifts.{IsShift, IsShiftStart, TicksMore};
 
 use bq_disc::RunQueue;
 use bq_disc::limits::DEFAULT_SLICE;
@@ -88,7 +88,7 @@ fn start<Q: RunQueue + Drop, K: Clock + Drop, N: Naming + Counting, R: Wait, con
     requires fresh { seat.old.1 ≡ [] }
     requires none { receipts.old.items ≡ [] }
     ensures held { OnOk result (seat.new ≡ (seat.old.0, receipts.new.items)) }
-    ensures start { OnOk result (IsStart processor receipts.new.items) }
+    ensures start { OnOk result (IsShiftStart processor receipts.new.items) }
 {
     let task = u16::from(processor);
     let admission = Admission {

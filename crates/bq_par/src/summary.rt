@@ -5,7 +5,7 @@ ghost use Rattle.std.specs.Option.{option_map};
 ghost use Rattle.bq_history.specs.Whole.{Each};
 ghost use Rattle.bq_history.specs.History.{IsConfirmed, IsRecorded};
 ghost use Rattle.bq_par.specs.Shifts.{IsShift};
-ghost use Rattle.bq_par.specs.Summaries.{IsSummary, summary_line};
+ghost use Rattle.bq_par.specs.Summaries.{IsHistorySummary, summary_line};
 ghost use Rattle.bq_par.specs.Ticks.{one_tick, ticks_in};
 
 use crate::shift::ReturnedSeat;
@@ -61,7 +61,7 @@ pub fn finish<Q: RunQueue + Drop, K: Clock + Drop, N: Naming + Counting, const P
     requires callers { machine.recorder.history.callers ≡ P }
     requires many { vec_len done ≡ P }
     requires shifts { All (λ r. IfOk r (λ d. IsShift d.seat.0 ticks d.seat.1)) done.items }
-    ensures { IfOk result (IsSummary Q.R.discipline P ticks) }
+    ensures { IfOk result (IsHistorySummary Q.R.discipline P ticks) }
 {
     let ReturnedSeats { seats, lists } = returned(alloc, done, ticks)?;
     // Each thread has given its seat back, so all seats are here.

@@ -6,7 +6,7 @@ use Rattle.bq_disc.specs.Queues.{HasDistinctIds}
 use Rattle.bq_disc.specs.Discipline.{Discipline, next_of}
 use Rattle.bq_disc.specs.OneProcessor.{Running, present_at, charge, switched, enter_all}
 use Rattle.bq_disc.proofs.SetLemmas.{with_id-id}
-use Rattle.bq_parts.specs.Processors.{count_of, HasEachOnce}
+use Rattle.bq_parts.specs.Processors.{count_of_id, HasEachOnce}
 use Rattle.bq_parts.proofs.TallyLemmas
 
 -- 1 for a task of that id
@@ -18,21 +18,21 @@ abbrev pub ones : ℕ → ℕ → ℕ → ℕ
 ones id i mask = cond (eqb i id) 1 0
 
 -- a count is a tally
-pub count_of-tally : (id : ℕ) (xs : List Task) → count_of id xs ≡ TallyLemmas.tally (ones id) xs
+pub count_of-tally : (id : ℕ) (xs : List Task) → count_of_id id xs ≡ TallyLemmas.tally (ones id) xs
 count_of-tally id [] = refl
 count_of-tally id (x ∷ xs) = ap (λ n. one id x + n) (count_of-tally id xs)
 
 -- the count of two lists together is the sum of their counts
-pub count_of-append : (id : ℕ) (xs ys : List Task) → count_of id (xs ++ ys) ≡ count_of id xs + count_of id ys
+pub count_of-append : (id : ℕ) (xs ys : List Task) → count_of_id id (xs ++ ys) ≡ count_of_id id xs + count_of_id id ys
 count_of-append id [] ys = omega arith
 count_of-append id (x ∷ xs) ys = omega (arith, count_of-append id xs ys)
 
 -- a task that comes adds one to its count
-pub count_of-place : (id : ℕ) (t : Task) (xs : List Task) → count_of id (place t xs) ≡ one id t + count_of id xs
+pub count_of-place : (id : ℕ) (t : Task) (xs : List Task) → count_of_id id (place t xs) ≡ one id t + count_of_id id xs
 count_of-place id t xs = omega (arith, count_of-tally id (place t xs), count_of-tally id xs, TallyLemmas.tally-place (ones id) t xs)
 
 -- what is taken was there one time more
-pub count_of-without : (i j : ℕ) (xs : List Task) (t : Task) → with_id j xs ≡ Some t → count_of i xs ≡ one i t + count_of i (without j xs)
+pub count_of-without : (i j : ℕ) (xs : List Task) (t : Task) → with_id j xs ≡ Some t → count_of_id i xs ≡ one i t + count_of_id i (without j xs)
 count_of-without i j xs t h =
     omega (arith, count_of-tally i (without j xs), count_of-tally i xs, TallyLemmas.tally-without (ones i) j xs t h)
 
@@ -45,12 +45,12 @@ absent_by_test true x n o h rest = absurd (omega arith)
 absent_by_test false x n o h rest = rest (omega arith)
 
 -- no task of that id is there
-pub with_id-absent : (id : ℕ) (xs : List Task) → count_of id xs ≡ 0 → with_id id xs ≡ None
+pub with_id-absent : (id : ℕ) (xs : List Task) → count_of_id id xs ≡ 0 → with_id id xs ≡ None
 with_id-absent id [] h = refl
-with_id-absent id (x ∷ xs) h = absent_by_test (eqb x.id id) x (count_of id xs) (with_id id xs) h (with_id-absent id xs)
+with_id-absent id (x ∷ xs) h = absent_by_test (eqb x.id id) x (count_of_id id xs) (with_id id xs) h (with_id-absent id xs)
 
 -- the queue is a part of what is present
-pub queue_le_present : (id : ℕ) (o : Option Task) (xs : List Task) → count_of id xs ≤ count_of id (present o xs)
+pub queue_le_present : (id : ℕ) (o : Option Task) (xs : List Task) → count_of_id id xs ≤ count_of_id id (present o xs)
 queue_le_present id None xs = omega arith
 queue_le_present id (Some t) xs = omega arith
 
@@ -62,7 +62,7 @@ each_once_queue p h = λ id. omega (arith, h id, queue_le_present id p.current p
 pub current_apart : (p : Running) (t : Task) → HasEachOnce (present_at p) → p.current ≡ Some t → with_id t.id p.queue ≡ None
 current_apart p t s e =
     let h = s t.id in
-    let k : count_of t.id (t ∷ p.queue) ≤ 1 = rw e at h in
+    let k : count_of_id t.id (t ∷ p.queue) ≤ 1 = rw e at h in
     with_id-absent t.id p.queue (omega (arith, one_self t))
 
 -- the next is the current one: nothing changes
@@ -88,7 +88,7 @@ pub current_apart_without : (p : Running) (t n : Task) (id : ℕ)
     → with_id t.id (without id p.queue) ≡ None
 current_apart_without p t n id s e f =
     let h = s t.id in
-    let k : count_of t.id (t ∷ p.queue) ≤ 1 = rw e at h in
+    let k : count_of_id t.id (t ∷ p.queue) ≤ 1 = rw e at h in
     with_id-absent t.id (without id p.queue) (omega (arith, one_self t, count_of-without t.id id p.queue n f))
 
 -- tasks of which no id stands twice have distinct ids
@@ -99,17 +99,17 @@ HasDistinctIds-from_counts (x ∷ xs) h =
 
 -- what stays by every tally stays by every count
 same_count : (id : ℕ) (p q : Running) → TallyLemmas.tally (ones id) (present_at q) ≡ TallyLemmas.tally (ones id) (present_at p)
-    → count_of id (present_at q) ≡ count_of id (present_at p)
+    → count_of_id id (present_at q) ≡ count_of_id id (present_at p)
 same_count id p q h = omega (arith, count_of-tally id (present_at p), count_of-tally id (present_at q), h)
 
 -- to charge the current task keeps how often each id stands there
 pub keeps_charge : (id : ℕ) (d : Discipline) (p : Running) (now : ℕ)
-    → count_of id (present_at (charge d p now)) ≡ count_of id (present_at p)
+    → count_of_id id (present_at (charge d p now)) ≡ count_of_id id (present_at p)
 keeps_charge id d p now = same_count id p (charge d p now) (TallyLemmas.tally-charge (ones id) d p now)
 
 -- tasks that enter a processor are counted beside those that were there
 pub count_of-enter_all : (id : ℕ) (d : Discipline) (p : Running) (tasks : List Task)
-    → count_of id (present_at (enter_all d p tasks)) ≡ count_of id (present_at p) + count_of id tasks
+    → count_of_id id (present_at (enter_all d p tasks)) ≡ count_of_id id (present_at p) + count_of_id id tasks
 count_of-enter_all id d p tasks =
     omega (
       arith,

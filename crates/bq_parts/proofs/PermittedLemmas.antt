@@ -16,7 +16,7 @@ use Rattle.bq_hooks.specs.Contexts.{nobody, or_nobody}
 use Rattle.bq_disc.specs.Masks.{allows}
 use Rattle.bq_hooks.specs.Permitted.{may_place, may_pull, task_numbered}
 use Rattle.bq_hooks.specs.Settled.{Settled as Chosen, settled as chosen}
-use Rattle.bq_parts.specs.Processors.{Processor, count_of, size_of, HasEachOnce}
+use Rattle.bq_parts.specs.Processors.{Processor, count_of_id, size_of, HasEachOnce}
 use Rattle.bq_parts.specs.Choices.{PolicySemantics, SettledChoice, SettlesBy, Settles, SettlesPull, own_pull, unasked}
 use Rattle.bq_parts.proofs.CountLemmas.{one}
 
@@ -80,15 +80,15 @@ counted_by_test true x n o h rest = omega arith
 counted_by_test false x n o h rest = omega (arith, rest h)
 
 -- one that is found is counted
-counted : (id : ℕ) (xs : List Task) → is_some (with_id id xs) ≡ true → 1 ≤ count_of id xs
+counted : (id : ℕ) (xs : List Task) → is_some (with_id id xs) ≡ true → 1 ≤ count_of_id id xs
 counted id [] h = cc
-counted id (x ∷ xs) h = counted_by_test (has_id id x) x (count_of id xs) (with_id id xs) h (counted id xs)
+counted id (x ∷ xs) h = counted_by_test (has_id id x) x (count_of_id id xs) (with_id id xs) h (counted id xs)
 
 -- a filter leaves no more
-count_of-filter : (id : ℕ) (p : Task → Bool) (xs : List Task) → count_of id (filter p xs) ≤ count_of id xs
+count_of-filter : (id : ℕ) (p : Task → Bool) (xs : List Task) → count_of_id id (filter p xs) ≤ count_of_id id xs
 count_of-filter id p [] = omega arith
 count_of-filter id p (x ∷ xs) =
-    elim (p x) as (λ b. count_of id (cond b (x ∷ filter p xs) (filter p xs)) ≤ count_of id (x ∷ xs)) [
+    elim (p x) as (λ b. count_of_id id (cond b (x ∷ filter p xs) (filter p xs)) ≤ count_of_id id (x ∷ xs)) [
       | true ↦ omega (arith, count_of-filter id p xs)
       | false ↦ omega (arith, count_of-filter id p xs)
     ]
@@ -119,13 +119,13 @@ movable_can_use processor id (x ∷ xs) t once h k =
     (movable_can_use processor id xs t (λ i. omega (arith, once i)))
 
 found_by_test : (b : Bool) (id : ℕ) (x : Task) (xs : List Task)
-    → cond b (Some x) (with_id id xs) ≡ None → (with_id id xs ≡ None → count_of id xs ≡ 0)
-    → cond b 1 0 + count_of id xs ≡ 0
+    → cond b (Some x) (with_id id xs) ≡ None → (with_id id xs ≡ None → count_of_id id xs ≡ 0)
+    → cond b 1 0 + count_of_id id xs ≡ 0
 found_by_test true id x xs h rest = cc
 found_by_test false id x xs h rest = omega (arith, rest h)
 
 -- an id that is not found stands nowhere
-found : (id : ℕ) (xs : List Task) → with_id id xs ≡ None → count_of id xs ≡ 0
+found : (id : ℕ) (xs : List Task) → with_id id xs ≡ None → count_of_id id xs ≡ 0
 found id [] h = refl
 found id (x ∷ xs) h = found_by_test (has_id id x) id x xs h (found id xs)
 

@@ -5,10 +5,10 @@ use Rattle.bq_parts.specs.declared.event.Event.{Event}
 use Rattle.bq_parts.specs.declared.refusal.Refusal.{Refusal}
 use Rattle.bq_parts.specs.declared.refusal.Refusal.TheVariants as no
 use Rattle.bq_parts.specs.World.{World, count_in}
-use Rattle.bq_parts.specs.Refusals.{refusal, argument_refusal, state_refusal, either}
+use Rattle.bq_parts.specs.Refusals.{refusal, argument_refusal, state_refusal, either_refusal}
 
 -- of two refusals neither holds
-neither : (o p : Option Refusal) → either o p ≡ None → (o ≡ None) × (p ≡ None)
+neither : (o p : Option Refusal) → either_refusal o p ≡ None → (o ≡ None) × (p ≡ None)
 neither None p h = (refl, h)
 neither (Some r) p h = cc
 

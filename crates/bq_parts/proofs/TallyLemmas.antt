@@ -3,7 +3,7 @@ use Rattle.std.proofs.Common.{◌≡◌, ℕ, ◌+◌, ◌-◌, Bool, true, fals
 use Rattle.std.specs.Option.{option_map}
 use Rattle.bq_disc.specs.Tasks.{Task, with_id, without, place, present, runs_before, id_of}
 use Rattle.bq_disc.specs.Discipline.{Discipline, charged, woken, next_of}
-use Rattle.bq_disc.specs.OneProcessor.{Running, present_at, reading, charge, run_id, start, exchanged, switched, decided, entered, enter_all}
+use Rattle.bq_disc.specs.OneProcessor.{Running, present_at, reading, charge, run_id, choice_started, exchanged, switched, decided, entered, enter_all}
 use Rattle.bq_disc.proofs.QueueLemmas.{without-absent}
 use Rattle.bq_disc.proofs.SetLemmas.{with_id-id}
 
@@ -84,7 +84,7 @@ tally-run_id g p (Some i) e = tally_of_taken g i p.queue (with_id i p.queue) ref
 
 -- the queue's choice that begins to run too
 pub tally-start : (g : ℕ → ℕ → ℕ) (d : Discipline) (p : Running)
-    → p.current ≡ None → tally g (present_at (start d p)) ≡ tally g (present_at p)
+    → p.current ≡ None → tally g (present_at (choice_started d p)) ≡ tally g (present_at p)
 tally-start g d p e = tally-run_id g p (id_of (d.choice p.queue)) e
 
 -- two tasks that change places both stay

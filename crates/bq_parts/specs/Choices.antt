@@ -10,7 +10,7 @@ use Rattle.bq_hooks.specs.declared.hook.Version.{Version}
 use Rattle.bq_hooks.specs.declared.hook.Version.TheVariants.{First, Second}
 use Rattle.bq_verify.specs.Accepted.{Accepted}
 use Rattle.bq_bpf.specs.Memory.{HaveShapes}
-use Rattle.bq_installed.specs.Answers.{Answers, IsWithin}
+use Rattle.bq_installed.specs.Answers.{Answers, RunsWithin}
 use Rattle.bq_installed.specs.Attachments.{Attached}
 use Rattle.bq_hooks.specs.declared.settled.By.{By}
 use Rattle.bq_hooks.specs.declared.settled.By.TheVariants as who
@@ -65,7 +65,7 @@ module _ (s : PolicySemantics) (policy : Accepted) where
     pub leaves : settled.attached ≡ record attached { maps = maps }
     pub shapes : HaveShapes policy.shapes maps
     -- it answers within its budget, with sixteen calls of counters at most
-    pub within : IsWithin policy settled.steps settled.calls
+    pub within : RunsWithin policy settled.steps settled.calls
 
 -- if a policy is given, it settles the choice; else the choice is the discipline's own
 abbrev pub SettlesBy : PolicySemantics → Option Accepted → (Version → List ℕ) → Attached → ℕ → ℕ → (ℕ → Bool) → ℕ → SettledChoice → Type 0

@@ -4,7 +4,7 @@ use Rattle.std.specs.Option.{option_map}
 use Rattle.bq_weights.specs.VirtualTime.{weight_of}
 use Rattle.bq_disc.specs.Tasks.{Task, with_id, without, place}
 use Rattle.bq_disc.specs.Discipline.{Discipline, pulled, left_at}
-use Rattle.bq_disc.specs.OneProcessor.{Running, start}
+use Rattle.bq_disc.specs.OneProcessor.{Running, choice_started}
 
 -- a task as it is admitted
 abbrev pub admitted : ℕ → ℕ → ℤ → ℕ → ℕ → Task
@@ -12,7 +12,7 @@ admitted count id nice mask slice = record { id = id; weight = weight_of nice; m
 
 -- what the current task leaves: the queue's choice runs
 abbrev pub after_leaving : Discipline → Running → Running
-after_leaving d p = start d (record p { current = None })
+after_leaving d p = choice_started d (record p { current = None })
 
 -- the current task as it leaves for sleep
 abbrev pub as_it_leaves : Running → ℕ → Task → Task
@@ -35,7 +35,7 @@ with_pulled d p (Some t) = record p { queue = place (pulled d p.kept t) p.queue 
 
 -- if nothing runs, the queue's choice starts to run
 abbrev pub started_if_idle : Discipline → Running → Option Task → Running
-started_if_idle d p None = start d p
+started_if_idle d p None = choice_started d p
 started_if_idle d p (Some t) = p
 
 -- a task from another processor, if there is one, enters; if nothing ran, the queue's choice starts to run

@@ -14,8 +14,8 @@ pub record Processor : Type 0 where
   pub hooks : Attachments
 
 -- a processor to which nothing has come, with nothing installed
-abbrev pub opening : Processor
-opening = record { running = at_rest; hand = None; hooks = none_attached }
+abbrev pub new_processor : Processor
+new_processor = record { running = at_rest; hand = None; hooks = none_attached }
 
 -- the task in a processor's hand, if any
 abbrev pub in_hand : Processor → List Task
@@ -34,14 +34,14 @@ abbrev pub load_of : Processor → List Task → ℕ
 load_of p inbox = size_of p + length inbox
 
 -- how many of the tasks have this id
-abbrev pub count_of : ℕ → List Task → ℕ
-count_of id [] = 0
-count_of id (x ∷ xs) = (if has_id id x then 1 else 0) + count_of id xs
+abbrev pub count_of_id : ℕ → List Task → ℕ
+count_of_id id [] = 0
+count_of_id id (x ∷ xs) = (if has_id id x then 1 else 0) + count_of_id id xs
 
 -- no two of the tasks share an id
 abbrev pub HasEachOnce : List Task → Type 0
-HasEachOnce xs = (id : ℕ) → count_of id xs ≤ 1
+HasEachOnce xs = (id : ℕ) → count_of_id id xs ≤ 1
 
 -- each id is one that the lobby has an entry for
 abbrev pub HasLobbyIds : List Task → Type 0
-HasLobbyIds xs = (id : ℕ) → TASKS ≤ id → count_of id xs ≡ 0
+HasLobbyIds xs = (id : ℕ) → TASKS ≤ id → count_of_id id xs ≡ 0

@@ -13,7 +13,7 @@ use Rattle.bq_parts.specs.declared.event.Event.{Event}
 use Rattle.bq_parts.specs.declared.event.Event.TheVariants.{Admit, Retire, Draw, Install, BeginWake, EndWake, Drain, Tick, Block, Pull}
 use Rattle.bq_parts.specs.declared.refusal.Refusal.{Refusal}
 use Rattle.bq_parts.specs.declared.refusal.Refusal.TheVariants as no
-use Rattle.bq_parts.specs.World.{World, processor_at, entry, count_in}
+use Rattle.bq_parts.specs.World.{World, processor_at, entry_of_id, count_in}
 
 -- the first refusal whose condition holds
 abbrev pub first_refusal : List (Bool × Refusal) → Option Refusal
@@ -80,11 +80,11 @@ generation_refusal newest drawn g = first_refusal ((nat_lt 0 newest && nat_le g 
 
 -- why this world refuses an event, if it does
 abbrev pub state_refusal : World → Event → Option Refusal
-state_refusal w (Admit id nice mask slice) = first_refusal ((not (is_absent (entry w id)), no.TaskExists) ∷ [])
-state_refusal w (Retire id) = retire_refusal (entry w id)
+state_refusal w (Admit id nice mask slice) = first_refusal ((not (is_absent (entry_of_id w id)), no.TaskExists) ∷ [])
+state_refusal w (Retire id) = retire_refusal (entry_of_id w id)
 state_refusal w Draw = None
 state_refusal w (Install processor h g policy) = generation_refusal (at_hook h (processor_at w processor).hooks).generation w.drawn g
-state_refusal w (BeginWake processor id) = begin_refusal (entry w id) (processor_at w processor).hand
+state_refusal w (BeginWake processor id) = begin_refusal (entry_of_id w id) (processor_at w processor).hand
 state_refusal w (EndWake processor now) = first_refusal ((is_none (processor_at w processor).hand, no.NothingInHand) ∷ [])
 state_refusal w (Drain processor now) = None
 state_refusal w (Tick processor now) = None
@@ -92,10 +92,10 @@ state_refusal w (Block processor now) = first_refusal ((is_none (processor_at w 
 state_refusal w (Pull processor from now) = None
 
 -- the first refusal, or else the second
-abbrev pub either : Option Refusal → Option Refusal → Option Refusal
-either None other = other
-either (Some r) other = Some r
+abbrev pub either_refusal : Option Refusal → Option Refusal → Option Refusal
+either_refusal None other = other
+either_refusal (Some r) other = Some r
 
 -- why an event is refused, if it is; a reason in its arguments comes first
 abbrev pub refusal : World → Event → Option Refusal
-refusal w e = either (argument_refusal (count_in w) e) (state_refusal w e)
+refusal w e = either_refusal (argument_refusal (count_in w) e) (state_refusal w e)

@@ -10,13 +10,13 @@ use Rattle.bq_parts.specs.declared.reply.Reply.{Reply}
 use Rattle.bq_parts.specs.declared.reply.Reply.TheVariants.{Admitted, Retired, Begun, Installed, Drained, Ticked, Blocked, Pulled}
 use Rattle.bq_parts.specs.declared.refusal.Refusal.{Refusal}
 use Rattle.bq_parts.specs.declared.refusal.Refusal.TheVariants as no
-use Rattle.bq_parts.specs.Processors.{Processor, opening}
+use Rattle.bq_parts.specs.Processors.{Processor, new_processor}
 use Rattle.bq_parts.specs.declared.carried.Carried.{Carried}
 use Rattle.bq_parts.specs.declared.wakes.Placement.{Placement}
 use Rattle.bq_parts.specs.Refusals.{is_absent, retire_refusal, begin_refusal, generation_refusal}
 use Rattle.bq_hooks.specs.declared.hook.Hook.{Hook}
 use Rattle.bq_installed.specs.Attachments.{Attached, at_hook, with_attached}
-use Rattle.bq_installed.specs.Standing.{MayStand}
+use Rattle.bq_installed.specs.Standing.{MayBeAttached}
 use Rattle.bq_hooks.specs.Permitted.{task_numbered}
 use Rattle.bq_parts.specs.Choices.{PolicySemantics, SettledChoice, SettlesPlace, SettlesPreempt, SettlesPull, decided_by}
 use Rattle.bq_parts.specs.Moves.{after_leaving, after_pull, as_it_leaves, without_task}
@@ -106,7 +106,7 @@ Places s count processor now p calls (Some x) q = PlacesTask s count processor n
 -- the new attachment replaces the one at the hook, or its generation is refused; this many generations were drawn
 abbrev pub Installs : Hook → ℕ → Processor → Attached → Result Reply Refusal → Processor → Type 0
 Installs h drawn p new (Ok r) q =
-    (generation_refusal (at_hook h p.hooks).generation drawn new.generation ≡ None) × (r ≡ Installed) × (q ≡ record p { hooks = with_attached h p.hooks new }) × MayStand h new
+    (generation_refusal (at_hook h p.hooks).generation drawn new.generation ≡ None) × (r ≡ Installed) × (q ≡ record p { hooks = with_attached h p.hooks new }) × MayBeAttached h new
 Installs h drawn p new (Err e) q = (generation_refusal (at_hook h p.hooks).generation drawn new.generation ≡ Some e) × (q ≡ p)
 
 -- a task of the other's queue, if one was chosen, enters this one's; if nothing ran, the queue's choice runs
@@ -130,5 +130,5 @@ pub record Pulls (s : PolicySemantics) (processor from now : ℕ) (p other : Pro
 abbrev pub PullsBetween : PolicySemantics → ℕ → ℕ → ℕ → List Processor → List CounterCall → Reply → List Processor → Type 0
 PullsBetween s processor from now cpus calls r cpus' =
     (q : Processor) × (other : Processor)
-    × Pulls s processor from now (slice_index_or cpus processor opening) (slice_index_or cpus from opening) calls r q other
+    × Pulls s processor from now (slice_index_or cpus processor new_processor) (slice_index_or cpus from new_processor) calls r q other
     × (cpus' ≡ slice_set (slice_set cpus processor q) from other)

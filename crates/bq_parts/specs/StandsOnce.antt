@@ -10,19 +10,19 @@ use Rattle.bq_hooks.specs.OwnPlace.{HasPlace}
 use Rattle.bq_installed.specs.Standing.{AreReady}
 use Rattle.bq_parts.specs.declared.carried.Carried.{Carried}
 use Rattle.bq_parts.specs.declared.lobby_entry.LobbyEntry.TheVariants.{Sleeping}
-use Rattle.bq_parts.specs.Processors.{Processor, held_by, count_of}
-use Rattle.bq_parts.specs.World.{World, processor_at, inbox, entry, count_in}
+use Rattle.bq_parts.specs.Processors.{Processor, held_by, count_of_id}
+use Rattle.bq_parts.specs.World.{World, processor_at, inbox, entry_of_id, count_in}
 use Rattle.bq_parts.specs.Refusals.{is_away}
 
 -- how often an id occurs in hands, as running, and in queues
 abbrev pub held_count : ℕ → List Processor → ℕ
 held_count id [] = 0
-held_count id (p ∷ ps) = count_of id (held_by p) + held_count id ps
+held_count id (p ∷ ps) = count_of_id id (held_by p) + held_count id ps
 
 -- how often an id occurs in inboxes
 abbrev pub placed_count : ℕ → List (List Task) → ℕ
 placed_count id [] = 0
-placed_count id (tasks ∷ others) = count_of id tasks + placed_count id others
+placed_count id (tasks ∷ others) = count_of_id id tasks + placed_count id others
 
 -- how often an id occurs with the processors, their inboxes included
 abbrev pub standing_count : ℕ → World → ℕ
@@ -35,15 +35,15 @@ runnable_at w processor = present_at (processor_at w processor).running ++ inbox
 -- every task that is away from the lobby is with the processors exactly once
 pub record StandsOnce (w : World) : Type 0 where
   -- an id that is away occurs once with the processors, and no other id does
-  pub away : (id : ℕ) → standing_count id w ≡ as_number (is_away (entry w id))
+  pub away : (id : ℕ) → standing_count id w ≡ as_number (is_away (entry_of_id w id))
   -- a task of the lobby is in the entry of its own id
-  pub blocked : (id : ℕ) (t : Task) → entry w id ≡ Sleeping t → t.id ≡ id
+  pub blocked : (id : ℕ) (t : Task) → entry_of_id w id ≡ Sleeping t → t.id ≡ id
   -- each runnable task is on a processor of its mask
   pub allowed : (processor : ℕ) → All (λ t. can_use processor t ≡ true) (runnable_at w processor)
 
 -- every admitted task has a processor that it may use, wherever the task is
 pub record HasPlaces (w : World) : Type 0 where
-  pub in_lobby : (id : ℕ) (t : Task) → entry w id ≡ Sleeping t → HasPlace (count_in w) t
+  pub in_lobby : (id : ℕ) (t : Task) → entry_of_id w id ≡ Sleeping t → HasPlace (count_in w) t
   pub in_hand : (processor : ℕ) (c : Carried) → (processor_at w processor).hand ≡ Some c → HasPlace (count_in w) c.task
   pub runnable : (processor : ℕ) → All (HasPlace (count_in w)) (runnable_at w processor)
 

@@ -4,7 +4,7 @@ use Rattle.bq_disc.specs.declared.limits.TheConstants.{TASKS}
 use Rattle.bq_disc.specs.Tasks.{Task}
 use Rattle.bq_parts.specs.declared.lobby_entry.LobbyEntry.{LobbyEntry}
 use Rattle.bq_parts.specs.declared.lobby_entry.LobbyEntry.TheVariants.{Absent}
-use Rattle.bq_parts.specs.Processors.{Processor, opening, load_of}
+use Rattle.bq_parts.specs.Processors.{Processor, new_processor, load_of}
 
 -- the processors; the inbox of each, in the order in which tasks came; the lobby's entry of each id; and how many numbers
 -- were drawn. The id of an absent entry is not admitted; that of an entry that is away is admitted, and its task is with
@@ -17,7 +17,7 @@ pub record World : Type 0 where
 
 -- a world of this many processors, with nothing admitted, drawn or installed
 abbrev pub opening_world : ℕ → World
-opening_world count = record { processors = replicate count opening; inboxes = replicate count []; lobby = replicate TASKS Absent; drawn = 0 }
+opening_world count = record { processors = replicate count new_processor; inboxes = replicate count []; lobby = replicate TASKS Absent; drawn = 0 }
 
 -- how many processors a world has
 abbrev pub count_in : World → ℕ
@@ -25,15 +25,15 @@ count_in w = length w.processors
 
 -- the processor with this number
 abbrev pub processor_at : World → ℕ → Processor
-processor_at w processor = slice_index_or w.processors processor opening
+processor_at w processor = slice_index_or w.processors processor new_processor
 
 -- the tasks in the inbox of a processor, in the order in which they came
 abbrev pub inbox : World → ℕ → List Task
 inbox w processor = slice_index_or w.inboxes processor []
 
 -- the lobby's entry of an id
-abbrev pub entry : World → ℕ → LobbyEntry
-entry w id = slice_index_or w.lobby id Absent
+abbrev pub entry_of_id : World → ℕ → LobbyEntry
+entry_of_id w id = slice_index_or w.lobby id Absent
 
 -- the world with another value of one processor
 abbrev pub with_processor : World → ℕ → Processor → World

@@ -3,7 +3,7 @@ ghost use Rattle.std.specs.Prelude.{◌≡◌, ◌≤◌, ◌<◌, ◌^◌, [], 
 ghost use Rattle.std.specs.Option.{option_map};
 ghost use Rattle.bq_bpf.specs.Counters.{Through};
 ghost use Rattle.bq_bpf.specs.Memory.{HaveShapes};
-ghost use Rattle.bq_installed.specs.Answers.{IsWithin};
+ghost use Rattle.bq_installed.specs.Answers.{RunsWithin};
 ghost use Rattle.bq_installed.specs.Attachments.{AnswersAt};
 ghost use Rattle.bq_hooks.specs.Contexts.{as_number};
 ghost use Rattle.bq_hooks.specs.OwnPlace.{HasPlace};
@@ -103,7 +103,7 @@ impl<Q: RunQueue> Cpu<Q> {
     ) -> Done
         requires version { Some version ≡ option_map (λ p. p.version) self.old.hooks.place.policy }
         ensures answers { AnswersAt self.old.hooks.place (place_bytes facts.now version) self.old.running.last processor result.r0 self.new.hooks.place.maps result.steps scratch.new }
-        ensures within { IfSome self.old.hooks.place.policy (λ p. IsWithin p result.steps scratch.new) }
+        ensures within { IfSome self.old.hooks.place.policy (λ p. RunsWithin p result.steps scratch.new) }
         ensures shapes { IfSome self.old.hooks.place.policy (λ p. HaveShapes p.shapes self.new.hooks.place.maps) }
         ensures rest { self.new ≡ record self.old { hooks = record self.old.hooks { place = record self.old.hooks.place { maps = self.new.hooks.place.maps } } } }
         ensures board { Through B.leads board.old scratch.new board.new }

@@ -7,10 +7,10 @@ ghost use Rattle.bq_disc.specs.Rising.{IsRising};
 ghost use Rattle.bq_disc.specs.Pulls.{pull_of};
 ghost use Rattle.bq_disc.specs.Discipline.{left_at};
 ghost use Rattle.bq_disc.specs.Chains.{task_of, chain_behind, IsStraightBehind};
-ghost use Rattle.bq_disc.specs.OneProcessor.{charge, marked, start, switched, enter_all, entered, present_at};
+ghost use Rattle.bq_disc.specs.OneProcessor.{charge, marked, choice_started, switched, enter_all, entered, present_at};
 ghost use Rattle.bq_installed.specs.Attachments.{at_hook, with_attached, IsFor};
 ghost use Rattle.bq_installed.specs.Standing.{WasAnswered};
-ghost use Rattle.bq_parts.specs.Processors.{opening, load_of, size_of, count_of, HasEachOnce};
+ghost use Rattle.bq_parts.specs.Processors.{new_processor, load_of, size_of, count_of_id, HasEachOnce};
 ghost use Rattle.bq_parts.specs.Moves.{taken_from, without_task, with_pulled, started_if_idle};
 
 use crate::{Carried, Inbox, Unlinked};
@@ -58,7 +58,7 @@ fn node_of(current: &Option<Unlinked>) -> Option<&Node>
 impl<Q: RunQueue> Cpu<Q> {
     /// A processor to which nothing has come, with nothing installed at its hooks.
     pub fn new() -> Cpu<Q>
-        ensures { result ≡ opening }
+        ensures { result ≡ new_processor }
     {
         Cpu::over(Q::empty())
     }
@@ -67,7 +67,7 @@ impl<Q: RunQueue> Cpu<Q> {
     pub fn over(queue: Q) -> Cpu<Q>
         requires empty { Q.members queue ≡ [] }
         requires mark { Q.kept_mark queue ≡ 2 ^ 32 }
-        ensures { result ≡ opening }
+        ensures { result ≡ new_processor }
     {
         Cpu {
             queue,
@@ -169,7 +169,7 @@ impl<Q: RunQueue> Cpu<Q> {
     /// Starts to run the queue's choice.
     pub fn start(&mut self)
         requires { self.old.running.current ≡ None }
-        ensures { self.new ≡ record self.old { running = start Q.R.discipline self.old.running } }
+        ensures { self.new ≡ record self.old { running = choice_started Q.R.discipline self.old.running } }
     {
         if let Some(id) = self.queue.choice(None) {
             if let Some(node) = self.queue.take(id) {
@@ -209,7 +209,7 @@ impl<Q: RunQueue> Cpu<Q> {
     /// Lets the tasks of a chain enter the queue in their order, as woken tasks.
     pub fn enter_all(&mut self, tasks: Link)
         requires straight { IsStraightBehind tasks }
-        requires apart { (id : ℕ) → count_of id self.old.running.queue + count_of id (chain_behind tasks) ≤ 1 }
+        requires apart { (id : ℕ) → count_of_id id self.old.running.queue + count_of_id id (chain_behind tasks) ≤ 1 }
         ensures { self.new ≡ record self.old { running = enter_all Q.R.discipline self.old.running (chain_behind tasks) } }
     {
         enter_chain(&mut self.queue, tasks);
@@ -300,7 +300,7 @@ impl<Q: RunQueue> Cpu<Q> {
 /// Lets the tasks of a chain enter a queue, one after another.
 fn enter_chain<Q: RunQueue>(queue: &mut Q, tasks: Link)
     requires straight { IsStraightBehind tasks }
-    requires apart { (id : ℕ) → count_of id (Q.members queue.old) + count_of id (chain_behind tasks) ≤ 1 }
+    requires apart { (id : ℕ) → count_of_id id (Q.members queue.old) + count_of_id id (chain_behind tasks) ≤ 1 }
     ensures members { Q.members queue.new ≡ entered Q.R.discipline (Q.kept_mark queue.old) (Q.members queue.old) (chain_behind tasks) }
     ensures mark { Q.kept_mark queue.new ≡ Q.kept_mark queue.old }
 {

@@ -12,17 +12,17 @@ use Rattle.serde_json.proofs.Views.{get_member-put, get_member-put_other}
 use Rattle.bq_hooks.specs.Hooks.{hook_word}
 use Rattle.bq_insn.specs.Appending.{StartsWith}
 use Rattle.bq_words.specs.Refused.{refused_line}
-use Rattle.bq_load.specs.Naming.{fault_text as image_text}
+use Rattle.bq_load.specs.Naming.{load_fault_text as image_text}
 use Rattle.bq_load.specs.declared.fault.LoadFault.TheVariants as load
 use Rattle.bq_explain.specs.Beginnings.{first_words}
 use Rattle.bq_explain.specs.Measures.{measure_word}
 use Rattle.bq_explain.specs.Verdicts.{is_accepted}
 use Rattle.bq_explain.specs.declared.verdict.Verdict.{Verdict}
 use Rattle.bq_explain.specs.declared.verdict.Verdict.TheVariants.{Accepted, OverSteps, Forbidden, OtherHook, Beyond, Refused}
-use Rattle.bq_policy_file.specs.Naming.{fault_text}
+use Rattle.bq_policy_file.specs.Naming.{policy_fault_text}
 use Rattle.bq_policy_file.specs.declared.fault.PolicyFault.{PolicyFault}
 use Rattle.bq_policy_file.specs.declared.policy_source.PolicySource.{PolicySource}
-use Rattle.bq_policy_check.specs.Refusing.{fault_line}
+use Rattle.bq_policy_check.specs.Refusing.{policy_fault_line}
 use Rattle.bq_policy_check.specs.Showing.{HasMembers, IsFirstLine, IsJson, IsLineOf, ShowsFault, ShowsNone, ShowsVerdict, answer_members, first_line, of_fault, of_verdict, put_all}
 
 -- none of them has that name
@@ -113,13 +113,13 @@ shows_verdict p verdict first prose text old new begins is made line =
 
 -- an object whose last members are the answer's shows a fault of a file
 pub shows_fault : (named : PolicyFault) (first prose text : List ℕ) (old new : Members)
-    → StartsWith (fault_line named) prose → first ≡ first_line prose
+    → StartsWith (policy_fault_line named) prose → first ≡ first_line prose
     → new ≡ put_all (answer_members false (string first) ++ of_fault named) old → IsLineOf (object new) text
     → ShowsFault named text
 shows_fault named first prose text old new begins is made line =
     let apart : AreApart (answer_members false (string first) ++ of_fault named) = search in
     subst (λ (l : List ℕ). IsJson (answer_members false (string l) ++ of_fault named) text)
-    (first_refused (fault_text named) prose first begins is)
+    (first_refused (policy_fault_text named) prose first begins is)
     (shows (answer_members false (string first) ++ of_fault named) old new text apart made line)
 
 -- an object whose last members are those of no answer shows no answer

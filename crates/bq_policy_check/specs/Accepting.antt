@@ -41,7 +41,7 @@ abbrev pub IsFoundUnder : List ℕ → Head → Limits → Option (Vec ℕ Globa
 IsFoundUnder bytes h l found = MatchOption found (HasNoImage bytes h l) (λ image. IsImageUnder bytes h l image.items)
 
 -- the image by the head and the limits that the words say
-pub record IsAcceptedImage (w : CheckWords) (bytes image : List ℕ) : Type 0 where
+pub record IsImageAsAsked (w : CheckWords) (bytes image : List ℕ) : Type 0 where
   pub terms : Head × Limits
   pub gives : GivesTerms w terms
   pub is : IsImageUnder bytes terms.0 terms.1 image

@@ -13,7 +13,7 @@ use Rattle.bq_policy_check.specs.declared.answered.Answered.{Answered}
 use Rattle.bq_policy_check.specs.declared.answered.Answered.TheVariants.{Done, Refused}
 use Rattle.bq_policy_check.specs.declared.words.CheckWords.{CheckWords}
 use Rattle.bq_policy_check.specs.Limiting.{HasLimits}
-use Rattle.bq_policy_check.specs.Refusing.{fault_line}
+use Rattle.bq_policy_check.specs.Refusing.{policy_fault_line}
 use Rattle.bq_policy_check.specs.Given.{IsWordsFault, GivesHead}
 use Rattle.bq_policy_check.specs.Showing.{ShowsFault, ShowsVerdict}
 
@@ -46,7 +46,7 @@ pub record ReportsFault (w : CheckWords) (bytes : List ℕ) (h : Head) (answer :
   pub other : named ≢ fault.OutOfMemory
   pub text : String Global
   pub is : answer ≡ Refused text
-  pub reported : IsPlainLine w (fault_line named) (string_bytes text)
+  pub reported : IsPlainLine w (policy_fault_line named) (string_bytes text)
   pub shown : IsShownAsJson w (ShowsFault named) (string_bytes text)
 
 -- the file is this policy, and its verdict is reported

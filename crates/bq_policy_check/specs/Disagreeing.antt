@@ -9,9 +9,9 @@ use Rattle.bq_policy_file.specs.declared.mark.Key.{Key}
 use Rattle.bq_policy_file.specs.declared.options.Options.{Options}
 use Rattle.bq_policy_file.specs.declared.policy_source.PolicySource.{PolicySource}
 use Rattle.bq_policy_file.specs.Files.{IsPolicy, IsPolicyFault, kind_of}
-use Rattle.bq_policy_file.specs.Forms.{maps_text}
+use Rattle.bq_policy_file.specs.Forms.{maps_option_text}
 use Rattle.bq_policy_file.specs.Heads.{NamesMapShapes}
-use Rattle.bq_policy_check.specs.Refusing.{fault_line}
+use Rattle.bq_policy_check.specs.Refusing.{policy_fault_line}
 use Rattle.bq_policy_check.specs.declared.asm_head.AsmRefusal.{AsmRefusal}
 
 -- the mark that the words contradict, if that is the fault
@@ -24,21 +24,21 @@ abbrev pub NoneDiffers : List ℕ → Head → Type 0
 NoneDiffers bytes h = ((p : PolicySource) × IsPolicy bytes h p) ⊎ ((named : PolicyFault) × IsPolicyFault bytes h named × (named ≢ OutOfMemory) × (differing named ≡ None))
 
 -- the key in which the words differ from the marks of a text, if they do; other bytes have no marks
-abbrev pub IsDifference : List ℕ → Head → Option Key → Type 0
-IsDifference bytes h None = (kind_of bytes ≢ Text) ⊎ NoneDiffers bytes h
-IsDifference bytes h (Some key) = (named : PolicyFault) × IsPolicyFault bytes h named × (differing named ≡ Some key)
+abbrev pub IsDifferingKey : List ℕ → Head → Option Key → Type 0
+IsDifferingKey bytes h None = (kind_of bytes ≢ Text) ⊎ NoneDiffers bytes h
+IsDifferingKey bytes h (Some key) = (named : PolicyFault) × IsPolicyFault bytes h named × (differing named ≡ Some key)
 
 -- the options ask for an image, and say this of it
 pub record GivesImage (o : Options) (h : Head) : Type 0 where
   pub asked : IsSome o.hook
   pub hook : h.hook ≡ o.hook
-  pub maps : GivesWord NamesMapShapes (maps_text o) h.maps
+  pub maps : GivesWord NamesMapShapes (maps_option_text o) h.maps
   pub format : h.format ≡ o.format
 
 -- the refusal, if there is one, names the mark of the text from which the words differ
 abbrev pub IsRefusalBeside : List ℕ → Head → Option AsmRefusal → Type 0
-IsRefusalBeside bytes h None = IsDifference bytes h None
-IsRefusalBeside bytes h (Some refusal) = (key : Key) × IsDifference bytes h (Some key) × (string_bytes refusal.line ≡ fault_line (Disagrees key))
+IsRefusalBeside bytes h None = IsDifferingKey bytes h None
+IsRefusalBeside bytes h (Some refusal) = (key : Key) × IsDifferingKey bytes h (Some key) × (string_bytes refusal.line ≡ policy_fault_line (Disagrees key))
 
 -- options that ask for no image, or name no maps, are not refused here; others are refused if they differ from the marks of the text
 abbrev pub IsAsmRefusal : Options → List ℕ → Option AsmRefusal → Type 0

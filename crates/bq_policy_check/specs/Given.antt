@@ -4,7 +4,7 @@ use Rattle.std.specs.declared.alloc.Global.{Global}
 use Rattle.bq_policy_file.specs.declared.head.Head.{Head}
 use Rattle.bq_policy_file.specs.Heads.{NamesMapShapes}
 use Rattle.bq_console.specs.Words.{GivesWord}
-use Rattle.bq_words.specs.Numbers.{number_of}
+use Rattle.bq_words.specs.Numbers.{number_in_base}
 use Rattle.bq_hooks.specs.Hooks.{hook_of, version_of}
 use Rattle.bq_policy_check.specs.declared.answered.Answered.{Answered}
 use Rattle.bq_policy_check.specs.declared.answered.Answered.TheVariants.{Words}
@@ -16,7 +16,7 @@ option_bytes word = option_map (λ w. string_bytes w) word
 
 -- the word writes the number in decimal, and it is below that limit
 abbrev pub IsNumberBelow : ℕ → List ℕ → ℕ → Type 0
-IsNumberBelow limit word number = (number_of 10 word ≡ Some number) × (number < limit)
+IsNumberBelow limit word number = (number_in_base 10 word ≡ Some number) × (number < limit)
 
 -- each word says its part of the head
 pub record GivesHead (w : PolicyWords) (h : Head) : Type 0 where
@@ -25,9 +25,9 @@ pub record GivesHead (w : PolicyWords) (h : Head) : Type 0 where
   pub format : GivesWord (λ word version. version_of word ≡ Some version) (option_bytes w.format) h.format
 
 -- the words are refused
-abbrev pub IsRefused : Answered → Type 0
-IsRefused answer = (why : String Global) × (answer ≡ Words why)
+abbrev pub AreWordsRefused : Answered → Type 0
+AreWordsRefused answer = (why : String Global) × (answer ≡ Words why)
 
 -- the words are refused, and say none of that kind
 abbrev pub IsWordsFault : {A : Type 0} → (A → Type 0) → Answered → Type 0
-IsWordsFault {A} Gives answer = IsRefused answer × ((a : A) → ¬ Gives a)
+IsWordsFault {A} Gives answer = AreWordsRefused answer × ((a : A) → ¬ Gives a)

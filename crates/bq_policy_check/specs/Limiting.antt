@@ -3,7 +3,7 @@ use Rattle.std.specs.Prelude.{◌≡◌, ℕ, ◌^◌, ℤ, pos, List, [], ◌�
 use Rattle.std.specs.List.{AllZip}
 use Rattle.std.specs.declared.alloc.Global.{Global}
 use Rattle.std.specs.declared.vec.Vec.{Vec}
-use Rattle.bq_words.specs.Numbers.{number_of}
+use Rattle.bq_words.specs.Numbers.{number_in_base}
 use Rattle.bq_bpf.specs.Helpers.{number_of_helper}
 use Rattle.bq_bpf.specs.declared.helper.Helper.{Helper}
 use Rattle.bq_explain.specs.declared.limits.Limits.{Limits}
@@ -15,8 +15,8 @@ use Rattle.bq_policy_check.specs.declared.words.LimitWords.{LimitWords}
 use Rattle.bq_policy_check.specs.Given.{IsNumberBelow, option_bytes}
 
 -- the word writes the number of a helper, in decimal
-abbrev pub IsHelper : List ℕ → ℤ → Type 0
-IsHelper word number = (h : Helper) × (number_of_helper h ≡ number) × (option_map (λ n. pos n) (number_of 10 word) ≡ Some number)
+abbrev pub IsHelperWord : List ℕ → ℤ → Type 0
+IsHelperWord word number = (h : Helper) × (number_of_helper h ≡ number) × (option_map (λ n. pos n) (number_in_base 10 word) ≡ Some number)
 
 -- the word names the hook
 abbrev pub IsHook : List ℕ → Hook → Type 0
@@ -29,7 +29,7 @@ words_of_list (c ∷ rest) = parts 44 (c ∷ rest)
 
 -- each part writes a helper, in its turn
 abbrev pub NamesHelpers : List ℕ → Vec ℤ Global → Type 0
-NamesHelpers text helpers = AllZip IsHelper (words_of_list text) helpers.items
+NamesHelpers text helpers = AllZip IsHelperWord (words_of_list text) helpers.items
 
 -- the text names no helpers
 abbrev pub NamesNoHelpers : List ℕ → Type 0

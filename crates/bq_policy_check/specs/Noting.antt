@@ -25,8 +25,8 @@ abbrev pub leaves_format : Head → PolicySource → Bool
 leaves_format h p = not (is_some h.format) && is_second p.form.version
 
 -- the lines on the maps and on the version that the options leave out
-abbrev pub left_text : Head → PolicySource → List ℕ
-left_text h p =
+abbrev pub left_out_lines : Head → PolicySource → List ℕ
+left_out_lines h p =
     (if leaves_maps h p then codes "the text says maps, and the image has none: asm takes them only from --maps; check --image OUT writes the image with them\n" else [])
     ++ (if leaves_format h p then codes "the text says format 2, and the image has version 1: asm takes it only from --format; check --image OUT writes version 2\n" else [])
 
@@ -40,7 +40,7 @@ NotesHead other note = note ≡ []
 abbrev pub IsNoteBeside : List ℕ → Head → List ℕ → Type 0
 IsNoteBeside bytes h note =
     ((kind_of bytes ≢ Text) × (note ≡ []))
-    ⊎ (((p : PolicySource) × IsPolicy bytes h p × (note ≡ left_text h p)) ⊎ ((named : PolicyFault) × IsPolicyFault bytes h named × (named ≢ fault.OutOfMemory) × NotesHead named note))
+    ⊎ (((p : PolicySource) × IsPolicy bytes h p × (note ≡ left_out_lines h p)) ⊎ ((named : PolicyFault) × IsPolicyFault bytes h named × (named ≢ fault.OutOfMemory) × NotesHead named note))
 
 -- options that ask for no image, or name no maps, leave nothing
 abbrev pub IsAsmNote : Options → List ℕ → List ℕ → Type 0

@@ -14,11 +14,11 @@ use Rattle.bq_explain.specs.Measures.{measure_word}
 use Rattle.bq_explain.specs.Verdicts.{is_accepted, verdict_line}
 use Rattle.bq_explain.specs.declared.verdict.Verdict.{Verdict}
 use Rattle.bq_explain.specs.declared.verdict.Verdict.TheVariants.{Accepted, OverSteps, Forbidden, OtherHook, Beyond, Refused}
-use Rattle.bq_policy_file.specs.Naming.{fault_text}
+use Rattle.bq_policy_file.specs.Naming.{policy_fault_text}
 use Rattle.bq_policy_file.specs.declared.fault.PolicyFault.{PolicyFault}
 use Rattle.bq_policy_file.specs.declared.fault.PolicyFault.TheVariants.{Assembly, Head, Image, Program}
 use Rattle.bq_policy_file.specs.declared.policy_source.PolicySource.{PolicySource}
-use Rattle.bq_policy_check.specs.Refusing.{fault_line}
+use Rattle.bq_policy_check.specs.Refusing.{policy_fault_line}
 
 -- the value as JSON, on a line of its own
 abbrev pub IsLineOf : Data → List ℕ → Type 0
@@ -52,8 +52,8 @@ abbrev pub of_limit : List ℕ → List (List ℕ × Data)
 of_limit cause = (codes "stage", string (codes "limit")) ∷ (codes "cause", string cause) ∷ []
 
 -- the cause for which the verifier refuses a policy, and the slot
-abbrev pub of_refusal : ℕ → Cause → List (List ℕ × Data)
-of_refusal slot cause =
+abbrev pub refusal_fields : ℕ → Cause → List (List ℕ × Data)
+refusal_fields slot cause =
     (codes "stage", string (codes "verifier")) ∷ (codes "code", string (codes "V" ++ decimal (cause_number cause))) ∷ (codes "slot", number (unsigned slot)) ∷ []
 
 -- the parts of a verdict
@@ -63,7 +63,7 @@ of_verdict p (OverSteps budget most) = of_limit (codes "steps") ++ (codes "budge
 of_verdict p (Forbidden helper) = of_limit (codes "helper") ++ (codes "helper", number (of_integer helper)) ∷ []
 of_verdict p OtherHook = of_limit (codes "hook")
 of_verdict p (Beyond over) = of_limit (measure_word over.measure) ++ (codes "used", number (unsigned over.used)) ∷ (codes "limit", number (unsigned over.most)) ∷ []
-of_verdict p (Refused slot cause) = of_refusal slot cause
+of_verdict p (Refused slot cause) = refusal_fields slot cause
 
 -- whether the policy may run, and the line that says so or why not
 abbrev pub answer_members : Bool → Data → List (List ℕ × Data)
@@ -93,12 +93,12 @@ stage_of other = codes "file"
 
 -- what refuses the file, the fault by its text, and its slot
 abbrev pub of_fault : PolicyFault → List (List ℕ × Data)
-of_fault named = (codes "stage", string (stage_of named)) ∷ (codes "code", string (fault_text named)) ∷ (codes "slot", slot_of named) ∷ []
+of_fault named = (codes "stage", string (stage_of named)) ∷ (codes "code", string (policy_fault_text named)) ∷ (codes "slot", slot_of named) ∷ []
 
 -- as JSON a fault of a file has its first line, and a member for each of its parts
 abbrev pub ShowsFault : PolicyFault → List ℕ → Type 0
 ShowsFault named text =
-    IsJson (answer_members false (string (first_line (fault_line named))) ++ of_fault named) text
+    IsJson (answer_members false (string (first_line (policy_fault_line named))) ++ of_fault named) text
 
 -- no answer comes to the file
 abbrev pub ShowsNone : List ℕ → Type 0

@@ -1,6 +1,6 @@
 //! The image of a policy that `check` accepts.
 ghost use Rattle.std.specs.Prelude.{IfOk, MatchOption};
-ghost use Rattle.bq_policy_check.specs.Accepting.{IsAcceptedImage, IsFoundUnder, IsNoImage};
+ghost use Rattle.bq_policy_check.specs.Accepting.{IsImageAsAsked, IsFoundUnder, IsNoImage};
 
 use crate::checking::{Terms, terms_of};
 use crate::words::CheckWords;
@@ -15,7 +15,7 @@ pub fn accepted_image(
     words: &CheckWords,
     bytes: &[u8],
 ) -> Result<Option<Vec<u8>>, AllocError>
-    ensures { IfOk result (λ found. MatchOption found (IsNoImage words.now bytes.now) (λ image. IsAcceptedImage words.now bytes.now image.items)) }
+    ensures { IfOk result (λ found. MatchOption found (IsNoImage words.now bytes.now) (λ image. IsImageAsAsked words.now bytes.now image.items)) }
 {
     match terms_of(alloc, words) {
         Ok(terms) => image_under(alloc, &terms, bytes),

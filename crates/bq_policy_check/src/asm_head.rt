@@ -1,7 +1,7 @@
 //! The words of `asm` beside the marks of its text.
 ghost use Rattle.std.specs.Prelude.{◌≡◌, IfOk, MatchOption};
 ghost use Rattle.bq_policy_file.specs.declared.head.Head.{Head as StatedHead};
-ghost use Rattle.bq_policy_check.specs.Disagreeing.{IsAsmRefusal, IsDifference, IsRefusalBeside, GivesImage, differing};
+ghost use Rattle.bq_policy_check.specs.Disagreeing.{IsAsmRefusal, IsDifferingKey, IsRefusalBeside, GivesImage, differing};
 
 use crate::reasons::{fault_line, fault_reason};
 use bq_policy_file::{FileKind, Head, Key, Options, PolicyFault, kind_of, read_policy, shapes_of};
@@ -76,7 +76,7 @@ pub(crate) fn head_of(alloc: Global, options: &Options) -> Result<Option<Head>, 
 
 /// The first mark of a text from which the words differ, if there is one.
 fn difference(alloc: Global, given: &Head, text: &[u8]) -> Result<Option<Key>, AllocError>
-    ensures { IfOk result (IsDifference text.now given.now) }
+    ensures { IfOk result (IsDifferingKey text.now given.now) }
 {
     match kind_of(text) {
         FileKind::Image | FileKind::Hex => return Ok(None),

@@ -1,6 +1,6 @@
 //! What `asm` leaves of the marks of its text.
 ghost use Rattle.std.specs.Prelude.{◌≡◌, IfOk, string_bytes};
-ghost use Rattle.bq_policy_check.specs.Noting.{IsAsmNote, IsNoteBeside, NotesHead, left_text, leaves_format, leaves_maps};
+ghost use Rattle.bq_policy_check.specs.Noting.{IsAsmNote, IsNoteBeside, NotesHead, left_out_lines, leaves_format, leaves_maps};
 
 use crate::asm_head::head_of;
 use crate::reasons::fault_reason;
@@ -60,7 +60,7 @@ fn head_note(alloc: Global, text: &[u8], fault: PolicyFault) -> Result<String, A
 
 /// The lines on what the options leave out and the policy's text says.
 fn left_text(alloc: Global, given: &Head, policy: &PolicySource) -> Result<String, AllocError>
-    ensures { IfOk result (λ note. string_bytes note ≡ left_text given.now policy.now) }
+    ensures { IfOk result (λ note. string_bytes note ≡ left_out_lines given.now policy.now) }
 {
     let mut note = String::new(alloc);
     if leaves_maps(given, policy) {

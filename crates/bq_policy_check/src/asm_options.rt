@@ -1,6 +1,6 @@
 //! What is wrong with the options of `asm`.
 ghost use Rattle.std.specs.Prelude.{IfOk};
-ghost use Rattle.bq_policy_check.specs.Complaining.{ComplainsOf};
+ghost use Rattle.bq_policy_check.specs.Complaining.{ComplainsOfOptions};
 
 use crate::maps_words::maps_words;
 use bq_policy_file::{Options, OptionsFault};
@@ -12,7 +12,7 @@ use std::alloc::{AllocError, Global};
 /// --maps: part 1 "7:2": the size of a value is 8 to 256, a multiple of 8 (got 7)
 /// ```
 pub fn options_complaint(alloc: Global, options: &Options) -> Result<Option<String>, AllocError>
-    ensures { IfOk result (ComplainsOf options.now) }
+    ensures { IfOk result (ComplainsOfOptions options.now) }
 {
     match options.form(alloc) {
         Ok(_) => Ok(None),

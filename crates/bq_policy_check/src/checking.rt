@@ -3,7 +3,7 @@ ghost use Rattle.std.specs.Prelude.{◌≡◌, ◌≢◌, IfErr, IfOk, OnOk, fal
 ghost use Rattle.bq_policy_file.specs.declared.fault.PolicyFault.TheVariants.{OutOfMemory};
 ghost use Rattle.bq_policy_check.specs.Checking.{ChecksFile, ChecksTo, IsShownAsJson, IsPlainLine, GivesTerms, ReportsVerdict, answered};
 ghost use Rattle.bq_policy_check.specs.Limiting.{HasLimits};
-ghost use Rattle.bq_policy_check.specs.Refusing.{fault_line};
+ghost use Rattle.bq_policy_check.specs.Refusing.{policy_fault_line};
 ghost use Rattle.bq_console.specs.Words.{GivesNone};
 ghost use Rattle.bq_policy_check.specs.Given.{GivesHead};
 ghost use Rattle.bq_policy_check.specs.Showing.{ShowsFault, ShowsVerdict};
@@ -113,7 +113,7 @@ fn refusal(
     bytes: &[u8],
     fault: PolicyFault,
 ) -> Result<String, AllocError>
-    ensures reported { IfOk result (λ text. IsPlainLine words.now (fault_line fault) (string_bytes text)) }
+    ensures reported { IfOk result (λ text. IsPlainLine words.now (policy_fault_line fault) (string_bytes text)) }
     ensures shown { IfOk result (λ text. IsShownAsJson words.now (ShowsFault fault) (string_bytes text)) }
     ensures other { OnOk result (fault ≢ OutOfMemory) }
 {
@@ -144,7 +144,7 @@ fn reasoned_refusal(
     fault: PolicyFault,
     line: &String,
 ) -> Result<String, AllocError>
-    requires { string_bytes line.now ≡ fault_line fault }
+    requires { string_bytes line.now ≡ policy_fault_line fault }
     ensures { IfOk result (λ text. IsShownAsJson words.now (ShowsFault fault) (string_bytes text)) }
 {
     let reason = reason_of(alloc, bytes, fault)?;

@@ -2,7 +2,7 @@
 ghost use Rattle.std.specs.Prelude.{◌≡◌, OnOk};
 ghost use Rattle.serde_json.specs.Data.{number, put as with_member, string, unsigned};
 ghost use Rattle.serde_json.specs.View.{members_view};
-ghost use Rattle.bq_policy_check.specs.Showing.{of_accepted, of_limit, of_refusal, of_verdict, put_all};
+ghost use Rattle.bq_policy_check.specs.Showing.{of_accepted, of_limit, refusal_fields, of_verdict, put_all};
 
 use bq_bpf::MapShape;
 use bq_console::{NO_TEXT, Name};
@@ -76,7 +76,7 @@ fn put_refusal(
     slot: usize,
     cause: Cause,
 ) -> Result<(), AllocError>
-    ensures { OnOk result (members_view fields.new.entries ≡ put_all (of_refusal slot cause) (members_view fields.old.entries)) }
+    ensures { OnOk result (members_view fields.new.entries ≡ put_all (refusal_fields slot cause) (members_view fields.old.entries)) }
 {
     let number = cause.number();
     let code = format!(in alloc; "V{number}")?;

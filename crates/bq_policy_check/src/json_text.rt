@@ -3,7 +3,7 @@ ghost use Rattle.std.specs.Prelude.{◌≡◌, Bool, IfOk, OnOk, false, string_b
 ghost use Rattle.serde_json.specs.Data.{object};
 ghost use Rattle.serde_json.specs.View.{members_view, view};
 ghost use Rattle.bq_insn.specs.Appending.{StartsWith};
-ghost use Rattle.bq_policy_check.specs.Refusing.{fault_line};
+ghost use Rattle.bq_policy_check.specs.Refusing.{policy_fault_line};
 ghost use Rattle.bq_policy_check.specs.Showing.{IsLineOf, ShowsFault, ShowsNone, ShowsVerdict, answer_members, first_line, put_all};
 
 use crate::json_parts::{
@@ -53,7 +53,7 @@ pub(crate) fn reason_json(
     reason: &Reason,
     prose: &str,
 ) -> Result<String, AllocError>
-    requires { StartsWith (fault_line fault) prose.now }
+    requires { StartsWith (policy_fault_line fault) prose.now }
     ensures { IfOk result (λ text. ShowsFault fault (string_bytes text)) }
 {
     let (first, rest) = first_line(prose);

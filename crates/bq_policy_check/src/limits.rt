@@ -5,7 +5,7 @@ ghost use Rattle.bq_words.specs.Words.{parts};
 ghost use Rattle.bq_console.specs.Words.{GivesNone, GivesWord};
 ghost use Rattle.bq_hooks.specs.declared.hook.Hook.{Hook as Place};
 ghost use Rattle.bq_policy_check.specs.Given.{option_bytes};
-ghost use Rattle.bq_policy_check.specs.Limiting.{HasLimits, IsHelper, IsHook, IsMost, NamesHelpers, NamesHooks, NamesNoHelpers, NamesNoHooks};
+ghost use Rattle.bq_policy_check.specs.Limiting.{HasLimits, IsHelperWord, IsHook, IsMost, NamesHelpers, NamesHooks, NamesNoHelpers, NamesNoHooks};
 
 use crate::given::HOOK_WORDS;
 use crate::numbers::{helper, small_number};
@@ -164,7 +164,7 @@ fn numbers_of(alloc: Global, text: &str) -> Result<Option<Vec<i32>>, AllocError>
 /// Adds the helpers of a comma-separated text, up to the first part that is no helper's number. Answers whether all parts are.
 fn push_numbers(numbers: &mut Vec<i32>, text: &str) -> Result<bool, AllocError>
     requires { numbers.old.items ≡ [] }
-    ensures { IfOk result (λ all. MatchBool all (AllZip IsHelper (parts 44 text.now) numbers.new.items) ((helpers : List ℤ) → ¬ AllZip IsHelper (parts 44 text.now) helpers)) }
+    ensures { IfOk result (λ all. MatchBool all (AllZip IsHelperWord (parts 44 text.now) numbers.new.items) ((helpers : List ℤ) → ¬ AllZip IsHelperWord (parts 44 text.now) helpers)) }
 {
     for part in text.split(',') {
         match helper(part.as_bytes()) {

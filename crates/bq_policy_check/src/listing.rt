@@ -2,7 +2,7 @@
 ghost use Rattle.std.specs.Prelude.{◌≡◌, ◌≢◌, ◌++◌, ℕ, List, IfOk, OnOk, string_bytes};
 ghost use Rattle.bq_policy_file.specs.declared.fault.PolicyFault.TheVariants.{OutOfMemory};
 ghost use Rattle.bq_policy_check.specs.Listing.{ListsFile, ListsTo};
-ghost use Rattle.bq_policy_check.specs.Refusing.{Refuses};
+ghost use Rattle.bq_policy_check.specs.Refusing.{RefusesPolicy};
 
 use crate::answered::Answered;
 use crate::given::given_head;
@@ -51,7 +51,7 @@ pub fn refused_file(
     bytes: &[u8],
     fault: PolicyFault,
 ) -> Result<String, AllocError>
-    ensures line { IfOk result (λ text. Refuses fault (string_bytes text)) }
+    ensures line { IfOk result (λ text. RefusesPolicy fault (string_bytes text)) }
     ensures other { OnOk result (fault ≢ OutOfMemory) }
 {
     let line = fault_line(alloc, fault)?;

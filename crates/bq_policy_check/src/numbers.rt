@@ -1,7 +1,7 @@
 //! The numbers that words of a command write.
 ghost use Rattle.std.specs.Prelude.{◌^◌, ℕ, ℤ, FitsSigned, IfNone, IfSome};
 ghost use Rattle.std.specs.Int.{w32};
-ghost use Rattle.bq_policy_check.specs.Limiting.{IsHelper};
+ghost use Rattle.bq_policy_check.specs.Limiting.{IsHelperWord};
 ghost use Rattle.bq_policy_check.specs.Given.{IsNumberBelow};
 
 use bq_bpf::Helper;
@@ -18,8 +18,8 @@ pub fn small_number(word: &str) -> Option<u32>
 
 /// The number of a helper, in decimal.
 pub(crate) fn helper(word: &[u8]) -> Option<i32>
-    ensures some { IfSome result (IsHelper word.now) }
-    ensures none { IfNone result ((number : ℤ) → ¬ IsHelper word.now number) }
+    ensures some { IfSome result (IsHelperWord word.now) }
+    ensures none { IfNone result ((number : ℤ) → ¬ IsHelperWord word.now number) }
     ensures fits { IfSome result (FitsSigned w32) }
 {
     let number = i32::try_from(number(word, 10)?).ok()?;

@@ -1,7 +1,7 @@
 //! Why a file is no policy: the line that refuses it, and what is wrong, as a value and in words.
 ghost use Rattle.std.specs.Prelude.{◌≡◌, ◌≢◌, IfOk, OnOk, string_bytes};
 ghost use Rattle.serde_json.specs.View.{members_view, view};
-ghost use Rattle.bq_policy_check.specs.Refusing.{fault_line};
+ghost use Rattle.bq_policy_check.specs.Refusing.{policy_fault_line};
 ghost use Rattle.bq_policy_check.specs.Showing.{of_fault, put_all, slot_of, stage_of};
 ghost use Rattle.bq_policy_file.specs.declared.fault.PolicyFault.TheVariants.{OutOfMemory};
 
@@ -23,7 +23,7 @@ pub const HOOK_UNNAMED: &str = "no hook is named: write a line ;@ hook place in 
 
 /// The line that refuses the file. If memory ran out, that is handed on.
 pub fn fault_line(alloc: Global, fault: PolicyFault) -> Result<String, AllocError>
-    ensures line { IfOk result (λ text. string_bytes text ≡ fault_line fault) }
+    ensures line { IfOk result (λ text. string_bytes text ≡ policy_fault_line fault) }
     ensures other { OnOk result (fault ≢ OutOfMemory) }
 {
     match fault {
@@ -95,7 +95,9 @@ pub(crate) fn reason_of(
             })
         }
         PolicyFault::Disagrees(key) => Ok(whole(difference_words(alloc, key)?)),
-        PolicyFault::NoHook => Ok(whole(format!(in alloc; "{HOOK_UNNAMED}, or give --hook place")?)),
+        PolicyFault::NoHook => Ok(whole(format!(in alloc;
+            "{HOOK_UNNAMED}, or give --hook place"
+        )?)),
         PolicyFault::OutOfMemory => Err(AllocError),
     }
 }

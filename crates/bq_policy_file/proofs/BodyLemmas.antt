@@ -14,7 +14,7 @@ use Rattle.bq_insn.specs.Laws.{Fits}
 use Rattle.bq_asm.specs.declared.mnemonic.Mnemonic.{Mnemonic}
 use Rattle.bq_asm.specs.declared.operand.Operand.{Operand}
 use Rattle.bq_asm.specs.declared.operand.Operand.TheVariants as operand
-use Rattle.bq_asm.specs.Names.{name_of}
+use Rattle.bq_asm.specs.Names.{mnemonic_word}
 use Rattle.bq_asm.specs.Named.{entry_with, table}
 use Rattle.bq_asm.specs.Text.{signed_text, operand_text, mnemonic_of, operands_of, after_first, operands_text, line_body}
 use Rattle.bq_asm.proofs.DigitLemmas.{is_digit, list_all-append, list_all-weaker, decimal_digits}
@@ -64,8 +64,8 @@ is_first_word word = nat_lt 0 (length word) && list_all is_inner word
 all_first_words : list_all (λ e. is_first_word e.0) table ≡ true
 all_first_words = refl
 
-first_word : (i : Insn) → is_insn i ≡ true → is_first_word (name_of (mnemonic_of i)) ≡ true
-first_word i h = entry_passes is_first_word (name_of (mnemonic_of i)) table (mnemonic_of i) all_first_words (named-again i h)
+first_word : (i : Insn) → is_insn i ≡ true → is_first_word (mnemonic_word (mnemonic_of i)) ≡ true
+first_word i h = entry_passes is_first_word (mnemonic_word (mnemonic_of i)) table (mnemonic_of i) all_first_words (named-again i h)
 
 signed_decimal_inner : (z : ℤ) → FitsSigned w32 z → list_all is_inner (signed_decimal z) ≡ true
 signed_decimal_inner (pos n) h = decimal_inner n (omega (arith, ints, h))
@@ -103,13 +103,13 @@ operands_inner (o ∷ os) h = list_all-append is_inner (operand_text o) (after_f
 pub body_inner : (i : Insn) → is_insn i ≡ true → Fits i → list_all is_inner (line_body i) ≡ true
 body_inner i h k =
     let m = mnemonic_of i in
-    list_all-append is_inner (name_of m) (operands_text (operands_of i))
-    (and_parts (nat_lt 0 (length (name_of m))) (list_all is_inner (name_of m)) (first_word i h)).1
+    list_all-append is_inner (mnemonic_word m) (operands_text (operands_of i))
+    (and_parts (nat_lt 0 (length (mnemonic_word m))) (list_all is_inner (mnemonic_word m)) (first_word i h)).1
     (operands_inner (operands_of i) (operands_good i h k))
 
 -- an inner byte begins it
 pub body_begins : (i : Insn) → is_insn i ≡ true → (b : ℕ) × (rest : List ℕ) × (line_body i ≡ b ∷ rest) × (is_inner b ≡ true)
-body_begins i h = go (name_of (mnemonic_of i)) (first_word i h)
+body_begins i h = go (mnemonic_word (mnemonic_of i)) (first_word i h)
   where
     go : (name : List ℕ) → is_first_word name ≡ true
         → (b : ℕ) × (rest : List ℕ) × (name ++ operands_text (operands_of i) ≡ b ∷ rest) × (is_inner b ≡ true)

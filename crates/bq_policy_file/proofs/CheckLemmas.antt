@@ -9,12 +9,12 @@ use Rattle.bq_load.specs.Answers.{IsUnloaded}
 use Rattle.bq_policy_file.specs.declared.answer.Answer.{Answer}
 use Rattle.bq_words.specs.Refused.{refused_line}
 use Rattle.bq_policy_file.specs.HexText.{SpellsBytes}
-use Rattle.bq_load.specs.Naming.{fault_text}
+use Rattle.bq_load.specs.Naming.{load_fault_text}
 use Rattle.bq_policy_file.specs.Check.{CheckWrites}
 
 -- where an image has a fault, the answer that refuses it by the text of that fault is what is to be written
 pub refuses_fault : (text bytes reason : List ℕ) (f : LoadFault) (r : Result Answer AllocError)
-    → SpellsBytes text bytes → IsUnloaded bytes f → f ≢ fault.OutOfMemory → reason ≡ fault_text f
+    → SpellsBytes text bytes → IsUnloaded bytes f → f ≢ fault.OutOfMemory → reason ≡ load_fault_text f
     → IfOk r (λ a. string_bytes a.text ≡ refused_line reason) → IfOk r (λ a. a.accepted ≡ false)
     → IfOk r (λ a. CheckWrites text a.accepted (string_bytes a.text))
 refuses_fault text bytes reason f (Err e) spells unloaded other is line refused = tt

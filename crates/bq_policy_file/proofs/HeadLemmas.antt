@@ -14,11 +14,11 @@ use Rattle.std.specs.Str.Lines.{lines}
 use Rattle.std.proofs.lemmas.List.{length-map, map-append}
 use Rattle.bq_policy_file.specs.declared.fault.HeadFault.{HeadFault}
 use Rattle.bq_policy_file.specs.declared.fault.HeadFault.TheVariants.{At, OutOfMemory}
-use Rattle.bq_asm.specs.Faults.{IsFault}
+use Rattle.bq_asm.specs.Faults.{IsAssemblyFault}
 use Rattle.bq_asm.specs.declared.fault.AsmFault.{AsmFault}
 use Rattle.bq_asm.specs.declared.fault.AsmFault.TheVariants as assembly
 use Rattle.bq_asm.specs.Lines.{is_instruction, parsed_line}
-use Rattle.bq_policy_file.specs.Files.{HasHead, IsFaultOfKind, IsHexFault, IsImageFault, IsPolicyFault, IsTextFault, IsWhole, instruction_lines, kind_of}
+use Rattle.bq_policy_file.specs.Files.{HasHead, IsFaultOfKind, IsHexFault, IsImageFault, IsPolicyFault, IsTextFault, IsWholeText, instruction_lines, kind_of}
 use Rattle.bq_policy_file.specs.Combining.{IsUncombinable}
 use Rattle.bq_policy_file.specs.declared.fault.PolicyFault.{PolicyFault}
 use Rattle.bq_policy_file.specs.declared.fault.PolicyFault.TheVariants as fault
@@ -205,13 +205,13 @@ lines_without yielded line numbers stated states =
 
 -- what is wrong with the program of a text whose marks are right
 pub bad_program : (text : List ℕ) (given stated : Head) (named : AsmFault)
-    → HasHead text stated → IsFault text named → IsTextFault text given (of_assembly named)
+    → HasHead text stated → IsAssemblyFault text named → IsTextFault text given (of_assembly named)
 bad_program text given stated (assembly.At line cause) head bad = (stated, head, bad)
 bad_program text given stated assembly.OutOfMemory head bad = tt
 
 -- what is wrong with a text whose parts are right
 pub uncombinable_is_fault : (text : List ℕ) (given stated : Head) (named : PolicyFault)
-    → IsWhole text stated → IsUncombinable given stated named → IsTextFault text given named
+    → IsWholeText text stated → IsUncombinable given stated named → IsTextFault text given named
 uncombinable_is_fault text given stated (fault.Disagrees key) whole h = (stated, whole, h)
 uncombinable_is_fault text given stated fault.NoHook whole h = (stated, whole, h)
 uncombinable_is_fault text given stated fault.OutOfMemory whole h = tt

@@ -7,7 +7,7 @@ use Rattle.bq_insn.specs.declared.Insn.{Insn}
 use Rattle.bq_insn.specs.Laws.{AllFit}
 use Rattle.bq_insn.specs.Spelling.{is_insn}
 use Rattle.bq_asm.specs.Lines.{parsed_line, lines_of}
-use Rattle.bq_asm.specs.Names.{name_of}
+use Rattle.bq_asm.specs.Names.{mnemonic_word}
 use Rattle.bq_asm.specs.Text.{listing_text, mnemonic_of, operands_of, operands_text, line_body}
 use Rattle.std.specs.Str.Lines.{lines}
 use Rattle.bq_policy_file.specs.Marks.{mark_words}
@@ -33,7 +33,7 @@ body_no_mark i behind h =
 pub listing_ended : (insns : List Insn) → listing_text insns ≡ ended (map line_body insns)
 listing_ended [] = refl
 listing_ended (i ∷ insns) =
-    let name = name_of (mnemonic_of i) in
+    let name = mnemonic_word (mnemonic_of i) in
     λ n. sym (append_assoc name (operands_text (operands_of i)) (codes "\n")) n ++ listing_ended insns n
 
 bodies_clean : (insns : List Insn) → list_all is_insn insns ≡ true → AllFit insns → AreClean (map line_body insns)

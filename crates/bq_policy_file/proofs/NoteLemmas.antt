@@ -12,7 +12,7 @@ use Rattle.bq_insn.specs.Slots.{slots_of}
 use Rattle.bq_insn.specs.Spelling.{insn_bytes, is_insn, slot_count}
 use Rattle.bq_insn.proofs.CountLemmas.{slot_count-cons}
 use Rattle.bq_words.proofs.WordLemmas.{words-blank}
-use Rattle.bq_asm.specs.Lines.{is_blank, is_comment, line_of, parsed_line, words}
+use Rattle.bq_asm.specs.Lines.{is_blank, is_comment, line_of_words, parsed_line, words_between_blanks}
 use Rattle.bq_asm.specs.Text.{line_body}
 use Rattle.bq_asm.proofs.DigitLemmas.{list_all-append}
 use Rattle.bq_policy_file.specs.Listed.{blanks_to, noted_line, noted_text}
@@ -47,19 +47,19 @@ split_append p (x ∷ xs) y ys h = go (p x) (split_append p xs y ys h)
     go true e = ap (λ ps. [] ∷ ps) e
     go false e = ap (onto_first x) e ∙ onto_more x (slice_split p xs) (slice_split p ys) (some_split p xs)
 
-words_append : (xs ys : List ℕ) → words (xs ++ 32 ∷ ys) ≡ words xs ++ words ys
+words_append : (xs ys : List ℕ) → words_between_blanks (xs ++ 32 ∷ ys) ≡ words_between_blanks xs ++ words_between_blanks ys
 words_append xs ys =
     ap (filter (λ w. nat_lt 0 (length w))) (split_append is_blank xs 32 ys refl)
     ∙ filter-append (λ w. nat_lt 0 (length w)) (slice_split is_blank xs) (slice_split is_blank ys)
 
-no_words : (n : ℕ) → words (replicate n 32) ≡ []
+no_words : (n : ℕ) → words_between_blanks (replicate n 32) ≡ []
 no_words zero = refl
 no_words (suc n) = words-blank is_blank 32 (replicate n 32) refl ∙ no_words n
 
 -- blanks behind words say nothing
-words_blanks : (xs : List ℕ) (n : ℕ) → words (xs ++ replicate n 32) ≡ words xs
-words_blanks xs zero = ap words (append-nil xs)
-words_blanks xs (suc n) = words_append xs (replicate n 32) ∙ ap (λ ws. words xs ++ ws) (no_words n) ∙ append-nil (words xs)
+words_blanks : (xs : List ℕ) (n : ℕ) → words_between_blanks (xs ++ replicate n 32) ≡ words_between_blanks xs
+words_blanks xs zero = ap words_between_blanks (append-nil xs)
+words_blanks xs (suc n) = words_append xs (replicate n 32) ∙ ap (λ ws. words_between_blanks xs ++ ws) (no_words n) ∙ append-nil (words_between_blanks xs)
 
 -- what stands before the first comment
 before_note : (xs ys : List ℕ) → list_all is_inner xs ≡ true → before_first is_comment (xs ++ 59 ∷ ys) ≡ xs
@@ -93,7 +93,7 @@ noted_parses body note n h =
     let before : before_first is_comment (body ++ (blanks ++ 59 ∷ note)) ≡ body ++ blanks =
     ap (before_first is_comment) (sym (append_assoc body blanks (59 ∷ note)))
     ∙ before_note (body ++ blanks) note (list_all-append is_inner body blanks h (blanks_inner n)) in
-    ap (λ bs. line_of (words bs)) before ∙ ap line_of (words_blanks body n) ∙ ap (λ bs. line_of (words bs)) (sym (no_note body h))
+    ap (λ bs. line_of_words (words_between_blanks bs)) before ∙ ap line_of_words (words_blanks body n) ∙ ap (λ bs. line_of_words (words_between_blanks bs)) (sym (no_note body h))
 
 index_clean : (t : List ℕ) (k : ℕ) → list_all is_clean t ≡ true → is_clean (slice_index t k) ≡ true
 index_clean [] k h = refl

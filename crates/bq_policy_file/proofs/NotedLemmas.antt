@@ -8,7 +8,7 @@ use Rattle.bq_insn.specs.Slots.{slots_of}
 use Rattle.bq_insn.specs.Spelling.{is_insn, slot_count}
 use Rattle.bq_insn.specs.Laws.{AllFit, Fits}
 use Rattle.bq_insn.proofs.CountLemmas.{slot_count-cons}
-use Rattle.bq_asm.specs.Names.{name_of}
+use Rattle.bq_asm.specs.Names.{mnemonic_word}
 use Rattle.bq_asm.specs.Text.{listing_text, mnemonic_of, operands_of, operands_text, line_body}
 use Rattle.bq_policy_file.specs.Listed.{is_ascii, noted_line, noted_text}
 use Rattle.bq_asm.proofs.DigitLemmas.{list_all-weaker}
@@ -17,7 +17,7 @@ use Rattle.bq_policy_file.proofs.BodyLemmas.{body_inner, is_clean, is_inner}
 -- a listing of one instruction is its line
 pub one_line : (i : Insn) → listing_text (i ∷ []) ≡ line_body i ++ 10 ∷ []
 one_line i =
-    let name = name_of (mnemonic_of i) in
+    let name = mnemonic_word (mnemonic_of i) in
     let operands = operands_text (operands_of i) in
     append-nil (name ++ (operands ++ codes "\n")) ∙ sym (append_assoc name operands (codes "\n"))
 

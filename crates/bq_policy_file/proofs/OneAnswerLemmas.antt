@@ -5,7 +5,7 @@ use Rattle.hex.specs.Hex.{encode_lower}
 use Rattle.bq_insn.specs.declared.Insn.{Insn}
 use Rattle.bq_insn.specs.Spelling.{spelling}
 use Rattle.bq_insn.specs.declared.fault.DecodeFault.TheVariants.{At}
-use Rattle.bq_insn.specs.Faults.{IsFault}
+use Rattle.bq_insn.specs.Faults.{IsDecodeFault}
 use Rattle.bq_insn.proofs.UniqueLemmas as insn
 use Rattle.bq_insn.proofs.OneFaultLemmas as fault
 use Rattle.bq_insn.proofs.LengthLemmas as lengths
@@ -21,8 +21,8 @@ use Rattle.bq_policy_file.specs.Forms.{SpellsForm}
 use Rattle.bq_policy_file.specs.HexText.{IsNoHex}
 use Rattle.bq_words.specs.Refused.{refused_line}
 use Rattle.bq_asm.specs.declared.fault.AsmFault.TheVariants as assembly
-use Rattle.bq_asm.specs.Causes.{fault_text as asm_text}
-use Rattle.bq_insn.specs.Causes.{fault_text as dis_text}
+use Rattle.bq_asm.specs.Causes.{assembly_fault_text as asm_text}
+use Rattle.bq_insn.specs.Causes.{decode_fault_text as dis_text}
 use Rattle.bq_insn.proofs.LengthLemmas.{well_formed_in_range}
 use Rattle.bq_policy_file.specs.Asm.{IsAssembled, IsNoText, IsFaultyText}
 use Rattle.bq_policy_file.specs.Dis.{IsListed, IsFaultyProgram}
@@ -72,7 +72,7 @@ listed_or_refused : (text x y : List ℕ) → IsListed text x → (IsNoHex text 
 listed_or_refused text x y p (inl q) = cc (p.1, q.0.1)
 listed_or_refused text x y p (inr q) =
     let same : q.0 ≡ spelling p.0 = cc (p.1, q.1) in
-    lengths.no_program_is_refused p.0 q.2 q.3 p.2 p.3 (subst (λ b. IsFault b (At q.2 q.3)) same q.4)
+    lengths.no_program_is_refused p.0 q.2 q.3 p.2 p.3 (subst (λ b. IsDecodeFault b (At q.2 q.3)) same q.4)
 
 one_hex_refusal : (text x y : List ℕ) → (IsNoHex text × (x ≡ refused_line (codes "hex"))) ⊎ IsFaultyProgram text x
     → (IsNoHex text × (y ≡ refused_line (codes "hex"))) ⊎ IsFaultyProgram text y → x ≡ y
@@ -81,7 +81,7 @@ one_hex_refusal text x y (inl p) (inr q) = cc (p.0.1, q.1)
 one_hex_refusal text x y (inr p) (inl q) = cc (p.1, q.0.1)
 one_hex_refusal text x y (inr p) (inr q) =
     let bytes : p.0 ≡ q.0 = cc (p.1, q.1) in
-    let same = fault.one_fault q.0 p.2 q.2 p.3 q.3 (subst (λ b. IsFault b (At p.2 p.3)) bytes p.4) q.4 in
+    let same = fault.one_fault q.0 p.2 q.2 p.3 q.3 (subst (λ b. IsDecodeFault b (At p.2 p.3)) bytes p.4) q.4 in
     p.5 ∙ ap (λ n. refused_line (dis_text (At n p.3))) same.0
     ∙ ap (λ c. refused_line (dis_text (At q.2 c))) same.1 ∙ sym q.5
 

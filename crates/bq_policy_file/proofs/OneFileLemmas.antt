@@ -1,7 +1,7 @@
 -- A file is a policy, or has one fault.
 use Rattle.std.proofs.Common.{◌≡◌, ◌≢◌, ℕ, List, Some, None, Option, ◌⊎◌, inl, inr, refl, sym, ap, subst, ◌∙◌}
 use Rattle.std.specs.Str.Lines.{lines}
-use Rattle.bq_insn.specs.Faults.{IsFault as IsProgramFault}
+use Rattle.bq_insn.specs.Faults.{IsDecodeFault as IsProgramFault}
 use Rattle.bq_insn.specs.Laws.{AllFit}
 use Rattle.bq_insn.specs.Spelling.{spelling}
 use Rattle.bq_insn.specs.declared.Insn.{Insn}
@@ -10,14 +10,14 @@ use Rattle.bq_insn.specs.declared.fault.DecodeFault.TheVariants.{At}
 use Rattle.bq_insn.proofs.LengthLemmas.{no_program_is_refused}
 use Rattle.bq_insn.proofs.OneFaultLemmas as insn
 use Rattle.bq_asm.proofs.LawLemmas as asm
-use Rattle.bq_asm.specs.Faults.{Faulty}
+use Rattle.bq_asm.specs.Faults.{FaultyLines}
 use Rattle.bq_asm.specs.Lines.{lines_of}
 use Rattle.bq_asm.specs.declared.fault.Cause.{Cause as AsmCause}
 use Rattle.bq_hooks.specs.declared.hook.Hook.{Hook}
 use Rattle.bq_hooks.specs.declared.hook.Version.{Version}
 use Rattle.bq_bpf.specs.declared.shape.MapShape.{MapShape}
 use Rattle.bq_load.specs.Answers.{HasProgram}
-use Rattle.bq_load.specs.Faults.{IsFault as HasFault}
+use Rattle.bq_load.specs.Faults.{IsLoadFault as HasFault}
 use Rattle.bq_load.specs.Laws.{AreBytes}
 use Rattle.bq_load.specs.declared.fault.LoadFault.{LoadFault}
 use Rattle.bq_load.specs.Layout.{IsImage}
@@ -32,7 +32,7 @@ use Rattle.bq_policy_file.specs.declared.kind.FileKind.TheVariants as kind
 use Rattle.bq_policy_file.specs.declared.mark.Key.{Key}
 use Rattle.bq_policy_file.specs.declared.mark.Key.TheVariants as key
 use Rattle.bq_policy_file.specs.declared.policy_source.PolicySource.{PolicySource}
-use Rattle.bq_policy_file.specs.Files.{Agree, Agrees, Differ, DiffersIn, HasHead, IsFaultOfKind, IsHexFault, IsImageFault, IsOfImage, IsOfKind, IsOfText, IsTextFault, IsWhole, NamesNoHook, either, kind_of, maps_in}
+use Rattle.bq_policy_file.specs.Files.{Agree, AgreesWithHead, Differ, DiffersIn, HasHead, IsFaultOfKind, IsHexFault, IsImageFault, IsOfImage, IsPolicyOfKind, IsOfText, IsTextFault, IsWholeText, NamesNoHook, either, kind_of, shapes_in_head}
 use Rattle.bq_policy_file.specs.Heads.{IsBadAt, StatesHead}
 use Rattle.bq_policy_file.specs.HexText.{IsNoHex, SpellsBytes, digits_in}
 use Rattle.bq_policy_file.specs.Laws.{OnePolicyAnswer}
@@ -47,9 +47,9 @@ apart (Some a) None same other = absurd other
 apart None y same other = absurd other
 
 agreed : (given : Head) (hook : Option Hook) (maps : Option (List MapShape)) (format : Option Version) (k : Key)
-    → Agrees given hook maps format → DiffersIn k given hook maps format → ⊥
+    → AgreesWithHead given hook maps format → DiffersIn k given hook maps format → ⊥
 agreed given hook maps format key.Hook a d = apart given.hook hook a.hooks d
-agreed given hook maps format key.Maps a d = apart (maps_in given) maps a.shapes d.1
+agreed given hook maps format key.Maps a d = apart (shapes_in_head given) maps a.shapes d.1
 agreed given hook maps format key.Format a d = apart given.format format a.formats d.2
 
 -- one key is the first that differs
@@ -60,46 +60,46 @@ one_difference given hook maps format key.Hook key.Maps d e = absurd (apart give
 one_difference given hook maps format key.Hook key.Format d e = absurd (apart given.hook hook e.0 d)
 one_difference given hook maps format key.Maps key.Hook d e = absurd (apart given.hook hook d.0 e)
 one_difference given hook maps format key.Maps key.Maps d e = refl
-one_difference given hook maps format key.Maps key.Format d e = absurd (apart (maps_in given) maps e.1 d.1)
+one_difference given hook maps format key.Maps key.Format d e = absurd (apart (shapes_in_head given) maps e.1 d.1)
 one_difference given hook maps format key.Format key.Hook d e = absurd (apart given.hook hook d.0 e)
-one_difference given hook maps format key.Format key.Maps d e = absurd (apart (maps_in given) maps d.1 e.1)
+one_difference given hook maps format key.Format key.Maps d e = absurd (apart (shapes_in_head given) maps d.1 e.1)
 one_difference given hook maps format key.Format key.Format d e = refl
 
 -- what holds of a head holds of each that the same lines say
 of_other : (P : Option Hook → Option (List MapShape) → Option Version → Type 0) (ls : List (List ℕ)) (a b : Head)
-    → StatesHead ls a → StatesHead ls b → P a.hook (maps_in a) a.format → P b.hook (maps_in b) b.format
+    → StatesHead ls a → StatesHead ls b → P a.hook (shapes_in_head a) a.format → P b.hook (shapes_in_head b) b.format
 of_other P ls a b s t h =
-    subst (P b.hook (maps_in b)) (one_format ls a b s t)
-    (subst (λ x. P b.hook x a.format) (one_maps ls a b s t) (subst (λ x. P x (maps_in a) a.format) (one_hook ls a b s t) h))
+    subst (P b.hook (shapes_in_head b)) (one_format ls a b s t)
+    (subst (λ x. P b.hook x a.format) (one_maps ls a b s t) (subst (λ x. P x (shapes_in_head a) a.format) (one_hook ls a b s t) h))
 
 -- a text whose marks say a head has no bad mark
 bad_mark : (bytes : List ℕ) (stated : Head) (line : ℕ) (c : HeadCause) → HasHead bytes stated → IsBadAt (lines bytes) line c → ⊥
 bad_mark bytes stated line c h bad = no_bad_line (lines bytes) stated line c h.states bad
 
 -- a text that stands for a program has no fault of assembly
-bad_line : (bytes : List ℕ) (stated : Head) (line : ℕ) (c : AsmCause) → IsWhole bytes stated → Faulty (lines_of bytes) line c → ⊥
+bad_line : (bytes : List ℕ) (stated : Head) (line : ℕ) (c : AsmCause) → IsWholeText bytes stated → FaultyLines (lines_of bytes) line c → ⊥
 bad_line bytes stated line c h bad = asm.no_program_is_faulty bytes h.insns line c h.assembles bad
 
 -- where neither names the hook nothing differs
 none_or_other : (bytes : List ℕ) (given a b : Head) (k : Key)
-    → IsWhole bytes a → IsWhole bytes b → NamesNoHook given a → DiffersIn k given b.hook (maps_in b) b.format
+    → IsWholeText bytes a → IsWholeText bytes b → NamesNoHook given a → DiffersIn k given b.hook (shapes_in_head b) b.format
     → ⊥
 none_or_other bytes given a b k h g none d =
-    agreed given a.hook (maps_in a) a.format k none.0 (of_other (DiffersIn k given) (lines bytes) b a g.head.states h.head.states d)
+    agreed given a.hook (shapes_in_head a) a.format k none.0 (of_other (DiffersIn k given) (lines bytes) b a g.head.states h.head.states d)
 
 same_mark : (bytes : List ℕ) (l m : ℕ) (c d : HeadCause) → IsBadAt (lines bytes) l c → IsBadAt (lines bytes) m d
     → fault.Head l c ≡ fault.Head m d
 same_mark bytes l m c d f g = let same = one_bad_line (lines bytes) l m c d f g in λ i. fault.Head (same.0 i) (same.1 i)
 
-same_line : (bytes : List ℕ) (l m : ℕ) (c d : AsmCause) → Faulty (lines_of bytes) l c → Faulty (lines_of bytes) m d
+same_line : (bytes : List ℕ) (l m : ℕ) (c d : AsmCause) → FaultyLines (lines_of bytes) l c → FaultyLines (lines_of bytes) m d
     → fault.Assembly l c ≡ fault.Assembly m d
 same_line bytes l m c d f g = let same = asm.one_fault bytes l m c d f g in λ i. fault.Assembly (same.0 i) (same.1 i)
 
-same_key : (bytes : List ℕ) (given a b : Head) (k l : Key) → IsWhole bytes a → IsWhole bytes b
-    → DiffersIn k given a.hook (maps_in a) a.format → DiffersIn l given b.hook (maps_in b) b.format
+same_key : (bytes : List ℕ) (given a b : Head) (k l : Key) → IsWholeText bytes a → IsWholeText bytes b
+    → DiffersIn k given a.hook (shapes_in_head a) a.format → DiffersIn l given b.hook (shapes_in_head b) b.format
     → fault.Disagrees k ≡ fault.Disagrees l
 same_key bytes given a b k l h g d e =
-    ap (λ n. fault.Disagrees n) (one_difference given b.hook (maps_in b) b.format k l
+    ap (λ n. fault.Disagrees n) (one_difference given b.hook (shapes_in_head b) b.format k l
     (of_other (DiffersIn k given) (lines bytes) a b h.head.states g.head.states d) e)
 
 -- a text has one fault
@@ -156,7 +156,7 @@ no_text_fault bytes given p fault.Text x h f = f h.text
 no_text_fault bytes given p (fault.Head n c) x h f = no_bad_line (lines bytes) h.stated n c h.head f.1
 no_text_fault bytes given p (fault.Assembly n c) x h f = asm.no_program_is_faulty bytes p.insns.items n c h.assembles f.2
 no_text_fault bytes given p (fault.Disagrees k) x h f =
-    agreed given h.stated.hook (maps_in h.stated) h.stated.format k h.combined.agrees
+    agreed given h.stated.hook (shapes_in_head h.stated) h.stated.format k h.combined.agrees
     (of_other (DiffersIn k given) (lines bytes) f.0 h.stated f.1.head.states h.head f.2)
 no_text_fault bytes given p fault.NoHook x h f =
     no_hook given.hook h.stated.hook p.form.hook h.combined.hook_is f.2.1
@@ -302,7 +302,7 @@ one_hex_fault bytes given a b x y f g =
 
 -- hex of a policy has no fault
 no_hex_fault : (bytes : List ℕ) (given : Head) (p : PolicySource) (a : PolicyFault)
-    → AllFit p.insns.items → a ≢ fault.OutOfMemory → IsOfKind kind.Hex bytes given p → IsHexFault bytes given a
+    → AllFit p.insns.items → a ≢ fault.OutOfMemory → IsPolicyOfKind kind.Hex bytes given p → IsHexFault bytes given a
     → ⊥
 no_hex_fault bytes given p a fit x h f =
     elim (hex_states bytes given a x f) [
@@ -321,7 +321,7 @@ of_kind kind.Hex bytes given a b fits x y f g = one_hex_fault bytes given a b x 
 of_kind kind.Text bytes given a b fits x y f g = one_text_fault bytes given a b x y f g
 
 no_fault : (k : FileKind) (bytes : List ℕ) (given : Head) (p : PolicySource) (a : PolicyFault)
-    → AreBytes bytes → AllFit p.insns.items → a ≢ fault.OutOfMemory → IsOfKind k bytes given p → IsFaultOfKind k bytes given a
+    → AreBytes bytes → AllFit p.insns.items → a ≢ fault.OutOfMemory → IsPolicyOfKind k bytes given p → IsFaultOfKind k bytes given a
     → ⊥
 no_fault kind.Image bytes given p a fits fit x h f = no_image_fault bytes given p a fits fit x h f
 no_fault kind.Hex bytes given p a fits fit x h f = no_hex_fault bytes given p a fit x h f

@@ -10,7 +10,7 @@ use Rattle.bq_hooks.specs.declared.hook.Hook.{Hook}
 use Rattle.bq_hooks.specs.declared.hook.Version.{Version}
 use Rattle.bq_policy_file.specs.declared.head.Head.{Head}
 use Rattle.bq_policy_file.specs.declared.mark.Key.TheVariants as key
-use Rattle.bq_policy_file.specs.Files.{maps_in}
+use Rattle.bq_policy_file.specs.Files.{shapes_in_head}
 use Rattle.bq_policy_file.specs.Heads.{IsStated, NamesMapShapes, StatesHead}
 use Rattle.bq_policy_file.specs.Marks.{values}
 
@@ -67,7 +67,7 @@ one_format ls a b h k =
     ∙ as_is b.format
 
 -- two heads that the same lines say have the same maps
-pub one_maps : (ls : List (List ℕ)) (a b : Head) → StatesHead ls a → StatesHead ls b → maps_in a ≡ maps_in b
+pub one_maps : (ls : List (List ℕ)) (a b : Head) → StatesHead ls a → StatesHead ls b → shapes_in_head a ≡ shapes_in_head b
 one_maps ls a b h k =
     one_stated (λ (x : Vec MapShape Global). x.items) NamesMapShapes
     (λ word x y p q. same_shapes x.items y.items (sym p.each ∙ q.each)) (values key.Maps ls) a.maps b.maps h.maps k.maps

@@ -20,9 +20,9 @@ use Rattle.bq_policy_file.specs.declared.fault.PolicyFault.TheVariants as fault
 use Rattle.bq_policy_file.specs.declared.head.Head.{Head}
 use Rattle.bq_policy_file.specs.declared.kind.FileKind.TheVariants as kind
 use Rattle.bq_policy_file.specs.declared.policy_source.PolicySource.{PolicySource}
-use Rattle.bq_policy_file.specs.Files.{Agrees, IsFaultOfKind, IsOfKind, IsOfText, IsTextFault, CombineTo, either, kind_of, maps_in}
+use Rattle.bq_policy_file.specs.Files.{AgreesWithHead, IsFaultOfKind, IsPolicyOfKind, IsOfText, IsTextFault, CombineTo, either, kind_of, shapes_in_head}
 use Rattle.bq_policy_file.specs.Heads.{StatesHead}
-use Rattle.bq_policy_file.specs.ReadBack.{AsksNothing, IsFileOf, IsFrom, IsSame}
+use Rattle.bq_policy_file.specs.ReadBack.{AsksNothing, IsFileOf, IsReadBackFrom, IsSamePolicy}
 use Rattle.bq_policy_file.proofs.LineLemmas.{AreClean, ended, lines_ended, text_ended, clean_append}
 use Rattle.bq_policy_file.proofs.MarkLemmas.{AreNoMarks, mark_lines, marks_blank, marks_clean, stated_head, states_policy, maps_stated, format_stated}
 use Rattle.bq_policy_file.proofs.NoFaultLemmas.{no_bad_line, nothing_differs}
@@ -97,7 +97,7 @@ version_stated Second = refl
 
 -- nothing that is asked for differs
 agrees_nothing : (h : Head) (hook : Option Hook) (maps : Option (List MapShape)) (format : Option Version)
-    → AsksNothing h → Agrees h hook maps format
+    → AsksNothing h → AgreesWithHead h hook maps format
 agrees_nothing h hook maps format a = record {
   hooks = rw a.hook tt;
   shapes = rw a.maps tt;
@@ -107,7 +107,7 @@ agrees_nothing h hook maps format a = record {
 combine_to_policy : (p : PolicySource) (h : Head) → AsksNothing h
     → CombineTo h (stated_head p) p.form.hook p.form.shapes.items p.form.version
 combine_to_policy p h a = record {
-  agrees = agrees_nothing h (Some p.form.hook) (maps_in (stated_head p)) (format_stated p.form.version) a;
+  agrees = agrees_nothing h (Some p.form.hook) (shapes_in_head (stated_head p)) (format_stated p.form.version) a;
   hook_is = rw a.hook refl;
   shapes_are = rw a.maps (map_shapes p p.form.shapes.items refl);
   version_is = rw a.format (version_stated p.form.version);
@@ -120,14 +120,14 @@ text_kind p ls = refl
 -- what is read of the text is the policy
 same_read : (p q : PolicySource) (ls : List (List ℕ)) (h : Head)
     → AllFit p.insns.items → AreLines p.insns.items ls → AsksNothing h → IsOfText (text_of p ls) h q
-    → IsSame p q
+    → IsSamePolicy p q
 same_read p q ls h fit are a o =
     let states = states_again p ls are in
     let all = lines (text_of p ls) in
     let hook : o.stated.hook ≡ Some q.form.hook = subst (λ x. either x o.stated.hook ≡ Some q.form.hook) a.hook o.combined.hook_is in
     let same_hook : Some q.form.hook ≡ Some p.form.hook = sym hook ∙ one_hook all o.stated (stated_head p) o.head states in
-    let shapes : q.form.shapes.items ≡ unwrap_or (maps_in o.stated) [] =
-    subst (λ x. q.form.shapes.items ≡ unwrap_or (either (option_map (λ s. s.items) x) (maps_in o.stated)) []) a.maps
+    let shapes : q.form.shapes.items ≡ unwrap_or (shapes_in_head o.stated) [] =
+    subst (λ x. q.form.shapes.items ≡ unwrap_or (either (option_map (λ s. s.items) x) (shapes_in_head o.stated)) []) a.maps
     o.combined.shapes_are in
     let version : q.form.version ≡ unwrap_or o.stated.format First =
     subst (λ x. q.form.version ≡ unwrap_or (either x o.stated.format) First) a.format o.combined.version_is in
@@ -144,7 +144,7 @@ same_read p q ls h fit are a o =
 
 -- each policy that is the same, with the text's lines, is read of the text
 is_read : (p q : PolicySource) (ls : List (List ℕ)) (h : Head)
-    → AllFit p.insns.items → AreLines p.insns.items ls → AsksNothing h → IsFrom (text_of p ls) p q
+    → AllFit p.insns.items → AreLines p.insns.items ls → AsksNothing h → IsReadBackFrom (text_of p ls) p q
     → IsOfText (text_of p ls) h q
 is_read p q ls h fit are a f =
     let marks = mark_lines p.form.hook p.form.shapes.items p.form.version in
@@ -175,7 +175,7 @@ no_text_fault p ls h (fault.Head line cause) fit are a f =
     absurd (no_bad_line (lines (text_of p ls)) (stated_head p) line cause (states_again p ls are) f.1)
 no_text_fault p ls h (fault.Assembly line cause) fit are a f =
     absurd (no_program_is_faulty (text_of p ls) p.insns.items line cause (assembles_again p ls fit are) f.2)
-no_text_fault p ls h (fault.Disagrees key) fit are a f = absurd (nothing_differs h key f.0.hook (maps_in f.0) f.0.format a f.2)
+no_text_fault p ls h (fault.Disagrees key) fit are a f = absurd (nothing_differs h key f.0.hook (shapes_in_head f.0) f.0.format a f.2)
 no_text_fault p ls h fault.NoHook fit are a f =
     let same : f.0.hook ≡ Some p.form.hook = one_hook (lines (text_of p ls)) f.0 (stated_head p) f.1.head.states (states_again p ls are) in
     let none : f.0.hook ≡ None = f.2.2 in
@@ -191,9 +191,9 @@ file_of p ls fit are =
     record {
       read = λ h a q. (
         λ read.
-            let o = subst (λ k. IsOfKind k text h q) (text_kind p ls) read in
+            let o = subst (λ k. IsPolicyOfKind k text h q) (text_kind p ls) read in
             record { same = same_read p q ls h fit are a o; lines = o.lines },
-        λ from. subst (λ k. IsOfKind k text h q) (sym (text_kind p ls)) (is_read p q ls h fit are a from),
+        λ from. subst (λ k. IsPolicyOfKind k text h q) (sym (text_kind p ls)) (is_read p q ls h fit are a from),
       );
       no_fault = λ h a named f. no_text_fault p ls h named fit are a (subst (λ k. IsFaultOfKind k text h named) (text_kind p ls) f);
     }

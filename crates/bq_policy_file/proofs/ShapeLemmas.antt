@@ -11,7 +11,7 @@ use Rattle.std.proofs.lemmas.List.Splits.{slice_split_at, slice_split_none}
 use Rattle.bq_bpf.specs.declared.shape.MapShape.{MapShape}
 use Rattle.bq_asm.proofs.DigitLemmas.{is_digit, decimal_digits, all_below}
 use Rattle.bq_words.specs.Words.{parts}
-use Rattle.bq_policy_file.specs.ShapesText.{NamesShapes, number_of, numbers_in, numbers_of, both, pair_of}
+use Rattle.bq_policy_file.specs.ShapesText.{NamesShapes, shape_number, numbers_in, numbers_of, both_numbers, pair_of}
 use Rattle.bq_policy_file.specs.MarkLines.{shape_text, more_maps}
 
 digit_below : (b : ℕ) → is_digit b ≡ true → (48 ≤ b) × (b ≤ 57)
@@ -33,7 +33,7 @@ no_colon : (b : ℕ) → is_digit b ≡ true → (b == 58) ≡ false
 no_colon b h = let high = (digit_below b h).1 in ne_eqb b 58 (λ e. omega arith)
 
 -- a number below 2 ^ 16 is read again
-number_again : (n : ℕ) → n < 2 ^ 16 → number_of (decimal n) ≡ Some n
+number_again : (n : ℕ) → n < 2 ^ 16 → shape_number (decimal n) ≡ Some n
 number_again n h =
     let is = decimal_is_IsNumeral n (omega arith) in
     let some = lt-ltb 0 (length (decimal n)) is.0.0 in
@@ -55,7 +55,7 @@ shape_again s =
     (no_byte 58 no_colon (decimal s.entries) (decimal_digits s.entries (omega arith))) in
     ap pair_of (slice_split_at colon (decimal s.value_size) 58 (decimal s.entries) first refl
     ∙ ap (λ ps. decimal s.value_size ∷ ps) (slice_split_none colon (decimal s.entries) second))
-    ∙ (λ i. both (number_again s.value_size size i) (number_again s.entries entries i))
+    ∙ (λ i. both_numbers (number_again s.value_size size i) (number_again s.entries entries i))
 
 no_comma_in : (s : MapShape) → AllByRecursion (λ b. (b == 44) ≡ false) (shape_text s)
 no_comma_in s = joined (decimal s.value_size) (58 ∷ decimal s.entries)

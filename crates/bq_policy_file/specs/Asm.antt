@@ -5,10 +5,10 @@ use Rattle.hex.specs.Hex.{encode_lower}
 use Rattle.bq_insn.specs.declared.Insn.{Insn}
 use Rattle.bq_asm.specs.declared.fault.Cause.{Cause}
 use Rattle.bq_asm.specs.declared.fault.AsmFault.TheVariants.{At}
-use Rattle.bq_asm.specs.Causes.{fault_text}
+use Rattle.bq_asm.specs.Causes.{assembly_fault_text}
 use Rattle.bq_asm.specs.Lines.{lines_of}
 use Rattle.bq_asm.specs.Assembly.{Assembles}
-use Rattle.bq_asm.specs.Faults.{Faulty}
+use Rattle.bq_asm.specs.Faults.{FaultyLines}
 use Rattle.bq_policy_file.specs.declared.form.ProgramForm.{ProgramForm}
 use Rattle.bq_policy_file.specs.Forms.{SpellsForm}
 use Rattle.bq_words.specs.Refused.{refused_line}
@@ -29,7 +29,7 @@ IsNoText text written = (¬ (IsUtf8 text)) × (written ≡ refused_line (codes "
 -- the text has this fault
 abbrev pub IsFaultyText : List ℕ → List ℕ → Type 0
 IsFaultyText text written =
-    IsUtf8 text × (line : ℕ) × (cause : Cause) × Faulty (lines_of text) line cause × (written ≡ refused_line (fault_text (At line cause)))
+    IsUtf8 text × (line : ℕ) × (cause : Cause) × FaultyLines (lines_of text) line cause × (written ≡ refused_line (assembly_fault_text (At line cause)))
 
 -- what is written for a text that is accepted, or for one that is not
 abbrev pub AsmWrites : ProgramForm → List ℕ → Bool → List ℕ → Type 0

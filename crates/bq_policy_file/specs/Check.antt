@@ -7,7 +7,7 @@ use Rattle.bq_hooks.specs.declared.hook.Hook.{Hook}
 use Rattle.bq_load.specs.declared.fault.LoadFault.{LoadFault}
 use Rattle.bq_load.specs.declared.fault.LoadFault.TheVariants as fault
 use Rattle.bq_load.specs.Answers.{Loads, IsUnloaded}
-use Rattle.bq_load.specs.Naming.{fault_text}
+use Rattle.bq_load.specs.Naming.{load_fault_text}
 use Rattle.bq_words.specs.Refused.{refused_line}
 use Rattle.bq_policy_file.specs.HexText.{SpellsBytes, IsNoHex}
 
@@ -27,7 +27,7 @@ pub record IsAcceptedImage (text written : List ℕ) : Type 0 where
 abbrev pub IsFaultyImage : List ℕ → List ℕ → Type 0
 IsFaultyImage text written =
     (bytes : List ℕ) × SpellsBytes text bytes × (named : LoadFault) × IsUnloaded bytes named × (named ≢ fault.OutOfMemory)
-    × (written ≡ refused_line (fault_text named))
+    × (written ≡ refused_line (load_fault_text named))
 
 -- what is written for a text that is accepted, or for one that is not
 abbrev pub CheckWrites : List ℕ → Bool → List ℕ → Type 0

@@ -2,11 +2,11 @@
 use Rattle.std.specs.Prelude.{◌≡◌, ℕ, Bool, true, false, List, ◌⊎◌, codes}
 use Rattle.bq_insn.specs.declared.Insn.{Insn}
 use Rattle.bq_insn.specs.declared.fault.Cause.{Cause}
-use Rattle.bq_insn.specs.Causes.{fault_text}
+use Rattle.bq_insn.specs.Causes.{decode_fault_text}
 use Rattle.bq_insn.specs.declared.fault.DecodeFault.TheVariants.{At}
 use Rattle.bq_insn.specs.Spelling.{spelling, is_well_formed}
 use Rattle.bq_insn.specs.Laws.{AllFit}
-use Rattle.bq_insn.specs.Faults.{IsFault}
+use Rattle.bq_insn.specs.Faults.{IsDecodeFault}
 use Rattle.bq_asm.specs.Text.{listing_text}
 use Rattle.bq_policy_file.specs.HexText.{SpellsBytes, IsNoHex}
 use Rattle.bq_words.specs.Refused.{refused_line}
@@ -19,8 +19,8 @@ IsListed text written =
 -- the bytes have this fault
 abbrev pub IsFaultyProgram : List ℕ → List ℕ → Type 0
 IsFaultyProgram text written =
-    (bytes : List ℕ) × SpellsBytes text bytes × (slot : ℕ) × (cause : Cause) × IsFault bytes (At slot cause)
-    × (written ≡ refused_line (fault_text (At slot cause)))
+    (bytes : List ℕ) × SpellsBytes text bytes × (slot : ℕ) × (cause : Cause) × IsDecodeFault bytes (At slot cause)
+    × (written ≡ refused_line (decode_fault_text (At slot cause)))
 
 -- what is written for a text that is accepted, or for one that is not
 abbrev pub DisWrites : List ℕ → Bool → List ℕ → Type 0

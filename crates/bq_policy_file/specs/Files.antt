@@ -7,19 +7,19 @@ use Rattle.std.specs.Str.{IsUtf8}
 use Rattle.std.specs.Str.Lines.{lines}
 use Rattle.bq_insn.specs.declared.Insn.{Insn}
 use Rattle.bq_insn.specs.declared.fault.DecodeFault.TheVariants as decode
-use Rattle.bq_insn.specs.Faults.{IsFault as IsProgramFault}
+use Rattle.bq_insn.specs.Faults.{IsDecodeFault as IsProgramFault}
 use Rattle.bq_insn.specs.Spelling.{spelling}
 use Rattle.bq_bpf.specs.declared.shape.MapShape.{MapShape}
 use Rattle.bq_hooks.specs.declared.hook.Hook.{Hook}
 use Rattle.bq_hooks.specs.declared.hook.Version.{Version}
 use Rattle.bq_hooks.specs.declared.hook.Version.TheVariants.{First}
 use Rattle.bq_asm.specs.Assembly.{Assembles}
-use Rattle.bq_asm.specs.Faults.{Faulty}
+use Rattle.bq_asm.specs.Faults.{FaultyLines}
 use Rattle.bq_asm.specs.Lines.{is_instruction, parsed_line, lines_of}
 use Rattle.bq_load.specs.Answers.{HasProgram}
-use Rattle.bq_load.specs.Faults.{IsFault as HasFault}
+use Rattle.bq_load.specs.Faults.{IsLoadFault as HasFault}
 use Rattle.bq_load.specs.Layout.{IsImage, magic}
-use Rattle.bq_policy_file.specs.HexText.{IsNoHex, SpellsBytes, is_blank}
+use Rattle.bq_policy_file.specs.HexText.{IsNoHex, SpellsBytes, is_hex_space}
 use Rattle.bq_policy_file.specs.declared.fault.PolicyFault.{PolicyFault}
 use Rattle.bq_policy_file.specs.declared.fault.PolicyFault.TheVariants as fault
 use Rattle.bq_policy_file.specs.declared.head.Head.{Head}
@@ -33,7 +33,7 @@ use Rattle.bq_policy_file.specs.Heads.{IsBadAt, StatesHead}
 -- the first byte that is no blank
 abbrev pub first_dark : List ℕ → Option ℕ
 first_dark [] = None
-first_dark (b ∷ bs) = if is_blank b then first_dark bs else Some b
+first_dark (b ∷ bs) = if is_hex_space b then first_dark bs else Some b
 
 -- hex begins with a digit, as no line of an assembler text does
 abbrev pub kind_at : Option ℕ → FileKind
@@ -68,30 +68,30 @@ abbrev pub shapes_in : Option (Vec MapShape Global) → Option (List MapShape)
 shapes_in maps = option_map (λ shapes. shapes.items) maps
 
 -- the shapes of a head's maps, if the head names maps
-abbrev pub maps_in : Head → Option (List MapShape)
-maps_in h = shapes_in h.maps
+abbrev pub shapes_in_head : Head → Option (List MapShape)
+shapes_in_head h = shapes_in h.maps
 
 -- what was asked for agrees with what the file says
-pub record Agrees (given : Head) (hook : Option Hook) (maps : Option (List MapShape)) (format : Option Version) : Type 0 where
+pub record AgreesWithHead (given : Head) (hook : Option Hook) (maps : Option (List MapShape)) (format : Option Version) : Type 0 where
   pub hooks : Agree given.hook hook
-  pub shapes : Agree (maps_in given) maps
+  pub shapes : Agree (shapes_in_head given) maps
   pub formats : Agree given.format format
 
 -- what is given differs from what the file says in this key, and in none before it: the hook, the maps and the format, in this order
 abbrev pub DiffersIn : Key → Head → Option Hook → Option (List MapShape) → Option Version → Type 0
 DiffersIn key.Hook given hook maps format = Differ given.hook hook
-DiffersIn key.Maps given hook maps format = Agree given.hook hook × Differ (maps_in given) maps
-DiffersIn key.Format given hook maps format = Agree given.hook hook × Agree (maps_in given) maps × Differ given.format format
+DiffersIn key.Maps given hook maps format = Agree given.hook hook × Differ (shapes_in_head given) maps
+DiffersIn key.Format given hook maps format = Agree given.hook hook × Agree (shapes_in_head given) maps × Differ given.format format
 
 -- nothing differs, and neither names the hook
 abbrev pub NamesNoHook : Head → Head → Type 0
-NamesNoHook given stated = Agrees given stated.hook (maps_in stated) stated.format × (given.hook ≡ None) × (stated.hook ≡ None)
+NamesNoHook given stated = AgreesWithHead given stated.hook (shapes_in_head stated) stated.format × (given.hook ≡ None) × (stated.hook ≡ None)
 
 -- together they name this hook, these maps and this version; without a word of them there are no maps, and the version is 1
 pub record CombineTo (given stated : Head) (hook : Hook) (shapes : List MapShape) (version : Version) : Type 0 where
-  pub agrees : Agrees given stated.hook (maps_in stated) stated.format
+  pub agrees : AgreesWithHead given stated.hook (shapes_in_head stated) stated.format
   pub hook_is : either given.hook stated.hook ≡ Some hook
-  pub shapes_are : shapes ≡ unwrap_or (either (maps_in given) (maps_in stated)) []
+  pub shapes_are : shapes ≡ unwrap_or (either (shapes_in_head given) (shapes_in_head stated)) []
   pub version_is : version ≡ unwrap_or (either given.format stated.format) First
 
 -- the numbers of the lines that have an instruction; the first line has this number
@@ -103,7 +103,7 @@ instruction_lines number (line ∷ rest) =
 -- an image, and what was asked for agrees with it
 pub record IsOfImage (bytes : List ℕ) (given : Head) (p : PolicySource) : Type 0 where
   pub image : IsImage bytes p.form.version p.form.hook p.form.shapes.items (spelling p.insns.items)
-  pub agrees : Agrees given (Some p.form.hook) (Some p.form.shapes.items) (Some p.form.version)
+  pub agrees : AgreesWithHead given (Some p.form.hook) (Some p.form.shapes.items) (Some p.form.version)
   pub lines : p.lines.items ≡ []
 
 -- the policy of a text: the program to which it assembles, under what its marks and the given head say together
@@ -116,14 +116,14 @@ pub record IsOfText (bytes : List ℕ) (given : Head) (p : PolicySource) : Type 
   pub lines : p.lines.items ≡ instruction_lines 1 (lines bytes)
 
 -- the policy of a file of this kind
-abbrev pub IsOfKind : FileKind → List ℕ → Head → PolicySource → Type 0
-IsOfKind kind.Image bytes given p = IsOfImage bytes given p
-IsOfKind kind.Hex bytes given p = (image : List ℕ) × SpellsBytes bytes image × IsOfImage image given p
-IsOfKind kind.Text bytes given p = IsOfText bytes given p
+abbrev pub IsPolicyOfKind : FileKind → List ℕ → Head → PolicySource → Type 0
+IsPolicyOfKind kind.Image bytes given p = IsOfImage bytes given p
+IsPolicyOfKind kind.Hex bytes given p = (image : List ℕ) × SpellsBytes bytes image × IsOfImage image given p
+IsPolicyOfKind kind.Text bytes given p = IsOfText bytes given p
 
 -- the file is this policy
 abbrev pub IsPolicy : List ℕ → Head → PolicySource → Type 0
-IsPolicy bytes given p = IsOfKind (kind_of bytes) bytes given p
+IsPolicy bytes given p = IsPolicyOfKind (kind_of bytes) bytes given p
 
 -- what is wrong with an image: the first fault of its bytes, or of its program, or what differs; if memory runs out, nothing is
 -- said of it
@@ -142,7 +142,7 @@ pub record HasHead (bytes : List ℕ) (stated : Head) : Type 0 where
   pub states : StatesHead (lines bytes) stated
 
 -- a text has a head, and assembles to a program
-pub record IsWhole (bytes : List ℕ) (stated : Head) : Type 0 where
+pub record IsWholeText (bytes : List ℕ) (stated : Head) : Type 0 where
   pub head : HasHead bytes stated
   pub insns : List Insn
   pub assembles : Assembles bytes insns
@@ -152,9 +152,9 @@ pub record IsWhole (bytes : List ℕ) (stated : Head) : Type 0 where
 abbrev pub IsTextFault : List ℕ → Head → PolicyFault → Type 0
 IsTextFault bytes given fault.Text = ¬ (IsUtf8 bytes)
 IsTextFault bytes given (fault.Head line cause) = IsUtf8 bytes × IsBadAt (lines bytes) line cause
-IsTextFault bytes given (fault.Assembly line cause) = (stated : Head) × HasHead bytes stated × Faulty (lines_of bytes) line cause
-IsTextFault bytes given (fault.Disagrees key) = (stated : Head) × IsWhole bytes stated × DiffersIn key given stated.hook (maps_in stated) stated.format
-IsTextFault bytes given fault.NoHook = (stated : Head) × IsWhole bytes stated × NamesNoHook given stated
+IsTextFault bytes given (fault.Assembly line cause) = (stated : Head) × HasHead bytes stated × FaultyLines (lines_of bytes) line cause
+IsTextFault bytes given (fault.Disagrees key) = (stated : Head) × IsWholeText bytes stated × DiffersIn key given stated.hook (shapes_in_head stated) stated.format
+IsTextFault bytes given fault.NoHook = (stated : Head) × IsWholeText bytes stated × NamesNoHook given stated
 IsTextFault bytes given fault.OutOfMemory = Unit {0}
 IsTextFault bytes given other = ⊥
 

@@ -15,8 +15,8 @@ use Rattle.bq_words.specs.Refused.{refused_line}
 use Rattle.bq_policy_file.specs.ShapesText.{NamesShapes, NamesNoShapes}
 
 -- the text of an option
-abbrev pub maps_text : Options → Option (List ℕ)
-maps_text o = option_map (λ text. string_bytes text) o.maps
+abbrev pub maps_option_text : Options → Option (List ℕ)
+maps_option_text o = option_map (λ text. string_bytes text) o.maps
 
 -- the shapes that an option names; without it there are none
 abbrev pub HasShapes : Option (List ℕ) → List MapShape → Type 0
@@ -24,17 +24,17 @@ HasShapes None shapes = shapes ≡ []
 HasShapes (Some text) shapes = NamesShapes text shapes
 
 -- without a hook only the program, and then no other option is there; with one an image, of version 1 if none is named
-abbrev pub AsksFor : Options → ProgramForm → Type 0
-AsksFor o Program = (o.hook ≡ None) × (maps_text o ≡ None) × (o.format ≡ None)
-AsksFor o (Image i) = (o.hook ≡ Some i.hook) × HasShapes (maps_text o) i.shapes.items × (i.version ≡ unwrap_or o.format First)
+abbrev pub AsksForForm : Options → ProgramForm → Type 0
+AsksForForm o Program = (o.hook ≡ None) × (maps_option_text o ≡ None) × (o.format ≡ None)
+AsksForForm o (Image i) = (o.hook ≡ Some i.hook) × HasShapes (maps_option_text o) i.shapes.items × (i.version ≡ unwrap_or o.format First)
 
 -- maps are named without a hook, or by a text that names none
 abbrev pub HasBadMaps : Options → Type 0
-HasBadMaps o = (text : List ℕ) × (maps_text o ≡ Some text) × ((o.hook ≡ None) ⊎ NamesNoShapes text)
+HasBadMaps o = (text : List ℕ) × (maps_option_text o ≡ Some text) × ((o.hook ≡ None) ⊎ NamesNoShapes text)
 
 -- a version is named without a hook, and no maps are
 abbrev pub HasBadFormat : Options → Type 0
-HasBadFormat o = (o.hook ≡ None) × (maps_text o ≡ None) × IsSome o.format
+HasBadFormat o = (o.hook ≡ None) × (maps_option_text o ≡ None) × IsSome o.format
 
 -- if memory runs out, nothing is said of the options
 abbrev pub HasOptionsFault : Options → OptionsFault → Type 0

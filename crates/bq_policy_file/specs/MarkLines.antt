@@ -27,9 +27,9 @@ format_mark First = []
 format_mark Second = codes ";@ format 2\n"
 
 -- the lines that say a hook and a version, with this line of maps between
-abbrev pub marks_text : Hook → List ℕ → Version → List ℕ
-marks_text hook maps version = codes ";@ hook " ++ (hook_word hook ++ (codes "\n" ++ (maps ++ format_mark version)))
+abbrev pub head_marks_text : Hook → List ℕ → Version → List ℕ
+head_marks_text hook maps version = codes ";@ hook " ++ (hook_word hook ++ (codes "\n" ++ (maps ++ format_mark version)))
 
 -- the lines that say what a policy is: its hook, its maps if there are some, and its version if it is not the first
 abbrev pub AreMarks : PolicySource → List ℕ → Type 0
-AreMarks p text = text ≡ marks_text p.form.hook (maps_mark p.form.shapes.items) p.form.version
+AreMarks p text = text ≡ head_marks_text p.form.hook (maps_mark p.form.shapes.items) p.form.version

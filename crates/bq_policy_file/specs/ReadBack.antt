@@ -16,20 +16,20 @@ pub record AsksNothing (h : Head) : Type 0 where
   pub format : h.format ≡ None
 
 -- two policies have equal hooks, versions, maps and programs
-pub record IsSame (p q : PolicySource) : Type 0 where
+pub record IsSamePolicy (p q : PolicySource) : Type 0 where
   pub hook : q.form.hook ≡ p.form.hook
   pub version : q.form.version ≡ p.form.version
   pub shapes : q.form.shapes.items ≡ p.form.shapes.items
   pub insns : q.insns.items ≡ p.insns.items
 
 -- two policies are equal, and the lines of the second are those of the text that have an instruction
-pub record IsFrom (text : List ℕ) (p q : PolicySource) : Type 0 where
-  pub same : IsSame p q
+pub record IsReadBackFrom (text : List ℕ) (p q : PolicySource) : Type 0 where
+  pub same : IsSamePolicy p q
   pub lines : q.lines.items ≡ instruction_lines 1 (lines text)
 
 -- the text is the file of this policy and of no other, and has no fault; if memory runs out, nothing is said of it
 pub record IsFileOf (p : PolicySource) (text : List ℕ) : Type 0 where
-  pub read : (h : Head) → AsksNothing h → (q : PolicySource) → IsPolicy text h q ↔ IsFrom text p q
+  pub read : (h : Head) → AsksNothing h → (q : PolicySource) → IsPolicy text h q ↔ IsReadBackFrom text p q
   pub no_fault : (h : Head) → AsksNothing h → (named : PolicyFault) → IsPolicyFault text h named → named ≡ OutOfMemory
 
 -- what is listed of a policy is its file, with slots and bytes and without

@@ -19,19 +19,19 @@ parts_after mark None = []
 parts_after mark (Some rest) = parts mark rest.now
 
 -- decimal digits, one or more, whose number fits 16 bits
-abbrev pub number_of : List ℕ → Option ℕ
-number_of word =
+abbrev pub shape_number : List ℕ → Option ℕ
+shape_number word =
     if nat_lt 0 (length word) && (list_all (λ c. nat_lt (digit_value c) 10) word && nat_lt (digits_value 10 word) (2 ^ 16))
     then Some (digits_value 10 word) else None
 
 -- both numbers, if both are there
-abbrev pub both : Option ℕ → Option ℕ → Option (ℕ × ℕ)
-both (Some a) (Some b) = Some (a, b)
-both _ _ = None
+abbrev pub both_numbers : Option ℕ → Option ℕ → Option (ℕ × ℕ)
+both_numbers (Some a) (Some b) = Some (a, b)
+both_numbers _ _ = None
 
 -- two numbers, and nothing else
 abbrev pub pair_of : List (List ℕ) → Option (ℕ × ℕ)
-pair_of (a ∷ b ∷ []) = both (number_of a) (number_of b)
+pair_of (a ∷ b ∷ []) = both_numbers (shape_number a) (shape_number b)
 pair_of _ = None
 
 -- the two numbers around a colon

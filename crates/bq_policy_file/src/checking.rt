@@ -2,7 +2,7 @@
 ghost use Rattle.std.specs.Prelude.{◌≡◌, ◌≢◌, IfOk, OnOk};
 ghost use Rattle.std.specs.String.{string_bytes};
 ghost use Rattle.bq_load.specs.declared.fault.LoadFault.TheVariants.{OutOfMemory};
-ghost use Rattle.bq_load.specs.Naming.{fault_text};
+ghost use Rattle.bq_load.specs.Naming.{load_fault_text};
 ghost use Rattle.bq_policy_file.specs.Check.{CheckWrites, accepted_line};
 
 use crate::Answer;
@@ -42,7 +42,7 @@ pub fn accepted_line(alloc: Global, hook: Hook, budget: u32) -> Result<String, A
 /// Names a fault: the letter L and its number, and for a fault of the program its cause and its slot. If memory runs out, that
 /// is the error.
 pub fn fault_text(alloc: Global, fault: LoadFault) -> Result<String, AllocError>
-    ensures named { IfOk result (λ text. string_bytes text ≡ fault_text fault) }
+    ensures named { IfOk result (λ text. string_bytes text ≡ load_fault_text fault) }
     ensures other { OnOk result (fault ≢ OutOfMemory) }
 {
     match fault {

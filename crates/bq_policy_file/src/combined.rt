@@ -1,6 +1,6 @@
 //! What was asked for and what a file says, together.
 ghost use Rattle.std.specs.Prelude.{◌≡◌, option_map, IfOk, IfErr, MatchOption};
-ghost use Rattle.bq_policy_file.specs.Files.{Agrees, CombineTo, DiffersIn, ReportsDifference, shapes_in};
+ghost use Rattle.bq_policy_file.specs.Files.{AgreesWithHead, CombineTo, DiffersIn, ReportsDifference, shapes_in};
 ghost use Rattle.bq_policy_file.specs.Combining.{IsUncombinable};
 
 use crate::fault::PolicyFault;
@@ -42,7 +42,7 @@ pub(crate) fn difference(
     maps: Option<&[MapShape]>,
     format: Option<Version>,
 ) -> Option<Key>
-    ensures { MatchOption result (Agrees given.now hook (option_map (λ b. b.now) maps.entry) format)
+    ensures { MatchOption result (AgreesWithHead given.now hook (option_map (λ b. b.now) maps.entry) format)
         (λ key. DiffersIn key given.now hook (option_map (λ b. b.now) maps.entry) format) }
 {
     if hooks_differ(given.hook, hook) {

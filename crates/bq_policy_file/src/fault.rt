@@ -81,9 +81,9 @@ pub enum PolicyFault {
 /// The text that an input is answered: `text`, `hex`, `head 2`, `A1 3`, `L7 I2 5`, `maps`, `hook`.
 impl fmt::Display for PolicyFault {
     ghost use Rattle.std.specs.Prelude.{Some};
-    ghost use Rattle.bq_policy_file.specs.Naming.{fault_text};
+    ghost use Rattle.bq_policy_file.specs.Naming.{policy_fault_text};
 
-    ghost output = { λ fault. Some (fault_text fault) };
+    ghost output = { λ fault. Some (policy_fault_text fault) };
 
     fn fmt<W: fmt::Write>(&self, f: &mut fmt::Formatter<W>) -> fmt::Result {
         match *self {
@@ -156,9 +156,9 @@ impl From<LoadFault> for PolicyFault {
 }
 
 impl From<DecodeFault> for PolicyFault {
-    ghost use Rattle.bq_policy_file.specs.Naming.{of_program};
+    ghost use Rattle.bq_policy_file.specs.Naming.{policy_fault_of_program};
 
-    ghost from_gives = { λ f e. e ≡ of_program f };
+    ghost from_gives = { λ f e. e ≡ policy_fault_of_program f };
 
     fn from(fault: DecodeFault) -> PolicyFault {
         match fault {

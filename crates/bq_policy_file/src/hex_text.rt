@@ -1,6 +1,6 @@
 //! Bytes as a text of hex.
 ghost use Rattle.std.specs.Prelude.{◌≡◌, IfOk, MatchOption};
-ghost use Rattle.bq_policy_file.specs.HexText.{IsNoHex, SpellsBytes, digits_in, is_blank};
+ghost use Rattle.bq_policy_file.specs.HexText.{IsNoHex, SpellsBytes, digits_in, is_hex_space};
 
 use std::alloc::{AllocError, Global};
 
@@ -28,7 +28,7 @@ fn digits_in(alloc: Global, text: &[u8]) -> Result<Vec<u8>, AllocError>
 
 /// A space, a tab, or a part of a line's end.
 pub fn is_blank(byte: u8) -> bool
-    ensures { result ≡ is_blank byte }
+    ensures { result ≡ is_hex_space byte }
 {
     byte == b' ' || byte == b'\t' || byte == b'\r' || byte == b'\n'
 }

@@ -1,6 +1,6 @@
 //! Images of programs as bytes, and copies of their forms.
 ghost use Rattle.std.specs.Prelude.{◌≡◌, true, IfOk};
-ghost use Rattle.bq_insn.specs.Faults.{is_length};
+ghost use Rattle.bq_insn.specs.Faults.{is_program_length};
 ghost use Rattle.bq_load.specs.Layout.{IsImage};
 
 use bq_load::{Image, write_image};
@@ -13,7 +13,7 @@ pub(crate) fn image_of(
     form: &PolicyForm,
     program: Vec<u8>,
 ) -> Result<Vec<u8>, AllocError>
-    requires { is_length program.items ≡ true }
+    requires { is_program_length program.items ≡ true }
     ensures { IfOk result (λ bytes. IsImage bytes.items form.now.version form.now.hook form.now.shapes.items program.items) }
 {
     let form = copy_of(alloc, form)?;

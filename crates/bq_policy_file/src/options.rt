@@ -1,7 +1,7 @@
 //! What the options of `asm` ask for.
 ghost use Rattle.std.specs.Prelude.{◌≡◌, None, false, IfOk, IfErr};
 ghost use Rattle.std.specs.String.{string_bytes};
-ghost use Rattle.bq_policy_file.specs.Forms.{AsksFor, HasOptionsFault, RefusesOptions};
+ghost use Rattle.bq_policy_file.specs.Forms.{AsksForForm, HasOptionsFault, RefusesOptions};
 
 use crate::Answer;
 use crate::form::ProgramForm;
@@ -58,7 +58,7 @@ impl From<AllocError> for OptionsFault {
 impl Options {
     /// Answers the form that the options ask for. If both faults are there, the error is `Maps`.
     pub fn form(&self, alloc: Global) -> Result<ProgramForm, OptionsFault>
-        ensures ok { IfOk result (AsksFor self.now) }
+        ensures ok { IfOk result (AsksForForm self.now) }
         ensures err { IfErr result (HasOptionsFault self.now) }
     {
         let Some(hook) = self.hook else {
@@ -81,7 +81,7 @@ impl Options {
     /// Answers the form without a hook. No other option may be given beside it.
     fn program_alone(&self) -> Result<ProgramForm, OptionsFault>
         requires { self.now.hook ≡ None }
-        ensures ok { IfOk result (AsksFor self.now) }
+        ensures ok { IfOk result (AsksForForm self.now) }
         ensures err { IfErr result (HasOptionsFault self.now) }
     {
         if self.maps.is_some() {

@@ -1,6 +1,6 @@
 //! The marks that say what a policy is.
 ghost use Rattle.std.specs.Prelude.{◌≡◌, IfOk, string_bytes};
-ghost use Rattle.bq_policy_file.specs.MarkLines.{AreMarks, format_mark, maps_mark, marks_text, more_maps};
+ghost use Rattle.bq_policy_file.specs.MarkLines.{AreMarks, format_mark, maps_mark, head_marks_text, more_maps};
 
 use crate::PolicySource;
 use bq_bpf::MapShape;
@@ -23,7 +23,7 @@ pub fn marks_text(
     maps: &str,
     version: Version,
 ) -> Result<String, AllocError>
-    ensures { IfOk result (λ text. string_bytes text ≡ marks_text hook maps.now version) }
+    ensures { IfOk result (λ text. string_bytes text ≡ head_marks_text hook maps.now version) }
 {
     let hook = hook.word();
     let format = format_mark(version);

@@ -2,7 +2,7 @@
 ghost use Rattle.std.specs.Prelude.{◌≡◌, ◌∷◌, IfOk, IfSome, IfNone, MatchOption};
 ghost use Rattle.bq_bpf.specs.declared.shape.MapShape.{MapShape as Shape};
 ghost use Rattle.bq_words.specs.Words.{parts};
-ghost use Rattle.bq_policy_file.specs.ShapesText.{IsPartLen, NamesNoShapes, NamesShapes, number_of, numbers_in, numbers_of, parts_after};
+ghost use Rattle.bq_policy_file.specs.ShapesText.{IsPartLen, NamesNoShapes, NamesShapes, shape_number, numbers_in, numbers_of, parts_after};
 
 use bq_bpf::shape::MAPS;
 use bq_bpf::{MapShape, with_map_limits};
@@ -75,7 +75,7 @@ fn part_len(text: &[u8], mark: u8) -> usize
 
 /// The number that the word writes in decimal, if it fits.
 fn number(word: &[u8]) -> Option<u16>
-    ensures { result ≡ number_of word.now }
+    ensures { result ≡ shape_number word.now }
 {
     u16::try_from(bq_words::number(word, 10)?).ok()
 }

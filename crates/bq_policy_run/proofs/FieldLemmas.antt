@@ -11,39 +11,39 @@ use Rattle.bq_hooks.specs.declared.hook.Hook.TheVariants.{Place, Preempt, Pull}
 use Rattle.bq_hooks.specs.declared.hook.Version.{Version}
 use Rattle.bq_hooks.specs.declared.hook.Version.TheVariants.{First, Second}
 use Rattle.bq_policy_run.specs.declared.fields.Field.{Field}
-use Rattle.bq_policy_run.specs.Fields.{GoesBy, GoesByName, HasNumber, IsField, IsNumbered, IsSingle, NamedField, bytes_in, fields_of, row_named, row_of}
-use Rattle.bq_console.specs.Words.{IsCut, IsFreeOf, IsNumber}
+use Rattle.bq_policy_run.specs.Fields.{GoesBy, GoesByName, HasNumber, IsField, IsNumbered, IsSingle, NamedField, bytes_in, fields_of, row_named, field_of_row}
+use Rattle.bq_console.specs.Words.{IsSplitAtMark, IsFreeOf, IsNumber}
 use Rattle.bq_console.proofs.WordLemmas.{cut_once, free_cut, number_once}
 
 -- the first row of a name is the same in the code's table and in the definition's
 pub same_row : (rows : List FieldRow) (name : List ℕ)
-    → row_named (map row_of rows) name ≡ option_map row_of (find (λ (r : FieldRow). bytes_eq r.name.now name) rows)
+    → row_named (map field_of_row rows) name ≡ option_map field_of_row (find (λ (r : FieldRow). bytes_eq r.name.now name) rows)
 same_row [] name = refl
 same_row (row ∷ rows) name = go (bytes_eq row.name.now name) (same_row rows name)
   where
-    go : (b : Bool) → row_named (map row_of rows) name ≡ option_map row_of (find (λ (r : FieldRow). bytes_eq r.name.now name) rows)
-        → cond b (Some (row_of row)) (row_named (map row_of rows) name)
-        ≡ option_map row_of (cond b (Some row) (find (λ (r : FieldRow). bytes_eq r.name.now name) rows))
+    go : (b : Bool) → row_named (map field_of_row rows) name ≡ option_map field_of_row (find (λ (r : FieldRow). bytes_eq r.name.now name) rows)
+        → cond b (Some (field_of_row row)) (row_named (map field_of_row rows) name)
+        ≡ option_map field_of_row (cond b (Some row) (find (λ (r : FieldRow). bytes_eq r.name.now name) rows))
     go true more = refl
     go false more = more
 
 -- where no row is found the definition has no row
 pub none_row : (rows : List FieldRow) (name : List ℕ) (found : Option FieldRow) (fields : List NamedField)
-    → map row_of rows ≡ fields → found ≡ find (λ (r : FieldRow). bytes_eq r.name.now name) rows
+    → map field_of_row rows ≡ fields → found ≡ find (λ (r : FieldRow). bytes_eq r.name.now name) rows
     → IfNone found (row_named fields name ≡ None)
 none_row rows name (Some row) fields table is = tt
 none_row rows name None fields table is =
     ap (λ (fs : List NamedField). row_named fs name) (sym table) ∙ same_row rows name
-    ∙ ap (λ (o : Option FieldRow). option_map row_of o) (sym is)
+    ∙ ap (λ (o : Option FieldRow). option_map field_of_row o) (sym is)
 
 -- the row that is found stands for the one of the definition
 pub some_row : (rows : List FieldRow) (name : List ℕ) (found : Option FieldRow) (fields : List NamedField)
-    → map row_of rows ≡ fields → found ≡ find (λ (r : FieldRow). bytes_eq r.name.now name) rows
-    → IfSome found (λ (r : FieldRow). row_named fields name ≡ Some (row_of r))
+    → map field_of_row rows ≡ fields → found ≡ find (λ (r : FieldRow). bytes_eq r.name.now name) rows
+    → IfSome found (λ (r : FieldRow). row_named fields name ≡ Some (field_of_row r))
 some_row rows name None fields table is = tt
 some_row rows name (Some row) fields table is =
     ap (λ (fs : List NamedField). row_named fs name) (sym table) ∙ same_row rows name
-    ∙ ap (λ (o : Option FieldRow). option_map row_of o) (sym is)
+    ∙ ap (λ (o : Option FieldRow). option_map field_of_row o) (sym is)
 
 -- whether the mark does not stand in the text
 lacks : ℕ → List ℕ → Bool
@@ -135,7 +135,7 @@ none_by_dot hook name free none field (inr by) = free_cut 46 name by.stem by.dig
 
 -- a name with a dot goes by a number, if for any field
 pub none_around_dot : (hook : Hook) (name stem digits : List ℕ)
-    → IsCut 46 name stem digits → ((field : Field) → field.at < 2 ^ 64 → ¬ HasNumber hook stem digits field)
+    → IsSplitAtMark 46 name stem digits → ((field : Field) → field.at < 2 ^ 64 → ¬ HasNumber hook stem digits field)
     → (field : Field) → field.at < 2 ^ 64
     → ¬ GoesBy hook name field
 none_around_dot hook name stem digits cut none field small (inl by) =

@@ -8,26 +8,26 @@ use Rattle.bq_hooks.specs.declared.hook.Version.{Version}
 use Rattle.bq_hooks.specs.declared.hook.Version.TheVariants.{First, Second}
 use Rattle.bq_policy_run.specs.declared.fields.Field.{Field}
 use Rattle.bq_policy_run.specs.Fields.{GoesBy, IsField, NamedField, fields_of, row_named}
-use Rattle.bq_policy_run.specs.FieldsLaw.{FactsOf, FieldsAreAsNamed, FieldHolds, Meaning, MeansBytes, context_of, meaning_named, meanings_of}
+use Rattle.bq_policy_run.specs.FieldsLaw.{FactsOf, FieldsAreAsNamed, FieldHolds, Meaning, MeansBytes, shown_context, meaning_named, meanings_of}
 use Rattle.bq_policy_run.proofs.FieldTableLemmas.{AllMatch, Beside, MatchesMeaning, meaning_beside, named_beside, place_match, preempt_match, pull_match, row_beside}
 
 -- each row of a hook's table, beside what its name says
 all_match : (hook : Hook) (version : Version) (f : FactsOf hook)
-    → AllMatch (context_of hook version f) (context_length_of hook version) (fields_of hook) (meanings_of hook version f)
+    → AllMatch (shown_context hook version f) (context_length_of hook version) (fields_of hook) (meanings_of hook version f)
 all_match Place First f = place_match 16 f (omega arith) (omega arith)
 all_match Place Second f = place_match 64 f (omega arith) (omega arith)
 all_match Preempt version f = preempt_match f
 all_match Pull version f = pull_match f
 
 abbrev MatchesIn : (hook : Hook) → Version → FactsOf hook → NamedField → Meaning → Type 0
-MatchesIn hook version f row m = MatchesMeaning (context_of hook version f) (context_length_of hook version) row m
+MatchesIn hook version f row m = MatchesMeaning (shown_context hook version f) (context_length_of hook version) row m
 
 -- the meaning of the name of a row
 meaning_of_row : (hook : Hook) (version : Version) (f : FactsOf hook) (name : List ℕ) (row : NamedField)
     → row_named (fields_of hook) name ≡ Some row
     → (m : Meaning) × (meaning_named (meanings_of hook version f) name ≡ Some m) × MatchesIn hook version f row m
 meaning_of_row hook version f name row is =
-    let c = context_of hook version f in
+    let c = shown_context hook version f in
     let end = context_length_of hook version in
     let ms = meanings_of hook version f in
     meaning_beside c end row (meaning_named ms name)
@@ -39,7 +39,7 @@ row_of_meaning : (hook : Hook) (version : Version) (f : FactsOf hook) (name : Li
     → meaning_named (meanings_of hook version f) name ≡ Some m
     → (row : NamedField) × (row_named (fields_of hook) name ≡ Some row) × MatchesIn hook version f row m
 row_of_meaning hook version f name m is =
-    let c = context_of hook version f in
+    let c = shown_context hook version f in
     let end = context_length_of hook version in
     row_beside c end (row_named (fields_of hook) name) m
     (subst (λ (o : Option Meaning). Beside c end (row_named (fields_of hook) name) o) is
@@ -49,12 +49,12 @@ row_of_meaning hook version f name m is =
 field_holds : (hook : Hook) (version : Version) (f : FactsOf hook) (name : List ℕ) (field : Field)
     → IsField hook version name field
     → (bytes : List ℕ) × MeansBytes (meanings_of hook version f) name bytes
-    × FieldHolds (context_of hook version f) field.at field.width bytes
+    × FieldHolds (shown_context hook version f) field.at field.width bytes
 field_holds hook version f name field is = go is.named
   where
     go : GoesBy hook name field
         → (bytes : List ℕ) × MeansBytes (meanings_of hook version f) name bytes
-        × FieldHolds (context_of hook version f) field.at field.width bytes
+        × FieldHolds (shown_context hook version f) field.at field.width bytes
     go (inl by) =
         let reported = meaning_of_row hook version f name by.row by.named in
         let single = reported.2.single.0 by.single.count in
@@ -122,7 +122,7 @@ field_there hook version f name bytes (inr means) =
       },
     )
 
-context_long : (hook : Hook) (version : Version) (f : FactsOf hook) → length (context_of hook version f) ≡ context_length_of hook version
+context_long : (hook : Hook) (version : Version) (f : FactsOf hook) → length (shown_context hook version f) ≡ context_length_of hook version
 context_long Place First f = length-place_bytes_first f
 context_long Place Second f = length-place_bytes_second f
 context_long Preempt version f = length-preempt_bytes f

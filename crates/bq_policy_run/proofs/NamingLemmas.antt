@@ -11,13 +11,13 @@ use Rattle.bq_policy_run.specs.Runs.{FitsProgram}
 use Rattle.bq_policy_run.proofs.InTurnLemmas.{IsSeen, turns_seen}
 use Rattle.bq_policy_run.proofs.RefusalLemmas.{entry_seen, fields_seen, texts_seen}
 use Rattle.bq_policy_check.specs.declared.words.RunWords.{RunWords}
-use Rattle.bq_words.specs.Numbers.{number_of}
+use Rattle.bq_words.specs.Numbers.{number_in_base}
 use Rattle.bq_words.specs.Durations.{duration_of}
 use Rattle.bq_policy_run.specs.Running.{HasInputs, SetsParts, WritesTime}
 use Rattle.bq_policy_check.specs.Given.{option_bytes}
 
 -- what is no number of 64 bits, and no number with a unit, writes no time
-pub no_time : (word : List ℕ) → duration_of word ≡ None → number_of 10 word ≡ None → (time : ℕ) → ¬ WritesTime word time
+pub no_time : (word : List ℕ) → duration_of word ≡ None → number_in_base 10 word ≡ None → (time : ℕ) → ¬ WritesTime word time
 no_time word none other time (inl is) = let both : None ≡ Some time = sym other ∙ is.0 in absurd (cc)
 no_time word none other time (inr is) = let both : None ≡ Some time = sym none ∙ is in absurd (cc)
 

@@ -13,10 +13,10 @@ use Rattle.bq_disc.specs.Masks.{allows}
 use Rattle.bq_hooks.specs.Permitted.{may_place, may_preempt}
 use Rattle.bq_policy_run.specs.declared.permitted.Permission.TheVariants.{Permitted, NotPermitted}
 use Rattle.bq_policy_run.specs.PermittingLaw.{IsPermissionOn}
-use Rattle.bq_policy_run.specs.Permitting.{number_at, place_permits, place_word, preempt_word}
+use Rattle.bq_policy_run.specs.Permitting.{context_number, place_permits, place_word, preempt_word}
 
 -- a context shows as many processors as there are below its limit
-count_shown : (limit : ℕ) (f : PlaceFacts) → limit ≤ 64 → number_at (place_bytes_below limit f) 32 ≡ min f.processors limit
+count_shown : (limit : ℕ) (f : PlaceFacts) → limit ≤ 64 → context_number (place_bytes_below limit f) 32 ≡ min f.processors limit
 unfolding place_bytes_below place_header
 count_shown limit f h = little_number-reads_back 4 (min f.processors limit) [] (omega arith)
 

@@ -14,17 +14,17 @@ use Rattle.bq_hooks.specs.Permitted.{may_pull}
 use Rattle.bq_policy_run.specs.declared.permitted.Permission.{Permission}
 use Rattle.bq_policy_run.specs.declared.permitted.Permission.TheVariants.{Permitted, NotPermitted, NotShown}
 use Rattle.bq_policy_run.specs.PermittingLaw.{IsPermissionOn, IsPullFrom}
-use Rattle.bq_policy_run.specs.Permitting.{number_at, shown_ids, shows_task, hides_tasks, pull_word}
+use Rattle.bq_policy_run.specs.Permitting.{context_number, shown_ids, shows_task, hides_tasks, pull_word}
 use Rattle.bq_policy_run.proofs.MovableIdLemmas.{any_movable, movable_small, AreSmall}
 use Rattle.bq_policy_run.proofs.PieceLemmas.{tasks_hold}
 
 -- it tells how many tasks are movable
-movable_shown : (f : PullFacts) → length f.movable < 2 ^ 32 → number_at (pull_bytes f) 16 ≡ length f.movable
+movable_shown : (f : PullFacts) → length f.movable < 2 ^ 32 → context_number (pull_bytes f) 16 ≡ length f.movable
 unfolding pull_bytes pull_header
 movable_shown f h = little_number-reads_back 4 (length f.movable) [] h
 
 -- the context tells how many of the movable tasks are shown
-count_shown : (f : PullFacts) → number_at (pull_bytes f) 20 ≡ min (length f.movable) 8
+count_shown : (f : PullFacts) → context_number (pull_bytes f) 20 ≡ min (length f.movable) 8
 unfolding pull_bytes pull_header
 count_shown f = little_number-reads_back 4 (min (length f.movable) 8) [] (omega arith)
 
@@ -34,11 +34,11 @@ id_or_0 o = option_map_or (λ (t : Task). t.id) o 0
 
 -- the number at the place of a task is its id
 id_shown : (f : PullFacts) (k : ℕ) → k < 8 → id_or_0 (slice_get f.movable k) < 2 ^ 16
-    → number_at (pull_bytes f) (32 + 16 * k) ≡ id_or_0 (slice_get f.movable k)
+    → context_number (pull_bytes f) (32 + 16 * k) ≡ id_or_0 (slice_get f.movable k)
 id_shown f k h small =
     let id : ℕ = id_or_0 (slice_get f.movable k) in
     let here : 32 + 16 * k ≡ 32 + k * 16 = omega arith in
-    ap (number_at (pull_bytes f)) here ∙ ap (little_number 4) (tasks_hold f k h).0 ∙ little_number-reads_back 4 id [] (omega (arith, small))
+    ap (context_number (pull_bytes f)) here ∙ ap (little_number 4) (tasks_hold f k h).0 ∙ little_number-reads_back 4 id [] (omega (arith, small))
 
 -- the numbers at the places of the first tasks are their ids
 ids_read : (number : ℕ → ℕ) (a n : ℕ) (xs : List Task) → ((k : ℕ) → k < n → number (a + k) ≡ id_or_0 (slice_get xs k))
@@ -60,8 +60,8 @@ small_at (x ∷ xs) (suc k) h = small_at xs k h.1
 -- the ids that are shown are those of the first eight
 shown_are : (f : PullFacts) → AreSmall f.movable → shown_ids (pull_bytes f) ≡ take 8 (ids f.movable)
 shown_are f small =
-    let number : ℕ → ℕ = λ k. number_at (pull_bytes f) (32 + 16 * k) in
-    let shown : min (number_at (pull_bytes f) 20) 8 ≡ min (length f.movable) 8 =
+    let number : ℕ → ℕ = λ k. context_number (pull_bytes f) (32 + 16 * k) in
+    let shown : min (context_number (pull_bytes f) 20) 8 ≡ min (length f.movable) 8 =
     ap (λ n. min n 8) (count_shown f) ∙ (let e : min (min (length f.movable) 8) 8 ≡ min (length f.movable) 8 = omega arith in e) in
     ap (λ n. map number (range_with_len 0 n)) shown
     ∙ ids_read number 0 8 f.movable (λ k l. ap number (let e : 0 + k ≡ k = omega arith in e) ∙ id_shown f k l (small_at f.movable k small))

@@ -5,7 +5,7 @@ use Rattle.std.specs.Int.{bytes_low_first}
 use Rattle.std.specs.Option.{option_zip}
 use Rattle.bq_words.specs.Numbers.{value_of}
 use Rattle.hex.specs.Hex.{decode_of}
-use Rattle.bq_maps.specs.Arrays.{Arrays, HasEntry, entries_in, first_of, value_size_of, with_bytes}
+use Rattle.bq_maps.specs.Arrays.{Arrays, HasEntry, entries_in, entry_begin, value_size_of, with_bytes}
 use Rattle.bq_bpf.proofs.MapLemmas.{length-overwrite}
 use Rattle.bq_bpf.specs.Memory.{overwrite}
 use Rattle.bq_bpf.specs.declared.shape.MapShape.{MapShape}
@@ -15,10 +15,10 @@ use Rattle.bq_console.specs.declared.fault.WordsFault.{WordsFault}
 use Rattle.bq_policy_run.specs.declared.fields.Field.{Field}
 use Rattle.bq_policy_run.specs.declared.fields.FieldWidth.{FieldWidth}
 use Rattle.bq_policy_run.specs.declared.fields.FieldWidth.TheVariants.{Four, Eight}
-use Rattle.bq_policy_run.specs.Fields.{IsField, IsPasted, IsPut, bytes_in}
-use Rattle.bq_policy_run.specs.Naming.{IsFieldWord, NamesCounter, NamesEntry, SetsCounter, SetsEntry, SetsField, SetsFields, TextsInTurn, padded, shows_nobody}
+use Rattle.bq_policy_run.specs.Fields.{IsField, IsPasted, IsFieldPut, bytes_in}
+use Rattle.bq_policy_run.specs.Naming.{IsFieldWord, NamesCounter, NamesMapEntry, SetsCounter, SetsEntry, SetsField, SetsFields, TextsInTurn, padded, shows_nobody}
 use Rattle.bq_words.specs.Words.{parts}
-use Rattle.bq_console.specs.Words.{IsCut, IsFreeOf, IsNumber, IsValue, GivesNone}
+use Rattle.bq_console.specs.Words.{IsSplitAtMark, IsFreeOf, IsNumber, IsNumberWord, GivesNone}
 use Rattle.bq_policy_run.proofs.FieldLemmas.{goes_once}
 use Rattle.bq_policy_run.proofs.InTurnLemmas.{IsSeen, turn_refused, turns_seen}
 use Rattle.bq_console.proofs.WordLemmas.{cut_once, free_cut, number_once, value_once}
@@ -29,7 +29,7 @@ word_small Four word fits = omega arith
 word_small Eight word fits = omega arith
 
 -- `none` writes no number
-none_unnumbered : (text : List ℕ) (word : ℕ) → text ≡ codes "none" → ¬ IsValue text word
+none_unnumbered : (text : List ℕ) (word : ℕ) → text ≡ codes "none" → ¬ IsNumberWord text word
 none_unnumbered text word is value =
     let both : None ≡ Some word = subst (λ (w : List ℕ). value_of w ≡ Some word) is value in
     absurd (cc)
@@ -42,7 +42,7 @@ field_word_once hook name text m n (inr a) (inl b) = absurd (none_unnumbered tex
 field_word_once hook name text m n (inr a) (inr b) = a.2 ∙ sym b.2
 
 -- what is no number, and not `none` for a field that may show nobody, writes no word for the field
-pub no_field_word : (hook : Hook) (name text : List ℕ) → ((word : ℕ) → word < 2 ^ 64 → ¬ IsValue text word)
+pub no_field_word : (hook : Hook) (name text : List ℕ) → ((word : ℕ) → word < 2 ^ 64 → ¬ IsNumberWord text word)
     → ¬ ((text ≡ codes "none") × (shows_nobody hook name ≡ true)) → (word : ℕ) → word < 2 ^ 64
     → ¬ IsFieldWord hook name text word
 no_field_word hook name text no_number named word fits (inl number) = no_number word fits number
@@ -56,7 +56,7 @@ same_word hook name text other again word names texts is =
 
 -- what writes no word for the field is set nowhere
 pub no_field_value : (hook : Hook) (version : Version) (part before name text : List ℕ)
-    → IsCut 61 part name text → ((word : ℕ) → word < 2 ^ 64 → ¬ IsFieldWord hook name text word)
+    → IsSplitAtMark 61 part name text → ((word : ℕ) → word < 2 ^ 64 → ¬ IsFieldWord hook name text word)
     → (after : List ℕ) → ¬ SetsField hook version part before after
 no_field_value hook version part before name text cut none after sets =
     let once = cut_once 61 part sets.name sets.text name text sets.splits cut in
@@ -65,15 +65,15 @@ no_field_value hook version part before name text cut none after sets =
 
 -- what names no field sets none
 pub no_field_named : (hook : Hook) (version : Version) (part before name text : List ℕ)
-    → IsCut 61 part name text → ((field : Field) → ¬ IsField hook version name field)
+    → IsSplitAtMark 61 part name text → ((field : Field) → ¬ IsField hook version name field)
     → (after : List ℕ) → ¬ SetsField hook version part before after
 no_field_named hook version part before name text cut none after sets =
     let once = cut_once 61 part sets.name sets.text name text sets.splits cut in
     none sets.field (subst (λ (n : List ℕ). IsField hook version n sets.field) once.0 sets.is_field)
 
 -- a word is put alike into two fields in one place
-put_same : (f g : Field) (word : ℕ) (before after : List ℕ) → f.at ≡ g.at → f.width ≡ g.width → IsPut f word before after
-    → IsPut g word before after
+put_same : (f g : Field) (word : ℕ) (before after : List ℕ) → f.at ≡ g.at → f.width ≡ g.width → IsFieldPut f word before after
+    → IsFieldPut g word before after
 put_same f g word before after at width put = record {
   fits = subst (λ (w : FieldWidth). word < 256 ^ bytes_in w) width put.fits;
   pasted =
@@ -83,8 +83,8 @@ put_same f g word before after at width put = record {
 
 -- a word that cannot be put into the field is not set
 pub no_field_put : (hook : Hook) (version : Version) (part before name text : List ℕ) (word : ℕ) (field : Field)
-    → IsCut 61 part name text → IsFieldWord hook name text word → IsField hook version name field
-    → ((after : List ℕ) → ¬ IsPut field word before after)
+    → IsSplitAtMark 61 part name text → IsFieldWord hook name text word → IsField hook version name field
+    → ((after : List ℕ) → ¬ IsFieldPut field word before after)
     → (after : List ℕ) → ¬ SetsField hook version part before after
 no_field_put hook version part before name text word field cut is_word is_field none after sets =
     let once = cut_once 61 part sets.name sets.text name text sets.splits cut in
@@ -95,7 +95,7 @@ no_field_put hook version part before name text word field cut is_word is_field 
     goes_once hook name sets.field field
     (subst (λ (n : List ℕ). IsField hook version n sets.field) once.0 sets.is_field).named is_field.named in
     none after
-    (subst (λ (w : ℕ). IsPut field w before after) same (put_same sets.field field sets.word before after goes.0 goes.1 sets.put))
+    (subst (λ (w : ℕ). IsFieldPut field w before after) same (put_same sets.field field sets.word before after goes.0 goes.1 sets.put))
 
 -- of a context its length is seen
 pub field_seen : (hook : Hook) (version : Version) → IsSeen (SetsField hook version) (λ (context : List ℕ). length context)
@@ -142,7 +142,7 @@ text_refused step seen is texts i item bytes first now e h item_is bytes_is same
     (subst (λ (b : List ℕ). GivesNone (step b now) e) (bytes_is ∙ ap (λ (t : String Global). string_bytes t) item_is) none)
 
 -- a place is of one entry
-entry_once : (place : List ℕ) (m n entry other : ℕ) → NamesEntry place m entry → NamesEntry place n other → (m ≡ n) × (entry ≡ other)
+entry_once : (place : List ℕ) (m n entry other : ℕ) → NamesMapEntry place m entry → NamesMapEntry place n other → (m ≡ n) × (entry ≡ other)
 entry_once place m n entry other one two =
     let once = cut_once 58 place one.number one.place two.number two.place one.splits two.splits in (
       number_once two.number m n (subst (λ (w : List ℕ). IsNumber w m) once.0 one.is_map) two.is_map,
@@ -158,16 +158,16 @@ entry_small (Some shape) entry there =
 
 -- what names no entry sets none
 pub no_entry_named : (text place value : List ℕ) (before : Arrays)
-    → IsCut 61 text place value → ((m entry : ℕ) → entry < 2 ^ 32 → ¬ NamesEntry place m entry)
+    → IsSplitAtMark 61 text place value → ((m entry : ℕ) → entry < 2 ^ 32 → ¬ NamesMapEntry place m entry)
     → (after : Arrays) → ¬ SetsEntry text before after
 no_entry_named text place value before cut none after sets =
     let once = cut_once 61 text sets.place sets.value place value sets.splits cut in
     none sets.m sets.entry (entry_small (slice_get before.shapes sets.m) sets.entry sets.there)
-    (subst (λ (p : List ℕ). NamesEntry p sets.m sets.entry) once.0 sets.names)
+    (subst (λ (p : List ℕ). NamesMapEntry p sets.m sets.entry) once.0 sets.names)
 
 -- what writes no bytes sets no entry
 pub no_entry_bytes : (text place value : List ℕ) (before : Arrays)
-    → IsCut 61 text place value → ((bytes : List ℕ) → decode_of value ≢ Ok bytes)
+    → IsSplitAtMark 61 text place value → ((bytes : List ℕ) → decode_of value ≢ Ok bytes)
     → (after : Arrays) → ¬ SetsEntry text before after
 no_entry_bytes text place value before cut none after sets =
     let once = cut_once 61 text sets.place sets.value place value sets.splits cut in
@@ -175,24 +175,24 @@ no_entry_bytes text place value before cut none after sets =
 
 -- an entry that is not there is not set
 pub no_entry_there : (text place value : List ℕ) (before : Arrays) (m entry : ℕ)
-    → IsCut 61 text place value → NamesEntry place m entry → ¬ HasEntry before m entry
+    → IsSplitAtMark 61 text place value → NamesMapEntry place m entry → ¬ HasEntry before m entry
     → (after : Arrays) → ¬ SetsEntry text before after
 no_entry_there text place value before m entry cut names none after sets =
     let once = cut_once 61 text sets.place sets.value place value sets.splits cut in
     let same =
-    entry_once place sets.m m sets.entry entry (subst (λ (p : List ℕ). NamesEntry p sets.m sets.entry) once.0 sets.names)
+    entry_once place sets.m m sets.entry entry (subst (λ (p : List ℕ). NamesMapEntry p sets.m sets.entry) once.0 sets.names)
     names in
     none (subst (λ (k : ℕ). HasEntry before m k) same.1 (subst (λ (n : ℕ). HasEntry before n sets.entry) same.0 sets.there))
 
 -- bytes that are too many are not set
 pub no_entry_fits : (text place value bytes : List ℕ) (before : Arrays) (m entry : ℕ)
-    → IsCut 61 text place value → NamesEntry place m entry → decode_of value ≡ Ok bytes
+    → IsSplitAtMark 61 text place value → NamesMapEntry place m entry → decode_of value ≡ Ok bytes
     → value_size_of before m < length bytes
     → (after : Arrays) → ¬ SetsEntry text before after
 no_entry_fits text place value bytes before m entry cut names is_bytes long after sets =
     let once = cut_once 61 text sets.place sets.value place value sets.splits cut in
     let same =
-    entry_once place sets.m m sets.entry entry (subst (λ (p : List ℕ). NamesEntry p sets.m sets.entry) once.0 sets.names)
+    entry_once place sets.m m sets.entry entry (subst (λ (p : List ℕ). NamesMapEntry p sets.m sets.entry) once.0 sets.names)
     names in
     let decoded : decode_of value ≡ Ok sets.bytes = ap decode_of (sym once.1) ∙ sets.is_bytes in
     let many : length sets.bytes ≡ length bytes = ap (λ (bs : List ℕ). length bs) (cc (decoded, is_bytes)) in
@@ -205,7 +205,7 @@ pub entry_seen : IsSeen SetsEntry (λ (maps : Arrays). maps.shapes)
 entry_seen = record {
   keeps = λ text before after sets. ap (λ (maps : Arrays). maps.shapes) sets.put;
   moves = λ text before after other sets same. (
-    with_bytes other sets.m (first_of other sets.m sets.entry) (padded (value_size_of other sets.m) sets.bytes),
+    with_bytes other sets.m (entry_begin other sets.m sets.entry) (padded (value_size_of other sets.m) sets.bytes),
     record {
       place = sets.place;
       value = sets.value;
@@ -241,7 +241,7 @@ no_counter_there text before counter word names past after sets =
     omega (arith, same, below, past)
 
 -- where one part writes no number the text names no counter
-pub no_counter_number : (text number value : List ℕ) → IsCut 61 text number value
+pub no_counter_number : (text number value : List ℕ) → IsSplitAtMark 61 text number value
     → ((n : ℕ) → n < 2 ^ 64 → ¬ IsNumber number n) → (counter word : ℕ) → counter < 2 ^ 64 → word < 2 ^ 64
     → ¬ NamesCounter text counter word
 no_counter_number text number value cut none counter word small fits names =
@@ -249,12 +249,12 @@ no_counter_number text number value cut none counter word small fits names =
     none counter small (subst (λ (n : List ℕ). IsNumber n counter) once.0 names.is_counter)
 
 -- where the other writes none it names none either
-pub no_counter_value : (text number value : List ℕ) → IsCut 61 text number value → ((n : ℕ) → n < 2 ^ 64 → ¬ IsValue value n)
+pub no_counter_value : (text number value : List ℕ) → IsSplitAtMark 61 text number value → ((n : ℕ) → n < 2 ^ 64 → ¬ IsNumberWord value n)
     → (counter word : ℕ) → counter < 2 ^ 64 → word < 2 ^ 64
     → ¬ NamesCounter text counter word
 no_counter_value text number value cut none counter word small fits names =
     let once = cut_once 61 text names.number names.value number value names.splits cut in
-    none word fits (subst (λ (v : List ℕ). IsValue v word) once.1 names.is_word)
+    none word fits (subst (λ (v : List ℕ). IsNumberWord v word) once.1 names.is_word)
 
 -- every state of the counters is as good as another
 pub counter_seen : IsSeen {V = ℕ} SetsCounter (λ (_ : List ℕ). 0)
@@ -267,32 +267,32 @@ counter_seen = record {
 }
 
 -- where one part writes no number the text names no entry
-pub no_entry_map : (text number place : List ℕ) → IsCut 58 text number place → ((n : ℕ) → n < 2 ^ 64 → ¬ IsNumber number n)
+pub no_entry_map : (text number place : List ℕ) → IsSplitAtMark 58 text number place → ((n : ℕ) → n < 2 ^ 64 → ¬ IsNumber number n)
     → (m entry : ℕ) → entry < 2 ^ 32
-    → ¬ NamesEntry text m entry
+    → ¬ NamesMapEntry text m entry
 no_entry_map text number place cut none m entry small names =
     let once = cut_once 58 text names.number names.place number place names.splits cut in
     none m names.fits (subst (λ (n : List ℕ). IsNumber n m) once.0 names.is_map)
 
 -- where the other writes none it names none either
-pub no_entry_number : (text number place : List ℕ) → IsCut 58 text number place → ((n : ℕ) → n < 2 ^ 64 → ¬ IsNumber place n)
+pub no_entry_number : (text number place : List ℕ) → IsSplitAtMark 58 text number place → ((n : ℕ) → n < 2 ^ 64 → ¬ IsNumber place n)
     → (m entry : ℕ) → entry < 2 ^ 32
-    → ¬ NamesEntry text m entry
+    → ¬ NamesMapEntry text m entry
 no_entry_number text number place cut none m entry small names =
     let once = cut_once 58 text names.number names.place number place names.splits cut in
     none entry (omega (arith, small)) (subst (λ (p : List ℕ). IsNumber p entry) once.1 names.is_entry)
 
 -- a text names no entry where the entry's number is not of 32 bits
-pub no_entry_small : (text number place : List ℕ) (wide : ℕ) → IsCut 58 text number place → IsNumber place wide
+pub no_entry_small : (text number place : List ℕ) (wide : ℕ) → IsSplitAtMark 58 text number place → IsNumber place wide
     → 2 ^ 32 ≤ wide → (m entry : ℕ) → entry < 2 ^ 32
-    → ¬ NamesEntry text m entry
+    → ¬ NamesMapEntry text m entry
 no_entry_small text number place wide cut is past m entry small names =
     let once = cut_once 58 text names.number names.place number place names.splits cut in
     let same : entry ≡ wide = number_once place entry wide (subst (λ (p : List ℕ). IsNumber p entry) once.1 names.is_entry) is in
     omega (arith, same, small, past)
 
 -- a text without a colon names no entry
-pub no_entry_colon : (text : List ℕ) → IsFreeOf 58 text → (m entry : ℕ) → entry < 2 ^ 32 → ¬ NamesEntry text m entry
+pub no_entry_colon : (text : List ℕ) → IsFreeOf 58 text → (m entry : ℕ) → entry < 2 ^ 32 → ¬ NamesMapEntry text m entry
 no_entry_colon text free m entry small names = free_cut 58 text names.number names.place free names.splits
 
 -- a text without `=` names no counter
@@ -302,8 +302,8 @@ no_counter_uncut text free counter word small fits names = free_cut 61 text name
 
 -- where a part writes no number there is no pair of the two
 pub no_counter_zip : (text number value : List ℕ) (n w : Option ℕ)
-    → IsCut 61 text number value → IfNone n ((k : ℕ) → k < 2 ^ 64 → ¬ IsNumber number k)
-    → IfNone w ((k : ℕ) → k < 2 ^ 64 → ¬ IsValue value k)
+    → IsSplitAtMark 61 text number value → IfNone n ((k : ℕ) → k < 2 ^ 64 → ¬ IsNumber number k)
+    → IfNone w ((k : ℕ) → k < 2 ^ 64 → ¬ IsNumberWord value k)
     → IfNone (option_zip n w) ((counter word : ℕ) → counter < 2 ^ 64 → word < 2 ^ 64 → ¬ NamesCounter text counter word)
 no_counter_zip text number value None w cut none other = no_counter_number text number value cut none
 no_counter_zip text number value (Some n) None cut none other = no_counter_value text number value cut other

@@ -4,7 +4,7 @@ use Rattle.std.specs.Prelude.{◌||◌, ◌==◌}
 use Rattle.std.specs.List.{list_any, range_with_len}
 use Rattle.std.proofs.lemmas.List.FromFn.{get_or-map-range_with_len, length-map-range_with_len}
 use Rattle.std.proofs.lemmas.List.Folds.{list_any_at}
-use Rattle.bq_policy_run.specs.Permitting.{number_at, shown_id, shows_task}
+use Rattle.bq_policy_run.specs.Permitting.{context_number, shown_id, shows_task}
 
 none_of : (p : ℕ → Bool) (f : ℕ → ℕ) (a n : ℕ) → ((k : ℕ) → k < n → p (f (a + k)) ≡ false) → list_any p (map f (range_with_len a n)) ≡ false
 none_of p f a zero h = refl
@@ -21,19 +21,19 @@ one_of p f n k l h =
 
 -- the id at one of the places that are shown is this
 pub shows_one : (context : List ℕ) (r0 count shown place id : ℕ)
-    → count ≡ number_at context 20 → shown ≡ min count 8 → place < shown → id ≡ shown_id context place → id ≡ r0
+    → count ≡ context_number context 20 → shown ≡ min count 8 → place < shown → id ≡ shown_id context place → id ≡ r0
     → true ≡ shows_task context r0
 shows_one context r0 count shown place id counted fewest below here is =
-    let n = min (number_at context 20) 8 in
+    let n = min (context_number context 20) 8 in
     let l : place < n = subst (λ m. place < min m 8) counted (subst (λ m. place < m) fewest below) in
     sym (one_of (λ x. x == r0) (shown_id context) n place l (eq-eqb (shown_id context place) r0 (sym here ∙ is)))
 
 -- the ids at the places before this are others, and it is the last
 pub shows_none : (context : List ℕ) (r0 count shown place : ℕ)
-    → count ≡ number_at context 20 → shown ≡ min count 8 → shown ≤ place → ((k : ℕ) → k < place → shown_id context k ≡ r0 → ⊥)
+    → count ≡ context_number context 20 → shown ≡ min count 8 → shown ≤ place → ((k : ℕ) → k < place → shown_id context k ≡ r0 → ⊥)
     → false ≡ shows_task context r0
 shows_none context r0 count shown place counted fewest last others =
-    let n = min (number_at context 20) 8 in
+    let n = min (context_number context 20) 8 in
     let whole : n ≤ place = subst (λ m. min m 8 ≤ place) counted (subst (λ m. m ≤ place) fewest last) in
     sym (none_of (λ x. x == r0) (shown_id context) 0 n (λ k l.
     let same : 0 + k ≡ k = omega arith in

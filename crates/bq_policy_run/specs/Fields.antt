@@ -12,7 +12,7 @@ use Rattle.bq_policy_run.specs.declared.fields.Field.{Field}
 use Rattle.bq_policy_run.specs.declared.fields.FieldRow.{FieldRow}
 use Rattle.bq_policy_run.specs.declared.fields.FieldWidth.{FieldWidth}
 use Rattle.bq_policy_run.specs.declared.fields.FieldWidth.TheVariants.{Four, Eight}
-use Rattle.bq_console.specs.Words.{IsCut, IsNumber}
+use Rattle.bq_console.specs.Words.{IsSplitAtMark, IsNumber}
 
 -- the number of bytes of a field
 abbrev pub bytes_in : FieldWidth → ℕ
@@ -79,8 +79,8 @@ abbrev pub row_named : List NamedField → List ℕ → Option NamedField
 row_named rows name = find (λ r. bytes_eq r.name name) rows
 
 -- a row as the code has it
-abbrev pub row_of : FieldRow → NamedField
-row_of r = record { name = r.name.now; at = r.at; width = r.width; apart = r.apart; count = r.count }
+abbrev pub field_of_row : FieldRow → NamedField
+field_of_row r = record { name = r.name.now; at = r.at; width = r.width; apart = r.apart; count = r.count }
 
 -- the field is that of a row whose field comes once
 pub record IsSingle (row : NamedField) (field : Field) : Type 0 where
@@ -113,7 +113,7 @@ pub record HasNumber (hook : Hook) (stem digits : List ℕ) (field : Field) : Ty
 pub record GoesByNumber (hook : Hook) (name : List ℕ) (field : Field) : Type 0 where
   pub stem : List ℕ
   pub digits : List ℕ
-  pub splits : IsCut 46 name stem digits
+  pub splits : IsSplitAtMark 46 name stem digits
   pub has : HasNumber hook stem digits field
 
 -- a field has a name: its row's own, or with a dot and a number
@@ -131,6 +131,6 @@ pub record IsPasted (at : ℕ) (bytes before after : List ℕ) : Type 0 where
   pub pasted : after ≡ overwrite before at bytes
 
 -- the field holds the word, low byte first, and all else is as before
-pub record IsPut (field : Field) (word : ℕ) (before after : List ℕ) : Type 0 where
+pub record IsFieldPut (field : Field) (word : ℕ) (before after : List ℕ) : Type 0 where
   pub fits : word < 256 ^ bytes_in field.width
   pub pasted : IsPasted field.at (bytes_low_first 0 (bytes_in field.width) word) before after

@@ -3,7 +3,7 @@ use Rattle.std.specs.Prelude.{◌≡◌, ℕ, ◌+◌, ◌^◌, ◌%◌, ◌<◌
 use Rattle.std.specs.List.{find}
 use Rattle.std.specs.Option.{option_map_or}
 use Rattle.std.specs.Str.{bytes_eq}
-use Rattle.bq_console.specs.Words.{IsCut, IsNumber}
+use Rattle.bq_console.specs.Words.{IsSplitAtMark, IsNumber}
 use Rattle.bq_disc.specs.Tasks.{Task, id_of}
 use Rattle.bq_hooks.specs.Contexts.{PlaceFacts, PreemptFacts, PullFacts, place_bytes_first, place_bytes_second, preempt_bytes, pull_bytes, as_number, if_any_shown, if_shown, or_nobody, u32_bytes, u64_bytes}
 use Rattle.bq_hooks.specs.Hooks.{context_length_of}
@@ -22,11 +22,11 @@ FactsOf Preempt = PreemptFacts
 FactsOf Pull = PullFacts
 
 -- the context that the policy is shown there
-abbrev pub context_of : (hook : Hook) → Version → FactsOf hook → List ℕ
-context_of Place First f = place_bytes_first f
-context_of Place Second f = place_bytes_second f
-context_of Preempt version f = preempt_bytes f
-context_of Pull version f = pull_bytes f
+abbrev pub shown_context : (hook : Hook) → Version → FactsOf hook → List ℕ
+shown_context Place First f = place_bytes_first f
+shown_context Place Second f = place_bytes_second f
+shown_context Preempt version f = preempt_bytes f
+shown_context Pull version f = pull_bytes f
 
 -- a name, the number of its fields, and the bytes that each of them holds, by its number if there are several
 pub record Meaning : Type 0 where
@@ -108,7 +108,7 @@ pub record MeansByName (meanings : List Meaning) (name bytes : List ℕ) : Type 
 pub record MeansByNumber (meanings : List Meaning) (name bytes : List ℕ) : Type 0 where
   pub stem : List ℕ
   pub digits : List ℕ
-  pub splits : IsCut 46 name stem digits
+  pub splits : IsSplitAtMark 46 name stem digits
   pub number : ℕ
   pub is_number : IsNumber digits number
   pub meaning : Meaning
@@ -129,7 +129,7 @@ FieldHolds context at width bytes = slice_range context at (at + bytes_in width)
 -- long as its hook and version say
 pub record FieldsAreAsNamed : Type 0 where
   pub holds : (hook : Hook) (version : Version) (f : FactsOf hook) (name : List ℕ) (field : Field) → IsField hook version name field →
-      (bytes : List ℕ) × MeansBytes (meanings_of hook version f) name bytes × FieldHolds (context_of hook version f) field.at field.width bytes
+      (bytes : List ℕ) × MeansBytes (meanings_of hook version f) name bytes × FieldHolds (shown_context hook version f) field.at field.width bytes
   pub there : (hook : Hook) (version : Version) (f : FactsOf hook) (name bytes : List ℕ) → MeansBytes (meanings_of hook version f) name bytes →
       (field : Field) × IsField hook version name field
-  pub long : (hook : Hook) (version : Version) (f : FactsOf hook) → length (context_of hook version f) ≡ context_length_of hook version
+  pub long : (hook : Hook) (version : Version) (f : FactsOf hook) → length (shown_context hook version f) ≡ context_length_of hook version

@@ -3,16 +3,16 @@ use Rattle.std.specs.Prelude.{◌≡◌, ℕ, ◌-◌, ◌^◌, ◌<◌, ◌≤�
 use Rattle.std.specs.Str.{bytes_eq}
 use Rattle.std.specs.declared.alloc.Global.{Global}
 use Rattle.hex.specs.Hex.{decode_of}
-use Rattle.bq_maps.specs.Arrays.{Arrays, HasEntry, bytes_of, first_of, value_size_of, with_bytes}
+use Rattle.bq_maps.specs.Arrays.{Arrays, HasEntry, bytes_of, entry_begin, value_size_of, with_bytes}
 use Rattle.bq_bpf.specs.declared.board.TheConstants.{COUNTERS}
 use Rattle.bq_bpf.specs.declared.shape.MapShape.{MapShape}
 use Rattle.bq_hooks.specs.declared.hook.Hook.{Hook}
 use Rattle.bq_hooks.specs.declared.hook.Hook.TheVariants.{Place, Preempt, Pull}
 use Rattle.bq_hooks.specs.declared.hook.Version.{Version}
 use Rattle.bq_policy_run.specs.declared.fields.Field.{Field}
-use Rattle.bq_policy_run.specs.Fields.{IsField, IsPut}
+use Rattle.bq_policy_run.specs.Fields.{IsField, IsFieldPut}
 use Rattle.bq_words.specs.Words.{parts}
-use Rattle.bq_console.specs.Words.{IsCut, IsNumber, IsValue}
+use Rattle.bq_console.specs.Words.{IsSplitAtMark, IsNumber, IsNumberWord}
 
 -- each word makes its step, one after another; if two name one place, the last counts
 abbrev pub InTurn : {W S : Type 0} → (W → S → S → Type 0) → List W → S → S → Type 0
@@ -31,18 +31,18 @@ shows_nobody Pull name = bytes_eq name (codes "own")
 
 -- a number, or `none` if the field may show that there is no such task or processor
 abbrev pub IsFieldWord : Hook → List ℕ → List ℕ → ℕ → Type 0
-IsFieldWord hook name text word = IsValue text word ⊎ ((text ≡ codes "none") × (shows_nobody hook name ≡ true) × (word ≡ 2 ^ 32 - 1))
+IsFieldWord hook name text word = IsNumberWord text word ⊎ ((text ≡ codes "none") × (shows_nobody hook name ≡ true) × (word ≡ 2 ^ 32 - 1))
 
 -- as `task=3`: the field of that name holds the number, and no other byte changes
 pub record SetsField (hook : Hook) (version : Version) (part before after : List ℕ) : Type 0 where
   pub name : List ℕ
   pub text : List ℕ
-  pub splits : IsCut 61 part name text
+  pub splits : IsSplitAtMark 61 part name text
   pub field : Field
   pub is_field : IsField hook version name field
   pub word : ℕ
   pub is_word : IsFieldWord hook name text word
-  pub put : IsPut field word before after
+  pub put : IsFieldPut field word before after
 
 -- as `task=3,mask=0x6`
 abbrev pub SetsFields : Hook → Version → List ℕ → List ℕ → List ℕ → Type 0
@@ -53,10 +53,10 @@ abbrev pub padded : ℕ → List ℕ → List ℕ
 padded size bytes = bytes ++ replicate (size - length bytes) 0
 
 -- a map's number, of 64 bits, a colon and an entry's number
-pub record NamesEntry (text : List ℕ) (m entry : ℕ) : Type 0 where
+pub record NamesMapEntry (text : List ℕ) (m entry : ℕ) : Type 0 where
   pub number : List ℕ
   pub place : List ℕ
-  pub splits : IsCut 58 text number place
+  pub splits : IsSplitAtMark 58 text number place
   pub is_map : IsNumber number m
   pub is_entry : IsNumber place entry
   pub fits : m < 2 ^ 64
@@ -65,23 +65,23 @@ pub record NamesEntry (text : List ℕ) (m entry : ℕ) : Type 0 where
 pub record SetsEntry (text : List ℕ) (before after : Arrays) : Type 0 where
   pub place : List ℕ
   pub value : List ℕ
-  pub splits : IsCut 61 text place value
+  pub splits : IsSplitAtMark 61 text place value
   pub m : ℕ
   pub entry : ℕ
-  pub names : NamesEntry place m entry
+  pub names : NamesMapEntry place m entry
   pub bytes : List ℕ
   pub is_bytes : decode_of value ≡ Ok bytes
   pub there : HasEntry before m entry
   pub fits : length bytes ≤ value_size_of before m
-  pub put : after ≡ with_bytes before m (first_of before m entry) (padded (value_size_of before m) bytes)
+  pub put : after ≡ with_bytes before m (entry_begin before m entry) (padded (value_size_of before m) bytes)
 
 -- a counter's number, `=` and its value
 pub record NamesCounter (text : List ℕ) (counter word : ℕ) : Type 0 where
   pub number : List ℕ
   pub value : List ℕ
-  pub splits : IsCut 61 text number value
+  pub splits : IsSplitAtMark 61 text number value
   pub is_counter : IsNumber number counter
-  pub is_word : IsValue value word
+  pub is_word : IsNumberWord value word
 
 -- as `3=10`: the counter is that number, of 64 bits, and no other changes
 pub record SetsCounter (text before after : List ℕ) : Type 0 where
@@ -93,7 +93,7 @@ pub record SetsCounter (text before after : List ℕ) : Type 0 where
   pub put : after ≡ slice_set before counter word
 
 -- maps of these shapes, all bytes 0
-pub record IsClean (shapes : List MapShape) (maps : Arrays) : Type 0 where
+pub record AreZeroMaps (shapes : List MapShape) (maps : Arrays) : Type 0 where
   pub shapes_are : maps.shapes ≡ shapes
   pub zero : (m i : ℕ) → slice_index (bytes_of maps m) i ≡ 0
 

@@ -11,21 +11,21 @@ use Rattle.bq_policy_run.specs.declared.permitted.Permission.{Permission}
 use Rattle.bq_policy_run.specs.declared.permitted.Permission.TheVariants.{Permitted, NotPermitted, NotShown}
 
 -- the number that the four bytes at this place write
-abbrev pub number_at : List ℕ → ℕ → ℕ
-number_at context at = little_number 4 (slice_range context at (at + 4))
+abbrev pub context_number : List ℕ → ℕ → ℕ
+context_number context at = little_number 4 (slice_range context at (at + 4))
 
 -- one of as many processors as the context says, in the mask that it shows; a mask has 64 bits
 abbrev pub place_permits : List ℕ → ℕ → Bool
 place_permits context r0 =
-    nat_lt r0 (number_at context 32) && (nat_lt r0 64 && allows (little_number 8 (slice_range context 8 16)) r0)
+    nat_lt r0 (context_number context 32) && (nat_lt r0 64 && allows (little_number 8 (slice_range context 8 16)) r0)
 
 -- the id of the task that is shown at that place
 abbrev pub shown_id : List ℕ → ℕ → ℕ
-shown_id context place = number_at context (32 + 16 * place)
+shown_id context place = context_number context (32 + 16 * place)
 
 -- the ids of the movable tasks that the context shows: as many as it says, eight at most
 abbrev pub shown_ids : List ℕ → List ℕ
-shown_ids context = map (shown_id context) (range_with_len 0 (min (number_at context 20) 8))
+shown_ids context = map (shown_id context) (range_with_len 0 (min (context_number context 20) 8))
 
 -- a pull context shows a task
 abbrev pub shows_task : List ℕ → ℕ → Bool
@@ -33,7 +33,7 @@ shows_task context r0 = list_any (λ id. id == r0) (shown_ids context)
 
 -- more tasks are movable than are shown
 abbrev pub hides_tasks : List ℕ → Bool
-hides_tasks context = nat_lt (number_at context 20) (number_at context 16)
+hides_tasks context = nat_lt (context_number context 20) (context_number context 16)
 
 -- a processor that the context shows, in the mask
 abbrev pub place_word : List ℕ → ℕ → Permission
@@ -49,7 +49,7 @@ pull_word context r0 =
     if r0 == nobody || shows_task context r0 then Permitted else if hides_tasks context then NotShown else NotPermitted
 
 -- the word on an answer, for a context of the hook
-abbrev pub word_of : Hook → List ℕ → ℕ → Permission
-word_of Place context r0 = place_word context r0
-word_of Preempt context r0 = preempt_word r0
-word_of Pull context r0 = pull_word context r0
+abbrev pub permission_word : Hook → List ℕ → ℕ → Permission
+permission_word Place context r0 = place_word context r0
+permission_word Preempt context r0 = preempt_word r0
+permission_word Pull context r0 = pull_word context r0

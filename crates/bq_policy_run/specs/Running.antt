@@ -16,8 +16,8 @@ use Rattle.bq_interp.specs.declared.traced.Snapshot.{Snapshot}
 use Rattle.bq_interp.specs.Progress.{setting_of}
 use Rattle.bq_interp.specs.Snapshots.{AreSnapshots}
 use Rattle.bq_policy_run.specs.Changes.{calls_text, changes_text, with_all}
-use Rattle.bq_policy_run.specs.Naming.{IsClean, IsContextNamed, SetsCounter, SetsEntry, SetsFields, TextsInTurn}
-use Rattle.bq_policy_run.specs.Permitting.{word_of}
+use Rattle.bq_policy_run.specs.Naming.{AreZeroMaps, IsContextNamed, SetsCounter, SetsEntry, SetsFields, TextsInTurn}
+use Rattle.bq_policy_run.specs.Permitting.{permission_word}
 use Rattle.bq_policy_run.specs.Runs.{AreRuns, IsRun, PersistentState, kept_in}
 use Rattle.bq_verify.specs.declared.cause.Cause.{Cause}
 use Rattle.bq_verify.specs.Accepted.{Accepted}
@@ -63,7 +63,7 @@ pub record HasContext (w : RunWords) (program : Accepted) (context : List ℕ) :
 -- the maps are all 0, with each entry that words name in its turn
 pub record HasMaps (w : RunWords) (program : Accepted) (maps : Arrays) : Type 0 where
   pub clean : Arrays
-  pub is_clean : IsClean program.shapes clean
+  pub is_clean : AreZeroMaps program.shapes clean
   pub entries : TextsInTurn SetsEntry w.entries.items clean maps
 
 -- each field, entry and counter that words name leads in its turn from the one to the other
@@ -93,13 +93,13 @@ changed_text maps now calls = changes_text maps (with_all maps now) ++ calls_tex
 -- and at the end how long runs take
 pub record ReportsRun (program : Accepted) (context : List ℕ) (answer steps : ℕ) (executed changed timing text : List ℕ) : Type 0 where
   pub judged : List ℕ
-  pub word : BeginsWithWord (word_of program.hook context answer) judged
+  pub word : BeginsWithWord (permission_word program.hook context answer) judged
   pub text_is : text ≡ answer_line answer judged steps program.budget ++ (executed ++ (changed ++ timing))
 
 -- the number of runs before the last, of as many runs as the word says
-abbrev pub IsBefore : Option (List ℕ) → ℕ → Type 0
-IsBefore None n = n ≡ 0
-IsBefore (Some word) n = IsNumberBelow (2 ^ 32) word (n + 1)
+abbrev pub IsCountBeforeLast : Option (List ℕ) → ℕ → Type 0
+IsCountBeforeLast None n = n ≡ 0
+IsCountBeforeLast (Some word) n = IsNumberBelow (2 ^ 32) word (n + 1)
 
 -- This many runs of the program on those inputs, one after another, lead to maps and counters from which one more run starts.
 -- Its steps, with its own calls of counters, begin from these snapshots of the machine. Shown are its answer, its steps if they
@@ -132,7 +132,7 @@ RunsInputs w program others answered_as =
 -- what is answered: a run after as many others as the words name, or that words which name no number of runs are refused
 abbrev pub RunsProgram : RunWords → Accepted → Answered → Type 0
 RunsProgram w program answered_as =
-    IsWordsFault (IsBefore (option_bytes w.report.repeat)) answered_as ⊎ ((others : ℕ) × IsBefore (option_bytes w.report.repeat) others × RunsInputs w program others answered_as)
+    IsWordsFault (IsCountBeforeLast (option_bytes w.report.repeat)) answered_as ⊎ ((others : ℕ) × IsCountBeforeLast (option_bytes w.report.repeat) others × RunsInputs w program others answered_as)
 
 -- the program is that of the policy
 pub record IsProgramOf (p : PolicySource) (program : Accepted) : Type 0 where

@@ -8,14 +8,14 @@ use Rattle.bq_verify.specs.Accepted.{Accepted}
 use Rattle.bq_interp.specs.declared.traced.Snapshot.{Snapshot}
 
 -- a register with the word that it has now, in decimal and in hex
-abbrev pub register_text : ℕ → ℕ → List ℕ
-register_text register word = codes "    r" ++ (decimal register ++ (codes " = " ++ (decimal word ++ (codes " (0x" ++ (digits 16 false word ++ codes ")\n")))))
+abbrev pub register_word_text : ℕ → ℕ → List ℕ
+register_word_text register word = codes "    r" ++ (decimal register ++ (codes " = " ++ (decimal word ++ (codes " (0x" ++ (digits 16 false word ++ codes ")\n")))))
 
 -- a line for each of the first registers, this many of them, whose words differ
 abbrev pub changes_below : ℕ → List ℕ → List ℕ → List ℕ
 changes_below zero before now = []
 changes_below (suc n) before now =
-    changes_below n before now ++ (if slice_index before n == slice_index now n then [] else register_text n (slice_index now n))
+    changes_below n before now ++ (if slice_index before n == slice_index now n then [] else register_word_text n (slice_index now n))
 
 -- the registers that an instruction changed, by the snapshot at the next one; empty for the last instruction
 abbrev pub changes_to : Snapshot → List Snapshot → List ℕ
@@ -23,13 +23,13 @@ changes_to m [] = []
 changes_to m (next ∷ rest) = changes_below 11 m.registers next.registers
 
 -- the canonical text of the instruction that begins at a slot
-abbrev pub slot_text : Option Insn → List ℕ
-slot_text None = codes "\n"
-slot_text (Some insn) = listing_text (insn ∷ [])
+abbrev pub slot_listing : Option Insn → List ℕ
+slot_listing None = codes "\n"
+slot_listing (Some insn) = listing_text (insn ∷ [])
 
 -- the slot of a step, its instruction, and what that changed
 abbrev pub step_text : Accepted → Snapshot → List Snapshot → List ℕ
-step_text program m after = codes "slot " ++ (decimal m.slot ++ (codes ": " ++ (slot_text (instruction_at program.slots m.slot) ++ changes_to m after)))
+step_text program m after = codes "slot " ++ (decimal m.slot ++ (codes ": " ++ (slot_listing (instruction_at program.slots m.slot) ++ changes_to m after)))
 
 -- the text of each step in order; the place in the policy's text may come before it
 abbrev pub AreSteps : Accepted → List Snapshot → List ℕ → Type 0

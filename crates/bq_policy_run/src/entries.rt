@@ -2,7 +2,7 @@
 ghost use Rattle.std.specs.Prelude.{◌≡◌, ◌<◌, ◌^◌, ℕ, [], IfErr, IfNone, IfSome, IsOk};
 ghost use Rattle.std.specs.Result.{OnErr, OnOk};
 ghost use Rattle.bq_console.specs.Words.{GivesNone};
-ghost use Rattle.bq_policy_run.specs.Naming.{NamesEntry, SetsEntry, TextsInTurn, padded};
+ghost use Rattle.bq_policy_run.specs.Naming.{NamesMapEntry, SetsEntry, TextsInTurn, padded};
 
 use crate::faults::refused;
 use crate::inputs::{Inputs, bytes_named};
@@ -102,8 +102,8 @@ fn numbered(alloc: Global, one: &str, several: &str, count: usize) -> Result<Str
 
 /// The map and the entry that a text names, as `0:2`.
 fn entry_named(place: &str) -> Option<(usize, u32)>
-    ensures some { IfSome result (λ named. NamesEntry place.now named.0 named.1) }
-    ensures none { IfNone result ((m entry : ℕ) → entry < 2 ^ 32 → ¬ NamesEntry place.now m entry) }
+    ensures some { IfSome result (λ named. NamesMapEntry place.now named.0 named.1) }
+    ensures none { IfNone result ((m entry : ℕ) → entry < 2 ^ 32 → ¬ NamesMapEntry place.now m entry) }
 {
     let (map, entry) = cut(place, ':')?;
     let map = decimal(map)?;

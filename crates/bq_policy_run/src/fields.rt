@@ -3,7 +3,7 @@ ghost use Rattle.std.specs.Prelude.{◌≡◌, ◌+◌, ◌<◌, ◌≤◌, ◌^
 ghost use Rattle.std.specs.Bool.{OnFalse, OnTrue};
 ghost use Rattle.std.specs.List.{find};
 ghost use Rattle.std.specs.Str.{bytes_eq};
-ghost use Rattle.bq_policy_run.specs.Fields.{GoesBy, GoesByName, HasNumber, IsField, IsNumbered, IsPasted, IsPut, IsSingle, bytes_in, fields_of, row_named, row_of};
+ghost use Rattle.bq_policy_run.specs.Fields.{GoesBy, GoesByName, HasNumber, IsField, IsNumbered, IsPasted, IsFieldPut, IsSingle, bytes_in, fields_of, row_named, field_of_row};
 ghost use Rattle.bq_policy_run.specs.declared.fields.Field.{Field as OfField};
 ghost use Rattle.bq_policy_run.specs.declared.fields.FieldRow.{FieldRow as OfRow};
 
@@ -167,7 +167,7 @@ fn by_number(hook: Hook, stem: &str, digits: &str) -> Option<Field>
 
 /// The table of a hook.
 fn rows(hook: Hook) -> &'static [FieldRow]
-    ensures { map row_of result.now ≡ fields_of hook }
+    ensures { map field_of_row result.now ≡ fields_of hook }
 {
     match hook {
         Hook::Place => PLACE.as_slice(),
@@ -178,7 +178,7 @@ fn rows(hook: Hook) -> &'static [FieldRow]
 
 /// The row of that name of a hook, if there is one.
 fn row_named(hook: Hook, name: &str) -> Option<FieldRow>
-    ensures some { IfSome result (λ row. row_named (fields_of hook) name.now ≡ Some (row_of row)) }
+    ensures some { IfSome result (λ row. row_named (fields_of hook) name.now ≡ Some (field_of_row row)) }
     ensures none { IfNone result (row_named (fields_of hook) name.now ≡ None) }
 {
     first_named(rows(hook), name)
@@ -193,8 +193,8 @@ fn first_named(rows: &[FieldRow], name: &str) -> Option<FieldRow>
 
 /// Answers the field of a row, if it comes once.
 fn single(row: FieldRow) -> Option<Field>
-    ensures some { IfSome result (IsSingle (row_of row)) }
-    ensures none { IfNone result ((field : OfField) → ¬ IsSingle (row_of row) field) }
+    ensures some { IfSome result (IsSingle (field_of_row row)) }
+    ensures none { IfNone result ((field : OfField) → ¬ IsSingle (field_of_row row) field) }
 {
     if row.count != 1 {
         return None;
@@ -207,8 +207,8 @@ fn single(row: FieldRow) -> Option<Field>
 
 /// Answers the field of that number of a row, if the row's field comes several times.
 fn numbered(row: FieldRow, number: usize) -> Option<Field>
-    ensures some { IfSome result (IsNumbered (row_of row) number) }
-    ensures none { IfNone result ((field : OfField) → field.at < 2 ^ 64 → ¬ IsNumbered (row_of row) number field) }
+    ensures some { IfSome result (IsNumbered (field_of_row row) number) }
+    ensures none { IfNone result ((field : OfField) → field.at < 2 ^ 64 → ¬ IsNumbered (field_of_row row) number field) }
 {
     if row.count < 2 || number >= row.count {
         return None;
@@ -222,8 +222,8 @@ fn numbered(row: FieldRow, number: usize) -> Option<Field>
 
 /// Puts a word into a field, and says whether it fits there.
 pub(crate) fn put(context: &mut [u8], field: Field, word: u64) -> bool
-    ensures put { OnTrue result (IsPut field word context.old context.new) }
-    ensures none { OnFalse result ((after : List ℕ) → ¬ IsPut field word context.old after) }
+    ensures put { OnTrue result (IsFieldPut field word context.old context.new) }
+    ensures none { OnFalse result ((after : List ℕ) → ¬ IsFieldPut field word context.old after) }
 {
     match field.width {
         FieldWidth::Four => match u32::try_from(word) {

@@ -5,7 +5,7 @@ ghost use Rattle.hex.specs.Hex.{decode_of};
 ghost use Rattle.bq_hooks.specs.Hooks.{context_length_of};
 ghost use Rattle.bq_bpf.specs.declared.board.TheConstants.{COUNTERS};
 ghost use Rattle.bq_console.specs.Words.{GivesNone};
-ghost use Rattle.bq_policy_run.specs.Naming.{IsClean, IsContextNamed};
+ghost use Rattle.bq_policy_run.specs.Naming.{AreZeroMaps, IsContextNamed};
 
 use crate::faults::refused;
 use bq_bpf::{Env, Plain};
@@ -31,7 +31,7 @@ pub struct Inputs {
 /// The inputs if no option names any: all bytes, maps and counters are 0.
 pub fn inputs_of(alloc: Global, verified: &Verified, env: Env) -> Result<Inputs, AllocError>
     ensures context { IfOk result (λ i. i.context.items ≡ replicate (context_length_of verified.now.hook verified.now.version) 0) }
-    ensures maps { IfOk result (λ i. IsClean verified.now.shapes i.maps) }
+    ensures maps { IfOk result (λ i. AreZeroMaps verified.now.shapes i.maps) }
     ensures env { IfOk result (λ i. i.env ≡ env) }
     ensures board { IfOk result (λ i. i.board ≡ replicate COUNTERS 0) }
 {

@@ -2,7 +2,7 @@
 ghost use Rattle.std.specs.Prelude.{◌≡◌, ◌^◌, ℕ, IfErr, IfNone, IfOk, IfSome, OnOk, replicate};
 ghost use Rattle.bq_hooks.specs.Hooks.{context_length_of};
 ghost use Rattle.bq_bpf.specs.declared.board.TheConstants.{COUNTERS};
-ghost use Rattle.bq_policy_run.specs.Naming.{IsClean, IsContextNamed, SetsCounter, SetsEntry, SetsFields, TextsInTurn};
+ghost use Rattle.bq_policy_run.specs.Naming.{AreZeroMaps, IsContextNamed, SetsCounter, SetsEntry, SetsFields, TextsInTurn};
 ghost use Rattle.bq_policy_run.specs.Running.{HasClock, HasInputs, IsNumberOrZero, IsTime, SetsParts, WritesTime};
 ghost use Rattle.bq_console.specs.Words.{GivesNone};
 ghost use Rattle.bq_policy_check.specs.Given.{option_bytes};
@@ -69,7 +69,7 @@ fn first_inputs(
     env: Env,
 ) -> Result<Inputs, WordsFault>
     ensures context { IfOk result (λ i. IsContextNamed (option_bytes words.now.context) (context_length_of verified.now.hook verified.now.version) i.context.items) }
-    ensures maps { IfOk result (λ i. IsClean verified.now.shapes i.maps) }
+    ensures maps { IfOk result (λ i. AreZeroMaps verified.now.shapes i.maps) }
     ensures env { IfOk result (λ i. i.env ≡ env) }
     ensures board { IfOk result (λ i. i.board ≡ replicate COUNTERS 0) }
     ensures refused { IfErr result (GivesNone (IsContextNamed (option_bytes words.now.context) (context_length_of verified.now.hook verified.now.version))) }

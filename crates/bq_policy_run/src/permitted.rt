@@ -1,7 +1,7 @@
 //! Decides whether the rule permits an answer, by what the context shows.
 ghost use Rattle.std.specs.Prelude.{◌≡◌, ◌≤◌, ◌+◌, length, slice_range};
 ghost use Rattle.byteorder.specs.Endian.{little_number};
-ghost use Rattle.bq_policy_run.specs.Permitting.{hides_tasks, number_at, place_permits, place_word, preempt_word, pull_word, shows_task, word_of};
+ghost use Rattle.bq_policy_run.specs.Permitting.{hides_tasks, context_number, place_permits, place_word, preempt_word, pull_word, shows_task, permission_word};
 ghost use Rattle.bq_hooks.specs.Hooks.{context_length_of};
 ghost use Rattle.bq_hooks.specs.declared.hook.Version.{Version as OfVersion};
 
@@ -32,7 +32,7 @@ pub enum Permission {
 
 /// Answers what the rule says of the answer to this context, which has the length of the hook's contexts.
 pub fn word_on(hook: Hook, context: &[u8], r0: u64) -> Permission
-    ensures { (version : OfVersion) → length context.now ≡ context_length_of hook version → result ≡ word_of hook context.now r0 }
+    ensures { (version : OfVersion) → length context.now ≡ context_length_of hook version → result ≡ permission_word hook context.now r0 }
 {
     match hook {
         Hook::Place => place_word(context, r0),
@@ -63,7 +63,7 @@ fn place_permits(context: &[u8], r0: u64) -> bool
 /// Answers how many processors a place context shows, and the task's mask.
 pub fn place_shown(context: &[u8]) -> (u32, u64)
     requires { 36 ≤ length context.now }
-    ensures count { result.0 ≡ number_at context.now 32 }
+    ensures count { result.0 ≡ context_number context.now 32 }
     ensures mask { result.1 ≡ little_number 8 (slice_range context.now 8 16) }
 {
     let mask = &context[MASK_AT..MASK_AT + 8];
@@ -105,7 +105,7 @@ fn pull_word(context: &[u8], r0: u64) -> Permission
 /// The number of the four bytes at that place.
 fn number_at(context: &[u8], at: usize) -> u32
     requires { at + 4 ≤ length context.now }
-    ensures { result ≡ number_at context.now at }
+    ensures { result ≡ context_number context.now at }
 {
     LittleEndian::read_u32(&context[at..at + 4])
 }

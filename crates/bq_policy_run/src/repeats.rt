@@ -1,6 +1,6 @@
 //! The number of runs before the one that is shown.
 ghost use Rattle.std.specs.Prelude.{IfErr, IfOk};
-ghost use Rattle.bq_policy_run.specs.Running.{IsBefore};
+ghost use Rattle.bq_policy_run.specs.Running.{IsCountBeforeLast};
 ghost use Rattle.bq_console.specs.Words.{GivesNone};
 ghost use Rattle.bq_policy_check.specs.Given.{option_bytes};
 
@@ -15,8 +15,8 @@ const RUNS: &str = with_32_bits!("a number of runs is at least 1, and below ", "
 
 /// Answers the number of runs before the last, of as many as a word says; 0 without a word.
 pub(crate) fn runs_before(alloc: Global, word: &Option<String>) -> Result<u32, WordsFault>
-    ensures before { IfOk result (IsBefore (option_bytes word.now)) }
-    ensures none { IfErr result (GivesNone (IsBefore (option_bytes word.now))) }
+    ensures before { IfOk result (IsCountBeforeLast (option_bytes word.now)) }
+    ensures none { IfErr result (GivesNone (IsCountBeforeLast (option_bytes word.now))) }
 {
     let Some(word) = word else {
         return Ok(0);

@@ -1,6 +1,6 @@
 //! The instructions of a run, one after another, in words.
 ghost use Rattle.std.specs.Prelude.{◌≡◌, IfOk, string_bytes};
-ghost use Rattle.bq_policy_run.specs.Tracing.{AreSteps, ReportsSteps, changes_below, changes_to, slot_text, step_text};
+ghost use Rattle.bq_policy_run.specs.Tracing.{AreSteps, ReportsSteps, changes_below, changes_to, slot_listing, step_text};
 
 use bq_asm::listing;
 use bq_explain::index_at;
@@ -64,7 +64,7 @@ fn step_text(
 
 /// An instruction as it is listed, with the line's end.
 fn slot_text(alloc: Global, insn: Option<Insn>) -> Result<String, AllocError>
-    ensures { IfOk result (λ text. string_bytes text ≡ slot_text insn) }
+    ensures { IfOk result (λ text. string_bytes text ≡ slot_listing insn) }
 {
     match insn {
         Some(insn) => listing(alloc, &[insn]),

@@ -1,6 +1,6 @@
 //! The rule's word on the answer of a run.
 ghost use Rattle.std.specs.Prelude.{◌≡◌, ◌≢◌, ◌≤◌, length, IfOk, string_bytes};
-ghost use Rattle.bq_policy_run.specs.Permitting.{word_of};
+ghost use Rattle.bq_policy_run.specs.Permitting.{permission_word};
 ghost use Rattle.bq_policy_run.specs.declared.permitted.Permission.TheVariants.{NotPermitted, NotShown, Permitted};
 ghost use Rattle.bq_policy_run.specs.Judging.{BeginsWithWord};
 ghost use Rattle.bq_hooks.specs.Hooks.{context_length_of};
@@ -17,7 +17,7 @@ pub(crate) fn word_text(
     context: &[u8],
     r0: u64,
 ) -> Result<String, AllocError>
-    ensures { IfOk result (λ text. (version : Version) → length context.now ≡ context_length_of hook version → BeginsWithWord (word_of hook context.now r0) (string_bytes text)) }
+    ensures { IfOk result (λ text. (version : Version) → length context.now ≡ context_length_of hook version → BeginsWithWord (permission_word hook context.now r0) (string_bytes text)) }
 {
     let word = word_on(hook, context, r0);
     match hook {

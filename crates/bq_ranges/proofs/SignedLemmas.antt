@@ -3,7 +3,7 @@ use Rattle.std.proofs.Common.{◌≡◌, ℕ, ◌*◌, ◌<◌, Bool, true, fals
 use Rattle.std.proofs.lemmas.Int.{ints}
 use Rattle.std.specs.Prelude.{int_le, int_lt, Option, Some, None}
 use Rattle.std.specs.Int.{cast_signed}
-use Rattle.bq_bpf.specs.Meaning.{bytes_of, compares, modulus}
+use Rattle.bq_bpf.specs.Meaning.{integer_bytes, compares, modulus}
 use Rattle.bq_insn.specs.declared.Condition.{Condition}
 use Rattle.bq_insn.specs.declared.Condition.TheVariants as cond
 use Rattle.bq_insn.specs.declared.Width.{Width}
@@ -15,10 +15,10 @@ use Rattle.bq_ranges.specs.Signed.{EndsMeet, IsSignedAtMost, IsSignedBelow}
 
 -- the signed order of two words, by a test that is true or false
 abbrev Le : Width → ℕ → ℕ → Bool
-Le w a b = int_le (cast_signed (bytes_of w) a) (cast_signed (bytes_of w) b)
+Le w a b = int_le (cast_signed (integer_bytes w) a) (cast_signed (integer_bytes w) b)
 
 abbrev Lt : Width → ℕ → ℕ → Bool
-Lt w a b = int_lt (cast_signed (bytes_of w) a) (cast_signed (bytes_of w) b)
+Lt w a b = int_lt (cast_signed (integer_bytes w) a) (cast_signed (integer_bytes w) b)
 
 le_true : (w : Width) (half a b : ℕ) → 2 * half ≡ modulus w → a < modulus w → b < modulus w → Le w a b ≡ true → IsSignedAtMost half a b
 le_true W32 half a b s p q h = grind (arith, ints)

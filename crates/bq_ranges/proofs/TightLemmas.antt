@@ -9,7 +9,7 @@ use Rattle.bq_insn.specs.declared.Operation.{Operation}
 use Rattle.bq_insn.specs.declared.Operation.TheVariants as op
 use Rattle.bq_ranges.specs.declared.range.Range.{Range}
 use Rattle.bq_ranges.specs.Within.{Within}
-use Rattle.bq_ranges.specs.Tight.{IsTightAt, IsTightWithin, Reaches, greatest_by, least_by}
+use Rattle.bq_ranges.specs.Tight.{IsTightAt, IsTightWithin, IsReachable, greatest_by, least_by}
 
 -- what is promised on all words is promised on their low bits
 pub tight_within : (w : Width) (o : Operation) (a b low_a low_b : Range)
@@ -29,7 +29,7 @@ tight_within w _ a b low_a low_b least (x, p, e) (z, s, g) (y, q, f) promised = 
 pub low_bits_reach : (w : Width) (o : Operation) (a b : Range) (low_x low_y z : ℕ)
     → ((x : ℕ) × Within a x × (x % modulus w ≡ low_x)) → ((y : ℕ) × Within b y × (y % modulus w ≡ low_y))
     → z ≡ operate w o low_x low_y % modulus w
-    → Reaches w o a b z
+    → IsReachable w o a b z
 low_bits_reach w o a b low_x low_y z (x, p, e) (y, q, f) is = (x, y, p, q, rw (e, f) (sym is))
 
 -- both ends of the low bits are reached, so also the one that gives the least outcome

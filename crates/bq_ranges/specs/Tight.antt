@@ -11,13 +11,13 @@ use Rattle.bq_ranges.specs.declared.range.Range.{Range}
 use Rattle.bq_ranges.specs.Within.{Within}
 
 -- the word is the result of the operation on some members of both ranges
-abbrev pub Reaches : Width → Operation → Range → Range → ℕ → Type 0
-Reaches w op a b z = (x : ℕ) × (y : ℕ) × Within a x × Within b y × (alu_result w op x y ≡ z)
+abbrev pub IsReachable : Width → Operation → Range → Range → ℕ → Type 0
+IsReachable w op a b z = (x : ℕ) × (y : ℕ) × Within a x × Within b y × (alu_result w op x y ≡ z)
 
 -- both ends of the result are outcomes, so no smaller range has all outcomes
 pub record IsTight (w : Width) (op : Operation) (a b result : Range) : Type 0 where
-  pub low : Reaches w op a b result.lo
-  pub high : Reaches w op a b result.hi
+  pub low : IsReachable w op a b result.lo
+  pub high : IsReachable w op a b result.hi
 
 -- the least range is promised for sums, differences and products that cannot wrap, shifts to the right by one amount, and copies
 abbrev pub IsTightAt : Width → Operation → Range → Range → Type 0

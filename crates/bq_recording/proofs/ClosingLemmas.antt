@@ -6,14 +6,14 @@ use Rattle.bq_history.specs.Items.{part_item, parts_of}
 use Rattle.bq_history.specs.History.{IsHistory}
 use Rattle.bq_history.specs.Places.{times}
 use Rattle.bq_history.proofs.OrderedLemmas.{times_turned}
-use Rattle.bq_parts.specs.Processors.{Processor, opening}
+use Rattle.bq_parts.specs.Processors.{Processor, new_processor}
 use Rattle.bq_parts.specs.World.{World, opening_world}
 use Rattle.bq_disc.specs.Tasks.{Task}
 use Rattle.bq_disc.specs.Discipline.{Discipline}
 use Rattle.bq_parts.specs.declared.lobby_entry.LobbyEntry.{LobbyEntry}
 use Rattle.bq_shared.specs.Opened.{ItemOf}
 use Rattle.bq_recording.specs.AllParts.{all_parts}
-use Rattle.bq_shared.specs.Parts.{cpu_part, inbox_part, lobby_part, same_part, HasPart, RecordStep, kept_of}
+use Rattle.bq_shared.specs.Parts.{cpu_part, inbox_part, lobby_part, same_part, HasPart, RecordStep, journal_state_of}
 use Rattle.bq_shared.specs.declared.law.WorldPart.{WorldPart}
 use Rattle.bq_shared.specs.declared.law.JournalState.{JournalState}
 use Rattle.bq_shared.specs.declared.record.Record.{Record}
@@ -88,9 +88,9 @@ module _ {A B : Type 0} (s : List LobbyEntry) (xs : List A) (ys : List B) (at : 
   -- no number is that of two processors
   pub cpus_few : ((p : WorldPart) → count (same_part p) parts ≤ 1) → (n : ℕ) → times at n xs ≤ 1
   cpus_few once n =
-      let o = once (part.Cpu n opening) in
-      let a = count-append (same_part (part.Cpu n opening)) (map as_cpu xs) (map as_inbox ys) in
-      let b = cpus_counted at n opening state xs in
+      let o = once (part.Cpu n new_processor) in
+      let a = count-append (same_part (part.Cpu n new_processor)) (map as_cpu xs) (map as_inbox ys) in
+      let b = cpus_counted at n new_processor state xs in
       let c = times_turned at n xs in
       omega (arith, o, a, b, c)
 
@@ -128,7 +128,7 @@ once_known v ps is once p = subst (λ (l : List WorldPart). count (same_part p) 
 pub world_has_parts : (d : Discipline) (n about : ℕ) (log : List Record) (v : List ItemOf) (ps : List WorldPart)
     (kept : JournalState)
     → about ≡ n → v ≡ map part_item ps
-    → ((w : World) × IsHistory (RecordStep d) (opening_world about) log w × (kept_of w ≡ kept) × Each (HasPart w) (parts_of v))
+    → ((w : World) × IsHistory (RecordStep d) (opening_world about) log w × (journal_state_of w ≡ kept) × Each (HasPart w) (parts_of v))
     → (w : World) × IsHistory (RecordStep d) (opening_world n) log w × IsSound n w × (w.drawn ≡ kept.drawn) × Each (HasPart w) ps
 world_has_parts d n about log v ps kept same is k =
     let leads : IsHistory (RecordStep d) (opening_world n) log k.0 =

@@ -1,7 +1,7 @@
 //! A machine's parts, its history, its counters and its seats at the start.
 ghost use Rattle.std.specs.Prelude.{◌≡◌, ◌≤◌, ◌^◌, ◌++◌, [], All, IfOk, length, map, vec_len, replicate};
 ghost use Rattle.bq_history.specs.Items.{callers_from, part_item};
-ghost use Rattle.bq_shared.specs.Calls.{fresh};
+ghost use Rattle.bq_shared.specs.Calls.{fresh_callers};
 ghost use Rattle.bq_shared.specs.Sums.{opened};
 ghost use Rattle.bq_shared.specs.Parts.{first_parts};
 
@@ -52,7 +52,7 @@ impl<Q: RunQueue + Drop, N: Naming + Counting, const P: usize> Opening<Q, N, P> 
         requires counts { (prepared.1.about ≡ P) × (prepared.1.callers ≡ seat_count) × (unnamed.1 ≡ seat_count) }
         requires many { length queues.items ≡ P }
         requires empty { All (λ q. (Q.members q ≡ []) × (Q.kept_mark q ≡ 2 ^ 32)) queues.items }
-        ensures seats { IfOk result (λ r. r.1.items ≡ fresh 0 seat_count) }
+        ensures seats { IfOk result (λ r. r.1.items ≡ fresh_callers 0 seat_count) }
         ensures count { IfOk result (λ r. r.0.seats ≡ seat_count) }
     {
         let (recorder, mut all, account) = recorder_at_start(prepared, unnamed, P);

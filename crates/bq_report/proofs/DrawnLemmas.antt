@@ -8,25 +8,25 @@ use Rattle.bq_report.specs.declared.grid.Grid.{Grid}
 use Rattle.bq_report.specs.declared.legend.Legend.{Legend}
 use Rattle.bq_report.specs.declared.map_row.Column.{Column}
 use Rattle.bq_report.specs.declared.window.Window.{Window}
-use Rattle.bq_report.specs.Extents.{IsInWindow, Spans}
-use Rattle.bq_report.specs.Legends.{Draws, Notes}
-use Rattle.bq_report.specs.MapRows.{Row}
-use Rattle.bq_report.specs.Maps.{IsDrawn, IsDrawnBy, IsLegend, IsMap, all_columns, columns_in, empty_row, grid_over, rows_text, ruler_text, step_over}
+use Rattle.bq_report.specs.Extents.{IsInWindow, SpansReadings}
+use Rattle.bq_report.specs.Legends.{DrawsRows, Notes}
+use Rattle.bq_report.specs.MapRows.{RunsRow}
+use Rattle.bq_report.specs.Maps.{IsDrawn, IsDrawnBy, IsLegend, IsMap, all_columns, columns_in, empty_map_row, grid_over, rows_text, ruler_text, step_over}
 use Rattle.bq_report.specs.Names.{NamedTasks}
-use Rattle.bq_report.specs.Reports.{Adds}
+use Rattle.bq_report.specs.Reports.{GrowsByPart}
 use Rattle.bq_report.specs.Steps.{covers, round_steps}
 
 -- no row is added yet
-pub rows_none : (rows : List Row) → rows ≡ rows ++ replicate 0 empty_row
+pub rows_none : (rows : List RunsRow) → rows ≡ rows ++ replicate 0 empty_map_row
 rows_none rows = sym (append-nil rows)
 
 -- one more row without a run is added
-pub rows_more : (old now next : List Row) (n : ℕ) (row : Row)
-    → now ≡ old ++ replicate n empty_row → row ≡ empty_row → next ≡ now ++ (row ∷ [])
-    → next ≡ old ++ replicate (n + 1) empty_row
+pub rows_more : (old now next : List RunsRow) (n : ℕ) (row : RunsRow)
+    → now ≡ old ++ replicate n empty_map_row → row ≡ empty_map_row → next ≡ now ++ (row ∷ [])
+    → next ≡ old ++ replicate (n + 1) empty_map_row
 rows_more old now next n row before is more =
-    more ∙ ap (λ rows. rows ++ (row ∷ [])) before ∙ append_assoc old (replicate n empty_row) (row ∷ [])
-    ∙ ap (λ own. old ++ (replicate n empty_row ++ (own ∷ []))) is ∙ ap (λ rows. old ++ rows) (replicate_more n empty_row)
+    more ∙ ap (λ rows. rows ++ (row ∷ [])) before ∙ append_assoc old (replicate n empty_map_row) (row ∷ [])
+    ∙ ap (λ own. old ++ (replicate n empty_map_row ++ (own ∷ []))) is ∙ ap (λ rows. old ++ rows) (replicate_more n empty_map_row)
 
 -- what was found by these figures is the step over the extent
 pub step_is : (e : Extent) (width span count : ℕ) (found : Option ℕ)
@@ -37,10 +37,10 @@ step_is e width span count found is long wide =
     ∙ ap (λ n. find (λ (step : ℕ). covers (e.to - e.from) n step) round_steps) wide
 
 -- a map by the step that was found
-pub drawn_by_step : (w : Window) (names : NamedTasks) (tasks : List ℕ) (rows : List Row) (e : Extent)
+pub drawn_by_step : (w : Window) (names : NamedTasks) (tasks : List ℕ) (rows : List RunsRow) (e : Extent)
     (found wanted : Option ℕ) (step : ℕ) (g : Grid) (old new : List ℕ)
-    → found ≡ wanted → found ≡ Some step → g ≡ grid_over e step → Adds (IsDrawn w names tasks rows g) old new
-    → Adds (IsDrawnBy w names tasks rows e wanted) old new
+    → found ≡ wanted → found ≡ Some step → g ≡ grid_over e step → GrowsByPart (IsDrawn w names tasks rows g) old new
+    → GrowsByPart (IsDrawnBy w names tasks rows e wanted) old new
 drawn_by_step w names tasks rows e found wanted step g old new are is over drawn = (
   drawn.0,
   subst (λ o. IsDrawnBy w names tasks rows e o drawn.0) (sym is ∙ are)
@@ -49,9 +49,9 @@ drawn_by_step w names tasks rows e found wanted step g old new are is over drawn
 )
 
 -- nothing is drawn where no step was found
-pub drawn_by_none : (w : Window) (names : NamedTasks) (tasks : List ℕ) (rows : List Row) (e : Extent)
+pub drawn_by_none : (w : Window) (names : NamedTasks) (tasks : List ℕ) (rows : List RunsRow) (e : Extent)
     (found wanted : Option ℕ) (text : List ℕ)
-    → found ≡ wanted → found ≡ None → Adds (IsDrawnBy w names tasks rows e wanted) text text
+    → found ≡ wanted → found ≡ None → GrowsByPart (IsDrawnBy w names tasks rows e wanted) text text
 drawn_by_none w names tasks rows e found wanted text are is =
     ([], subst (λ o. IsDrawnBy w names tasks rows e o []) (sym is ∙ are) refl, sym (append-nil text))
 
@@ -59,11 +59,11 @@ regroup : (old a b c : List ℕ) → ((old ++ a) ++ b) ++ c ≡ old ++ (a ++ (b 
 regroup old a b c = simp append_assoc
 
 -- the ruler, the rows and the legend, in order, are a map
-pub map_added : (w : Window) (names : NamedTasks) (tasks : List ℕ) (rows : List Row) (g : Grid) (first last : Legend)
+pub map_added : (w : Window) (names : NamedTasks) (tasks : List ℕ) (rows : List RunsRow) (g : Grid) (first last : Legend)
     (old ruled drawn next : List ℕ)
-    → ruled ≡ old ++ ruler_text g → Notes [] first → Draws w rows tasks g (length rows) first last ruled drawn
-    → ((columns : List Column) → Notes columns last → Adds (IsLegend names tasks g.step columns) drawn next)
-    → Adds (IsDrawn w names tasks rows g) old next
+    → ruled ≡ old ++ ruler_text g → Notes [] first → DrawsRows w rows tasks g (length rows) first last ruled drawn
+    → ((columns : List Column) → Notes columns last → GrowsByPart (IsLegend names tasks g.step columns) drawn next)
+    → GrowsByPart (IsDrawn w names tasks rows g) old next
 map_added w names tasks rows g first last old ruled drawn next ruler none draws below =
     let legend = below (all_columns draws.drawn) (draws.noted [] none) in (
       _,
@@ -74,16 +74,16 @@ map_added w names tasks rows g first last old ruled drawn next ruler none draws 
 
 -- what is drawn over the time that passes is the map; the window, the width and the tasks are as they were
 pub map_of_time : (w u : Window) (names : NamedTasks) (s : Figures) (tasks others : List ℕ) (width breadth : ℕ)
-    (rows : List Row) (e : Extent) (old new : List ℕ)
-    → (u ≡ w) × (breadth ≡ width) × (others ≡ tasks) → IsInWindow u e → Spans u s e
-    → Adds (IsDrawnBy u names others rows e (step_over e breadth)) old new
-    → Adds (IsMap w names s tasks width rows) old new
+    (rows : List RunsRow) (e : Extent) (old new : List ℕ)
+    → (u ≡ w) × (breadth ≡ width) × (others ≡ tasks) → IsInWindow u e → SpansReadings u s e
+    → GrowsByPart (IsDrawnBy u names others rows e (step_over e breadth)) old new
+    → GrowsByPart (IsMap w names s tasks width rows) old new
 map_of_time w u names s tasks others width breadth rows e old new same within spans drawn = (
   drawn.0,
   inl (record {
     extent = e;
     in_window = subst (λ v. IsInWindow v e) same.0 within;
-    spans = subst (λ v. Spans v s e) same.0 spans;
+    spans = subst (λ v. SpansReadings v s e) same.0 spans;
     drawn = subst (λ v. IsDrawnBy v names tasks rows e (step_over e width) drawn.0) same.0
         (subst (λ ts. IsDrawnBy u names ts rows e (step_over e width) drawn.0) same.2
         (subst (λ n. IsDrawnBy u names others rows e (step_over e n) drawn.0) same.1 drawn.1));
@@ -98,11 +98,11 @@ pushed (Ok done) old part new is = is
 pushed (Err error) old part new is = tt
 
 -- where no time passes the map says so
-pub map_of_no_time : (w u : Window) (names : NamedTasks) (s : Figures) (tasks : List ℕ) (width : ℕ) (rows : List Row) (old new : List ℕ)
-    → u ≡ w → ((e : Extent) → Spans u s e → e.to ≤ e.from) → new ≡ old ++ codes "no time passes in what is shown\n"
-    → Adds (IsMap w names s tasks width rows) old new
+pub map_of_no_time : (w u : Window) (names : NamedTasks) (s : Figures) (tasks : List ℕ) (width : ℕ) (rows : List RunsRow) (old new : List ℕ)
+    → u ≡ w → ((e : Extent) → SpansReadings u s e → e.to ≤ e.from) → new ≡ old ++ codes "no time passes in what is shown\n"
+    → GrowsByPart (IsMap w names s tasks width rows) old new
 map_of_no_time w u names s tasks width rows old new same none shows = (
   codes "no time passes in what is shown\n",
-  inr (record { none = λ e spans. none e (subst (λ v. Spans v s e) (sym same) spans); shows = refl }),
+  inr (record { none = λ e spans. none e (subst (λ v. SpansReadings v s e) (sym same) spans); shows = refl }),
   shows,
 )

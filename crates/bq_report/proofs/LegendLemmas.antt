@@ -10,7 +10,7 @@ use Rattle.std.proofs.lemmas.List.{get_or-set_other, length-set, take_more}
 use Rattle.std.proofs.lemmas.List.Concat.{flat_map-append}
 use Rattle.std.proofs.lemmas.List.Elements.{Contains-append_left, Contains-push, Contains-push_cases}
 use Rattle.bq_schedule.specs.declared.slice.Slice.{Slice}
-use Rattle.bq_schedule.specs.Figures.{Figures, processor_of}
+use Rattle.bq_schedule.specs.Figures.{Figures, processor_in_figures}
 use Rattle.bq_report.specs.declared.amounts.Unit.{Unit}
 use Rattle.bq_report.specs.declared.grid.Grid.{Grid}
 use Rattle.bq_report.specs.declared.legend.Legend.{Legend}
@@ -18,11 +18,11 @@ use Rattle.bq_report.specs.declared.map_row.Column.{Column}
 use Rattle.bq_report.specs.declared.map_row.Column.TheVariants.{Task, Hidden, Idle}
 use Rattle.bq_report.specs.declared.window.Window.{Window}
 use Rattle.bq_report.specs.Amounts.{moment_text}
-use Rattle.bq_report.specs.Legends.{Draws, Notes, NotesMore}
-use Rattle.bq_report.specs.MapRows.{Row}
-use Rattle.bq_report.specs.Maps.{AreColumns, DrawnRow, RowsHold, HoldsLast, IsDrawnRow, IsHiddenNote, IsLegend, IsLegendLine, all_columns, empty_row, letter_at, letters, row_of, row_text, rows_text, unit_for}
+use Rattle.bq_report.specs.Legends.{DrawsRows, Notes, NotesMore}
+use Rattle.bq_report.specs.MapRows.{RunsRow}
+use Rattle.bq_report.specs.Maps.{AreColumns, DrawnRow, RowsHold, HoldsLast, IsDrawnRow, IsHiddenNote, IsLegend, IsLegendLine, all_columns, empty_map_row, letter_at, letters, map_row_of, map_row_text, rows_text, unit_for}
 use Rattle.bq_report.specs.Names.{NamedTasks}
-use Rattle.bq_report.specs.Reports.{Adds, AreParts}
+use Rattle.bq_report.specs.Reports.{GrowsByPart, AreParts}
 use Rattle.bq_report.specs.Windows.{ShowsProcessor}
 use Rattle.bq_report.proofs.ReportLemmas.{AreParts-more, AreParts-none, AreParts-same, part_missing, part_there}
 
@@ -123,9 +123,9 @@ regroup old a m b n e l = simp append_assoc
 pub legend_added : (names : NamedTasks) (tasks own : List ℕ) (step : ℕ) (unit : Unit) (old headed noted ended next : List ℕ)
     (columns : List Column)
     → own ≡ tasks → unit ≡ unit_for step → headed ≡ old ++ (codes "\na column is " ++ (moment_text step unit ++ codes "; . is idle"))
-    → Adds (IsHiddenNote columns) headed noted → ended ≡ noted ++ codes "\n"
-    → Adds (AreParts (IsLegendLine names own columns) (length own)) ended next
-    → Adds (IsLegend names tasks step columns) old next
+    → GrowsByPart (IsHiddenNote columns) headed noted → ended ≡ noted ++ codes "\n"
+    → GrowsByPart (AreParts (IsLegendLine names own columns) (length own)) ended next
+    → GrowsByPart (IsLegend names tasks step columns) old next
 legend_added names tasks own step unit old headed noted ended next columns are is head note end lines =
     let all : next
     ≡ (((old ++ (codes "\na column is " ++ (moment_text step (unit_for step) ++ codes "; . is idle"))) ++ note.0) ++ codes "\n")
@@ -143,8 +143,8 @@ legend_added names tasks own step unit old headed noted ended next columns are i
     )
 
 -- no row is drawn yet
-pub draws_none : (w : Window) (rows : List Row) (tasks : List ℕ) (g : Grid) (l : Legend) (text : List ℕ)
-    → Draws w rows tasks g 0 l l text text
+pub draws_none : (w : Window) (rows : List RunsRow) (tasks : List ℕ) (g : Grid) (l : Legend) (text : List ℕ)
+    → DrawsRows w rows tasks g 0 l l text text
 draws_none w rows tasks g l text = record {
   drawn = [];
   shown = AreParts-none (IsDrawnRow w rows g);
@@ -153,26 +153,26 @@ draws_none w rows tasks g l text = record {
 }
 
 -- no row is drawn yet, by an equal legend and an equal text
-pub draws_at : (w : Window) (rows : List Row) (tasks : List ℕ) (g : Grid) (number : ℕ) (first last next : Legend)
+pub draws_at : (w : Window) (rows : List RunsRow) (tasks : List ℕ) (g : Grid) (number : ℕ) (first last next : Legend)
     (old now then : List ℕ)
-    → next ≡ last → then ≡ now → Draws w rows tasks g number first last old now
-    → Draws w rows tasks g number first next old then
+    → next ≡ last → then ≡ now → DrawsRows w rows tasks g number first last old now
+    → DrawsRows w rows tasks g number first next old then
 draws_at w rows tasks g number first last next old now then is reads draws =
-    subst (λ l. Draws w rows tasks g number first l old then) (sym is)
-    (subst (λ t. Draws w rows tasks g number first last old t) (sym reads) draws)
+    subst (λ l. DrawsRows w rows tasks g number first l old then) (sym is)
+    (subst (λ t. DrawsRows w rows tasks g number first last old t) (sym reads) draws)
 
 -- a row that is shown is drawn
-pub draws_more : (w : Window) (rows : List Row) (tasks : List ℕ) (g : Grid) (number : ℕ) (first l last : Legend)
-    (old now next : List ℕ) (row : Row) (columns a b : List Column)
-    → Draws w rows tasks g number first l old now → ShowsProcessor w number
-    → row ≡ row_of rows number → AreColumns row g columns → a ≡ columns → b ≡ columns
-    → next ≡ now ++ row_text tasks (record { number = number; columns = a }) → NotesMore b l last
-    → Draws w rows tasks g (number + 1) first last old next
+pub draws_more : (w : Window) (rows : List RunsRow) (tasks : List ℕ) (g : Grid) (number : ℕ) (first l last : Legend)
+    (old now next : List ℕ) (row : RunsRow) (columns a b : List Column)
+    → DrawsRows w rows tasks g number first l old now → ShowsProcessor w number
+    → row ≡ map_row_of rows number → AreColumns row g columns → a ≡ columns → b ≡ columns
+    → next ≡ now ++ map_row_text tasks (record { number = number; columns = a }) → NotesMore b l last
+    → DrawsRows w rows tasks g (number + 1) first last old next
 draws_more w rows tasks g number first l last old now next row columns a b draws shown is are written read line noted =
     let own : DrawnRow = record { number = number; columns = columns } in
     let part : IsDrawnRow w rows g number (own ∷ []) =
     part_there (ShowsProcessor w number)
-    (λ part. (cs : List Column) × AreColumns (row_of rows number) g cs × (part ≡ record { number = number; columns = cs } ∷ []))
+    (λ part. (cs : List Column) × AreColumns (map_row_of rows number) g cs × (part ≡ record { number = number; columns = cs } ∷ []))
     (own ∷ []) shown (columns, subst (λ r. AreColumns r g columns) is are, refl) in
     record {
       drawn = draws.drawn ++ (own ∷ []);
@@ -183,43 +183,43 @@ draws_more w rows tasks g number first l last old now next row columns a b draws
           ∙ sym (flat_map-append (λ (r : DrawnRow). r.columns) draws.drawn (own ∷ [])))
           (notes_joined (all_columns draws.drawn) columns first l last draws.noted (notes_of b columns l last read noted));
       added =
-          line ∙ ap (λ cs. now ++ row_text tasks (record { number = number; columns = cs })) written
-          ∙ ap (λ t. t ++ row_text tasks own) draws.added
-          ∙ append_assoc old (rows_text tasks draws.drawn) (row_text tasks own)
-          ∙ ap (λ t. old ++ t) (ap (λ t. rows_text tasks draws.drawn ++ t) (sym (append-nil (row_text tasks own)))
-          ∙ sym (flat_map-append (row_text tasks) draws.drawn (own ∷ [])));
+          line ∙ ap (λ cs. now ++ map_row_text tasks (record { number = number; columns = cs })) written
+          ∙ ap (λ t. t ++ map_row_text tasks own) draws.added
+          ∙ append_assoc old (rows_text tasks draws.drawn) (map_row_text tasks own)
+          ∙ ap (λ t. old ++ t) (ap (λ t. rows_text tasks draws.drawn ++ t) (sym (append-nil (map_row_text tasks own)))
+          ∙ sym (flat_map-append (map_row_text tasks) draws.drawn (own ∷ [])));
     }
 
 -- a row that is not shown is not drawn
-pub draws_same : (w : Window) (rows : List Row) (tasks : List ℕ) (g : Grid) (number : ℕ) (first last : Legend) (old now : List ℕ)
-    → Draws w rows tasks g number first last old now → ¬ (ShowsProcessor w number) → Draws w rows tasks g (number + 1) first last old now
+pub draws_same : (w : Window) (rows : List RunsRow) (tasks : List ℕ) (g : Grid) (number : ℕ) (first last : Legend) (old now : List ℕ)
+    → DrawsRows w rows tasks g number first last old now → ¬ (ShowsProcessor w number) → DrawsRows w rows tasks g (number + 1) first last old now
 draws_same w rows tasks g number first last old now draws not = record {
   drawn = draws.drawn;
   shown =
       AreParts-same (IsDrawnRow w rows g) number draws.drawn draws.shown
       (part_missing (ShowsProcessor w number)
-      (λ part. (cs : List Column) × AreColumns (row_of rows number) g cs × (part ≡ record { number = number; columns = cs } ∷ [])) not);
+      (λ part. (cs : List Column) × AreColumns (map_row_of rows number) g cs × (part ≡ record { number = number; columns = cs } ∷ [])) not);
   noted = draws.noted;
   added = draws.added;
 }
 
 -- where one row changes, there are as many, and those behind it stay
-pub rows_behind : (old now next : List Row) (number : ℕ) (row : Row)
-    → next ≡ set now number row → length now ≡ length old → ((p : ℕ) → number ≤ p → row_of now p ≡ row_of old p)
-    → (length next ≡ length old) × ((p : ℕ) → number + 1 ≤ p → row_of next p ≡ row_of old p)
+pub rows_behind : (old now next : List RunsRow) (number : ℕ) (row : RunsRow)
+    → next ≡ set now number row → length now ≡ length old → ((p : ℕ) → number ≤ p → map_row_of now p ≡ map_row_of old p)
+    → (length next ≡ length old) × ((p : ℕ) → number + 1 ≤ p → map_row_of next p ≡ map_row_of old p)
 rows_behind old now next number row is count same = (
   ap length is ∙ length-set now number row ∙ count,
-  λ p h. ap (λ rows. row_of rows p) is ∙ get_or-set_other now number p row empty_row (omega (arith, h)) ∙ same p (omega (arith, h)),
+  λ p h. ap (λ rows. map_row_of rows p) is ∙ get_or-set_other now number p row empty_map_row (omega (arith, h)) ∙ same p (omega (arith, h)),
 )
 
 -- no last run is held yet
-pub last_none : (w : Window) (s : Figures) (rows : List Row) → HoldsLast w s 0 rows rows
+pub last_none : (w : Window) (s : Figures) (rows : List RunsRow) → HoldsLast w s 0 rows rows
 unfolding HoldsLast
 last_none w s rows = refl
 
 -- the last run of one more processor is held
-pub last_more : (w : Window) (s : Figures) (number : ℕ) (old now next : List Row) (run : Option Slice) → HoldsLast w s number old now
-    → run ≡ (processor_of s number).run → RowsHold w run now next → HoldsLast w s (number + 1) old next
+pub last_more : (w : Window) (s : Figures) (number : ℕ) (old now next : List RunsRow) (run : Option Slice) → HoldsLast w s number old now
+    → run ≡ (processor_in_figures s number).run → RowsHold w run now next → HoldsLast w s (number + 1) old next
 unfolding HoldsLast
 last_more w s number old now next run before is holds =
     subst (λ n. HoldsLast w s n old next) (sym (add-one number)) (now, before, subst (λ r. RowsHold w r now next) is holds)

@@ -6,7 +6,7 @@ use Rattle.std.proofs.lemmas.Grind.{get_or-set_at}
 use Rattle.std.proofs.lemmas.List.{get_or-set_other}
 use Rattle.std.proofs.lemmas.List.Sums.{sum_by_more}
 use Rattle.bq_schedule.specs.declared.slice.Slice.{Slice}
-use Rattle.bq_report.specs.Longest.{time_in, time_of}
+use Rattle.bq_report.specs.Longest.{time_between, task_time_between}
 
 -- what a run counts for its own task, and for another
 counts : (run task time : ℕ) → run ≡ task → (if run == task then time else 0) ≡ time
@@ -16,29 +16,29 @@ counts_not : (run task time : ℕ) → run ≢ task → (if run == task then tim
 counts_not run task time h = grind (arith, nat_tests)
 
 time_of_more : (from to : ℕ) (runs : List Slice) (i : ℕ) (d : Slice) (task : ℕ) → i < length runs
-    → time_of from to (take (i + 1) runs) task
-    ≡ time_of from to (take i runs) task + (if (get_or runs i d).task == task then time_in from to (get_or runs i d) else 0)
+    → task_time_between from to (take (i + 1) runs) task
+    ≡ task_time_between from to (take i runs) task + (if (get_or runs i d).task == task then time_between from to (get_or runs i d) else 0)
 time_of_more from to runs i d task lt = sum_by_more _ runs i d lt
 
 -- a run of another task counts for none of these
 pub other_time : (from to : ℕ) (runs : List Slice) (i : ℕ) (d : Slice) (task : ℕ) → i < length runs
-    → (get_or runs i d).task ≢ task → time_of from to (take (i + 1) runs) task ≡ time_of from to (take i runs) task
+    → (get_or runs i d).task ≢ task → task_time_between from to (take (i + 1) runs) task ≡ task_time_between from to (take i runs) task
 other_time from to runs i d task lt ne =
-    omega (arith, time_of_more from to runs i d task lt, counts_not (get_or runs i d).task task (time_in from to (get_or runs i d)) ne)
+    omega (arith, time_of_more from to runs i d task lt, counts_not (get_or runs i d).task task (time_between from to (get_or runs i d)) ne)
 
 -- a run counts at the place of its task
 pub time_counted : (from to : ℕ) (runs : List Slice) (i : ℕ) (d : Slice) (times : List ℕ) (k value : ℕ) (task : ℕ)
     → i < length runs → k < length times → k ≡ (get_or runs i d).task
-    → value ≡ get_or times k 0 + time_in from to (get_or runs i d)
-    → get_or times task 0 ≡ time_of from to (take i runs) task
-    → get_or (set times k value) task 0 ≡ time_of from to (take (i + 1) runs) task
+    → value ≡ get_or times k 0 + time_between from to (get_or runs i d)
+    → get_or times task 0 ≡ task_time_between from to (take i runs) task
+    → get_or (set times k value) task 0 ≡ task_time_between from to (take (i + 1) runs) task
 time_counted from to runs i d times k value task lt there own is known = elim (eqb_tells k task) [
   | inl h ↦ omega (
     arith,
     get_or-set_at times k task value 0 (sym h.1) there,
     ap (λ (x : ℕ). get_or times x 0) h.1,
     time_of_more from to runs i d task lt,
-    counts (get_or runs i d).task task (time_in from to (get_or runs i d)) (omega (arith, h.1)),
+    counts (get_or runs i d).task task (time_between from to (get_or runs i d)) (omega (arith, h.1)),
   )
   | inr h ↦ omega (
     arith,

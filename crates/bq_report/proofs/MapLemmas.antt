@@ -12,7 +12,7 @@ use Rattle.std.proofs.lemmas.List.Sums.{prefix_len_passes, prefix_len_stops, pre
 use Rattle.bq_schedule.specs.declared.slice.Slice.{Slice}
 use Rattle.bq_report.specs.declared.map_row.Column.{Column}
 use Rattle.bq_report.specs.declared.map_row.Column.TheVariants.{Task, Hidden, Idle}
-use Rattle.bq_report.specs.Longest.{IsLongest, time_in, time_of}
+use Rattle.bq_report.specs.Longest.{IsLongest, time_between, task_time_between}
 use Rattle.bq_report.specs.declared.grid.Grid.{Grid}
 use Rattle.bq_report.specs.Maps.{AreColumns, IsColumn, RunsNone, moment_at}
 
@@ -22,11 +22,11 @@ InOrder runs = IsNonDecreasingBy (λ (run : Slice). run.from) runs
 
 -- a task runs as long between two moments, of these runs and of those
 abbrev pub SameTimes : ℕ → ℕ → List Slice → List Slice → Type 0
-SameTimes from to a b = (task : ℕ) → time_of from to a task ≡ time_of from to b task
+SameTimes from to a b = (task : ℕ) → task_time_between from to a task ≡ task_time_between from to b task
 
 -- what a run counts for a task
 abbrev share : ℕ → ℕ → ℕ → Slice → ℕ
-share from to task run = if run.task == task then time_in from to run else 0
+share from to task run = if run.task == task then time_between from to run else 0
 
 if_zero : (b : Bool) (n : ℕ) → n ≡ 0 → (if b then n else 0) ≡ 0
 if_zero true n h = h
@@ -45,15 +45,15 @@ lt_false x y h = grind (arith, nat_tests)
 le_true : (x y : ℕ) → nat_le x y ≡ true → x ≤ y
 le_true x y h = grind (arith, nat_tests)
 
-later_zero : (from to : ℕ) (run : Slice) → to ≤ run.from → time_in from to run ≡ 0
+later_zero : (from to : ℕ) (run : Slice) → to ≤ run.from → time_between from to run ≡ 0
 later_zero from to run h = omega arith
 
-over_zero : (from to : ℕ) (run : Slice) → run.to ≤ from → time_in from to run ≡ 0
+over_zero : (from to : ℕ) (run : Slice) → run.to ≤ from → time_between from to run ≡ 0
 over_zero from to run h = omega arith
 
 -- of runs in order those that begin before a moment count as all do, up to that moment
 pub begun_times : (runs : List Slice) (to n : ℕ) → n ≡ prefix_len (λ (run : Slice). nat_lt run.from to) runs → InOrder runs
-    → (from task : ℕ) → time_of from to (take n runs) task ≡ time_of from to runs task
+    → (from task : ℕ) → task_time_between from to (take n runs) task ≡ task_time_between from to runs task
 begun_times runs to n is order from task =
     let later : (k : ℕ) (d : Slice) → k < length (drop n runs) → share from to task (get_or (drop n runs) k d) ≡ 0 = λ k d lt.
     let there : n + k < length runs = omega (arith, lt, length-drop n runs) in
@@ -66,7 +66,7 @@ begun_times runs to n is order from task =
 
 -- runs at the head that are over at a moment count for nothing after it
 pub left_times : (runs : List Slice) (at n : ℕ) → n ≡ prefix_len (λ (run : Slice). nat_le run.to at) runs
-    → (from to task : ℕ) → at ≤ from → time_of from to (drop n runs) task ≡ time_of from to runs task
+    → (from to task : ℕ) → at ≤ from → task_time_between from to (drop n runs) task ≡ task_time_between from to runs task
 left_times runs at n is from to task after =
     let past : (k : ℕ) (d : Slice) → k < length (take n runs) → share from to task (get_or (take n runs) k d) ≡ 0 = λ k d lt.
     let under : k < n = omega (arith, lt, length-take n runs) in
@@ -136,7 +136,7 @@ left_all at all order = record { order = order; times = λ from to h task. refl 
 
 -- fewer are left at a later column
 pub left_fewer : (g : Grid) (n : ℕ) (all left next : List Slice) → IsLeft (moment_at g n) all left → InOrder next
-    → ((from to task : ℕ) → moment_at g (n + 1) ≤ from → time_of from to next task ≡ time_of from to left task)
+    → ((from to task : ℕ) → moment_at g (n + 1) ≤ from → task_time_between from to next task ≡ task_time_between from to left task)
     → IsLeft (moment_at g (n + 1)) all next
 left_fewer g n all left next are order fewer = record {
   order = order;

@@ -10,14 +10,14 @@ use Rattle.bq_schedule.specs.declared.figures.HookFigures.{HookFigures}
 use Rattle.bq_schedule.specs.declared.figures.ProcessorFigures.{ProcessorFigures}
 use Rattle.bq_schedule.specs.declared.figures.TaskFigures.{TaskFigures}
 use Rattle.bq_schedule.specs.declared.percentiles.Percentiles.{Percentiles}
-use Rattle.bq_schedule.specs.Figures.{Figures, processor_of, task_of}
+use Rattle.bq_schedule.specs.Figures.{Figures, processor_in_figures, task_in_figures}
 use Rattle.bq_schedule.specs.Runnable.{fair_of}
 use Rattle.bq_schedule.specs.WakeLatencies.{Tasks, latencies_of, percentiles_of}
 use Rattle.bq_report.specs.declared.window.Window.{Window}
-use Rattle.bq_report.specs.Columns.{hook_line_if, hook_lines, latency_line, missed_line, nearest, processor_line, right, task_line}
+use Rattle.bq_report.specs.Columns.{hook_line_if, hook_lines, latency_line, missed_line, nearest, processor_report_line, right, task_line}
 use Rattle.bq_report.specs.Names.{NamedTasks, name_of}
 use Rattle.bq_report.specs.Objects.{latency_object, missed_member, number_or_null, processor_object, task_object, text_or_null}
-use Rattle.bq_report.specs.Reports.{Adds, AreElements, AreHookLines, AreParts, ArePercentiles, HasHooks, HasProcessor, HasTask, IsHookTable, IsJsonReport, IsLatencyLine, IsPartIf, IsProcessorLine, IsProcessorObject, IsReport, IsTable, IsTaskLine, IsTaskObject, WasAsked, elements_text, hook_head, hook_head_unless, latency_head, processor_head, separator_if, task_head, under_hook_head}
+use Rattle.bq_report.specs.Reports.{GrowsByPart, AreElements, AreHookLines, AreParts, ArePercentiles, HasHooks, HasProcessor, HasTask, IsHookTable, IsJsonReport, IsLatencyLine, IsPartIf, IsProcessorLine, IsProcessorObject, IsReport, IsTable, IsTaskLine, IsTaskObject, WasAsked, elements_text, hook_head, hook_head_unless, latency_head, processor_head, separator_if, task_head, under_hook_head}
 use Rattle.bq_report.specs.Timehist.{name_text}
 use Rattle.bq_report.specs.Waits.{still_waiting}
 use Rattle.bq_report.specs.Windows.{ShowsProcessor}
@@ -60,21 +60,21 @@ test_fails b P decides is holds = true≢false (sym (decides.1 holds) ∙ is)
 
 -- a text to which a part is added that is there
 pub adds_part : (Holds : Type 0) (IsLike : List ℕ → Type 0) (old new own : List ℕ)
-    → Holds → IsLike own → new ≡ old ++ own → Adds (IsPartIf ℕ Holds IsLike) old new
+    → Holds → IsLike own → new ≡ old ++ own → GrowsByPart (IsPartIf ℕ Holds IsLike) old new
 adds_part Holds IsLike old new own holds is e = (own, part_there Holds IsLike own holds is, e)
 
 -- a text to which no part is added
-pub adds_none : (Holds : Type 0) (IsLike : List ℕ → Type 0) (text : List ℕ) → ¬ Holds → Adds (IsPartIf ℕ Holds IsLike) text text
+pub adds_none : (Holds : Type 0) (IsLike : List ℕ → Type 0) (text : List ℕ) → ¬ Holds → GrowsByPart (IsPartIf ℕ Holds IsLike) text text
 adds_none Holds IsLike text none = ([], part_missing Holds IsLike none, sym (append-nil text))
 
 -- no line yet
-pub lines_none : (Is : ℕ → List ℕ → Type 0) (text : List ℕ) → Adds (AreParts Is 0) text text
+pub lines_none : (Is : ℕ → List ℕ → Type 0) (text : List ℕ) → GrowsByPart (AreParts Is 0) text text
 lines_none Is text = ([], AreParts-none Is, sym (append-nil text))
 
 -- one more line
 pub lines_more : (Is : ℕ → List ℕ → Type 0) (number : ℕ) (old now next : List ℕ)
-    → Adds (AreParts Is number) old now → Adds (Is number) now next
-    → Adds (AreParts Is (number + 1)) old next
+    → GrowsByPart (AreParts Is number) old now → GrowsByPart (Is number) now next
+    → GrowsByPart (AreParts Is (number + 1)) old next
 lines_more Is number old now next lines line = (
   lines.0 ++ line.0,
   AreParts-more Is number lines.0 line.0 lines.1 line.1,
@@ -83,12 +83,12 @@ lines_more Is number old now next lines line = (
 
 -- the lines of as many numbers as there are
 pub lines_end : (Is : ℕ → List ℕ → Type 0) (number count : ℕ) (old next : List ℕ)
-    → number ≡ count → Adds (AreParts Is number) old next → Adds (AreParts Is count) old next
+    → number ≡ count → GrowsByPart (AreParts Is number) old next → GrowsByPart (AreParts Is count) old next
 lines_end Is number count old next is lines = (lines.0, AreParts-end Is number count lines.0 is lines.1, lines.2)
 
 -- the lines of as many numbers as there are, under the head: a table
 pub table : (head : List ℕ) (Is : ℕ → List ℕ → Type 0) (number count : ℕ) (old now next : List ℕ) → number ≡ count → now ≡ old ++ head
-    → Adds (AreParts Is number) now next → Adds (IsTable head Is count) old next
+    → GrowsByPart (AreParts Is number) now next → GrowsByPart (IsTable head Is count) old next
 table head Is number count old now next is under lines = (
   head ++ lines.0,
   (lines.0, AreParts-end Is number count lines.0 is lines.1, refl),
@@ -142,12 +142,12 @@ hooks_none w s text = ([], AreParts-none (AreHookLines w s), sym (append-nil tex
 
 -- a processor's lines stand behind those before it, or under the head
 pub hooks_more : (w : Window) (s : Figures) (number : ℕ) (f : ProcessorFigures) (has : Bool) (old now headed next : List ℕ)
-    → HooksBelow w s number has old now → f ≡ processor_of s number → ShowsProcessor w number × WasAsked f
+    → HooksBelow w s number has old now → f ≡ processor_in_figures s number → ShowsProcessor w number × WasAsked f
     → headed ≡ now ++ hook_head_unless has → next ≡ headed ++ hook_lines number f → HooksBelow w s (number + 1) true old next
 hooks_more w s number f has old now headed next below is asked head lines =
-    let there : WasAsked (processor_of s number) = subst WasAsked is asked.1 in
-    let own = hook_lines number (processor_of s number) in
-    let some : is_there own ≡ true = lines_there number (processor_of s number) there in
+    let there : WasAsked (processor_in_figures s number) = subst WasAsked is asked.1 in
+    let own = hook_lines number (processor_in_figures s number) in
+    let some : is_there own ≡ true = lines_there number (processor_in_figures s number) there in
     let part : AreHookLines w s number own =
     part_there (HasHooks w s number) (λ l. l ≡ own) own (record { shown = asked.0; asked = there }) refl in
     let all : next ≡ ((old ++ under_hook_head below.0) ++ hook_head_unless (is_there below.0)) ++ own =
@@ -164,13 +164,13 @@ hooks_more w s number f has old now headed next below is asked head lines =
 
 -- a processor without lines
 pub hooks_same : (w : Window) (s : Figures) (number : ℕ) (f : ProcessorFigures) (has : Bool) (old now : List ℕ)
-    → HooksBelow w s number has old now → f ≡ processor_of s number → ¬ (ShowsProcessor w number × WasAsked f)
+    → HooksBelow w s number has old now → f ≡ processor_in_figures s number → ¬ (ShowsProcessor w number × WasAsked f)
     → HooksBelow w s (number + 1) has old now
 hooks_same w s number f has old now below is none =
     let missing : ¬ (HasHooks w s number) = λ h. none (h.shown, subst WasAsked (sym is) h.asked) in (
       below.0,
       AreParts-same (AreHookLines w s) number below.0 below.1
-          (part_missing (HasHooks w s number) (λ l. l ≡ hook_lines number (processor_of s number)) missing),
+          (part_missing (HasHooks w s number) (λ l. l ≡ hook_lines number (processor_in_figures s number)) missing),
       below.2,
       below.3,
     )
@@ -182,7 +182,7 @@ hooks_at w s number has has_now old now here is same below = (below.0, below.1, 
 
 -- the lines of all processors: the table
 pub hooks_table : (w : Window) (s : Figures) (number : ℕ) (has : Bool) (old now : List ℕ)
-    → number ≡ 64 → HooksBelow w s number has old now → Adds (IsHookTable w s) old now
+    → number ≡ 64 → HooksBelow w s number has old now → GrowsByPart (IsHookTable w s) old now
 hooks_table w s number has old now is below =
     (under_hook_head below.0, (below.0, AreParts-end (AreHookLines w s) number 64 below.0 is below.1, refl), below.2)
 
@@ -246,7 +246,7 @@ elements_at Is number first first_now old now here is same below = (below.0, bel
 
 -- the elements of as many numbers as there are
 pub elements_all : (Is : ℕ → List Data → Type 0) (number count : ℕ) (first : Bool) (old now : List ℕ)
-    → number ≡ count → ElementsBelow Is number first old now → Adds (AreElements Is count) old now
+    → number ≡ count → ElementsBelow Is number first old now → GrowsByPart (AreElements Is count) old now
 elements_all Is number count first old now is below =
     (elements_text true below.0, (below.0, AreParts-end Is number count below.0 is below.1, refl), below.2)
 
@@ -255,14 +255,14 @@ elements_all Is number count first old now is below =
 -- the line of a task that has one
 pub task_line_added : (w : Window) (names : NamedTasks) (s : Figures) (id : ℕ) (old new : List ℕ) (b : Bool)
     (name : List ℕ) (f : TaskFigures) (wide fair : ℕ)
-    → (IsTrue b ↔ HasTask w s id) → b ≡ true → name ≡ name_text names id → f ≡ task_of s id → wide ≡ fair_of s id
+    → (IsTrue b ↔ HasTask w s id) → b ≡ true → name ≡ name_text names id → f ≡ task_in_figures s id → wide ≡ fair_of s id
     → fair ≡ nearest wide → new ≡ old ++ task_line id name f fair
-    → Adds (IsTaskLine w names s id) old new
+    → GrowsByPart (IsTaskLine w names s id) old new
 task_line_added w names s id old new b name f wide fair decides true_ is_name is_figures is_wide is_fair e =
-    let line = task_line id (name_text names id) (task_of s id) (nearest (fair_of s id)) in
+    let line = task_line id (name_text names id) (task_in_figures s id) (nearest (fair_of s id)) in
     adds_part (HasTask w s id) (λ own. own ≡ line) old new line (decides.0 true_) refl
     (e ∙ ap (λ n. old ++ task_line id n f fair) is_name ∙ ap (λ g. old ++ task_line id (name_text names id) g fair) is_figures
-    ∙ ap (λ n. old ++ task_line id (name_text names id) (task_of s id) n) (is_fair ∙ ap nearest is_wide))
+    ∙ ap (λ n. old ++ task_line id (name_text names id) (task_in_figures s id) n) (is_fair ∙ ap nearest is_wide))
 
 -- percentiles of a task's latencies, which were sorted for them
 pub are_percentiles : (latencies now sorted : List ℕ) (p : Percentiles)
@@ -274,27 +274,27 @@ are_percentiles latencies now sorted p is value in_order same =
 -- the line of the latencies of a task that has one
 pub latency_line_added : (w : Window) (names : NamedTasks) (s : Figures) (latencies : List ℕ) (id : ℕ) (old new : List ℕ)
     (b : Bool) (name : List ℕ) (f : TaskFigures) (p : Percentiles) (still : Option ℕ)
-    → (IsTrue b ↔ HasTask w s id) → b ≡ true → name ≡ name_text names id → f ≡ task_of s id → ArePercentiles latencies p
+    → (IsTrue b ↔ HasTask w s id) → b ≡ true → name ≡ name_text names id → f ≡ task_in_figures s id → ArePercentiles latencies p
     → still ≡ still_waiting s id → new ≡ old ++ latency_line id name f.wakes p still
-    → Adds (IsLatencyLine w names s latencies id) old new
+    → GrowsByPart (IsLatencyLine w names s latencies id) old new
 latency_line_added w names s latencies id old new b name f p still decides true_ is_name is_figures are is_still e =
-    let line = latency_line id (name_text names id) (task_of s id).wakes p (still_waiting s id) in
+    let line = latency_line id (name_text names id) (task_in_figures s id).wakes p (still_waiting s id) in
     adds_part (HasTask w s id) (λ own.
     (q : Percentiles) × ArePercentiles latencies q
-    × (own ≡ latency_line id (name_text names id) (task_of s id).wakes q (still_waiting s id)))
+    × (own ≡ latency_line id (name_text names id) (task_in_figures s id).wakes q (still_waiting s id)))
     old new line (decides.0 true_) (p, are, refl)
     (e ∙ ap (λ n. old ++ latency_line id n f.wakes p still) is_name
     ∙ ap (λ (g : TaskFigures). old ++ latency_line id (name_text names id) g.wakes p still) is_figures
-    ∙ ap (λ t. old ++ latency_line id (name_text names id) (task_of s id).wakes p t) is_still)
+    ∙ ap (λ t. old ++ latency_line id (name_text names id) (task_in_figures s id).wakes p t) is_still)
 
 -- the line of the latencies of one more task, whose latencies are those that it had before the first
 pub latencies_more : (w : Window) (names : NamedTasks) (s : Figures) (first now_of : Tasks) (id : ℕ) (old now next : List ℕ)
-    → Adds (AreParts (λ i. IsLatencyLine w names s (latencies_of first i) i) id) old now
-    → latencies_of now_of id ≡ latencies_of first id → Adds (IsLatencyLine w names s (latencies_of now_of id) id) now next
-    → Adds (AreParts (λ i. IsLatencyLine w names s (latencies_of first i) i) (id + 1)) old next
+    → GrowsByPart (AreParts (λ i. IsLatencyLine w names s (latencies_of first i) i) id) old now
+    → latencies_of now_of id ≡ latencies_of first id → GrowsByPart (IsLatencyLine w names s (latencies_of now_of id) id) now next
+    → GrowsByPart (AreParts (λ i. IsLatencyLine w names s (latencies_of first i) i) (id + 1)) old next
 latencies_more w names s first now_of id old now next lines is line =
     lines_more (λ i. IsLatencyLine w names s (latencies_of first i) i) id old now next lines
-    (subst (λ l. Adds (IsLatencyLine w names s l id) now next) is line)
+    (subst (λ l. GrowsByPart (IsLatencyLine w names s l id) now next) is line)
 
 -- the tasks behind this one have the latencies that they had
 pub others_kept : (first now next : Tasks) (id : ℕ) → ((other : ℕ) → id ≤ other → latencies_of now other ≡ latencies_of first other)
@@ -304,17 +304,17 @@ others_kept first now next id rest others other h = others other (λ e. absurd (
 
 -- the line of a processor that has one
 pub processor_line_added : (w : Window) (s : Figures) (p : ℕ) (old new : List ℕ) (b : Bool) (f : ProcessorFigures)
-    → (IsTrue b ↔ HasProcessor w s p) → b ≡ true → f ≡ processor_of s p → new ≡ old ++ processor_line p f
-    → Adds (IsProcessorLine w s p) old new
+    → (IsTrue b ↔ HasProcessor w s p) → b ≡ true → f ≡ processor_in_figures s p → new ≡ old ++ processor_report_line p f
+    → GrowsByPart (IsProcessorLine w s p) old new
 processor_line_added w s p old new b f decides true_ is e =
-    let line = processor_line p (processor_of s p) in
-    adds_part (HasProcessor w s p) (λ own. own ≡ line) old new line (decides.0 true_) refl (e ∙ ap (λ g. old ++ processor_line p g) is)
+    let line = processor_report_line p (processor_in_figures s p) in
+    adds_part (HasProcessor w s p) (λ own. own ≡ line) old new line (decides.0 true_) refl (e ∙ ap (λ g. old ++ processor_report_line p g) is)
 
 -- the object of a processor that has one
 pub processor_there : (w : Window) (s : Figures) (p : ℕ) (f : ProcessorFigures)
-    → HasProcessor w s p → f ≡ processor_of s p → IsProcessorObject w s p (processor_object p f ∷ [])
+    → HasProcessor w s p → f ≡ processor_in_figures s p → IsProcessorObject w s p (processor_object p f ∷ [])
 processor_there w s p f holds is =
-    part_there (HasProcessor w s p) (λ own. own ≡ processor_object p (processor_of s p) ∷ []) (processor_object p f ∷ [])
+    part_there (HasProcessor w s p) (λ own. own ≡ processor_object p (processor_in_figures s p) ∷ []) (processor_object p f ∷ [])
     holds (ap (λ g. processor_object p g ∷ []) is)
 
 -- the object of a task that has one
@@ -355,8 +355,8 @@ pub no_float_in_task : (names : NamedTasks) (s : Figures) (id : ℕ) (p : Percen
 unfolding task_object
 no_float_in_task names s id p =
     four_false (has_float (latency_object p)) (has_float (text_or_null (name_of names id)))
-    (is_float (of_integer (task_of s id).nice)) (has_float (number_or_null (still_waiting s id))) (no_float_in_latency p)
-    (no_float_in_text (name_of names id)) (no_float_in_integer (task_of s id).nice) (no_float_in_number (still_waiting s id))
+    (is_float (of_integer (task_in_figures s id).nice)) (has_float (number_or_null (still_waiting s id))) (no_float_in_latency p)
+    (no_float_in_text (name_of names id)) (no_float_in_integer (task_in_figures s id).nice) (no_float_in_number (still_waiting s id))
 
 -- no figure of a processor is a float
 pub no_float_in_processor : (p : ℕ) (f : ProcessorFigures) → has_float (processor_object p f) ≡ false
@@ -385,11 +385,11 @@ seven t0 t1 t2 t3 t4 t5 t6 t7 a b c d e f g e1 e2 e3 e4 e5 e6 e7 =
 -- the parts of a report, in order, are a report
 pub report_added : (w : Window) (names : NamedTasks) (s : Figures) (latencies : Tasks) (missed : ℕ)
     (t0 t1 t2 t3 t4 t5 t6 t7 : List ℕ)
-    → Adds (IsTable task_head (IsTaskLine w names s) 1024) t0 t1 → t2 ≡ t1 ++ codes "\n"
-    → Adds (IsTable latency_head (λ id. IsLatencyLine w names s (latencies_of latencies id) id) 1024) t2 t3
-    → t4 ≡ t3 ++ missed_line missed → t5 ≡ t4 ++ codes "\n" → Adds (IsTable processor_head (IsProcessorLine w s) 64) t5 t6
-    → Adds (IsHookTable w s) t6 t7
-    → Adds (IsReport w names s latencies missed) t0 t7
+    → GrowsByPart (IsTable task_head (IsTaskLine w names s) 1024) t0 t1 → t2 ≡ t1 ++ codes "\n"
+    → GrowsByPart (IsTable latency_head (λ id. IsLatencyLine w names s (latencies_of latencies id) id) 1024) t2 t3
+    → t4 ≡ t3 ++ missed_line missed → t5 ≡ t4 ++ codes "\n" → GrowsByPart (IsTable processor_head (IsProcessorLine w s) 64) t5 t6
+    → GrowsByPart (IsHookTable w s) t6 t7
+    → GrowsByPart (IsReport w names s latencies missed) t0 t7
 report_added w names s latencies missed t0 t1 t2 t3 t4 t5 t6 t7 tasks e2 waits e4 e5 processors policies = (
   _,
   record {
@@ -411,10 +411,10 @@ report_added w names s latencies missed t0 t1 t2 t3 t4 t5 t6 t7 tasks e2 waits e
 pub json_added : (w : Window) (names : NamedTasks) (s : Figures) (latencies : Tasks) (missed : ℕ)
     (t0 t1 t2 t3 t4 t5 t6 t7 : List ℕ)
     → t1 ≡ t0 ++ codes "{\"schema\":1,\"tasks\":["
-    → Adds (AreElements (λ id. IsTaskObject w names s (latencies_of latencies id) id) 1024) t1 t2
-    → t3 ≡ t2 ++ codes "\n],\"processors\":[" → Adds (AreElements (IsProcessorObject w s) 64) t3 t4 → t5 ≡ t4 ++ codes "\n]"
+    → GrowsByPart (AreElements (λ id. IsTaskObject w names s (latencies_of latencies id) id) 1024) t1 t2
+    → t3 ≡ t2 ++ codes "\n],\"processors\":[" → GrowsByPart (AreElements (IsProcessorObject w s) 64) t3 t4 → t5 ≡ t4 ++ codes "\n]"
     → t6 ≡ t5 ++ missed_member missed → t7 ≡ t6 ++ codes "}\n"
-    → Adds (IsJsonReport w names s latencies missed) t0 t7
+    → GrowsByPart (IsJsonReport w names s latencies missed) t0 t7
 json_added w names s latencies missed t0 t1 t2 t3 t4 t5 t6 t7 e1 tasks e3 processors e5 e6 e7 = (
   _,
   record { first = tasks.0; second = processors.0; tasks = tasks.1; processors = processors.1; whole = refl },

@@ -90,8 +90,8 @@ abbrev pub percent_text : ℕ → ℕ → List ℕ
 percent_text part whole = right 3 (hundredths_of part whole / 100) ++ (codes "." ++ zeros 2 (hundredths_of part whole % 100))
 
 -- the line of a processor: how much of its time a task ran
-abbrev pub processor_line : ℕ → ProcessorFigures → List ℕ
-processor_line processor p =
+abbrev pub processor_report_line : ℕ → ProcessorFigures → List ℕ
+processor_report_line processor p =
     right 5 processor ++ (codes "  " ++ (percent_text p.busy (saturating_sum p.busy (idle_of p))
     ++ (millis_column p.busy ++ (millis_column (idle_of p) ++ (cell 8 p.switches ++ codes "\n")))))
 

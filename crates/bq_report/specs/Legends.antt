@@ -7,7 +7,7 @@ use Rattle.bq_report.specs.declared.legend.Legend.{Legend}
 use Rattle.bq_report.specs.declared.map_row.Column.{Column}
 use Rattle.bq_report.specs.declared.map_row.Column.TheVariants.{Task, Hidden}
 use Rattle.bq_report.specs.declared.window.Window.{Window}
-use Rattle.bq_report.specs.MapRows.{Row}
+use Rattle.bq_report.specs.MapRows.{RunsRow}
 use Rattle.bq_report.specs.Maps.{DrawnRow, IsDrawnRow, all_columns, rows_text}
 use Rattle.bq_report.specs.Reports.{AreParts}
 
@@ -21,7 +21,7 @@ abbrev pub NotesMore : List Column → Legend → Legend → Type 0
 NotesMore columns old new = (before : List Column) → Notes before old → Notes (before ++ columns) new
 
 -- the rows of the processors below a number are drawn if they are shown: their lines are added, and their columns noted
-pub record Draws (w : Window) (rows : List Row) (tasks : List ℕ) (g : Grid) (number : ℕ) (old new : Legend) (before after : List ℕ) : Type 0 where
+pub record DrawsRows (w : Window) (rows : List RunsRow) (tasks : List ℕ) (g : Grid) (number : ℕ) (old new : Legend) (before after : List ℕ) : Type 0 where
   pub drawn : List DrawnRow
   pub shown : AreParts (IsDrawnRow w rows g) number drawn
   pub noted : NotesMore (all_columns drawn) old new

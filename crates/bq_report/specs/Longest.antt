@@ -4,12 +4,12 @@ use Rattle.bq_disc.specs.declared.limits.TheConstants.{TASKS}
 use Rattle.bq_schedule.specs.declared.slice.Slice.{Slice}
 
 -- how long a run lasts between two moments
-abbrev pub time_in : ℕ → ℕ → Slice → ℕ
-time_in from to run = min run.to to - max run.from from
+abbrev pub time_between : ℕ → ℕ → Slice → ℕ
+time_between from to run = min run.to to - max run.from from
 
 -- how long a task runs between two moments, among these runs
-abbrev pub time_of : ℕ → ℕ → List Slice → ℕ → ℕ
-time_of from to runs task = sum_by (λ (run : Slice). if run.task == task then time_in from to run else 0) runs
+abbrev pub task_time_between : ℕ → ℕ → List Slice → ℕ → ℕ
+task_time_between from to runs task = sum_by (λ (run : Slice). if run.task == task then time_between from to run else 0) runs
 
 -- the place of the greatest of the first n of these numbers: it is not 0, and the first of equal ones
 pub record IsFirstGreatest (n : ℕ) (number : ℕ → ℕ) (place : ℕ) : Type 0 where
@@ -20,4 +20,4 @@ pub record IsFirstGreatest (n : ℕ) (number : ℕ → ℕ) (place : ℕ) : Type
 
 -- the task runs, and no other runs longer; of equal ones it is the task of least number
 abbrev pub IsLongest : ℕ → ℕ → List Slice → ℕ → Type 0
-IsLongest from to runs task = IsFirstGreatest TASKS (time_of from to runs) task
+IsLongest from to runs task = IsFirstGreatest TASKS (task_time_between from to runs) task

@@ -5,7 +5,7 @@ use Rattle.std.specs.Int.{div_ceil}
 use Rattle.std.specs.Option.{SomeIff}
 use Rattle.bq_disc.specs.declared.limits.TheConstants.{TASKS}
 use Rattle.bq_schedule.specs.declared.slice.Slice.{Slice}
-use Rattle.bq_schedule.specs.Figures.{Figures, processor_of}
+use Rattle.bq_schedule.specs.Figures.{Figures, processor_in_figures}
 use Rattle.bq_report.specs.declared.amounts.Unit.{Unit}
 use Rattle.bq_report.specs.declared.amounts.Unit.TheVariants.{Microseconds, Milliseconds}
 use Rattle.bq_report.specs.declared.extent.Extent.{Extent}
@@ -14,57 +14,57 @@ use Rattle.bq_report.specs.declared.map_row.Column.{Column}
 use Rattle.bq_report.specs.declared.map_row.Column.TheVariants.{Task, Hidden, Idle}
 use Rattle.bq_report.specs.declared.window.Window.{Window}
 use Rattle.bq_report.specs.Amounts.{moment_text}
-use Rattle.bq_report.specs.Extents.{IsInWindow, Spans}
-use Rattle.bq_report.specs.Longest.{IsLongest, time_of}
-use Rattle.bq_report.specs.MapRows.{Row}
+use Rattle.bq_report.specs.Extents.{IsInWindow, SpansReadings}
+use Rattle.bq_report.specs.Longest.{IsLongest, task_time_between}
+use Rattle.bq_report.specs.MapRows.{RunsRow}
 use Rattle.bq_report.specs.Names.{NamedTasks, name_of}
 use Rattle.bq_report.specs.Reports.{AreParts, IsPartIf}
 use Rattle.bq_report.specs.Rosters.{place_in}
 use Rattle.bq_report.specs.Steps.{covers, round_steps}
-use Rattle.bq_report.specs.Windows.{ShowsProcessor, ShowsTask, part_of}
+use Rattle.bq_report.specs.Windows.{ShowsProcessor, ShowsTask, part_in_window}
 
 -- ---- what it holds
 
 -- a part of a run is held: it is inside the window and its processor is shown, whether its task is shown or not
 pub record IsHeld (w : Window) (s : Slice) : Type 0 where
-  pub lasts : (part_of w s).from < (part_of w s).to
+  pub lasts : (part_in_window w s).from < (part_in_window w s).to
   pub processor : ShowsProcessor w s.processor
 
 -- the part of a run that is held, if there is a run and a part of it is held
 abbrev pub IsHeldPart : Window → Option Slice → Option Slice → Type 0
 IsHeldPart w None part = part ≡ None
-IsHeldPart w (Some s) part = SomeIff part (IsHeld w s) (part_of w s)
+IsHeldPart w (Some s) part = SomeIff part (IsHeld w s) (part_in_window w s)
 
 -- a row with one more run, whose task is shown or not
-abbrev pub with_run : Bool → Slice → Row → Row
-with_run true run row = record row { shown = row.shown ++ (run ∷ []) }
-with_run false run row = record row { hidden = row.hidden ++ (run ∷ []) }
+abbrev pub map_row_with_run : Bool → Slice → RunsRow → RunsRow
+map_row_with_run true run row = record row { shown = row.shown ++ (run ∷ []) }
+map_row_with_run false run row = record row { hidden = row.hidden ++ (run ∷ []) }
 
 -- a row without a run
-abbrev pub empty_row : Row
-empty_row = record { shown = []; hidden = [] }
+abbrev pub empty_map_row : RunsRow
+empty_map_row = record { shown = []; hidden = [] }
 
 -- the row of a processor
-abbrev pub row_of : List Row → ℕ → Row
-row_of rows p = slice_index_or rows p empty_row
+abbrev pub map_row_of : List RunsRow → ℕ → RunsRow
+map_row_of rows p = slice_index_or rows p empty_map_row
 
 -- the rows after one more run at its processor, if that has a row
-abbrev pub rows_with : Bool → Slice → List Row → List Row
-rows_with is_shown run rows = slice_set rows run.processor (with_run is_shown run (row_of rows run.processor))
+abbrev pub rows_with : Bool → Slice → List RunsRow → List RunsRow
+rows_with is_shown run rows = slice_set rows run.processor (map_row_with_run is_shown run (map_row_of rows run.processor))
 
 -- the rows hold one more part of a run, if there is one: a shown one if its task is shown, otherwise a hidden one
-abbrev pub HoldsPart : Window → Option Slice → List Row → List Row → Type 0
+abbrev pub HoldsPart : Window → Option Slice → List RunsRow → List RunsRow → Type 0
 HoldsPart w None old new = new ≡ old
 HoldsPart w (Some run) old new = (is_shown : Bool) × (IsTrue is_shown ↔ ShowsTask w run.task) × (new ≡ rows_with is_shown run old)
 
 -- the rows hold the part of a run that is inside the window, if there is one
-abbrev pub RowsHold : Window → Option Slice → List Row → List Row → Type 0
+abbrev pub RowsHold : Window → Option Slice → List RunsRow → List RunsRow → Type 0
 RowsHold w run old new = (part : Option Slice) × IsHeldPart w run part × HoldsPart w part old new
 
 -- the rows also hold the last runs of the processors below a number, which may still go on when the schedule ends
-unfoldable pub HoldsLast : Window → Figures → ℕ → List Row → List Row → Type 0
+unfoldable pub HoldsLast : Window → Figures → ℕ → List RunsRow → List RunsRow → Type 0
 HoldsLast w s zero old new = new ≡ old
-HoldsLast w s (suc p) old new = (before : List Row) × HoldsLast w s p old before × RowsHold w (processor_of s p).run before new
+HoldsLast w s (suc p) old new = (before : List RunsRow) × HoldsLast w s p old before × RowsHold w (processor_in_figures s p).run before new
 
 -- ---- its columns
 
@@ -86,16 +86,16 @@ moment_at g column = min (g.extent.from + column * g.step) g.extent.to
 
 -- no task runs between two moments, among these runs
 abbrev pub RunsNone : ℕ → ℕ → List Slice → Type 0
-RunsNone from to runs = (task : ℕ) → task < TASKS → time_of from to runs task ≡ 0
+RunsNone from to runs = (task : ℕ) → task < TASKS → task_time_between from to runs task ≡ 0
 
 -- what a column shows: the shown task that ran longest, that only hidden tasks ran, or that none ran
-abbrev pub IsColumn : Row → ℕ → ℕ → Column → Type 0
+abbrev pub IsColumn : RunsRow → ℕ → ℕ → Column → Type 0
 IsColumn row from to (Task task) = IsLongest from to row.shown task
 IsColumn row from to Hidden = RunsNone from to row.shown × ((other : ℕ) × IsLongest from to row.hidden other)
 IsColumn row from to Idle = RunsNone from to row.shown × RunsNone from to row.hidden
 
 -- the columns of a row, each between its two moments
-pub record AreColumns (row : Row) (g : Grid) (columns : List Column) : Type 0 where
+pub record AreColumns (row : RunsRow) (g : Grid) (columns : List Column) : Type 0 where
   pub count : length columns ≡ g.count
   pub each : (n : ℕ) → n < g.count → IsColumn row (moment_at g n) (moment_at g (n + 1)) (slice_index_or columns n Idle)
 
@@ -105,10 +105,10 @@ pub record DrawnRow : Type 0 where
   pub columns : List Column
 
 -- the row of a processor, if it is shown
-abbrev pub IsDrawnRow : Window → List Row → Grid → ℕ → List DrawnRow → Type 0
+abbrev pub IsDrawnRow : Window → List RunsRow → Grid → ℕ → List DrawnRow → Type 0
 IsDrawnRow w rows g p drawn =
     IsPartIf DrawnRow (ShowsProcessor w p)
-    (λ own. (columns : List Column) × AreColumns (row_of rows p) g columns × (own ≡ record { number = p; columns = columns } ∷ []))
+    (λ own. (columns : List Column) × AreColumns (map_row_of rows p) g columns × (own ≡ record { number = p; columns = columns } ∷ []))
     drawn
 
 -- the columns of all drawn rows
@@ -131,39 +131,39 @@ letter_if None = 42
 letter_if (Some place) = letter_at place
 
 -- the sign of a column: the letter of the task, `-` or `.`
-abbrev pub sign_of : List ℕ → Column → ℕ
-sign_of tasks (Task task) = letter_if (place_in tasks task)
-sign_of tasks Hidden = 45
-sign_of tasks Idle = 46
+abbrev pub column_sign : List ℕ → Column → ℕ
+column_sign tasks (Task task) = letter_if (place_in tasks task)
+column_sign tasks Hidden = 45
+column_sign tasks Idle = 46
 
 -- a text at the left end of this many columns, wider if needed
-abbrev pub left_text : ℕ → List ℕ → List ℕ
-left_text width text = styled_text (format_spec 32 1 0 width (2 ^ 64 - 1)) text
+abbrev pub left_aligned_text : ℕ → List ℕ → List ℕ
+left_aligned_text width text = styled_text (format_spec 32 1 0 width (2 ^ 64 - 1)) text
 
 -- a number at the left end of this many columns, wider if needed
 abbrev pub left_number : ℕ → ℕ → List ℕ
 left_number width n = styled_decimal (format_spec 32 1 0 width (2 ^ 64 - 1)) n
 
 -- the line of a row
-abbrev pub row_text : List ℕ → DrawnRow → List ℕ
-row_text tasks row = codes "cpu " ++ (left_number 4 row.number ++ (map (sign_of tasks) row.columns ++ codes "\n"))
+abbrev pub map_row_text : List ℕ → DrawnRow → List ℕ
+map_row_text tasks row = codes "cpu " ++ (left_number 4 row.number ++ (map (column_sign tasks) row.columns ++ codes "\n"))
 
 -- the lines of the drawn rows
 abbrev pub rows_text : List ℕ → List DrawnRow → List ℕ
-rows_text tasks drawn = flat_map (row_text tasks) drawn
+rows_text tasks drawn = flat_map (map_row_text tasks) drawn
 
 -- the unit for moments that are this far apart
 abbrev pub unit_for : ℕ → Unit
 unit_for step = if nat_lt step 1000 then Microseconds else Milliseconds
 
 -- a mark of the ruler: the moment at which the column at 20 times the mark's number begins
-abbrev pub mark_text : Grid → ℕ → List ℕ
-mark_text g mark = codes "|" ++ moment_text (moment_at g (mark * 20)) (unit_for g.step)
+abbrev pub ruler_mark_text : Grid → ℕ → List ℕ
+ruler_mark_text g mark = codes "|" ++ moment_text (moment_at g (mark * 20)) (unit_for g.step)
 
 -- the marks below a number, each in 20 columns
-abbrev pub marks_text : Grid → ℕ → List ℕ
-marks_text g zero = []
-marks_text g (suc mark) = marks_text g mark ++ left_text 20 (mark_text g mark)
+abbrev pub ruler_marks_text : Grid → ℕ → List ℕ
+ruler_marks_text g zero = []
+ruler_marks_text g (suc mark) = ruler_marks_text g mark ++ left_aligned_text 20 (ruler_mark_text g mark)
 
 -- the number of the last mark
 abbrev pub last_mark : Grid → ℕ
@@ -171,7 +171,7 @@ last_mark g = (g.count - 1) / 20
 
 -- the ruler above the rows: a mark at every 20th column
 abbrev pub ruler_text : Grid → List ℕ
-ruler_text g = codes "        " ++ (marks_text g (last_mark g) ++ (mark_text g (last_mark g) ++ codes "\n"))
+ruler_text g = codes "        " ++ (ruler_marks_text g (last_mark g) ++ (ruler_mark_text g (last_mark g) ++ codes "\n"))
 
 -- a task's name, if it has one
 abbrev pub behind_task : Option (List ℕ) → List ℕ
@@ -201,7 +201,7 @@ pub record IsLegend (names : NamedTasks) (tasks : List ℕ) (step : ℕ) (column
   pub whole : text ≡ codes "\na column is " ++ (moment_text step (unit_for step) ++ (codes "; . is idle" ++ (note ++ (codes "\n" ++ lines))))
 
 -- a map of these rows: the ruler, the shown rows, and the legend
-pub record IsDrawn (w : Window) (names : NamedTasks) (tasks : List ℕ) (rows : List Row) (g : Grid) (text : List ℕ) : Type 0 where
+pub record IsDrawn (w : Window) (names : NamedTasks) (tasks : List ℕ) (rows : List RunsRow) (g : Grid) (text : List ℕ) : Type 0 where
   pub drawn : List DrawnRow
   pub legend : List ℕ
   pub shown : AreParts (IsDrawnRow w rows g) (length rows) drawn
@@ -209,22 +209,22 @@ pub record IsDrawn (w : Window) (names : NamedTasks) (tasks : List ℕ) (rows : 
   pub whole : text ≡ ruler_text g ++ (rows_text tasks drawn ++ legend)
 
 -- a map with this step; there always is a step, because a round step covers 48 bits
-abbrev pub IsDrawnBy : Window → NamedTasks → List ℕ → List Row → Extent → Option ℕ → List ℕ → Type 0
+abbrev pub IsDrawnBy : Window → NamedTasks → List ℕ → List RunsRow → Extent → Option ℕ → List ℕ → Type 0
 IsDrawnBy w names tasks rows e None text = text ≡ []
 IsDrawnBy w names tasks rows e (Some step) text = IsDrawn w names tasks rows (grid_over e step) text
 
 -- a map over the time that passes in the window
-pub record IsMapOfTime (w : Window) (names : NamedTasks) (s : Figures) (tasks : List ℕ) (width : ℕ) (rows : List Row) (text : List ℕ) : Type 0 where
+pub record IsMapOfTime (w : Window) (names : NamedTasks) (s : Figures) (tasks : List ℕ) (width : ℕ) (rows : List RunsRow) (text : List ℕ) : Type 0 where
   pub extent : Extent
   pub in_window : IsInWindow w extent
-  pub spans : Spans w s extent
+  pub spans : SpansReadings w s extent
   pub drawn : IsDrawnBy w names tasks rows extent (step_over extent width) text
 
 -- no time passes in the window, and the text says so
 pub record IsMapOfNoTime (w : Window) (s : Figures) (text : List ℕ) : Type 0 where
-  pub none : (e : Extent) → Spans w s e → e.to ≤ e.from
+  pub none : (e : Extent) → SpansReadings w s e → e.to ≤ e.from
   pub shows : text ≡ codes "no time passes in what is shown\n"
 
 -- a map, or the line that no time passes in the window
-abbrev pub IsMap : Window → NamedTasks → Figures → List ℕ → ℕ → List Row → List ℕ → Type 0
+abbrev pub IsMap : Window → NamedTasks → Figures → List ℕ → ℕ → List RunsRow → List ℕ → Type 0
 IsMap w names s tasks width rows text = IsMapOfTime w names s tasks width rows text ⊎ IsMapOfNoTime w s text

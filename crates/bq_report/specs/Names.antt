@@ -4,7 +4,7 @@ use Rattle.std.specs.BTreeMap.{is_at}
 use Rattle.std.specs.Map.{lookup}
 use Rattle.std.specs.Ordering.{nat_cmp}
 use Rattle.std.specs.Str.{IsTrimAscii, IsUtf8, trim}
-use Rattle.bq_words.specs.Numbers.{below, number_of}
+use Rattle.bq_words.specs.Numbers.{below, number_in_base}
 
 -- tasks by their numbers, each with its name
 abbrev pub NamedTasks : Type 0
@@ -16,7 +16,7 @@ name_of names task = lookup (is_at (nat_cmp task)) names
 
 -- the number of a task, of 16 bits, in decimal
 abbrev pub task_number : List ℕ → Option ℕ
-task_number word = below (2 ^ 16) (number_of 10 word)
+task_number word = below (2 ^ 16) (number_in_base 10 word)
 
 -- a comment names a task: it is `# task N NAME`, with a space after `task` and after the number. More white space may be around each of
 -- these four parts. The name is all that follows the number

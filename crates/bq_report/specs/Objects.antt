@@ -7,7 +7,7 @@ use Rattle.bq_schedule.specs.declared.figures.HookFigures.{HookFigures}
 use Rattle.bq_schedule.specs.declared.figures.ProcessorFigures.{ProcessorFigures}
 use Rattle.bq_schedule.specs.declared.figures.TaskFigures.{TaskFigures}
 use Rattle.bq_schedule.specs.declared.percentiles.Percentiles.{Percentiles}
-use Rattle.bq_schedule.specs.Figures.{Figures, task_of}
+use Rattle.bq_schedule.specs.Figures.{Figures, task_in_figures}
 use Rattle.bq_schedule.specs.Passing.{idle_of}
 use Rattle.bq_schedule.specs.Runnable.{fair_of}
 use Rattle.bq_report.specs.Columns.{nearest}
@@ -50,16 +50,16 @@ counts_object t =
 -- the figures of a task, with these percentiles of its latencies
 unfoldable pub task_object : NamedTasks → Figures → ℕ → Percentiles → Data
 task_object names s id p =
-    object (member (codes "counts") (counts_object (task_of s id))
-    (member (codes "cpu") (number (unsigned (task_of s id).time))
+    object (member (codes "counts") (counts_object (task_in_figures s id))
+    (member (codes "cpu") (number (unsigned (task_in_figures s id).time))
     (member (codes "fair") (number (unsigned (nearest (fair_of s id))))
     (member (codes "latency") (latency_object p)
     (member (codes "name") (text_or_null (name_of names id))
-    (member (codes "nice") (number (of_integer (task_of s id).nice))
+    (member (codes "nice") (number (of_integer (task_in_figures s id).nice))
     (member (codes "still_waiting") (number_or_null (still_waiting s id))
     (member (codes "task") (number (unsigned id))
     (member (codes "waited") (number (unsigned (waited_in_all s id)))
-    (member (codes "weight") (number (unsigned (task_of s id).weight)) no_members))))))))))
+    (member (codes "weight") (number (unsigned (task_in_figures s id).weight)) no_members))))))))))
 
 -- the figures of a processor
 unfoldable pub processor_object : ℕ → ProcessorFigures → Data

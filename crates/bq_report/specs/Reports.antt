@@ -6,11 +6,11 @@ use Rattle.serde_json.specs.Data.{Data}
 use Rattle.serde_json.specs.Written.{compact_text}
 use Rattle.bq_schedule.specs.declared.figures.ProcessorFigures.{ProcessorFigures}
 use Rattle.bq_schedule.specs.declared.percentiles.Percentiles.{Percentiles}
-use Rattle.bq_schedule.specs.Figures.{Figures, processor_of, task_of}
+use Rattle.bq_schedule.specs.Figures.{Figures, processor_in_figures, task_in_figures}
 use Rattle.bq_schedule.specs.Runnable.{fair_of}
 use Rattle.bq_schedule.specs.WakeLatencies.{Tasks, latencies_of, percentiles_of}
 use Rattle.bq_report.specs.declared.window.Window.{Window}
-use Rattle.bq_report.specs.Columns.{hook_lines, latency_line, missed_line, nearest, processor_line, task_line}
+use Rattle.bq_report.specs.Columns.{hook_lines, latency_line, missed_line, nearest, processor_report_line, task_line}
 use Rattle.bq_report.specs.Names.{NamedTasks}
 use Rattle.bq_report.specs.Objects.{missed_member, processor_object, task_object}
 use Rattle.bq_report.specs.Timehist.{name_text}
@@ -29,12 +29,12 @@ AreParts {A} Is (suc number) parts =
     (before : List A) × (own : List A) × AreParts Is number before × Is number own × (parts ≡ before ++ own)
 
 -- a text has grown by a part like this
-abbrev pub Adds : (List ℕ → Type 0) → List ℕ → List ℕ → Type 0
-Adds IsLike old new = (part : List ℕ) × IsLike part × (new ≡ old ++ part)
+abbrev pub GrowsByPart : (List ℕ → Type 0) → List ℕ → List ℕ → Type 0
+GrowsByPart IsLike old new = (part : List ℕ) × IsLike part × (new ≡ old ++ part)
 
 -- a task is in the report: it was admitted, and is shown
 pub record HasTask (w : Window) (s : Figures) (id : ℕ) : Type 0 where
-  pub admitted : IsTrue (task_of s id).is_admitted
+  pub admitted : IsTrue (task_in_figures s id).is_admitted
   pub shown : ShowsTask w id
 
 -- a processor is in the report: it exists, and is shown
@@ -52,19 +52,19 @@ pub record ArePercentiles (latencies : List ℕ) (p : Percentiles) : Type 0 wher
 -- the line of a task, if it has one
 abbrev pub IsTaskLine : Window → NamedTasks → Figures → ℕ → List ℕ → Type 0
 IsTaskLine w names s id line =
-    IsPartIf ℕ (HasTask w s id) (λ own. own ≡ task_line id (name_text names id) (task_of s id) (nearest (fair_of s id))) line
+    IsPartIf ℕ (HasTask w s id) (λ own. own ≡ task_line id (name_text names id) (task_in_figures s id) (nearest (fair_of s id))) line
 
 -- the line of a task's latencies, if it has one
 abbrev pub IsLatencyLine : Window → NamedTasks → Figures → List ℕ → ℕ → List ℕ → Type 0
 IsLatencyLine w names s latencies id line =
     IsPartIf ℕ (HasTask w s id)
     (λ own. (p : Percentiles) × ArePercentiles latencies p
-    × (own ≡ latency_line id (name_text names id) (task_of s id).wakes p (still_waiting s id)))
+    × (own ≡ latency_line id (name_text names id) (task_in_figures s id).wakes p (still_waiting s id)))
     line
 
 -- the line of a processor, if it has one
 abbrev pub IsProcessorLine : Window → Figures → ℕ → List ℕ → Type 0
-IsProcessorLine w s p line = IsPartIf ℕ (HasProcessor w s p) (λ own. own ≡ processor_line p (processor_of s p)) line
+IsProcessorLine w s p line = IsPartIf ℕ (HasProcessor w s p) (λ own. own ≡ processor_report_line p (processor_in_figures s p)) line
 
 -- a policy was asked at a hook of a processor
 abbrev pub WasAsked : ProcessorFigures → Type 0
@@ -73,11 +73,11 @@ WasAsked p = (0 < p.place.asked) ⊎ ((0 < p.preempt.asked) ⊎ (0 < p.pull.aske
 -- a processor has lines for its hooks: it is shown, and a policy was asked there
 pub record HasHooks (w : Window) (s : Figures) (p : ℕ) : Type 0 where
   pub shown : ShowsProcessor w p
-  pub asked : WasAsked (processor_of s p)
+  pub asked : WasAsked (processor_in_figures s p)
 
 -- the lines of a processor's hooks, if it has any
 abbrev pub AreHookLines : Window → Figures → ℕ → List ℕ → Type 0
-AreHookLines w s p lines = IsPartIf ℕ (HasHooks w s p) (λ own. own ≡ hook_lines p (processor_of s p)) lines
+AreHookLines w s p lines = IsPartIf ℕ (HasHooks w s p) (λ own. own ≡ hook_lines p (processor_in_figures s p)) lines
 
 -- a table: its head, then the lines of the numbers below a number
 abbrev pub IsTable : List ℕ → (ℕ → List ℕ → Type 0) → ℕ → List ℕ → Type 0
@@ -134,7 +134,7 @@ IsTaskObject w names s latencies id objects =
 -- the object of a processor, if it has one
 abbrev pub IsProcessorObject : Window → Figures → ℕ → List Data → Type 0
 IsProcessorObject w s p objects =
-    IsPartIf Data (HasProcessor w s p) (λ own. own ≡ processor_object p (processor_of s p) ∷ []) objects
+    IsPartIf Data (HasProcessor w s p) (λ own. own ≡ processor_object p (processor_in_figures s p) ∷ []) objects
 
 -- what precedes an element of an array: a line feed, and a comma before that unless the element is the first
 abbrev pub separator_if : Bool → List ℕ

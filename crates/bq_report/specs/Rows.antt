@@ -13,6 +13,6 @@ slice_row s =
     decimal s.processor ++ (codes "," ++ (decimal s.task ++ (codes "," ++ (decimal s.from ++ (codes "," ++ (decimal s.to ++ codes "\n"))))))
 
 -- the row of a slice if there is one, otherwise nothing
-abbrev pub row_of : Option Slice → List ℕ
-row_of None = []
-row_of (Some s) = slice_row s
+abbrev pub optional_slice_row : Option Slice → List ℕ
+optional_slice_row None = []
+optional_slice_row (Some s) = slice_row s

@@ -5,7 +5,7 @@ use Rattle.std.specs.Option.{SomeIff}
 use Rattle.bq_schedule.specs.declared.change.Start.{Start}
 use Rattle.bq_schedule.specs.declared.change.Stop.{Stop}
 use Rattle.bq_schedule.specs.declared.change.Wake.{Wake}
-use Rattle.bq_schedule.specs.Figures.{Figures, processor_of}
+use Rattle.bq_schedule.specs.Figures.{Figures, processor_in_figures}
 use Rattle.bq_schedule.specs.Running.{has_migrated}
 use Rattle.bq_report.specs.declared.window.Window.{Window}
 use Rattle.bq_report.specs.Columns.{moment_columns, run_columns, task_columns}
@@ -65,7 +65,7 @@ awakened_text names k = codes "  awakened: " ++ (named_task k.task (name_of name
 abbrev pub wake_text : NamedTasks → Figures → Option Wake → List ℕ
 wake_text names s None = []
 wake_text names s (Some k) =
-    moment_columns k.at k.from ++ (runner_columns names (processor_of s k.from).running ++ awakened_text names k)
+    moment_columns k.at k.from ++ (runner_columns names (processor_in_figures s k.from).running ++ awakened_text names k)
 
 -- the line of a run that ended, if there is one
 abbrev pub stop_text : NamedTasks → Option Stop → List ℕ
@@ -101,5 +101,5 @@ unfoldable pub AreLastLines : Window → NamedTasks → Figures → ℕ → List
 AreLastLines w names s zero lines = lines ≡ []
 AreLastLines w names s (suc processor) lines =
     (before : List ℕ) × (part : Option Start) × AreLastLines w names s processor before
-    × IsShownRunner w processor (processor_of s processor).last (processor_of s processor).running part
-    × (lines ≡ before ++ runner_text names (processor_of s processor).last part)
+    × IsShownRunner w processor (processor_in_figures s processor).last (processor_in_figures s processor).running part
+    × (lines ≡ before ++ runner_text names (processor_in_figures s processor).last part)

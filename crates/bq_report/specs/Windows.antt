@@ -7,13 +7,13 @@ use Rattle.bq_schedule.specs.declared.slice.Slice.{Slice}
 use Rattle.bq_report.specs.declared.window.Window.{Window}
 
 -- a processor is in a set that is given by bits
-pub record IsIn (processors p : ℕ) : Type 0 where
+pub record IsProcessorIn (processors p : ℕ) : Type 0 where
   pub is_number : p < PROCESSORS
   pub is_chosen : IsTrue (allows processors p)
 
 -- a processor is shown
 abbrev pub ShowsProcessor : Window → ℕ → Type 0
-ShowsProcessor w p = IsIn w.processors p
+ShowsProcessor w p = IsProcessorIn w.processors p
 
 -- a task is shown: the window names it, or names no task
 abbrev pub ShowsTask : Window → ℕ → Type 0
@@ -27,16 +27,16 @@ pub record Shows (w : Window) (p t at : ℕ) : Type 0 where
   pub task : ShowsTask w t
 
 -- the part of a run that is inside the window
-abbrev pub part_of : Window → Slice → Slice
-part_of w s = record s { from = max s.from w.from; to = min s.to w.to }
+abbrev pub part_in_window : Window → Slice → Slice
+part_in_window w s = record s { from = max s.from w.from; to = min s.to w.to }
 
 -- a part of a run is shown: it is not empty, and its processor and task are shown
 pub record ShowsPart (w : Window) (s : Slice) : Type 0 where
-  pub lasts : (part_of w s).from < (part_of w s).to
+  pub lasts : (part_in_window w s).from < (part_in_window w s).to
   pub processor : ShowsProcessor w s.processor
   pub task : ShowsTask w s.task
 
 -- the part of a slice that is shown, if there is a slice and a part of it is shown
 abbrev pub IsShownPart : Window → Option Slice → Option Slice → Type 0
 IsShownPart w None part = part ≡ None
-IsShownPart w (Some s) part = SomeIff part (ShowsPart w s) (part_of w s)
+IsShownPart w (Some s) part = SomeIff part (ShowsPart w s) (part_in_window w s)

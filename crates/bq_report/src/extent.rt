@@ -1,7 +1,7 @@
 //! The stretch of time that a picture is drawn over.
 ghost use Rattle.std.specs.Prelude.{◌≡◌, ◌-◌, ◌≤◌, IfSome, IfNone};
 ghost use Rattle.bq_report.specs.declared.extent.Extent.{Extent};
-ghost use Rattle.bq_report.specs.Extents.{IsInWindow, Spans};
+ghost use Rattle.bq_report.specs.Extents.{IsInWindow, SpansReadings};
 
 use crate::window::Window;
 use bq_disc::limits::PROCESSORS;
@@ -19,8 +19,8 @@ impl Extent {
     /// The extent of a schedule in a window. `None` if no time passes, or if no shown processor's clock was read.
     pub fn of(schedule: &Schedule, window: &Window) -> Option<Extent>
         ensures window { IfSome result (IsInWindow window.now) }
-        ensures extent { IfSome result (Spans window.now schedule.now) }
-        ensures none { IfNone result ((extent : Extent) → Spans window.now schedule.now extent → extent.to ≤ extent.from) }
+        ensures extent { IfSome result (SpansReadings window.now schedule.now) }
+        ensures none { IfNone result ((extent : Extent) → SpansReadings window.now schedule.now extent → extent.to ≤ extent.from) }
     {
         let mut first = u64::MAX;
         let mut last = 0;

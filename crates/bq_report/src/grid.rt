@@ -1,7 +1,7 @@
 //! The columns of a map, over a stretch of time.
 ghost use Rattle.std.specs.Prelude.{◌≡◌, ◌<◌, ◌*◌, ◌^◌, ◌++◌, OnOk, string_bytes};
 ghost use Rattle.bq_report.specs.declared.grid.Grid.{Grid};
-ghost use Rattle.bq_report.specs.Maps.{grid_over, last_mark, mark_text, marks_text, moment_at, ruler_text, unit_for};
+ghost use Rattle.bq_report.specs.Maps.{grid_over, last_mark, ruler_mark_text, ruler_marks_text, moment_at, ruler_text, unit_for};
 
 use crate::amounts::{MomentText, Unit};
 use crate::extent::Extent;
@@ -54,7 +54,7 @@ impl Grid {
     /// Adds the marks of the ruler before the last, each as wide as the columns to the next.
     fn write_marks(&self, alloc: Global, last: u64, text: &mut String) -> Result<(), AllocError>
         requires { last * 20 < 2 ^ 64 }
-        ensures { OnOk result (string_bytes text.new ≡ string_bytes text.old ++ marks_text self.now last) }
+        ensures { OnOk result (string_bytes text.new ≡ string_bytes text.old ++ ruler_marks_text self.now last) }
     {
         for number in 0..last {
             let moment = self.mark(number);

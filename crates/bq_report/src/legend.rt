@@ -3,9 +3,9 @@ ghost use Rattle.std.specs.Prelude.{◌≡◌, ◌<◌, ◌++◌, ◌∷◌, [],
 ghost use Rattle.bq_report.specs.declared.map_row.Column.{Column};
 ghost use Rattle.bq_report.specs.declared.map_row.Column.TheVariants.{Task};
 ghost use Rattle.bq_report.specs.Legends.{Notes, NotesMore};
-ghost use Rattle.bq_report.specs.Maps.{IsHiddenNote, IsLegend, IsLegendLine, behind_task, legend_line, letter_at, letter_if, sign_of};
+ghost use Rattle.bq_report.specs.Maps.{IsHiddenNote, IsLegend, IsLegendLine, behind_task, legend_line, letter_at, letter_if, column_sign};
 ghost use Rattle.bq_report.specs.Names.{name_of};
-ghost use Rattle.bq_report.specs.Reports.{Adds, AreParts, IsPartIf};
+ghost use Rattle.bq_report.specs.Reports.{GrowsByPart, AreParts, IsPartIf};
 ghost use Rattle.bq_report.specs.Rosters.{place_in};
 
 use crate::amounts::{MomentText, Unit};
@@ -85,7 +85,7 @@ impl Legend {
         text: &mut String,
     ) -> Result<(), AllocError>
         ensures { OnOk result ((columns : List Column) → Notes columns self.now
-            → Adds (IsLegend names.now roster.now step columns) (string_bytes text.old) (string_bytes text.new)) }
+            → GrowsByPart (IsLegend names.now roster.now step columns) (string_bytes text.old) (string_bytes text.new)) }
     {
         let unit = Unit::for_step(step);
         let length = MomentText { time: step, unit };
@@ -98,7 +98,7 @@ impl Legend {
     /// Adds what the sign of hidden tasks means, if a column has that sign.
     fn write_hidden(&self, text: &mut String) -> Result<(), AllocError>
         ensures { OnOk result ((columns : List Column) → Notes columns self.now
-            → Adds (IsHiddenNote columns) (string_bytes text.old) (string_bytes text.new)) }
+            → GrowsByPart (IsHiddenNote columns) (string_bytes text.old) (string_bytes text.new)) }
     {
         if !self.has_hidden {
             return Ok(());
@@ -109,7 +109,7 @@ impl Legend {
     /// Adds the lines of the tasks that appear in a column, in the order of their letters.
     fn write_lines(&self, tasks: &[u16], names: &Names, text: &mut String) -> Result<(), AllocError>
         ensures { OnOk result ((columns : List Column) → Notes columns self.now
-            → Adds (AreParts (IsLegendLine names.now tasks.now columns) (length tasks.now)) (string_bytes text.old) (string_bytes text.new)) }
+            → GrowsByPart (AreParts (IsLegendLine names.now tasks.now columns) (length tasks.now)) (string_bytes text.old) (string_bytes text.new)) }
     {
         for place in 0..tasks.len() {
             self.write_line_if(place, tasks[place], names, text)?;
@@ -126,7 +126,7 @@ impl Legend {
         text: &mut String,
     ) -> Result<(), AllocError>
         ensures { OnOk result ((columns : List Column) → Notes columns self.now
-            → Adds (IsPartIf ℕ (Contains columns (Task task)) (λ own. own ≡ legend_line names.now place task)) (string_bytes text.old) (string_bytes text.new)) }
+            → GrowsByPart (IsPartIf ℕ (Contains columns (Task task)) (λ own. own ≡ legend_line names.now place task)) (string_bytes text.old) (string_bytes text.new)) }
     {
         if !self.tasks.contains(&task) {
             return Ok(());
@@ -161,7 +161,7 @@ pub(crate) fn write_signs(
     columns: &[Column],
     text: &mut String,
 ) -> Result<(), AllocError>
-    ensures { OnOk result (string_bytes text.new ≡ string_bytes text.old ++ map (sign_of roster.now) columns.now) }
+    ensures { OnOk result (string_bytes text.new ≡ string_bytes text.old ++ map (column_sign roster.now) columns.now) }
 {
     for column in columns {
         text.push(sign(roster, *column))?;
@@ -171,7 +171,7 @@ pub(crate) fn write_signs(
 
 /// The sign of a column.
 fn sign(roster: &Roster, column: Column) -> char
-    ensures sign { result ≡ sign_of roster.now column }
+    ensures sign { result ≡ column_sign roster.now column }
     ensures ascii { result < 128 }
 {
     match column {

@@ -1,6 +1,6 @@
 //! Which task ran longest between two moments.
 ghost use Rattle.std.specs.Prelude.{◌≡◌, ℕ, ◌<◌, length, slice_index, vec_len, IfOk, IfSome, IfNone};
-ghost use Rattle.bq_report.specs.Longest.{time_of, IsFirstGreatest, IsLongest};
+ghost use Rattle.bq_report.specs.Longest.{task_time_between, IsFirstGreatest, IsLongest};
 
 use bq_disc::limits::TASKS;
 use bq_schedule::Slice;
@@ -15,7 +15,7 @@ pub fn longest_in(
     to: u64,
 ) -> Result<Option<u16>, AllocError>
     ensures longest { IfOk result (λ found. IfSome found (IsLongest from to runs.now)) }
-    ensures none { IfOk result (λ found. IfNone found ((task : ℕ) → task < TASKS → time_of from to runs.now task ≡ 0)) }
+    ensures none { IfOk result (λ found. IfNone found ((task : ℕ) → task < TASKS → task_time_between from to runs.now task ≡ 0)) }
 {
     let times = times_in(alloc, runs, from, to)?;
     Ok(greatest(times.as_slice()))
@@ -24,7 +24,7 @@ pub fn longest_in(
 /// How long each task ran from one moment to another, among these runs. A task's time is at the place of its number.
 fn times_in(alloc: Global, runs: &[Slice], from: u64, to: u64) -> Result<Vec<u128>, AllocError>
     ensures length { IfOk result (λ v. vec_len v ≡ TASKS) }
-    ensures times { IfOk result (λ v. (task : ℕ) → task < TASKS → slice_index v.items task ≡ time_of from to runs.now task) }
+    ensures times { IfOk result (λ v. (task : ℕ) → task < TASKS → slice_index v.items task ≡ task_time_between from to runs.now task) }
 {
     let mut times = vec![in alloc; 0u128; TASKS as usize]?;
     for run in runs {

@@ -1,9 +1,9 @@
 //! The map: a row for each processor, a column for each step of time, a letter for each task.
 ghost use Rattle.std.specs.Prelude.{◌≡◌, ◌++◌, ◌∷◌, [], ℕ, List, length, replicate, OnOk, OnErr, IfOk, string_bytes};
-ghost use Rattle.bq_report.specs.Legends.{Draws};
-ghost use Rattle.bq_report.specs.MapRows.{Row};
-ghost use Rattle.bq_report.specs.Maps.{DrawnRow, RowsHold, HoldsLast, HoldsPart, IsDrawn, IsDrawnBy, IsDrawnRow, IsHeldPart, IsMap, all_columns, columns_in, empty_row, row_text, rows_text, step_over};
-ghost use Rattle.bq_report.specs.Reports.{Adds, AreParts};
+ghost use Rattle.bq_report.specs.Legends.{DrawsRows};
+ghost use Rattle.bq_report.specs.MapRows.{RunsRow};
+ghost use Rattle.bq_report.specs.Maps.{DrawnRow, RowsHold, HoldsLast, HoldsPart, IsDrawn, IsDrawnBy, IsDrawnRow, IsHeldPart, IsMap, all_columns, columns_in, empty_map_row, map_row_text, rows_text, step_over};
+ghost use Rattle.bq_report.specs.Reports.{GrowsByPart, AreParts};
 ghost use Rattle.bq_report.specs.Rosters.{enlisted};
 
 use crate::extent::Extent;
@@ -78,7 +78,7 @@ impl Map {
         names: &Names,
         text: &mut String,
     ) -> Result<(), AllocError>
-        ensures { OnOk result (Adds
+        ensures { OnOk result (GrowsByPart
             (IsDrawnBy self.old.window names.now self.old.roster self.old.rows.items extent.now (step_over extent.now self.old.width))
             (string_bytes text.old) (string_bytes text.new)) }
     {
@@ -95,7 +95,7 @@ impl Map {
         names: &Names,
         text: &mut String,
     ) -> Result<(), AllocError>
-        ensures { OnOk result (Adds (IsDrawn self.old.window names.now self.old.roster self.old.rows.items grid.now)
+        ensures { OnOk result (GrowsByPart (IsDrawn self.old.window names.now self.old.roster self.old.rows.items grid.now)
             (string_bytes text.old) (string_bytes text.new)) }
     {
         grid.write_ruler(self.alloc, text)?;
@@ -115,7 +115,7 @@ impl Map {
 
 /// Adds this many rows without a run.
 fn add_rows(alloc: Global, count: usize, rows: &mut Vec<MapRow>) -> Result<(), AllocError>
-    ensures { OnOk result (rows.new.items ≡ rows.old.items ++ replicate count empty_row) }
+    ensures { OnOk result (rows.new.items ≡ rows.old.items ++ replicate count empty_map_row) }
 {
     for _ in 0..count {
         rows.push(MapRow::new(alloc))?;
@@ -163,7 +163,7 @@ fn write_rows(
     legend: &mut Legend,
     text: &mut String,
 ) -> Result<(), AllocError>
-    ensures { OnOk result (Draws window.now rows.old.items roster.now grid.now (length rows.old.items)
+    ensures { OnOk result (DrawsRows window.now rows.old.items roster.now grid.now (length rows.old.items)
         legend.old legend.new (string_bytes text.old) (string_bytes text.new)) }
 {
     for number in 0..rows.len() {
@@ -184,7 +184,7 @@ fn write_row(
     columns: &[Column],
     text: &mut String,
 ) -> Result<(), AllocError>
-    ensures { OnOk result (string_bytes text.new ≡ string_bytes text.old ++ row_text roster.now (record { number = number; columns = columns.now })) }
+    ensures { OnOk result (string_bytes text.new ≡ string_bytes text.old ++ map_row_text roster.now (record { number = number; columns = columns.now })) }
 {
     write!(text, "cpu {number:<4}")?;
     write_signs(roster, columns, text)?;
@@ -198,7 +198,7 @@ impl ScheduleForm for Map {
         _names: &Names,
         text: &mut String,
     ) -> Result<(), AllocError>
-        ensures rows { OnOk result (self.new.rows.items ≡ self.old.rows.items ++ replicate (length schedule.now.processors) empty_row) }
+        ensures rows { OnOk result (self.new.rows.items ≡ self.old.rows.items ++ replicate (length schedule.now.processors) empty_map_row) }
         ensures none { string_bytes text.new ≡ string_bytes text.old }
         ensures same { (self.new.window ≡ self.old.window) × (self.new.width ≡ self.old.width) × (self.new.roster ≡ self.old.roster) }
     {
@@ -233,8 +233,8 @@ impl ScheduleForm for Map {
         names: &Names,
         text: &mut String,
     ) -> Result<(), AllocError>
-        ensures { OnOk result ((rows : List Row) × HoldsLast self.old.window schedule.now 64 self.old.rows.items rows
-            × Adds (IsMap self.old.window names.now schedule.now self.old.roster self.old.width rows) (string_bytes text.old) (string_bytes text.new)) }
+        ensures { OnOk result ((rows : List RunsRow) × HoldsLast self.old.window schedule.now 64 self.old.rows.items rows
+            × GrowsByPart (IsMap self.old.window names.now schedule.now self.old.roster self.old.width rows) (string_bytes text.old) (string_bytes text.new)) }
     {
         self.hold_last(schedule)?;
         match Extent::of(schedule, &self.window) {

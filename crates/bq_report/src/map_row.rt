@@ -3,9 +3,9 @@ ghost use Rattle.std.specs.Prelude.{◌≡◌, ℕ, ◌≤◌, List, nat_le, nat
 ghost use Rattle.std.specs.List.{prefix_len};
 ghost use Rattle.std.specs.List.Sorted.{IsNonDecreasingBy, IsPermutation};
 ghost use Rattle.bq_schedule.specs.declared.slice.Slice.{Slice};
-ghost use Rattle.bq_report.specs.Longest.{time_of};
-ghost use Rattle.bq_report.specs.MapRows.{Row};
-ghost use Rattle.bq_report.specs.Maps.{AreColumns, IsColumn, empty_row, with_run};
+ghost use Rattle.bq_report.specs.Longest.{task_time_between};
+ghost use Rattle.bq_report.specs.MapRows.{RunsRow};
+ghost use Rattle.bq_report.specs.Maps.{AreColumns, IsColumn, empty_map_row, map_row_with_run};
 
 use crate::grid::Grid;
 use crate::longest::longest_in;
@@ -29,9 +29,9 @@ pub(crate) struct MapRow {
 }
 
 impl Model for MapRow {
-    ghost use Rattle.bq_report.specs.MapRows.{Row};
+    ghost use Rattle.bq_report.specs.MapRows.{RunsRow};
 
-    ghost Value = { Row };
+    ghost Value = { RunsRow };
 
     ghost view = { λ r. record { shown = r.shown.items; hidden = r.hidden.items } };
 }
@@ -39,7 +39,7 @@ impl Model for MapRow {
 impl MapRow {
     /// A row without a run.
     pub(crate) fn new(alloc: Global) -> MapRow
-        ensures { result ≡ empty_row }
+        ensures { result ≡ empty_map_row }
     {
         MapRow {
             shown: Vec::new(alloc),
@@ -49,7 +49,7 @@ impl MapRow {
 
     /// Holds one more run, whose task is shown or not. If memory runs out, nothing changes.
     pub(crate) fn hold(&mut self, run: Slice, is_shown: bool) -> Result<(), AllocError>
-        ensures ok { OnOk result (self.new ≡ with_run is_shown run self.old) }
+        ensures ok { OnOk result (self.new ≡ map_row_with_run is_shown run self.old) }
         ensures err { OnErr result (self.new ≡ self.old) }
     {
         if is_shown {
@@ -126,7 +126,7 @@ fn column_between(
 /// The runs that begin before a moment, if the runs are sorted by their beginnings.
 fn begun_before(runs: &[Slice], to: u64) -> &[Slice]
     requires { IsNonDecreasingBy (λ (run : Slice). run.from) runs.now }
-    ensures { (from task : ℕ) → time_of from to result.now task ≡ time_of from to runs.now task }
+    ensures { (from task : ℕ) → task_time_between from to result.now task ≡ task_time_between from to runs.now task }
 {
     &runs[..begun(runs, to)]
 }
@@ -142,7 +142,7 @@ fn begun(runs: &[Slice], to: u64) -> usize
 fn not_over(runs: &[Slice], at: u64) -> &[Slice]
     requires { IsNonDecreasingBy (λ (run : Slice). run.from) runs.now }
     ensures order { IsNonDecreasingBy (λ (run : Slice). run.from) result.now }
-    ensures times { (from to task : ℕ) → at ≤ from → time_of from to result.now task ≡ time_of from to runs.now task }
+    ensures times { (from to task : ℕ) → at ≤ from → task_time_between from to result.now task ≡ task_time_between from to runs.now task }
 {
     &runs[over(runs, at)..]
 }

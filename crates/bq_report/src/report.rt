@@ -1,7 +1,7 @@
 //! The report: tables of the tasks, of their latencies, of the processors and of the policies.
 ghost use Rattle.std.specs.Prelude.{◌≡◌, ◌↔◌, ◌++◌, ℕ, [], IsTrue, OnOk, OnErr, string_bytes};
-ghost use Rattle.bq_schedule.specs.WakeLatencies.{IsSame, TakesStart, latencies_of};
-ghost use Rattle.bq_report.specs.Reports.{Adds, IsHookTable, IsLatencyLine, IsProcessorLine, IsReport, IsTable, IsTaskLine, WasAsked, hook_head_unless, latency_head, processor_head, task_head};
+ghost use Rattle.bq_schedule.specs.WakeLatencies.{HaveSameLatencies, TakesStart, latencies_of};
+ghost use Rattle.bq_report.specs.Reports.{GrowsByPart, IsHookTable, IsLatencyLine, IsProcessorLine, IsReport, IsTable, IsTaskLine, WasAsked, hook_head_unless, latency_head, processor_head, task_head};
 ghost use Rattle.bq_report.specs.Windows.{ShowsProcessor};
 
 use crate::form::ScheduleForm;
@@ -54,7 +54,7 @@ fn write_tasks(
     names: &Names,
     text: &mut String,
 ) -> Result<(), AllocError>
-    ensures { OnOk result (Adds (IsTable task_head (IsTaskLine window.now names.now schedule.now) TASKS)
+    ensures { OnOk result (GrowsByPart (IsTable task_head (IsTaskLine window.now names.now schedule.now) TASKS)
         (string_bytes text.old) (string_bytes text.new)) }
 {
     text.push_str(TASK_HEAD)?;
@@ -72,7 +72,7 @@ fn write_task_if(
     task: u16,
     text: &mut String,
 ) -> Result<(), AllocError>
-    ensures { OnOk result (Adds (IsTaskLine window.now names.now schedule.now task) (string_bytes text.old) (string_bytes text.new)) }
+    ensures { OnOk result (GrowsByPart (IsTaskLine window.now names.now schedule.now task) (string_bytes text.old) (string_bytes text.new)) }
 {
     if !window.has_task(schedule, task) {
         return Ok(());
@@ -90,7 +90,7 @@ fn write_latencies(
     names: &Names,
     text: &mut String,
 ) -> Result<(), AllocError>
-    ensures { OnOk result (Adds
+    ensures { OnOk result (GrowsByPart
         (IsTable latency_head (λ id. IsLatencyLine window.now names.now schedule.now (latencies_of latencies.old id) id) TASKS)
         (string_bytes text.old) (string_bytes text.new)) }
 {
@@ -110,7 +110,7 @@ fn write_latency_if(
     task: u16,
     text: &mut String,
 ) -> Result<(), AllocError>
-    ensures line { OnOk result (Adds (IsLatencyLine window.now names.now schedule.now (latencies_of latencies.old task) task)
+    ensures line { OnOk result (GrowsByPart (IsLatencyLine window.now names.now schedule.now (latencies_of latencies.old task) task)
         (string_bytes text.old) (string_bytes text.new)) }
     ensures others { (other : ℕ) → ¬ (other ≡ task) → latencies_of latencies.new other ≡ latencies_of latencies.old other }
 {
@@ -136,7 +136,7 @@ fn write_processors(
     schedule: &Schedule,
     text: &mut String,
 ) -> Result<(), AllocError>
-    ensures { OnOk result (Adds (IsTable processor_head (IsProcessorLine window.now schedule.now) 64)
+    ensures { OnOk result (GrowsByPart (IsTable processor_head (IsProcessorLine window.now schedule.now) 64)
         (string_bytes text.old) (string_bytes text.new)) }
 {
     text.push_str(PROCESSOR_HEAD)?;
@@ -153,7 +153,7 @@ fn write_processor_if(
     number: u8,
     text: &mut String,
 ) -> Result<(), AllocError>
-    ensures { OnOk result (Adds (IsProcessorLine window.now schedule.now number) (string_bytes text.old) (string_bytes text.new)) }
+    ensures { OnOk result (GrowsByPart (IsProcessorLine window.now schedule.now number) (string_bytes text.old) (string_bytes text.new)) }
 {
     if !window.has_processor(schedule, number) {
         return Ok(());
@@ -163,7 +163,7 @@ fn write_processor_if(
 
 /// Adds the table of the policies that were asked. Adds nothing if no policy was asked.
 fn write_policies(window: &Window, schedule: &Schedule, text: &mut String) -> Result<(), AllocError>
-    ensures { OnOk result (Adds (IsHookTable window.now schedule.now) (string_bytes text.old) (string_bytes text.new)) }
+    ensures { OnOk result (GrowsByPart (IsHookTable window.now schedule.now) (string_bytes text.old) (string_bytes text.new)) }
 {
     let mut has_head = false;
     for number in 0..PROCESSORS {
@@ -222,7 +222,7 @@ impl ScheduleForm for Report {
         text: &mut String,
     ) -> Result<(), AllocError>
         ensures ok { OnOk result (TakesStart change.now.start self.old.latencies self.new.latencies) }
-        ensures err { OnErr result (IsSame self.old.latencies self.new.latencies) }
+        ensures err { OnErr result (HaveSameLatencies self.old.latencies self.new.latencies) }
         ensures none { string_bytes text.new ≡ string_bytes text.old }
         ensures same { (self.new.window ≡ self.old.window) × (self.new.missed ≡ self.old.missed) }
     {
@@ -235,7 +235,7 @@ impl ScheduleForm for Report {
         names: &Names,
         text: &mut String,
     ) -> Result<(), AllocError>
-        ensures { OnOk result (Adds (IsReport self.old.window names.now schedule.now self.old.latencies self.old.missed)
+        ensures { OnOk result (GrowsByPart (IsReport self.old.window names.now schedule.now self.old.latencies self.old.missed)
             (string_bytes text.old) (string_bytes text.new)) }
     {
         write_tasks(&self.window, schedule, names, text)?;

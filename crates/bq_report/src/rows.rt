@@ -3,7 +3,7 @@ ghost use Rattle.std.specs.Prelude.{◌≡◌, ◌++◌, Option, IfOk, OnOk, map
 ghost use Rattle.std.specs.Str.{IsUtf8};
 ghost use Rattle.csv.specs.Writing.{default_writer, row_text};
 ghost use Rattle.bq_schedule.specs.declared.slice.Slice.{Slice};
-ghost use Rattle.bq_report.specs.Rows.{head_row, slice_row, row_of};
+ghost use Rattle.bq_report.specs.Rows.{head_row, slice_row, optional_slice_row};
 ghost use Rattle.bq_report.specs.Windows.{IsShownPart};
 
 use crate::form::ScheduleForm;
@@ -104,7 +104,7 @@ impl ScheduleForm for Csv {
         text: &mut String,
     ) -> Result<(), AllocError>
         ensures row { OnOk result ((part : Option Slice) × IsShownPart self.old change.now.slice part
-            × (string_bytes text.new ≡ string_bytes text.old ++ row_of part)) }
+            × (string_bytes text.new ≡ string_bytes text.old ++ optional_slice_row part)) }
         ensures same { self.new ≡ self.old }
     {
         match self.window.shown_part(change.slice) {

@@ -2,9 +2,9 @@
 ghost use Rattle.std.specs.Prelude.{◌≡◌, ◌++◌, ℕ, [], codes, false, IfOk, OnOk, OnErr, option_map, string_bytes};
 ghost use Rattle.serde_json.specs.View.{view};
 ghost use Rattle.serde_json.specs.Written.{compact_text, has_float};
-ghost use Rattle.bq_schedule.specs.WakeLatencies.{IsSame, TakesStart, latencies_of};
+ghost use Rattle.bq_schedule.specs.WakeLatencies.{HaveSameLatencies, TakesStart, latencies_of};
 ghost use Rattle.bq_report.specs.Objects.{counts_object, hook_object, latency_object, missed_member, number_or_null, processor_object, task_object, text_or_null};
-ghost use Rattle.bq_report.specs.Reports.{Adds, AreElements, IsJsonReport, IsProcessorObject, IsTaskObject, separator_if};
+ghost use Rattle.bq_report.specs.Reports.{GrowsByPart, AreElements, IsJsonReport, IsProcessorObject, IsTaskObject, separator_if};
 
 use crate::form::ScheduleForm;
 use crate::names::Names;
@@ -63,7 +63,7 @@ fn write_tasks(
     names: &Names,
     text: &mut String,
 ) -> Result<(), AllocError>
-    ensures { OnOk result (Adds
+    ensures { OnOk result (GrowsByPart
         (AreElements (λ id. IsTaskObject window.now names.now schedule.now (latencies_of latencies.old id) id) TASKS)
         (string_bytes text.old) (string_bytes text.new)) }
 {
@@ -102,7 +102,7 @@ fn write_processors(
     schedule: &Schedule,
     text: &mut String,
 ) -> Result<(), AllocError>
-    ensures { OnOk result (Adds (AreElements (IsProcessorObject window.now schedule.now) 64) (string_bytes text.old) (string_bytes text.new)) }
+    ensures { OnOk result (GrowsByPart (AreElements (IsProcessorObject window.now schedule.now) 64) (string_bytes text.old) (string_bytes text.new)) }
 {
     let mut is_first = true;
     for number in 0..PROCESSORS {
@@ -292,7 +292,7 @@ impl ScheduleForm for Json {
         text: &mut String,
     ) -> Result<(), AllocError>
         ensures ok { OnOk result (TakesStart change.now.start self.old.latencies self.new.latencies) }
-        ensures err { OnErr result (IsSame self.old.latencies self.new.latencies) }
+        ensures err { OnErr result (HaveSameLatencies self.old.latencies self.new.latencies) }
         ensures none { string_bytes text.new ≡ string_bytes text.old }
         ensures same { (self.new.window ≡ self.old.window) × (self.new.missed ≡ self.old.missed) }
     {
@@ -305,7 +305,7 @@ impl ScheduleForm for Json {
         names: &Names,
         text: &mut String,
     ) -> Result<(), AllocError>
-        ensures { OnOk result (Adds (IsJsonReport self.old.window names.now schedule.now self.old.latencies self.old.missed)
+        ensures { OnOk result (GrowsByPart (IsJsonReport self.old.window names.now schedule.now self.old.latencies self.old.missed)
             (string_bytes text.old) (string_bytes text.new)) }
     {
         text.push_str(HEAD)?;

@@ -1,6 +1,6 @@
 //! The tables of a report, of at most 80 columns.
 ghost use Rattle.std.specs.Prelude.{◌≡◌, ◌++◌, OnOk, string_bytes};
-ghost use Rattle.bq_report.specs.Columns.{task_columns, millis_column, latency_column, latency_columns, still_waiting_text, task_line, latency_line, missed_line, processor_line, hook_line_if, hook_lines, nearest};
+ghost use Rattle.bq_report.specs.Columns.{task_columns, millis_column, latency_column, latency_columns, still_waiting_text, task_line, latency_line, missed_line, processor_report_line, hook_line_if, hook_lines, nearest};
 
 use crate::amounts::{Decimals, Millis};
 use crate::percent::Percent;
@@ -137,7 +137,7 @@ pub fn write_processor_line(
     processor: u8,
     figures: &ProcessorFigures,
 ) -> Result<(), AllocError>
-    ensures { OnOk result (string_bytes text.new ≡ string_bytes text.old ++ processor_line processor figures.now) }
+    ensures { OnOk result (string_bytes text.new ≡ string_bytes text.old ++ processor_report_line processor figures.now) }
 {
     let idle = figures.idle();
     let busy = Percent {

@@ -2,7 +2,7 @@
 ghost use Rattle.std.specs.Prelude.{◌≡◌, ◌-◌, ◌^◌, ◌↔◌, [], IsTrue};
 ghost use Rattle.std.specs.Option.{SomeIff};
 ghost use Rattle.bq_report.specs.Reports.{HasProcessor, HasTask};
-ghost use Rattle.bq_report.specs.Windows.{ShowsProcessor, ShowsTask, Shows, ShowsPart, IsShownPart, part_of};
+ghost use Rattle.bq_report.specs.Windows.{ShowsProcessor, ShowsTask, Shows, ShowsPart, IsShownPart, part_in_window};
 
 use bq_disc::limits::PROCESSORS;
 use bq_disc::mask::allows;
@@ -97,7 +97,7 @@ impl Window {
 
     /// The part of a run or a slice that is shown, if any of it is.
     pub fn clip(&self, slice: &Slice) -> Option<Slice>
-        ensures { SomeIff result (ShowsPart self.now slice.now) (part_of self.now slice.now) }
+        ensures { SomeIff result (ShowsPart self.now slice.now) (part_in_window self.now slice.now) }
     {
         let from = slice.from.max(self.from);
         let to = slice.to.min(self.to);

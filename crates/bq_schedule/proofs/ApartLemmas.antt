@@ -6,7 +6,7 @@ use Rattle.std.proofs.lemmas.List.Elements.{filter-append, All-nil, All-push, Al
 use Rattle.bq_disc.specs.OneProcessor.{reading}
 use Rattle.bq_schedule.specs.declared.slice.Slice.{Slice}
 use Rattle.bq_schedule.specs.Moments.{History}
-use Rattle.bq_schedule.specs.Slices.{Sight, sight_of, clock_after, clock, runner, stretch, slice_shown, slices, is_at, StandApart, slices_at}
+use Rattle.bq_schedule.specs.Slices.{Sight, sight_of, clock_after, clock, runner, stretch, slice_shown, slices, is_slice_at, StandApart, slices_at}
 
 -- slices that end by some time
 abbrev pub EndBy : ℕ → List Slice → Type 0
@@ -27,16 +27,16 @@ apart-push (x ∷ xs) y h e lt = (
 -- the slice, if it is at that processor
 abbrev pub at_only : ℕ → Option Slice → Option Slice
 at_only processor None = None
-at_only processor (Some y) = cond (is_at processor y) (Some y) None
+at_only processor (Some y) = cond (is_slice_at processor y) (Some y) None
 
 filter-one_if : (y : Slice) (b : Bool) → cond b (y ∷ []) [] ≡ option_to_list (cond b (Some y) None)
 filter-one_if y true = refl
 filter-one_if y false = refl
 
 -- of at most one slice, those at a processor are that slice, if it is there
-pub filter-one : (processor : ℕ) (o : Option Slice) → filter (is_at processor) (option_to_list o) ≡ option_to_list (at_only processor o)
+pub filter-one : (processor : ℕ) (o : Option Slice) → filter (is_slice_at processor) (option_to_list o) ≡ option_to_list (at_only processor o)
 filter-one processor None = refl
-filter-one processor (Some y) = filter-one_if y (is_at processor y)
+filter-one processor (Some y) = filter-one_if y (is_slice_at processor y)
 
 -- a slice from one time on, that ends by another
 abbrev pub IsNext : ℕ → ℕ → Option Slice → Type 0
@@ -84,7 +84,7 @@ stand_apart [] processor = (tt, All-nil (λ (s : Slice). s.to ≤ 0))
 stand_apart (m ∷ past) processor =
     let o = sight_of m.event m.answer in
     let is : slices_at processor (m ∷ past) ≡ slices_at processor past ++ option_to_list (at_only processor (slice_shown past o)) =
-    filter-append (is_at processor) (slices past) (option_to_list (slice_shown past o))
+    filter-append (is_slice_at processor) (slices past) (option_to_list (slice_shown past o))
     ∙ ap (λ ys. slices_at processor past ++ ys) (filter-one processor (slice_shown past o)) in
     let P : List Slice → Type 0 = λ xs. StandApart xs × All (λ (s : Slice). s.to ≤ clock processor (m ∷ past)) xs in
     subst P (sym is) (grow (slices_at processor past) (at_only processor (slice_shown past o)) (clock processor past)

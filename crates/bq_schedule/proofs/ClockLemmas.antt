@@ -16,25 +16,25 @@ use Rattle.bq_schedule.specs.declared.change.Start.{Start}
 use Rattle.bq_schedule.specs.declared.change.Left.TheVariants.{Preempted, Blocked}
 use Rattle.bq_schedule.specs.declared.figures.ProcessorFigures.{ProcessorFigures}
 use Rattle.bq_schedule.specs.Moments.{Moment, History}
-use Rattle.bq_schedule.specs.Figures.{Figures, opening, unread, processor_of}
-use Rattle.bq_schedule.specs.Passing.{read_at, processor_read}
-use Rattle.bq_schedule.specs.Runnable.{leaves, comes}
-use Rattle.bq_schedule.specs.Running.{running_task, switched}
+use Rattle.bq_schedule.specs.Figures.{Figures, opening_figures, unread, processor_in_figures}
+use Rattle.bq_schedule.specs.Passing.{figures_read, processor_read}
+use Rattle.bq_schedule.specs.Runnable.{figures_left, comes}
+use Rattle.bq_schedule.specs.Running.{running_task, figures_switched}
 use Rattle.bq_schedule.specs.Slices.{Sight, sight, sight_of, clock_after, clock, runner_after, runner}
-use Rattle.bq_schedule.specs.Steps.{asked, taken, emptied, decided, placed, blocked, pulled, performed, time_at, is_there, after, figures}
-use Rattle.bq_schedule.specs.Laws.{IsWithin, IsOfProcessors}
+use Rattle.bq_schedule.specs.Steps.{figures_asked, figures_taken, emptied, figures_decided, placed, blocked, figures_pulled, performed, time_at, is_there, figures_after, figures}
+use Rattle.bq_schedule.specs.Laws.{IsSightWithin, IsOfProcessors}
 use Rattle.bq_schedule.proofs.FrameLemmas.{Works, KeepsWorks, KeepsRunning, RunsAs, works-then, works-id, works-with_task, works-with_processor, works-asked, works-leaves, works-comes, works-taken, works-switched, running-then, running-id, running-with_task, running-with_processor, running-asked, running-leaves, running-comes, running-taken, running-read_at, runs-after, runs-before, runs-switched, count-read_at, processors-read_at}
 
 -- what a reply does: the clock is read that it shows, and nothing else of the works changes; and it runs who it says
 abbrev pub Shows : Figures → Figures → Option Sight → Type 0
 Shows s s' None = KeepsWorks s s' × KeepsRunning s s'
-Shows s s' (Some x) = KeepsWorks (read_at x.processor x.now s) s' × RunsAs x.run x.processor s s'
+Shows s s' (Some x) = KeepsWorks (figures_read x.processor x.now s) s' × RunsAs x.run x.processor s s'
 
 shows-placed : (processor now : ℕ) (d : Decision) (id to : ℕ) (s : Figures)
     → Shows s (placed processor now d id to s) (Some (record { processor = processor; now = now; run = None }))
 shows-placed processor now d id to s =
-    let r = read_at processor now s in
-    let a = asked processor d r in
+    let r = figures_read processor now s in
+    let a = figures_asked processor d r in
     let at = time_at processor now s in
     let c = comes id to at a in (
       works-then r a _ (works-asked processor d r) (works-then a c _ (works-comes id to at a) (works-with_task c id _ refl)),
@@ -44,14 +44,14 @@ shows-placed processor now d id to s =
 
 shows-decided : (processor now : ℕ) (d : Decision) (run : Option ℕ) (s : Figures)
     → processor < length s.processors
-    → Shows s (decided processor now d run s) (Some (record { processor = processor; now = now; run = Some run }))
+    → Shows s (figures_decided processor now d run s) (Some (record { processor = processor; now = now; run = Some run }))
 shows-decided processor now d run s inside =
-    let r = read_at processor now s in
-    let a = asked processor d r in
+    let r = figures_read processor now s in
+    let a = figures_asked processor d r in
     let at = time_at processor now s in
     let inside' : processor < length a.processors = omega (arith, count-read_at processor now s, (works-asked processor d r).count) in (
       works-then r a _ (works-asked processor d r) (works-switched Preempted processor at run a),
-      runs-after (Some run) processor s a (switched Preempted processor at run a)
+      runs-after (Some run) processor s a (figures_switched Preempted processor at run a)
           (running-then s r a (running-read_at processor now s) (running-asked processor d r))
           (runs-switched Preempted processor at run a inside'),
     )
@@ -60,29 +60,29 @@ shows-blocked : (processor now id : ℕ) (run : Option ℕ) (s : Figures)
     → processor < length s.processors
     → Shows s (blocked processor now id run s) (Some (record { processor = processor; now = now; run = Some run }))
 shows-blocked processor now id run s inside =
-    let r = read_at processor now s in
-    let a = leaves id r in
+    let r = figures_read processor now s in
+    let a = figures_left id r in
     let at = time_at processor now s in
     let inside' : processor < length a.processors = omega (arith, count-read_at processor now s, (works-leaves id r).count) in (
       works-then r a _ (works-leaves id r) (works-switched Blocked processor at run a),
-      runs-after (Some run) processor s a (switched Blocked processor at run a)
+      runs-after (Some run) processor s a (figures_switched Blocked processor at run a)
           (running-then s r a (running-read_at processor now s) (running-leaves id r))
           (runs-switched Blocked processor at run a inside'),
     )
 
 shows-pulled : (processor now : ℕ) (d : Decision) (task run : Option ℕ) (s : Figures)
     → processor < length s.processors
-    → Shows s (pulled processor now d task run s) (Some (record { processor = processor; now = now; run = Some run }))
+    → Shows s (figures_pulled processor now d task run s) (Some (record { processor = processor; now = now; run = Some run }))
 shows-pulled processor now d task run s inside =
-    let r = read_at processor now s in
-    let a = asked processor d r in
+    let r = figures_read processor now s in
+    let a = figures_asked processor d r in
     let at = time_at processor now s in
-    let k = taken processor at task a in
+    let k = figures_taken processor at task a in
     let inside' : processor < length k.processors =
     omega (arith, count-read_at processor now s, (works-asked processor d r).count, (works-taken processor at task a).count) in (
       works-then r a _ (works-asked processor d r)
           (works-then a k _ (works-taken processor at task a) (works-switched Preempted processor at run k)),
-      runs-after (Some run) processor s k (switched Preempted processor at run k)
+      runs-after (Some run) processor s k (figures_switched Preempted processor at run k)
           (running-then s r k (running-read_at processor now s)
           (running-then r a k (running-asked processor d r) (running-taken processor at task a)))
           (runs-switched Preempted processor at run k inside'),
@@ -90,22 +90,22 @@ shows-pulled processor now d task run s inside =
 
 shows-drained : (processor now : ℕ) (d : Decision) (run : Option ℕ) (s : Figures)
     → processor < length s.processors
-    → Shows s (emptied processor (decided processor now d run s)) (Some (record { processor = processor; now = now; run = Some run }))
+    → Shows s (emptied processor (figures_decided processor now d run s)) (Some (record { processor = processor; now = now; run = Some run }))
 shows-drained processor now d run s inside =
     let h = shows-decided processor now d run s inside in
-    let q = decided processor now d run s in (
+    let q = figures_decided processor now d run s in (
       works-then _ q _ h.0 (works-with_processor q processor _ refl),
       runs-before (Some run) processor s q (emptied processor q) h.1 (running-with_processor q processor _ refl),
     )
 
-shows-admitted : (id : ℕ) (s : Figures) (t : Figures) → KeepsWorks (leaves id s) t → KeepsRunning (leaves id s) t
+shows-admitted : (id : ℕ) (s : Figures) (t : Figures) → KeepsWorks (figures_left id s) t → KeepsRunning (figures_left id s) t
     → KeepsWorks s t × KeepsRunning s t
-shows-admitted id s t a b = (works-then s (leaves id s) t (works-leaves id s) a, running-then s (leaves id s) t (running-leaves id s) b)
+shows-admitted id s t a b = (works-then s (figures_left id s) t (works-leaves id s) a, running-then s (figures_left id s) t (running-leaves id s) b)
 
 -- a reply to an event whose processor is there does to the works, and to who runs, what it shows
 pub shows-performed : (s : Figures) (e : Event) (r : Reply) → is_there s e ≡ true → Shows s (performed s e r) (sight e r)
 shows-performed s (Admit id nice mask slice) Admitted there =
-    shows-admitted id s _ (works-with_task (leaves id s) id _ refl) (running-with_task (leaves id s) id _)
+    shows-admitted id s _ (works-with_task (figures_left id s) id _ refl) (running-with_task (figures_left id s) id _)
 shows-performed s (EndWake processor now) (Placed task to by steps) there =
     shows-placed processor now (record { hook = Place; by = by; steps = steps }) task to s
 shows-performed s (Drain processor now) (Drained count run by steps) there =
@@ -126,7 +126,7 @@ pub not_below : (a b : ℕ) → ltb a b ≡ false → a < b → ⊥
 not_below a b e h = grind (arith, nat_tests)
 
 -- where the event's processor is not there, nothing is shown of one that is
-shows-nothing : (s : Figures) (e : Event) (r : Reply) → is_there s e ≡ false → IsWithin (length s.processors) (sight e r)
+shows-nothing : (s : Figures) (e : Event) (r : Reply) → is_there s e ≡ false → IsSightWithin (length s.processors) (sight e r)
     → Shows s s (sight e r)
 shows-nothing s (EndWake processor now) (Placed task to by steps) none h = absurd (not_below processor (length s.processors) none h)
 shows-nothing s (Drain processor now) (Drained count run by steps) none h = absurd (not_below processor (length s.processors) none h)
@@ -135,14 +135,14 @@ shows-nothing s (Block processor now) (Went task run) none h = absurd (not_below
 shows-nothing s (Pull processor from now) (Pulled task run by steps) none h = absurd (not_below processor (length s.processors) none h)
 shows-nothing s e r none h = (works-id s, running-id s)
 
-shows-if : (b : Bool) (s : Figures) (e : Event) (r : Reply) → is_there s e ≡ b → IsWithin (length s.processors) (sight e r)
+shows-if : (b : Bool) (s : Figures) (e : Event) (r : Reply) → is_there s e ≡ b → IsSightWithin (length s.processors) (sight e r)
     → Shows s (cond b (performed s e r) s) (sight e r)
 shows-if true s e r there h = shows-performed s e r there
 shows-if false s e r there h = shows-nothing s e r there h
 
 -- each answer does to the works, and to who runs, what it shows
 pub shows-after : (s : Figures) (e : Event) (a : Result Reply Refusal)
-    → IsWithin (length s.processors) (sight_of e a) → Shows s (after s e a) (sight_of e a)
+    → IsSightWithin (length s.processors) (sight_of e a) → Shows s (figures_after s e a) (sight_of e a)
 shows-after s e (Ok r) h = shows-if (is_there s e) s e r refl h
 shows-after s e (Err r) h = (record { at = λ j. refl; count = refl; tasks = refl; times = λ id. refl }, record { at = λ j. refl })
 
@@ -153,11 +153,11 @@ count-shown s s' (Some x) h = h.0.count ∙ count-read_at x.processor x.now s
 
 -- after an event and its answer there are as many processors as before
 pub count-after : (s : Figures) (e : Event) (a : Result Reply Refusal)
-    → IsWithin (length s.processors) (sight_of e a) → length (after s e a).processors ≡ length s.processors
-count-after s e a h = count-shown s (after s e a) (sight_of e a) (shows-after s e a h)
+    → IsSightWithin (length s.processors) (sight_of e a) → length (figures_after s e a).processors ≡ length s.processors
+count-after s e a h = count-shown s (figures_after s e a) (sight_of e a) (shows-after s e a h)
 
 -- what is shown of one of this many processors is so for the same number
-pub within_same : (n k : ℕ) (o : Option Sight) → n ≡ k → IsWithin k o → IsWithin n o
+pub within_same : (n k : ℕ) (o : Option Sight) → n ≡ k → IsSightWithin k o → IsSightWithin n o
 within_same n k o e h = rw e h
 
 -- the figures of a history have as many processors as its world
@@ -170,32 +170,32 @@ count-figures count (m ∷ past) h =
 -- the moment is within what the figures before it have
 pub within-figures : (count : ℕ) (past : History) (m : Moment)
     → IsOfProcessors count (m ∷ past)
-    → IsWithin (length (figures count past).processors) (sight_of m.event m.answer)
+    → IsSightWithin (length (figures count past).processors) (sight_of m.event m.answer)
 within-figures count past m h = within_same _ _ _ (count-figures count past h.1) h.0
 
 -- a reading at one processor leaves the works of the others
 works-read_at : (processor now j : ℕ) (s : Figures) → j < length s.processors
     → (b : Bool) → ((b ≡ true) × (processor ≡ j)) ⊎ ((b ≡ false) × (processor ≢ j))
-    → processor_of (read_at processor now s) j ≡ cond b (processor_read processor (processor_of s processor) now) (processor_of s j)
+    → processor_in_figures (figures_read processor now s) j ≡ cond b (processor_read processor (processor_in_figures s processor) now) (processor_in_figures s j)
 works-read_at processor now j s inside true (inl same) =
     ap (λ l. get_or l j unread) (processors-read_at processor now s)
-    ∙ ap (λ k. get_or (slice_set s.processors k (processor_read processor (processor_of s processor) now)) j unread) same.1
-    ∙ get_or-set_same s.processors j (processor_read processor (processor_of s processor) now) unread inside
+    ∙ ap (λ k. get_or (slice_set s.processors k (processor_read processor (processor_in_figures s processor) now)) j unread) same.1
+    ∙ get_or-set_same s.processors j (processor_read processor (processor_in_figures s processor) now) unread inside
 works-read_at processor now j s inside false (inl same) = absurd (cc)
 works-read_at processor now j s inside true (inr other) = absurd (cc)
 works-read_at processor now j s inside false (inr other) =
     ap (λ l. get_or l j unread) (processors-read_at processor now s)
-    ∙ get_or-set_other s.processors processor j (processor_read processor (processor_of s processor) now) unread (λ e. other.1 (sym e))
+    ∙ get_or-set_other s.processors processor j (processor_read processor (processor_in_figures s processor) now) unread (λ e. other.1 (sym e))
 
 -- the processor that was read
 pub read_there : (processor now : ℕ) (s : Figures) → processor < length s.processors
-    → processor_of (read_at processor now s) processor ≡ processor_read processor (processor_of s processor) now
+    → processor_in_figures (figures_read processor now s) processor ≡ processor_read processor (processor_in_figures s processor) now
 read_there processor now s inside = works-read_at processor now processor s inside true (inl (refl, refl))
 
 -- after a reading its processor has what the reading makes of it, and each other what it had
 pub processor-read_at : (processor now j : ℕ) (s : Figures) → j < length s.processors
-    → processor_of (read_at processor now s) j
-    ≡ cond (eqb processor j) (processor_read processor (processor_of s processor) now) (processor_of s j)
+    → processor_in_figures (figures_read processor now s) j
+    ≡ cond (eqb processor j) (processor_read processor (processor_in_figures s processor) now) (processor_in_figures s j)
 processor-read_at processor now j s inside = works-read_at processor now j s inside (eqb processor j) (eqb_tells processor j)
 
 last-cond : (b : Bool) (p q : ProcessorFigures) → (cond b p q).last ≡ cond b p.last q.last
@@ -203,16 +203,16 @@ last-cond true p q = refl
 last-cond false p q = refl
 
 last-same : (processor now j : ℕ) (s : Figures) (b : Bool) → ((b ≡ true) × (processor ≡ j)) ⊎ ((b ≡ false) × (processor ≢ j))
-    → cond b (reading (processor_of s processor).last now) (processor_of s j).last
-    ≡ cond b (reading (processor_of s j).last now) (processor_of s j).last
-last-same processor now j s true (inl same) = ap (λ k. reading (processor_of s k).last now) same.1
+    → cond b (reading (processor_in_figures s processor).last now) (processor_in_figures s j).last
+    ≡ cond b (reading (processor_in_figures s j).last now) (processor_in_figures s j).last
+last-same processor now j s true (inl same) = ap (λ k. reading (processor_in_figures s k).last now) same.1
 last-same processor now j s false (inl same) = refl
 last-same processor now j s true (inr other) = absurd (cc)
 last-same processor now j s false (inr other) = refl
 
 -- the last reading of each clock is the one that is shown
 pub last-shown : (s s' : Figures) (o : Option Sight) (j : ℕ) → j < length s.processors → Shows s s' o
-    → (processor_of s' j).last ≡ clock_after j (processor_of s j).last o
+    → (processor_in_figures s' j).last ≡ clock_after j (processor_in_figures s j).last o
 last-shown s s' None j inside h = ap (λ (w : Works). w.last) (h.0.at j)
 last-shown s s' (Some x) j inside h =
     ap (λ (w : Works). w.last) (h.0.at j)
@@ -222,28 +222,28 @@ last-shown s s' (Some x) j inside h =
 
 running_task-at : (o : Option (Option ℕ)) (s s' : Figures) (processor j : ℕ) (b : Bool)
     → ((b ≡ true) × (processor ≡ j)) ⊎ ((b ≡ false) × (processor ≢ j)) → RunsAs o processor s s'
-    → running_task (processor_of s' j) ≡ cond b (unwrap_or o (running_task (processor_of s j))) (running_task (processor_of s j))
+    → running_task (processor_in_figures s' j) ≡ cond b (unwrap_or o (running_task (processor_in_figures s j))) (running_task (processor_in_figures s j))
 running_task-at None s s' processor j true t h = ap (option_map (λ (x : Start). x.task)) (h.at j)
 running_task-at None s s' processor j false t h = ap (option_map (λ (x : Start). x.task)) (h.at j)
-running_task-at (Some run) s s' processor j true (inl same) h = ap (λ k. running_task (processor_of s' k)) (sym same.1) ∙ h.0
+running_task-at (Some run) s s' processor j true (inl same) h = ap (λ k. running_task (processor_in_figures s' k)) (sym same.1) ∙ h.0
 running_task-at (Some run) s s' processor j false (inl same) h = absurd (cc)
 running_task-at (Some run) s s' processor j true (inr other) h = absurd (cc)
 running_task-at (Some run) s s' processor j false (inr other) h = ap (option_map (λ (x : Start). x.task)) (h.1 j (λ e. other.1 (sym e)))
 
 -- who runs is who the sight of an event says
 pub running_task-shown : (s s' : Figures) (o : Option Sight) (j : ℕ)
-    → Shows s s' o → running_task (processor_of s' j) ≡ runner_after j (running_task (processor_of s j)) o
+    → Shows s s' o → running_task (processor_in_figures s' j) ≡ runner_after j (running_task (processor_in_figures s j)) o
 running_task-shown s s' None j h = ap (option_map (λ (x : Start). x.task)) (h.1.at j)
 running_task-shown s s' (Some x) j h = running_task-at x.run s s' x.processor j (eqb x.processor j) (eqb_tells x.processor j) h.1
 
-opening-at : (count processor : ℕ) → processor < count → processor_of (opening count) processor ≡ unread
+opening-at : (count processor : ℕ) → processor < count → processor_in_figures (opening_figures count) processor ≡ unread
 opening-at count processor inside = get_or-replicate count processor unread unread inside
 
 -- the figures' last reading of each processor, and who runs there, are those of the history
 pub figures-clocks : (count : ℕ) (past : History) (processor : ℕ)
     → IsOfProcessors count past → processor < count
-    → ((processor_of (figures count past) processor).last ≡ clock processor past)
-    × (running_task (processor_of (figures count past) processor) ≡ runner processor past)
+    → ((processor_in_figures (figures count past) processor).last ≡ clock processor past)
+    × (running_task (processor_in_figures (figures count past) processor) ≡ runner processor past)
 figures-clocks count [] processor h inside = (
   ap (λ (p : ProcessorFigures). p.last) (opening-at count processor inside),
   ap running_task (opening-at count processor inside),
@@ -253,7 +253,7 @@ figures-clocks count (m ∷ past) processor h inside =
     let o = sight_of m.event m.answer in
     let before = figures-clocks count past processor h.1 inside in
     let inside' : processor < length s.processors = omega (arith, count-figures count past h.1) in
-    let shown : Shows s (after s m.event m.answer) o = shows-after s m.event m.answer (within-figures count past m h) in (
+    let shown : Shows s (figures_after s m.event m.answer) o = shows-after s m.event m.answer (within-figures count past m h) in (
       last-shown s _ o processor inside' shown ∙ ap (λ n. clock_after processor n o) before.0,
       running_task-shown s _ o processor shown ∙ ap (λ w. runner_after processor w o) before.1,
     )

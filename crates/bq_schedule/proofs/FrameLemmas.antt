@@ -13,11 +13,11 @@ use Rattle.bq_schedule.specs.declared.change.Left.{Left}
 use Rattle.bq_schedule.specs.declared.change.Left.TheVariants.{Preempted, Blocked}
 use Rattle.bq_schedule.specs.declared.figures.TaskFigures.{TaskFigures}
 use Rattle.bq_schedule.specs.declared.figures.ProcessorFigures.{ProcessorFigures}
-use Rattle.bq_schedule.specs.Figures.{Figures, unread, unknown, processor_of, task_of, with_processor, with_task}
-use Rattle.bq_schedule.specs.Passing.{with_charged, read_at, processor_read}
-use Rattle.bq_schedule.specs.Runnable.{left_from, leaves, joins, comes}
-use Rattle.bq_schedule.specs.Running.{running_task, stopped, started, begun_if, starts_as, processor_runs, switched, is_run_by, with_latency}
-use Rattle.bq_schedule.specs.Steps.{processor_asked, asked, waited_there, taken}
+use Rattle.bq_schedule.specs.Figures.{Figures, unread, unknown, processor_in_figures, task_in_figures, figures_with_processor, figures_with_task}
+use Rattle.bq_schedule.specs.Passing.{with_charged, figures_read, processor_read}
+use Rattle.bq_schedule.specs.Runnable.{left_from, figures_left, joins, comes}
+use Rattle.bq_schedule.specs.Running.{running_task, stopped, started, begun_if, starts_as, processor_runs, figures_switched, is_run_by, with_latency}
+use Rattle.bq_schedule.specs.Steps.{processor_asked, figures_asked, waited_there, figures_taken}
 
 -- a place of a list is set to what f cannot tell from what was there
 get_or-set_case : {X Y : Type 0} (f : X → Y) (xs : List X) (i j : ℕ) (y d : X) (b c : Bool) → f y ≡ f (get_or xs i d) →
@@ -35,13 +35,13 @@ pub get_or-set_like : {X Y : Type 0} (f : X → Y) (xs : List X) (i j : ℕ) (y 
 get_or-set_like f xs i j y d e = get_or-set_case f xs i j y d (eqb j i) (leb (length xs) i) e (eqb_tells j i) (leb_tells (length xs) i)
 
 -- a processor that is set to one that f cannot tell from it changes f of none
-pub processor_kept : {Y : Type 0} (f : ProcessorFigures → Y) (s : Figures) (i j : ℕ) (p : ProcessorFigures) → f p ≡ f (processor_of s i) →
-    f (processor_of (with_processor s i p) j) ≡ f (processor_of s j)
+pub processor_kept : {Y : Type 0} (f : ProcessorFigures → Y) (s : Figures) (i j : ℕ) (p : ProcessorFigures) → f p ≡ f (processor_in_figures s i) →
+    f (processor_in_figures (figures_with_processor s i p) j) ≡ f (processor_in_figures s j)
 processor_kept f s i j p e = get_or-set_like f s.processors i j p unread e
 
 -- a task that is set to one that f cannot tell from it changes f of none
-pub task_kept : {Y : Type 0} (f : TaskFigures → Y) (s : Figures) (i j : ℕ) (t : TaskFigures) → f t ≡ f (task_of s i) →
-    f (task_of (with_task s i t) j) ≡ f (task_of s j)
+pub task_kept : {Y : Type 0} (f : TaskFigures → Y) (s : Figures) (i j : ℕ) (t : TaskFigures) → f t ≡ f (task_in_figures s i) →
+    f (task_in_figures (figures_with_task s i t) j) ≡ f (task_in_figures s j)
 task_kept f s i j t e = get_or-set_like f s.tasks i j t unknown e
 
 -- what only a reading of the clock changes
@@ -69,14 +69,14 @@ running-processor_asked p d Pull = refl
 
 -- what keeps everything of the processors but who runs, what is runnable, and counts
 pub record KeepsWorks (s s' : Figures) : Type 0 where
-  pub at : (j : ℕ) → works (processor_of s' j) ≡ works (processor_of s j)
+  pub at : (j : ℕ) → works (processor_in_figures s' j) ≡ works (processor_in_figures s j)
   pub count : length s'.processors ≡ length s.processors
   pub tasks : length s'.tasks ≡ length s.tasks
-  pub times : (id : ℕ) → (task_of s' id).time ≡ (task_of s id).time
+  pub times : (id : ℕ) → (task_in_figures s' id).time ≡ (task_in_figures s id).time
 
 -- each processor runs what it ran
 pub record KeepsRunning (s s' : Figures) : Type 0 where
-  pub at : (j : ℕ) → (processor_of s' j).running ≡ (processor_of s j).running
+  pub at : (j : ℕ) → (processor_in_figures s' j).running ≡ (processor_in_figures s j).running
 
 -- what changes nothing keeps the works
 pub works-id : (s : Figures) → KeepsWorks s s
@@ -97,31 +97,31 @@ running-id s = record { at = λ j. refl }
 
 -- a processor whose works stay
 pub works-with_processor : (s : Figures) (i : ℕ) (p : ProcessorFigures)
-    → works p ≡ works (processor_of s i) → KeepsWorks s (with_processor s i p)
+    → works p ≡ works (processor_in_figures s i) → KeepsWorks s (figures_with_processor s i p)
 works-with_processor s i p e =
     record { at = λ j. processor_kept works s i j p e; count = length-set s.processors i p; tasks = refl; times = λ id. refl }
 
 -- a processor that is set, where the same runs as before, keeps who runs
 pub running-with_processor : (s : Figures) (i : ℕ) (p : ProcessorFigures)
-    → p.running ≡ (processor_of s i).running → KeepsRunning s (with_processor s i p)
+    → p.running ≡ (processor_in_figures s i).running → KeepsRunning s (figures_with_processor s i p)
 running-with_processor s i p e = record { at = λ j. processor_kept (λ q. q.running) s i j p e }
 
 -- a task whose time stays
-pub works-with_task : (s : Figures) (i : ℕ) (t : TaskFigures) → t.time ≡ (task_of s i).time → KeepsWorks s (with_task s i t)
+pub works-with_task : (s : Figures) (i : ℕ) (t : TaskFigures) → t.time ≡ (task_in_figures s i).time → KeepsWorks s (figures_with_task s i t)
 works-with_task s i t e =
     record { at = λ j. refl; count = refl; tasks = length-set s.tasks i t; times = λ id. task_kept (λ u. u.time) s i id t e }
 
 -- a task that is set keeps who runs
-pub running-with_task : (s : Figures) (i : ℕ) (t : TaskFigures) → KeepsRunning s (with_task s i t)
+pub running-with_task : (s : Figures) (i : ℕ) (t : TaskFigures) → KeepsRunning s (figures_with_task s i t)
 running-with_task s i t = record { at = λ j. refl }
 
 -- a decision that is counted keeps the works
-pub works-asked : (processor : ℕ) (d : Decision) (s : Figures) → KeepsWorks s (asked processor d s)
-works-asked processor d s = works-with_processor s processor _ (works-processor_asked (processor_of s processor) d d.hook)
+pub works-asked : (processor : ℕ) (d : Decision) (s : Figures) → KeepsWorks s (figures_asked processor d s)
+works-asked processor d s = works-with_processor s processor _ (works-processor_asked (processor_in_figures s processor) d d.hook)
 
 -- a decision that is counted keeps who runs
-pub running-asked : (processor : ℕ) (d : Decision) (s : Figures) → KeepsRunning s (asked processor d s)
-running-asked processor d s = running-with_processor s processor _ (running-processor_asked (processor_of s processor) d d.hook)
+pub running-asked : (processor : ℕ) (d : Decision) (s : Figures) → KeepsRunning s (figures_asked processor d s)
+running-asked processor d s = running-with_processor s processor _ (running-processor_asked (processor_in_figures s processor) d d.hook)
 
 works-left_from : (id : ℕ) (s : Figures) (place : Option ℕ) → KeepsWorks s (left_from id s place)
 works-left_from id s None = works-id s
@@ -132,12 +132,12 @@ running-left_from id s None = running-id s
 running-left_from id s (Some processor) = running-then _ _ _ (running-with_processor s processor _ refl) (running-with_task _ id _)
 
 -- a task that leaves its processor keeps the works
-pub works-leaves : (id : ℕ) (s : Figures) → KeepsWorks s (leaves id s)
-works-leaves id s = works-left_from id s (task_of s id).place
+pub works-leaves : (id : ℕ) (s : Figures) → KeepsWorks s (figures_left id s)
+works-leaves id s = works-left_from id s (task_in_figures s id).place
 
 -- a task that leaves its processor keeps who runs
-pub running-leaves : (id : ℕ) (s : Figures) → KeepsRunning s (leaves id s)
-running-leaves id s = running-left_from id s (task_of s id).place
+pub running-leaves : (id : ℕ) (s : Figures) → KeepsRunning s (figures_left id s)
+running-leaves id s = running-left_from id s (task_in_figures s id).place
 
 -- a task that joins a processor keeps the works
 pub works-joins : (id processor now : ℕ) (s : Figures) → KeepsWorks s (joins id processor now s)
@@ -148,20 +148,20 @@ running-joins id processor now s = running-then _ _ _ (running-with_processor s 
 
 -- a task that comes from wherever it was keeps the works
 pub works-comes : (id processor now : ℕ) (s : Figures) → KeepsWorks s (comes id processor now s)
-works-comes id processor now s = works-then _ _ _ (works-leaves id s) (works-joins id processor now (leaves id s))
+works-comes id processor now s = works-then _ _ _ (works-leaves id s) (works-joins id processor now (figures_left id s))
 
 -- a task that comes from wherever it was keeps who runs
 pub running-comes : (id processor now : ℕ) (s : Figures) → KeepsRunning s (comes id processor now s)
-running-comes id processor now s = running-then _ _ _ (running-leaves id s) (running-joins id processor now (leaves id s))
+running-comes id processor now s = running-then _ _ _ (running-leaves id s) (running-joins id processor now (figures_left id s))
 
 -- a task that is pulled, if there is one, keeps the works
-pub works-taken : (processor now : ℕ) (task : Option ℕ) (s : Figures) → KeepsWorks s (taken processor now task s)
+pub works-taken : (processor now : ℕ) (task : Option ℕ) (s : Figures) → KeepsWorks s (figures_taken processor now task s)
 works-taken processor now None s = works-id s
 works-taken processor now (Some id) s =
     works-then _ _ _ (works-with_task s id _ refl) (works-comes id processor now (waited_there id now s))
 
 -- a task that is pulled, if there is one, keeps who runs
-pub running-taken : (processor now : ℕ) (task : Option ℕ) (s : Figures) → KeepsRunning s (taken processor now task s)
+pub running-taken : (processor now : ℕ) (task : Option ℕ) (s : Figures) → KeepsRunning s (figures_taken processor now task s)
 running-taken processor now None s = running-id s
 running-taken processor now (Some id) s =
     running-then _ _ _ (running-with_task s id _) (running-comes id processor now (waited_there id now s))
@@ -183,7 +183,7 @@ running-stopped Preempted now (Some old) s = running-with_task s old.task _
 
 works-begun_if : (processor now : ℕ) (run : Option ℕ) (s : Figures) → KeepsWorks s (begun_if processor now run s)
 works-begun_if processor now None s = works-id s
-works-begun_if processor now (Some id) s = works-with_task s id _ (time-with_latency (task_of s id) _)
+works-begun_if processor now (Some id) s = works-with_task s id _ (time-with_latency (task_in_figures s id) _)
 
 -- a task that begins to run, or none, keeps the processors
 pub processors-begun_if : (processor now : ℕ) (run : Option ℕ) (s : Figures) → (begun_if processor now run s).processors ≡ s.processors
@@ -196,29 +196,29 @@ works-processor_runs p (Some start) = refl
 
 works-started : (processor now : ℕ) (run : Option ℕ) (s : Figures) → KeepsWorks s (started processor now run s)
 works-started processor now run s =
-    let e : processor_of (begun_if processor now run s) processor ≡ processor_of s processor =
+    let e : processor_in_figures (begun_if processor now run s) processor ≡ processor_in_figures s processor =
     ap (λ l. get_or l processor unread) (processors-begun_if processor now run s) in
     works-then _ _ _ (works-begun_if processor now run s)
     (works-with_processor (begun_if processor now run s) processor _
-    (works-processor_runs (processor_of s processor) (starts_as processor now run s) ∙ ap works (sym e)))
+    (works-processor_runs (processor_in_figures s processor) (starts_as processor now run s) ∙ ap works (sym e)))
 
 works-switched_if : (b : Bool) (left : Left) (processor now : ℕ) (run : Option ℕ) (s : Figures) →
-    KeepsWorks s (cond b s (started processor now run (stopped left now (processor_of s processor).running s)))
+    KeepsWorks s (cond b s (started processor now run (stopped left now (processor_in_figures s processor).running s)))
 works-switched_if true left processor now run s = works-id s
 works-switched_if false left processor now run s =
-    works-then _ _ _ (works-stopped left now (processor_of s processor).running s)
-    (works-started processor now run (stopped left now (processor_of s processor).running s))
+    works-then _ _ _ (works-stopped left now (processor_in_figures s processor).running s)
+    (works-started processor now run (stopped left now (processor_in_figures s processor).running s))
 
 -- a switch to a task, or to none, keeps the works
-pub works-switched : (left : Left) (processor now : ℕ) (run : Option ℕ) (s : Figures) → KeepsWorks s (switched left processor now run s)
-works-switched left processor now run s = works-switched_if (is_run_by (processor_of s processor).running run) left processor now run s
+pub works-switched : (left : Left) (processor now : ℕ) (run : Option ℕ) (s : Figures) → KeepsWorks s (figures_switched left processor now run s)
+works-switched left processor now run s = works-switched_if (is_run_by (processor_in_figures s processor).running run) left processor now run s
 
 -- what is reported of who runs at a processor holds afterwards, and at the others it is as it was
 abbrev pub RunsAs : Option (Option ℕ) → ℕ → Figures → Figures → Type 0
 RunsAs None processor s s' = KeepsRunning s s'
 RunsAs (Some run) processor s s' =
-    (running_task (processor_of s' processor) ≡ run)
-    × ((j : ℕ) → j ≢ processor → (processor_of s' j).running ≡ (processor_of s j).running)
+    (running_task (processor_in_figures s' processor) ≡ run)
+    × ((j : ℕ) → j ≢ processor → (processor_in_figures s' j).running ≡ (processor_in_figures s j).running)
 
 -- what is reported of who runs holds too where a step stands before it that keeps who runs
 pub runs-after : (o : Option (Option ℕ)) (processor : ℕ) (s t u : Figures)
@@ -241,10 +241,10 @@ runs-started : (processor now : ℕ) (run : Option ℕ) (s : Figures)
     → processor < length s.processors → RunsAs (Some run) processor s (started processor now run s)
 runs-started processor now run s inside =
     let e : (begun_if processor now run s).processors ≡ s.processors = processors-begun_if processor now run s in
-    let q = processor_runs (processor_of s processor) (starts_as processor now run s) in (
+    let q = processor_runs (processor_in_figures s processor) (starts_as processor now run s) in (
       ap (λ l. running_task (get_or (slice_set l processor q) processor unread)) e
           ∙ ap running_task (get_or-set_same s.processors processor q unread inside)
-          ∙ running_task-processor_runs (processor_of s processor) processor now run s,
+          ∙ running_task-processor_runs (processor_in_figures s processor) processor now run s,
       λ j ne.
           ap (λ l. (get_or (slice_set l processor q) j unread).running) e
           ∙ ap (λ (p : ProcessorFigures). p.running) (get_or-set_other s.processors processor j q unread ne),
@@ -258,27 +258,27 @@ who_is (Some start) None e = cc
 who_is (Some start) (Some id) e = grind (arith, nat_tests)
 
 runs-switched_if : (b : Bool) (left : Left) (processor now : ℕ) (run : Option ℕ) (s : Figures)
-    → is_run_by (processor_of s processor).running run ≡ b → processor < length s.processors
-    → RunsAs (Some run) processor s (cond b s (started processor now run (stopped left now (processor_of s processor).running s)))
-runs-switched_if true left processor now run s e inside = (who_is (processor_of s processor).running run e, λ j ne. refl)
+    → is_run_by (processor_in_figures s processor).running run ≡ b → processor < length s.processors
+    → RunsAs (Some run) processor s (cond b s (started processor now run (stopped left now (processor_in_figures s processor).running s)))
+runs-switched_if true left processor now run s e inside = (who_is (processor_in_figures s processor).running run e, λ j ne. refl)
 runs-switched_if false left processor now run s e inside =
-    let t = stopped left now (processor_of s processor).running s in
-    let inside' : processor < length t.processors = omega (arith, (works-stopped left now (processor_of s processor).running s).count) in
+    let t = stopped left now (processor_in_figures s processor).running s in
+    let inside' : processor < length t.processors = omega (arith, (works-stopped left now (processor_in_figures s processor).running s).count) in
     runs-after (Some run) processor s t (started processor now run t)
-    (running-stopped left now (processor_of s processor).running s) (runs-started processor now run t inside')
+    (running-stopped left now (processor_in_figures s processor).running s) (runs-started processor now run t inside')
 
 -- after a switch the processor runs whom it was to run, and the others whom they ran
 pub runs-switched : (left : Left) (processor now : ℕ) (run : Option ℕ) (s : Figures)
-    → processor < length s.processors → RunsAs (Some run) processor s (switched left processor now run s)
+    → processor < length s.processors → RunsAs (Some run) processor s (figures_switched left processor now run s)
 runs-switched left processor now run s inside =
-    runs-switched_if (is_run_by (processor_of s processor).running run) left processor now run s refl inside
+    runs-switched_if (is_run_by (processor_in_figures s processor).running run) left processor now run s refl inside
 
 running-with_charged : (s : Figures) (o : Option Slice) → KeepsRunning s (with_charged s o)
 running-with_charged s None = running-id s
 running-with_charged s (Some x) = running-with_task s x.task _
 
 -- a reading of a clock keeps who runs
-pub running-read_at : (processor now : ℕ) (s : Figures) → KeepsRunning s (read_at processor now s)
+pub running-read_at : (processor now : ℕ) (s : Figures) → KeepsRunning s (figures_read processor now s)
 running-read_at processor now s = running-then _ _ _ (running-with_processor s processor _ refl) (running-with_charged _ _)
 
 count-with_charged : (s : Figures) (o : Option Slice) → (with_charged s o).processors ≡ s.processors
@@ -287,11 +287,11 @@ count-with_charged s (Some x) = refl
 
 -- a reading sets the processor whose clock is read, and no other
 pub processors-read_at : (processor now : ℕ) (s : Figures)
-    → (read_at processor now s).processors ≡ slice_set s.processors processor (processor_read processor (processor_of s processor) now)
+    → (figures_read processor now s).processors ≡ slice_set s.processors processor (processor_read processor (processor_in_figures s processor) now)
 processors-read_at processor now s = count-with_charged _ _
 
 -- after a reading there are as many processors as before
-pub count-read_at : (processor now : ℕ) (s : Figures) → length (read_at processor now s).processors ≡ length s.processors
+pub count-read_at : (processor now : ℕ) (s : Figures) → length (figures_read processor now s).processors ≡ length s.processors
 count-read_at processor now s =
     ap (λ (l : List ProcessorFigures). length l) (processors-read_at processor now s) ∙ length-set s.processors processor _
 
@@ -300,5 +300,5 @@ tasks-with_charged s None = refl
 tasks-with_charged s (Some x) = length-set s.tasks x.task _
 
 -- after a reading there are as many tasks as before
-pub tasks-read_at : (processor now : ℕ) (s : Figures) → length (read_at processor now s).tasks ≡ length s.tasks
-tasks-read_at processor now s = tasks-with_charged (with_processor s processor (processor_read processor (processor_of s processor) now)) _
+pub tasks-read_at : (processor now : ℕ) (s : Figures) → length (figures_read processor now s).tasks ≡ length s.tasks
+tasks-read_at processor now s = tasks-with_charged (figures_with_processor s processor (processor_read processor (processor_in_figures s processor) now)) _

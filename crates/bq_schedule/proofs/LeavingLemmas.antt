@@ -8,9 +8,9 @@ use Rattle.std.proofs.lemmas.List.Elements.{All-from_get_or}
 use Rattle.bq_weights.specs.VirtualTime.{weights, weight_of}
 use Rattle.bq_schedule.specs.declared.figures.TaskFigures.{TaskFigures}
 use Rattle.bq_schedule.specs.declared.figures.ProcessorFigures.{ProcessorFigures}
-use Rattle.bq_schedule.specs.Figures.{Figures, unread, unknown, processor_of, task_of, with_processor, with_task}
-use Rattle.bq_schedule.specs.Runnable.{fair_at, processor_left, left_from, leaves}
-use Rattle.bq_schedule.specs.Steps.{weight_at}
+use Rattle.bq_schedule.specs.Figures.{Figures, unread, unknown, processor_in_figures, task_in_figures, figures_with_processor, figures_with_task}
+use Rattle.bq_schedule.specs.Runnable.{fair_at, processor_left, left_from, figures_left}
+use Rattle.bq_schedule.specs.Steps.{weight_or_zero}
 use Rattle.bq_schedule.specs.Slices.{is_this}
 use Rattle.bq_schedule.specs.FairTimes.{weight_there, weights_at}
 use Rattle.bq_schedule.proofs.FrameLemmas.{processor_kept, task_kept}
@@ -40,28 +40,28 @@ weight_at_if true n h = h
 weight_at_if false n h = omega arith
 
 -- no nice value has a weight above 88761
-pub weight_at-le : (nice : ℤ) → weight_at nice ≤ 88761
+pub weight_at-le : (nice : ℤ) → weight_or_zero nice ≤ 88761
 weight_at-le nice = weight_at_if _ (weight_of nice) (weight_of-le nice)
 
 -- a task that is somewhere has an id of the table
-in_table_by : (s : Figures) (id processor : ℕ) (b : Bool) → (task_of s id).place ≡ Some processor
+in_table_by : (s : Figures) (id processor : ℕ) (b : Bool) → (task_in_figures s id).place ≡ Some processor
     → ((b ≡ true) × (length s.tasks ≤ id)) ⊎ ((b ≡ false) × (id < length s.tasks))
     → id < length s.tasks
 in_table_by s id processor b e (inl past) =
-    let u : (task_of s id).place ≡ None = ap (λ (t : TaskFigures). t.place) (get_or_past s.tasks id unknown past.1) in cc
+    let u : (task_in_figures s id).place ≡ None = ap (λ (t : TaskFigures). t.place) (get_or_past s.tasks id unknown past.1) in cc
 in_table_by s id processor b e (inr inside) = inside.1
 
-in_table : (s : Figures) (id processor : ℕ) → (task_of s id).place ≡ Some processor → id < length s.tasks
+in_table : (s : Figures) (id processor : ℕ) → (task_in_figures s id).place ≡ Some processor → id < length s.tasks
 in_table s id processor e = in_table_by s id processor (leb (length s.tasks) id) e (leb_tells (length s.tasks) id)
 
 -- one that has none has nothing
-pub beyond_table : (s : Figures) (id : ℕ) → length s.tasks ≤ id → task_of s id ≡ unknown
+pub beyond_table : (s : Figures) (id : ℕ) → length s.tasks ≤ id → task_in_figures s id ≡ unknown
 beyond_table s id past = get_or_past s.tasks id unknown past
 
 -- where a task is set, what f reads of each task is what it was, or what it is set to
 pub set_reads : {Y : Type 0} (f : TaskFigures → Y) (s : Figures) (id j : ℕ) (t : TaskFigures) (b : Bool)
     → id < length s.tasks → ((b ≡ true) × (id ≡ j)) ⊎ ((b ≡ false) × (id ≢ j))
-    → f (task_of (with_task s id t) j) ≡ cond b (f t) (f (task_of s j))
+    → f (task_in_figures (figures_with_task s id t) j) ≡ cond b (f t) (f (task_in_figures s j))
 set_reads f s id j t true inside (inl e) =
     ap (λ k. f (get_or (slice_set s.tasks id t) k unknown)) (sym e.1) ∙ ap f (get_or-set_same s.tasks id t unknown inside)
 set_reads f s id j t false inside (inl e) = absurd (cc)
@@ -71,7 +71,7 @@ set_reads f s id j t false inside (inr e) = ap f (get_or-set_other s.tasks id j 
 -- the weights at a processor, where a task is set
 pub weights-set : (s : Figures) (id processor : ℕ) (t : TaskFigures)
     → id < length s.tasks
-    → weights_at (with_task s id t) processor + weight_there processor (task_of s id) ≡ weights_at s processor + weight_there processor t
+    → weights_at (figures_with_task s id t) processor + weight_there processor (task_in_figures s id) ≡ weights_at s processor + weight_there processor t
 weights-set s id processor t inside = sum_by-set (weight_there processor) s.tasks id t unknown inside
 
 there-le : (b : Bool) (n : ℕ) → n ≤ 88761 → cond b n 0 ≤ 88761
@@ -95,7 +95,7 @@ weight-nowhere processor t e = ap (λ o. cond (is_this processor o) t.weight 0) 
 -- what a processor's figures are after one is set
 pub set-there : (s : Figures) (i j : ℕ) (p : ProcessorFigures) (b : Bool)
     → j < length s.processors → ((b ≡ true) × (i ≡ j)) ⊎ ((b ≡ false) × (i ≢ j))
-    → (processor_of (with_processor s i p) j).weight ≡ cond b p.weight (processor_of s j).weight
+    → (processor_in_figures (figures_with_processor s i p) j).weight ≡ cond b p.weight (processor_in_figures s j).weight
 set-there s i j p true inside (inl e) =
     ap (λ k. (get_or (slice_set s.processors k p) j unread).weight) e.1
     ∙ ap (λ (q : ProcessorFigures). q.weight) (get_or-set_same s.processors j p unread inside)
@@ -107,29 +107,29 @@ set-there s i j p false inside (inr e) =
 -- what was given at each processor is kept where a processor is set that has given the same
 pub shared-with_processor : (s : Figures) (i : ℕ) (p : ProcessorFigures) (j : ℕ)
     → p.shared ≡ PurseLemmas.shared_at s i
-    → PurseLemmas.shared_at (with_processor s i p) j ≡ PurseLemmas.shared_at s j
+    → PurseLemmas.shared_at (figures_with_processor s i p) j ≡ PurseLemmas.shared_at s j
 shared-with_processor s i p j e = processor_kept (λ (q : ProcessorFigures). q.shared) s i j p e
 
 -- a task leaves its processor: it keeps what it has, and its weight goes
 pub record Leaves (id : ℕ) (s s' : Figures) : Type 0 where
   pub sound : PurseLemmas.IsSound s'
   pub raws : (j : ℕ) → PurseLemmas.uncapped s' j ≡ PurseLemmas.uncapped s j
-  pub nowhere : (task_of s' id).place ≡ None
+  pub nowhere : (task_in_figures s' id).place ≡ None
 
 weights-left : (s s' : Figures) (id processor j : ℕ) (b : Bool) (w : ℕ)
     → ((b ≡ true) × (processor ≡ j)) ⊎ ((b ≡ false) × (processor ≢ j)) → eqb processor j ≡ b
-    → id < length s.tasks → (task_of s id).place ≡ Some processor → (processor_of s j).weight ≡ weights_at s j
-    → weights_at s' j + weight_there j (task_of s id) ≡ weights_at s j
-    → w ≡ cond b ((processor_of s processor).weight - (task_of s id).weight) (processor_of s j).weight
+    → id < length s.tasks → (task_in_figures s id).place ≡ Some processor → (processor_in_figures s j).weight ≡ weights_at s j
+    → weights_at s' j + weight_there j (task_in_figures s id) ≡ weights_at s j
+    → w ≡ cond b ((processor_in_figures s processor).weight - (task_in_figures s id).weight) (processor_in_figures s j).weight
     → w ≡ weights_at s' j
 weights-left s s' id processor j true w (inl e) is inside at old sums new =
-    let same : (processor_of s processor).weight ≡ (processor_of s j).weight = ap (λ k. (processor_of s k).weight) e.1 in
-    let here : weight_there j (task_of s id) ≡ (task_of s id).weight = weight-here j (task_of s id) (at ∙ ap (λ (k : ℕ). Some k) e.1) in
+    let same : (processor_in_figures s processor).weight ≡ (processor_in_figures s j).weight = ap (λ k. (processor_in_figures s k).weight) e.1 in
+    let here : weight_there j (task_in_figures s id) ≡ (task_in_figures s id).weight = weight-here j (task_in_figures s id) (at ∙ ap (λ (k : ℕ). Some k) e.1) in
     omega (arith, same, here, old, sums, new)
 weights-left s s' id processor j false w (inl e) is inside at old sums new = absurd (cc)
 weights-left s s' id processor j true w (inr e) is inside at old sums new = absurd (cc)
 weights-left s s' id processor j false w (inr e) is inside at old sums new =
-    let here : weight_there j (task_of s id) ≡ 0 = weight-elsewhere j processor (task_of s id) false at is in
+    let here : weight_there j (task_in_figures s id) ≡ 0 = weight-elsewhere j processor (task_in_figures s id) false at is in
     omega (arith, here, old, sums, new)
 
 -- the fair time of a purse where it is
@@ -147,19 +147,19 @@ cond-joined f false u v h k = k
 -- one purse is another, which came after what was given; so did the others
 pub joined-set : (s s' : Figures) (j : ℕ) (u : PurseLemmas.Purse) (b : Bool)
     → ((k : ℕ) → PurseLemmas.shared_at s' k ≡ PurseLemmas.shared_at s k)
-    → PurseLemmas.purse (task_of s' j) ≡ cond b u (PurseLemmas.purse (task_of s j)) → HasJoined (PurseLemmas.shared_at s) u
-    → HasJoined (PurseLemmas.shared_at s) (PurseLemmas.purse (task_of s j))
-    → HasJoined (PurseLemmas.shared_at s') (PurseLemmas.purse (task_of s' j))
+    → PurseLemmas.purse (task_in_figures s' j) ≡ cond b u (PurseLemmas.purse (task_in_figures s j)) → HasJoined (PurseLemmas.shared_at s) u
+    → HasJoined (PurseLemmas.shared_at s) (PurseLemmas.purse (task_in_figures s j))
+    → HasJoined (PurseLemmas.shared_at s') (PurseLemmas.purse (task_in_figures s' j))
 joined-set s s' j u b gives is new old =
-    PurseLemmas.joined-more (PurseLemmas.shared_at s) (PurseLemmas.shared_at s') (PurseLemmas.purse (task_of s' j))
-    (task_of s' j).place (λ k. omega (arith, gives k))
+    PurseLemmas.joined-more (PurseLemmas.shared_at s) (PurseLemmas.shared_at s') (PurseLemmas.purse (task_in_figures s' j))
+    (task_in_figures s' j).place (λ k. omega (arith, gives k))
     (PurseLemmas.joined-same (PurseLemmas.shared_at s)
-    (PurseLemmas.purse (task_of s' j)) (cond b u (PurseLemmas.purse (task_of s j))) is
-    (cond-joined (PurseLemmas.shared_at s) b u (PurseLemmas.purse (task_of s j)) new old))
+    (PurseLemmas.purse (task_in_figures s' j)) (cond b u (PurseLemmas.purse (task_in_figures s j))) is
+    (cond-joined (PurseLemmas.shared_at s) b u (PurseLemmas.purse (task_in_figures s j)) new old))
 
 worth-cond : (s : Figures) (id j : ℕ) (u : PurseLemmas.Purse) (b : Bool)
     → ((b ≡ true) × (id ≡ j)) ⊎ ((b ≡ false) × (id ≢ j)) → worth (PurseLemmas.shared_at s) u ≡ PurseLemmas.uncapped s id
-    → worth (PurseLemmas.shared_at s) (cond b u (PurseLemmas.purse (task_of s j))) ≡ PurseLemmas.uncapped s j
+    → worth (PurseLemmas.shared_at s) (cond b u (PurseLemmas.purse (task_in_figures s j))) ≡ PurseLemmas.uncapped s j
 worth-cond s id j u true (inl e) same = same ∙ ap (λ k. PurseLemmas.uncapped s k) e.1
 worth-cond s id j u false (inl e) same = absurd (cc)
 worth-cond s id j u true (inr e) same = absurd (cc)
@@ -168,36 +168,36 @@ worth-cond s id j u false (inr e) same = refl
 -- one purse is another of the same worth
 pub raw-set : (s s' : Figures) (id j : ℕ) (u : PurseLemmas.Purse)
     → ((k : ℕ) → PurseLemmas.shared_at s' k ≡ PurseLemmas.shared_at s k)
-    → PurseLemmas.purse (task_of s' j) ≡ cond (eqb id j) u (PurseLemmas.purse (task_of s j))
+    → PurseLemmas.purse (task_in_figures s' j) ≡ cond (eqb id j) u (PurseLemmas.purse (task_in_figures s j))
     → worth (PurseLemmas.shared_at s) u ≡ PurseLemmas.uncapped s id
     → PurseLemmas.uncapped s' j ≡ PurseLemmas.uncapped s j
 raw-set s s' id j u gives is same =
-    PurseLemmas.worth-same (PurseLemmas.shared_at s') (PurseLemmas.shared_at s) (PurseLemmas.purse (task_of s' j))
-    (task_of s' j).place gives
+    PurseLemmas.worth-same (PurseLemmas.shared_at s') (PurseLemmas.shared_at s) (PurseLemmas.purse (task_in_figures s' j))
+    (task_in_figures s' j).place gives
     ∙ ap (λ v. worth (PurseLemmas.shared_at s) v) is ∙ worth-cond s id j u (eqb id j) (eqb_tells id j) same
 
 left-one : (s : Figures) (id processor : ℕ) (p : ProcessorFigures) (t' : TaskFigures)
-    → PurseLemmas.IsSound s → (task_of s id).place ≡ Some processor → p.shared ≡ PurseLemmas.shared_at s processor
-    → p.weight ≡ (processor_of s processor).weight - (task_of s id).weight → t'.place ≡ None
-    → t'.weight ≡ (task_of s id).weight → t'.accrued ≡ PurseLemmas.uncapped s id
-    → Leaves id s (with_task (with_processor s processor p) id t')
+    → PurseLemmas.IsSound s → (task_in_figures s id).place ≡ Some processor → p.shared ≡ PurseLemmas.shared_at s processor
+    → p.weight ≡ (processor_in_figures s processor).weight - (task_in_figures s id).weight → t'.place ≡ None
+    → t'.weight ≡ (task_in_figures s id).weight → t'.accrued ≡ PurseLemmas.uncapped s id
+    → Leaves id s (figures_with_task (figures_with_processor s processor p) id t')
 left-one s id processor p t' h at shared weight nowhere same accrued =
-    let s1 = with_processor s processor p in
-    let s2 = with_task s1 id t' in
+    let s1 = figures_with_processor s processor p in
+    let s2 = figures_with_task s1 id t' in
     let u = PurseLemmas.purse t' in
     let inside : id < length s.tasks = in_table s id processor at in
     let gives : (j : ℕ) → PurseLemmas.shared_at s2 j ≡ PurseLemmas.shared_at s j = λ j. shared-with_processor s processor p j shared in
-    let is : (j : ℕ) → PurseLemmas.purse (task_of s2 j) ≡ cond (eqb id j) u (PurseLemmas.purse (task_of s j)) =
+    let is : (j : ℕ) → PurseLemmas.purse (task_in_figures s2 j) ≡ cond (eqb id j) u (PurseLemmas.purse (task_in_figures s j)) =
     λ j. set_reads PurseLemmas.purse s1 id j t' (eqb id j) inside (eqb_tells id j) in
     record {
       sound = record {
         weights = λ j there.
             let there' : j < length s.processors = omega (arith, there, length-set s.processors processor p) in
             let gone : weight_there j t' ≡ 0 = weight-nowhere j t' nowhere in
-            weights-left s s2 id processor j (eqb processor j) (processor_of s2 j).weight (eqb_tells processor j) refl inside
+            weights-left s s2 id processor j (eqb processor j) (processor_in_figures s2 j).weight (eqb_tells processor j) refl inside
             at (h.weights j there') (omega (arith, weights-set s1 id j t' inside, gone))
             (set-there s processor j p (eqb processor j) there' (eqb_tells processor j)
-            ∙ ap (λ w. cond (eqb processor j) w (processor_of s j).weight) weight);
+            ∙ ap (λ w. cond (eqb processor j) w (processor_in_figures s j).weight) weight);
         joined = λ j. joined-set s s2 j u (eqb id j) gives (is j) (rw nowhere tt) (h.joined j);
         table = λ j. omega (arith, h.table j, task_kept (λ (v : TaskFigures). v.weight) s1 id j t' same);
         ids = length-set s.tasks id t' ∙ h.ids;
@@ -206,23 +206,23 @@ left-one s id processor p t' h at shared weight nowhere same accrued =
       nowhere = ap (λ (v : TaskFigures). v.place) (get_or-set_same s.tasks id t' unknown inside) ∙ nowhere;
     }
 
-left-if : (s : Figures) (id : ℕ) (o : Option ℕ) → PurseLemmas.IsSound s → (task_of s id).place ≡ o
+left-if : (s : Figures) (id : ℕ) (o : Option ℕ) → PurseLemmas.IsSound s → (task_in_figures s id).place ≡ o
     → PurseLemmas.uncapped s id ≤ 340282366920938463463374607431768211455
     → Leaves id s (left_from id s o)
 left-if s id None h at small = record { sound = h; raws = λ j. refl; nowhere = at }
 left-if s id (Some processor) h at small =
-    let t = task_of s id in
+    let t = task_in_figures s id in
     let is : PurseLemmas.uncapped s id ≡ t.accrued + t.weight * (PurseLemmas.shared_at s processor - t.joined) =
     ap (λ o. PurseLemmas.worth_at (PurseLemmas.shared_at s) (PurseLemmas.purse t) o) at in
-    left-one s id processor (processor_left (processor_of s processor) t.weight)
+    left-one s id processor (processor_left (processor_in_figures s processor) t.weight)
     (record t { accrued = fair_at s t (Some processor); place = None; drains = None }) h at refl refl refl refl
     (omega (arith, is, small))
 
 -- a task that leaves is nowhere, all stays sound, and each has what it had, where what it has fits in 128 bits
 pub leaves-stays : (s : Figures) (id : ℕ) → PurseLemmas.IsSound s
     → PurseLemmas.uncapped s id ≤ 340282366920938463463374607431768211455
-    → Leaves id s (leaves id s)
-leaves-stays s id h small = left-if s id (task_of s id).place h refl small
+    → Leaves id s (figures_left id s)
+leaves-stays s id h small = left-if s id (task_in_figures s id).place h refl small
 
 -- all weights together are few
 pub weights-few : (s : Figures) (processor : ℕ) → PurseLemmas.IsSound s → weights_at s processor ≤ 90891264
@@ -232,5 +232,5 @@ weights-few s processor h =
       h.ids,
       sum_by-le (weight_there processor) 88761 s.tasks
           (All-from_get_or (λ (t : TaskFigures). weight_there processor t ≤ 88761) s.tasks unknown
-          (λ j inside. there-le (is_this processor (task_of s j).place) (task_of s j).weight (h.table j))),
+          (λ j inside. there-le (is_this processor (task_in_figures s j).place) (task_in_figures s j).weight (h.table j))),
     )

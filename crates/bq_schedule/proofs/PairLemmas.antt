@@ -10,12 +10,12 @@ use Rattle.bq_schedule.specs.declared.change.Stop.{Stop}
 use Rattle.bq_schedule.specs.declared.change.Left.{Left}
 use Rattle.bq_schedule.specs.declared.figures.ProcessorFigures.{ProcessorFigures}
 use Rattle.bq_schedule.specs.Moments.{History}
-use Rattle.bq_schedule.specs.Figures.{Figures, unread, processor_of}
+use Rattle.bq_schedule.specs.Figures.{Figures, unread, processor_in_figures}
 use Rattle.bq_schedule.specs.Running.{starts_as, stop_of, is_run_by}
 use Rattle.bq_schedule.specs.Slices.{Sight, sight_of}
 use Rattle.bq_schedule.specs.Steps.{time_at, change, figures}
 use Rattle.bq_schedule.specs.Switches.{why_left, is_start_at, is_stop_at, reported_starts, reported_stops, starts_reported_at, stops_reported_at}
-use Rattle.bq_schedule.specs.Laws.{IsWithin, IsOfProcessors, EndsStarts}
+use Rattle.bq_schedule.specs.Laws.{IsSightWithin, IsOfProcessors, EndsStarts}
 use Rattle.bq_schedule.proofs.SwitchLemmas.{Switches, ReportsRunning, ReportsSwitch, start_if, stop_if, begun-here, moment_reports, runs_here}
 
 -- starts and stops of one processor, of at most one
@@ -76,18 +76,18 @@ pairs-if false j processor at left run u running running' stop start same ran st
 pairs-there : (s s' : Figures) (left : Left) (processor at : ℕ) (run : Option ℕ) (stop : Option Stop)
     (start : Option Start) (j : ℕ) (b : Bool)
     → Switches s s' left processor at run stop start → ((b ≡ true) × (processor ≡ j)) ⊎ ((b ≡ false) × (processor ≢ j))
-    → ((i : ℕ) (st : Start) → ((i ≡ j) ⊎ (i ≡ processor)) → (processor_of s i).running ≡ Some st → st.processor ≡ i)
-    → Pairs j (processor_of s j).running (processor_of s' j).running stop start
+    → ((i : ℕ) (st : Start) → ((i ≡ j) ⊎ (i ≡ processor)) → (processor_in_figures s i).running ≡ Some st → st.processor ≡ i)
+    → Pairs j (processor_in_figures s j).running (processor_in_figures s' j).running stop start
 pairs-there s s' left processor at run stop start j b t (inl same) here =
-    let running = (processor_of s processor).running in
-    let p : Pairs j running (processor_of s' processor).running stop start =
-    pairs-if (is_run_by running run) j processor at left run t.before running (processor_of s' processor).running stop start same.1
+    let running = (processor_in_figures s processor).running in
+    let p : Pairs j running (processor_in_figures s' processor).running stop start =
+    pairs-if (is_run_by running run) j processor at left run t.before running (processor_in_figures s' processor).running stop start same.1
     (λ st e. here processor st (inr refl) e ∙ same.1) t.stops t.starts t.runs in
-    let P : ℕ → Type 0 = λ k. Pairs j (processor_of s k).running (processor_of s' k).running stop start in
+    let P : ℕ → Type 0 = λ k. Pairs j (processor_in_figures s k).running (processor_in_figures s' k).running stop start in
     subst P same.1 p
 pairs-there s s' left processor at run stop start j b t (inr other) here =
-    let running = (processor_of s processor).running in
-    pairs-none j (processor_of s j).running (processor_of s' j).running stop start
+    let running = (processor_in_figures s processor).running in
+    pairs-none j (processor_in_figures s j).running (processor_in_figures s' j).running stop start
     (filter-no_stops j stop (λ sp e is.
     other.1 (sym
     (here processor sp.start (inr refl) (stop_if (is_run_by running run) running left at run sp refl (sym t.stops ∙ e)).start)
@@ -98,10 +98,10 @@ pairs-there s s' left processor at run stop start j b t (inr other) here =
 pairs-run : (s s' : Figures) (left : Left) (processor at : ℕ) (o : Option (Option ℕ)) (stop : Option Stop)
     (start : Option Start) (j : ℕ)
     → ReportsRunning s s' left processor at o stop start
-    → ((i : ℕ) (st : Start) → ((i ≡ j) ⊎ (i ≡ processor)) → (processor_of s i).running ≡ Some st → st.processor ≡ i)
-    → Pairs j (processor_of s j).running (processor_of s' j).running stop start
+    → ((i : ℕ) (st : Start) → ((i ≡ j) ⊎ (i ≡ processor)) → (processor_in_figures s i).running ≡ Some st → st.processor ≡ i)
+    → Pairs j (processor_in_figures s j).running (processor_in_figures s' j).running stop start
 pairs-run s s' left processor at None stop start j t here =
-    pairs-none j (processor_of s j).running (processor_of s' j).running stop start
+    pairs-none j (processor_in_figures s j).running (processor_in_figures s' j).running stop start
     (ap (λ o. filter (is_stop_at j) (option_to_list o)) t.0)
     (ap (λ o. filter (is_start_at j) (option_to_list o)) t.1) (t.2.at j)
 pairs-run s s' left processor at (Some run) stop start j t here =
@@ -113,11 +113,11 @@ is_inside count i j processor (inr e) a b = omega arith
 
 pairs-shown : (count : ℕ) (past : History) (s' : Figures) (e : Event) (o : Option Sight) (stop : Option Stop)
     (start : Option Start) (j : ℕ)
-    → IsOfProcessors count past → IsWithin count o → j < count → ReportsSwitch (figures count past) s' e o stop start
-    → Pairs j (processor_of (figures count past) j).running (processor_of s' j).running stop start
+    → IsOfProcessors count past → IsSightWithin count o → j < count → ReportsSwitch (figures count past) s' e o stop start
+    → Pairs j (processor_in_figures (figures count past) j).running (processor_in_figures s' j).running stop start
 pairs-shown count past s' e None stop start j h w inside t =
-    pairs-none j (processor_of (figures count past) j).running
-    (processor_of s' j).running stop start (ap (λ o. filter (is_stop_at j) (option_to_list o)) t.0)
+    pairs-none j (processor_in_figures (figures count past) j).running
+    (processor_in_figures s' j).running stop start (ap (λ o. filter (is_stop_at j) (option_to_list o)) t.0)
     (ap (λ o. filter (is_start_at j) (option_to_list o)) t.1) (t.2.at j)
 pairs-shown count past s' e (Some x) stop start j h w inside t =
     pairs-run (figures count past) s' (why_left e) x.processor (time_at x.processor x.now (figures count past)) x.run stop
@@ -144,10 +144,10 @@ ends_starts count (m ∷ past) processor h inside =
     ≡ stops_reported_at count processor past ++ filter (is_stop_at processor) (option_to_list c.stop) =
     filter-append (is_stop_at processor) (reported_stops count past) (option_to_list c.stop) in
     starts ∙ grown-pairs (starts_reported_at count processor past)
-    (option_to_list (processor_of (figures count past) processor).running)
+    (option_to_list (processor_in_figures (figures count past) processor).running)
     (filter (is_start_at processor) (option_to_list c.start))
-    (option_to_list (processor_of (figures count (m ∷ past)) processor).running) (stops_reported_at count processor past)
+    (option_to_list (processor_in_figures (figures count (m ∷ past)) processor).running) (stops_reported_at count processor past)
     (filter (is_stop_at processor) (option_to_list c.stop)) (ends_starts count past processor h.1 inside)
     (pairs-shown count past (figures count (m ∷ past)) m.event (sight_of m.event m.answer) c.stop c.start processor h.1
     h.0 inside (moment_reports count past m h))
-    ∙ ap (λ l. map (λ (sp : Stop). sp.start) l ++ option_to_list (processor_of (figures count (m ∷ past)) processor).running) (sym stops)
+    ∙ ap (λ l. map (λ (sp : Stop). sp.start) l ++ option_to_list (processor_in_figures (figures count (m ∷ past)) processor).running) (sym stops)

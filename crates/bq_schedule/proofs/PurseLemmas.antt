@@ -11,9 +11,9 @@ use Rattle.bq_schedule.specs.declared.change.Left.{Left}
 use Rattle.bq_schedule.specs.declared.change.Left.TheVariants.{Preempted, Blocked}
 use Rattle.bq_schedule.specs.declared.figures.TaskFigures.{TaskFigures}
 use Rattle.bq_schedule.specs.declared.figures.ProcessorFigures.{ProcessorFigures}
-use Rattle.bq_schedule.specs.Figures.{Figures, unread, unknown, processor_of, task_of, with_processor, with_task}
-use Rattle.bq_schedule.specs.Running.{stopped, started, begun_if, starts_as, processor_runs, switched, is_run_by, with_latency}
-use Rattle.bq_schedule.specs.Steps.{processor_asked, asked}
+use Rattle.bq_schedule.specs.Figures.{Figures, unread, unknown, processor_in_figures, task_in_figures, figures_with_processor, figures_with_task}
+use Rattle.bq_schedule.specs.Running.{stopped, started, begun_if, starts_as, processor_runs, figures_switched, is_run_by, with_latency}
+use Rattle.bq_schedule.specs.Steps.{processor_asked, figures_asked}
 use Rattle.bq_schedule.specs.Slices.{is_this}
 use Rattle.bq_schedule.specs.FairTimes.{weight_there, weights_at}
 use Rattle.bq_schedule.proofs.FrameLemmas.{processor_kept, task_kept, processors-begun_if}
@@ -50,8 +50,8 @@ pot p = record { weight = p.weight; shared = p.shared }
 
 -- what keeps both
 pub record KeepsPurses (s s' : Figures) : Type 0 where
-  pub pots : (j : ℕ) → pot (processor_of s' j) ≡ pot (processor_of s j)
-  pub purses : (id : ℕ) → purse (task_of s' id) ≡ purse (task_of s id)
+  pub pots : (j : ℕ) → pot (processor_in_figures s' j) ≡ pot (processor_in_figures s j)
+  pub purses : (id : ℕ) → purse (task_in_figures s' id) ≡ purse (task_in_figures s id)
   pub count : length s'.processors ≡ length s.processors
   pub tasks : length s'.tasks ≡ length s.tasks
 
@@ -70,12 +70,12 @@ kept-then s t u a b = record {
 
 -- a processor that is set, with the same pot, keeps purses and pots
 pub kept-with_processor : (s : Figures) (i : ℕ) (p : ProcessorFigures)
-    → pot p ≡ pot (processor_of s i) → KeepsPurses s (with_processor s i p)
+    → pot p ≡ pot (processor_in_figures s i) → KeepsPurses s (figures_with_processor s i p)
 kept-with_processor s i p e =
     record { pots = λ j. processor_kept pot s i j p e; purses = λ id. refl; count = length-set s.processors i p; tasks = refl }
 
 -- a task that is set, with the same purse, keeps purses and pots
-pub kept-with_task : (s : Figures) (i : ℕ) (t : TaskFigures) → purse t ≡ purse (task_of s i) → KeepsPurses s (with_task s i t)
+pub kept-with_task : (s : Figures) (i : ℕ) (t : TaskFigures) → purse t ≡ purse (task_in_figures s i) → KeepsPurses s (figures_with_task s i t)
 kept-with_task s i t e =
     record { pots = λ j. refl; purses = λ id. task_kept purse s i id t e; count = refl; tasks = length-set s.tasks i t }
 
@@ -85,8 +85,8 @@ pot-processor_asked p d Preempt = refl
 pot-processor_asked p d Pull = refl
 
 -- a decision that is counted keeps purses and pots
-pub kept-asked : (processor : ℕ) (d : Decision) (s : Figures) → KeepsPurses s (asked processor d s)
-kept-asked processor d s = kept-with_processor s processor _ (pot-processor_asked (processor_of s processor) d d.hook)
+pub kept-asked : (processor : ℕ) (d : Decision) (s : Figures) → KeepsPurses s (figures_asked processor d s)
+kept-asked processor d s = kept-with_processor s processor _ (pot-processor_asked (processor_in_figures s processor) d d.hook)
 
 purse-with_latency : (t : TaskFigures) (n : Option ℕ) → purse (with_latency t n) ≡ purse t
 purse-with_latency t None = refl
@@ -99,7 +99,7 @@ kept-stopped Preempted now (Some old) s = kept-with_task s old.task _ refl
 
 kept-begun_if : (processor now : ℕ) (run : Option ℕ) (s : Figures) → KeepsPurses s (begun_if processor now run s)
 kept-begun_if processor now None s = kept-id s
-kept-begun_if processor now (Some id) s = kept-with_task s id _ (purse-with_latency (task_of s id) _)
+kept-begun_if processor now (Some id) s = kept-with_task s id _ (purse-with_latency (task_in_figures s id) _)
 
 pot-processor_runs : (p : ProcessorFigures) (o : Option Start) → pot (processor_runs p o) ≡ pot p
 pot-processor_runs p None = refl
@@ -107,22 +107,22 @@ pot-processor_runs p (Some start) = refl
 
 kept-started : (processor now : ℕ) (run : Option ℕ) (s : Figures) → KeepsPurses s (started processor now run s)
 kept-started processor now run s =
-    let e : processor_of (begun_if processor now run s) processor ≡ processor_of s processor =
+    let e : processor_in_figures (begun_if processor now run s) processor ≡ processor_in_figures s processor =
     ap (λ l. get_or l processor unread) (processors-begun_if processor now run s) in
     kept-then s (begun_if processor now run s) _ (kept-begun_if processor now run s)
     (kept-with_processor (begun_if processor now run s) processor _
-    (pot-processor_runs (processor_of s processor) (starts_as processor now run s) ∙ ap pot (sym e)))
+    (pot-processor_runs (processor_in_figures s processor) (starts_as processor now run s) ∙ ap pot (sym e)))
 
 kept-switched_if : (b : Bool) (left : Left) (processor now : ℕ) (run : Option ℕ) (s : Figures) →
-    KeepsPurses s (cond b s (started processor now run (stopped left now (processor_of s processor).running s)))
+    KeepsPurses s (cond b s (started processor now run (stopped left now (processor_in_figures s processor).running s)))
 kept-switched_if true left processor now run s = kept-id s
 kept-switched_if false left processor now run s =
-    let t = stopped left now (processor_of s processor).running s in
-    kept-then s t _ (kept-stopped left now (processor_of s processor).running s) (kept-started processor now run t)
+    let t = stopped left now (processor_in_figures s processor).running s in
+    kept-then s t _ (kept-stopped left now (processor_in_figures s processor).running s) (kept-started processor now run t)
 
 -- a switch to a task, or to none, keeps purses and pots
-pub kept-switched : (left : Left) (processor now : ℕ) (run : Option ℕ) (s : Figures) → KeepsPurses s (switched left processor now run s)
-kept-switched left processor now run s = kept-switched_if (is_run_by (processor_of s processor).running run) left processor now run s
+pub kept-switched : (left : Left) (processor now : ℕ) (run : Option ℕ) (s : Figures) → KeepsPurses s (figures_switched left processor now run s)
+kept-switched left processor now run s = kept-switched_if (is_run_by (processor_in_figures s processor).running run) left processor now run s
 
 -- the fair time of a purse, where so much was given at each processor
 abbrev pub worth_at : (ℕ → ℕ) → Purse → Option ℕ → ℕ
@@ -131,7 +131,7 @@ worth_at shared u (Some processor) = u.accrued + u.weight * (shared processor - 
 
 -- what each unit of weight was given at a processor
 abbrev pub shared_at : Figures → ℕ → ℕ
-shared_at s processor = (processor_of s processor).shared
+shared_at s processor = (processor_in_figures s processor).shared
 
 -- what a task has, counted without end
 abbrev pub uncapped_of : Figures → TaskFigures → ℕ
@@ -139,7 +139,7 @@ uncapped_of s t = worth_at (shared_at s) (purse t) t.place
 
 -- what the task of an id has, counted without end
 abbrev pub uncapped : Figures → ℕ → ℕ
-uncapped s id = uncapped_of s (task_of s id)
+uncapped s id = uncapped_of s (task_in_figures s id)
 
 -- a purse is worth the same where each processor gave the same
 pub worth-same : (f g : ℕ → ℕ) (u : Purse) (o : Option ℕ) → ((j : ℕ) → f j ≡ g j) → worth_at f u o ≡ worth_at g u o
@@ -148,10 +148,10 @@ worth-same f g u (Some processor) h = ap (λ n. u.accrued + u.weight * (n - u.jo
 
 -- a task whose purse stays has what it had, where each processor gave the same
 pub raw-kept : (s s' : Figures) (id : ℕ) → ((j : ℕ) → shared_at s' j ≡ shared_at s j)
-    → purse (task_of s' id) ≡ purse (task_of s id)
+    → purse (task_in_figures s' id) ≡ purse (task_in_figures s id)
     → uncapped s' id ≡ uncapped s id
 raw-kept s s' id h e =
-    worth-same (shared_at s') (shared_at s) (purse (task_of s' id)) (task_of s' id).place h
+    worth-same (shared_at s') (shared_at s) (purse (task_in_figures s' id)) (task_in_figures s' id).place h
     ∙ ap (λ (u : Purse). worth_at (shared_at s) u u.place) e
 
 -- the weight of a purse at a processor, if it is there
@@ -176,9 +176,9 @@ joined-more f g u (Some processor) h e = omega (arith, h processor, e)
 
 -- what each processor gives is by the weights there; each task came after what was given before; and weights are the table's
 pub record IsSound (s : Figures) : Type 0 where
-  pub weights : (processor : ℕ) → processor < length s.processors → (processor_of s processor).weight ≡ weights_at s processor
-  pub joined : (id : ℕ) → JoinedBy (shared_at s) (purse (task_of s id)) (task_of s id).place
-  pub table : (id : ℕ) → (task_of s id).weight ≤ 88761
+  pub weights : (processor : ℕ) → processor < length s.processors → (processor_in_figures s processor).weight ≡ weights_at s processor
+  pub joined : (id : ℕ) → JoinedBy (shared_at s) (purse (task_in_figures s id)) (task_in_figures s id).place
+  pub table : (id : ℕ) → (task_in_figures s id).weight ≤ 88761
   pub ids : length s.tasks ≡ 1024
 
 -- what had been given when a purse came is no more than what is given, if so of one that is the same
@@ -192,8 +192,8 @@ sound-kept s s' k h = record {
       ap (λ (q : Pot). q.weight) (k.pots processor) ∙ h.weights processor (omega (arith, k.count))
       ∙ sym (weights-kept s s' processor k);
   joined = λ id.
-      joined-same (shared_at s') (purse (task_of s' id)) (purse (task_of s id)) (k.purses id)
-      (joined-more (shared_at s) (shared_at s') (purse (task_of s id)) (task_of s id).place
+      joined-same (shared_at s') (purse (task_in_figures s' id)) (purse (task_in_figures s id)) (k.purses id)
+      (joined-more (shared_at s) (shared_at s') (purse (task_in_figures s id)) (task_in_figures s id).place
       (λ j. omega (arith, ap (λ (q : Pot). q.shared) (k.pots j))) (h.joined id));
   table = λ id. omega (arith, h.table id, ap (λ (u : Purse). u.weight) (k.purses id));
   ids = k.tasks ∙ h.ids;

@@ -13,11 +13,11 @@ use Rattle.bq_parts.specs.declared.refusal.Refusal.{Refusal}
 use Rattle.bq_schedule.specs.declared.slice.Slice.{Slice}
 use Rattle.bq_schedule.specs.declared.figures.ProcessorFigures.{ProcessorFigures}
 use Rattle.bq_schedule.specs.Moments.{History}
-use Rattle.bq_schedule.specs.Figures.{Figures, unread, processor_of}
-use Rattle.bq_schedule.specs.Passing.{goes_on, slice_at, joined_run, ended_run, processor_read}
-use Rattle.bq_schedule.specs.Slices.{Sight, sight, sight_of, runner, stretch, slice_shown, slices, slices_at, is_at, joined, runs}
-use Rattle.bq_schedule.specs.Steps.{report_of_answer, change, nothing, is_there, after, figures}
-use Rattle.bq_schedule.specs.Laws.{IsWithin, IsOfProcessors, reported_if, reported_runs, ReportsRuns}
+use Rattle.bq_schedule.specs.Figures.{Figures, unread, processor_in_figures}
+use Rattle.bq_schedule.specs.Passing.{continues_run, slice_at, joined_run, ended_run, processor_read}
+use Rattle.bq_schedule.specs.Slices.{Sight, sight, sight_of, runner, stretch, slice_shown, slices, slices_at, is_slice_at, slice_joined, runs}
+use Rattle.bq_schedule.specs.Steps.{report_of_answer, change, nothing, is_there, figures_after, figures}
+use Rattle.bq_schedule.specs.Laws.{IsSightWithin, IsOfProcessors, reported_if, reported_runs, ReportsRuns}
 use Rattle.bq_schedule.proofs.FrameLemmas.{Works}
 use Rattle.bq_schedule.proofs.ClockLemmas.{Shows, shows-after, count-figures, within-figures, processor-read_at, not_below}
 use Rattle.bq_schedule.proofs.SliceTimeLemmas.{slice_seen, shown-seen}
@@ -26,36 +26,36 @@ use Rattle.bq_schedule.proofs.ApartLemmas.{at_only, filter-one}
 -- the last of some runs is joined to another slice
 abbrev pub last_joined : List Slice → Slice → List Slice
 last_joined [] y = y ∷ []
-last_joined (r ∷ []) y = cond (goes_on r y) (record r { to = y.to } ∷ []) (r ∷ y ∷ [])
+last_joined (r ∷ []) y = cond (continues_run r y) (record r { to = y.to } ∷ []) (r ∷ y ∷ [])
 last_joined (r ∷ (q ∷ rs)) y = r ∷ last_joined (q ∷ rs) y
 
 -- it makes no odds at which end slices are joined first
-joined-one : (x r y : Slice) (b c d : Bool) → goes_on r y ≡ b → goes_on x r ≡ c → goes_on (record x { to = r.to }) y ≡ d
+joined-one : (x r y : Slice) (b c d : Bool) → continues_run r y ≡ b → continues_run x r ≡ c → continues_run (record x { to = r.to }) y ≡ d
     → (c ≡ true → d ≡ b)
-    → joined x (cond b (record r { to = y.to } ∷ []) (r ∷ y ∷ [])) ≡ last_joined (cond c (record x { to = r.to } ∷ []) (x ∷ r ∷ [])) y
+    → slice_joined x (cond b (record r { to = y.to } ∷ []) (r ∷ y ∷ [])) ≡ last_joined (cond c (record x { to = r.to } ∷ []) (x ∷ r ∷ [])) y
 joined-one x r y true true d is on next same = rw (on, next, same refl) refl
 joined-one x r y true false d is on next same = rw (on, is) refl
 joined-one x r y false true d is on next same = rw (on, next, same refl) refl
 joined-one x r y false false d is on next same = rw (on, is) refl
 
-same_task : (x r y : Slice) → goes_on x r ≡ true → goes_on (record x { to = r.to }) y ≡ goes_on r y
+same_task : (x r y : Slice) → continues_run x r ≡ true → continues_run (record x { to = r.to }) y ≡ continues_run r y
 same_task x r y e = ap (λ k. eqb k y.task && eqb r.to y.from) (eqb-true x.task r.task (and_parts (eqb x.task r.task) (eqb x.to r.from) e).0)
 
-joined-many : (x r q y : Slice) (rs : List Slice) (c : Bool) → goes_on x r ≡ c
+joined-many : (x r q y : Slice) (rs : List Slice) (c : Bool) → continues_run x r ≡ c
     → cond c (record x { to = r.to } ∷ last_joined (q ∷ rs) y) (x ∷ r ∷ last_joined (q ∷ rs) y)
     ≡ last_joined (cond c (record x { to = r.to } ∷ q ∷ rs) (x ∷ r ∷ q ∷ rs)) y
 joined-many x r q y rs true e = refl
 joined-many x r q y rs false e = refl
 
-joined-last : (x y : Slice) (rs : List Slice) → joined x (last_joined rs y) ≡ last_joined (joined x rs) y
+joined-last : (x y : Slice) (rs : List Slice) → slice_joined x (last_joined rs y) ≡ last_joined (slice_joined x rs) y
 joined-last x y [] = refl
 joined-last x y (r ∷ []) =
-    joined-one x r y (goes_on r y) (goes_on x r) (goes_on (record x { to = r.to }) y) refl refl refl (same_task x r y)
-joined-last x y (r ∷ (q ∷ rs)) = joined-many x r q y rs (goes_on x r) refl
+    joined-one x r y (continues_run r y) (continues_run x r) (continues_run (record x { to = r.to }) y) refl refl refl (same_task x r y)
+joined-last x y (r ∷ (q ∷ rs)) = joined-many x r q y rs (continues_run x r) refl
 
 runs-push : (xs : List Slice) (y : Slice) → runs (xs ++ y ∷ []) ≡ last_joined (runs xs) y
 runs-push [] y = refl
-runs-push (x ∷ xs) y = ap (joined x) (runs-push xs y) ∙ joined-last x y (runs xs)
+runs-push (x ∷ xs) y = ap (slice_joined x) (runs-push xs y) ∙ joined-last x y (runs xs)
 
 -- what is reported, and what may go on
 last-front : (front : List Slice) (r y : Slice) → last_joined (front ++ r ∷ []) y ≡ front ++ last_joined (r ∷ []) y
@@ -63,7 +63,7 @@ last-front [] r y = refl
 last-front (f ∷ []) r y = refl
 last-front (f ∷ (g ∷ gs)) r y = ap (λ zs. f ∷ zs) (last-front (g ∷ gs) r y)
 
-reported-one : (front : List Slice) (r y : Slice) (b : Bool) → goes_on r y ≡ b
+reported-one : (front : List Slice) (r y : Slice) (b : Bool) → continues_run r y ≡ b
     → front ++ cond b (record r { to = y.to } ∷ []) (r ∷ y ∷ [])
     ≡ (front ++ option_to_list (cond b None (Some r))) ++ option_to_list (cond b (Some (record r { to = y.to })) (Some y))
 reported-one front r y true e = ap (λ zs. zs ++ record r { to = y.to } ∷ []) (sym (append-nil front))
@@ -97,14 +97,14 @@ more reported None (Some y) xs h =
 more reported (Some r) (Some y) xs h = record {
   all =
       sym
-      (runs-push xs y ∙ ap (λ zs. last_joined zs y) (sym h.all) ∙ last-front reported r y ∙ reported-one reported r y (goes_on r y) refl);
-  first = λ e. absurd (some_run r y (goes_on r y) e);
+      (runs-push xs y ∙ ap (λ zs. last_joined zs y) (sym h.all) ∙ last-front reported r y ∙ reported-one reported r y (continues_run r y) refl);
+  first = λ e. absurd (some_run r y (continues_run r y) e);
 }
 
 -- the run that is reported with a slice
 abbrev pub run_seen : Figures → Option Sight → Option Slice
 run_seen s None = None
-run_seen s (Some x) = ended_run (processor_of s x.processor).run (slice_at x.processor (processor_of s x.processor) x.now)
+run_seen s (Some x) = ended_run (processor_in_figures s x.processor).run (slice_at x.processor (processor_in_figures s x.processor) x.now)
 
 seen-performed : (s : Figures) (e : Event) (r : Reply) → (report_of_answer s e r).run ≡ run_seen s (sight e r)
 seen-performed s (EndWake processor now) (Placed task to by steps) = refl
@@ -114,7 +114,7 @@ seen-performed s (Block processor now) (Blocked task run) = refl
 seen-performed s (Pull processor from now) (Pulled task run by steps) = refl
 seen-performed s e r = refl
 
-seen-nothing : (s : Figures) (e : Event) (r : Reply) → is_there s e ≡ false → IsWithin (length s.processors) (sight e r)
+seen-nothing : (s : Figures) (e : Event) (r : Reply) → is_there s e ≡ false → IsSightWithin (length s.processors) (sight e r)
     → None ≡ run_seen s (sight e r)
 seen-nothing s (EndWake processor now) (Placed task to by steps) none h = absurd (not_below processor (length s.processors) none h)
 seen-nothing s (Drain processor now) (Drained count run by steps) none h = absurd (not_below processor (length s.processors) none h)
@@ -123,27 +123,27 @@ seen-nothing s (Block processor now) (Blocked task run) none h = absurd (not_bel
 seen-nothing s (Pull processor from now) (Pulled task run by steps) none h = absurd (not_below processor (length s.processors) none h)
 seen-nothing s e r none h = refl
 
-seen-if : (b : Bool) (s : Figures) (e : Event) (r : Reply) → is_there s e ≡ b → IsWithin (length s.processors) (sight e r)
+seen-if : (b : Bool) (s : Figures) (e : Event) (r : Reply) → is_there s e ≡ b → IsSightWithin (length s.processors) (sight e r)
     → (cond b (report_of_answer s e r) nothing).run ≡ run_seen s (sight e r)
 seen-if true s e r there h = seen-performed s e r
 seen-if false s e r there h = seen-nothing s e r there h
 
 seen-change : (s : Figures) (e : Event) (a : Result Reply Refusal)
-    → IsWithin (length s.processors) (sight_of e a) → (change s e a).run ≡ run_seen s (sight_of e a)
+    → IsSightWithin (length s.processors) (sight_of e a) → (change s e a).run ≡ run_seen s (sight_of e a)
 seen-change s e (Ok r) h = seen-if (is_there s e) s e r refl h
 seen-change s e (Err r) h = refl
 
 -- what a moment ends at a processor, and which run it makes there
 run-there : (s s' : Figures) (x : Sight) (j : ℕ) (b : Bool) → eqb x.processor j ≡ b → j < length s.processors → Shows s s' (Some x) →
-    (processor_of s' j).run ≡ cond b (joined_run (processor_of s x.processor).run (slice_seen s (Some x))) (processor_of s j).run
+    (processor_in_figures s' j).run ≡ cond b (joined_run (processor_in_figures s x.processor).run (slice_seen s (Some x))) (processor_in_figures s j).run
 run-there s s' x j true e inside h =
-    let q = processor_read x.processor (processor_of s x.processor) x.now in
+    let q = processor_read x.processor (processor_in_figures s x.processor) x.now in
     ap (λ (w : Works). w.run) (h.0.at j)
-    ∙ ap (λ (p : ProcessorFigures). p.run) (processor-read_at x.processor x.now j s inside ∙ ap (λ c. cond c q (processor_of s j)) e)
+    ∙ ap (λ (p : ProcessorFigures). p.run) (processor-read_at x.processor x.now j s inside ∙ ap (λ c. cond c q (processor_in_figures s j)) e)
 run-there s s' x j false e inside h =
-    let q = processor_read x.processor (processor_of s x.processor) x.now in
+    let q = processor_read x.processor (processor_in_figures s x.processor) x.now in
     ap (λ (w : Works). w.run) (h.0.at j)
-    ∙ ap (λ (p : ProcessorFigures). p.run) (processor-read_at x.processor x.now j s inside ∙ ap (λ c. cond c q (processor_of s j)) e)
+    ∙ ap (λ (p : ProcessorFigures). p.run) (processor-read_at x.processor x.now j s inside ∙ ap (λ c. cond c q (processor_in_figures s j)) e)
 
 -- a slice of another processor does not count here
 only-cond : (l : Bool) (processor j id from to : ℕ) (b : Bool)
@@ -166,7 +166,7 @@ only-there processor j from to (Some id) false e = only-cond (ltb from to) proce
 -- the runs told of a processor, and the one that may go on, are those that its slices make
 abbrev pub AreReportedRuns : ℕ → ℕ → History → Type 0
 AreReportedRuns count processor past =
-    AreRuns (reported_runs count processor past) (processor_of (figures count past) processor).run (slices_at processor past)
+    AreRuns (reported_runs count processor past) (processor_in_figures (figures count past) processor).run (slices_at processor past)
 
 same_runs : (reported reported' : List Slice) (run run' : Option Slice) (xs xs' : List Slice)
     → reported' ≡ reported → run' ≡ run → xs' ≡ xs → AreRuns reported run xs → AreRuns reported' run' xs'
@@ -176,16 +176,16 @@ same_runs reported reported' run run' xs xs' t r x h = record {
 }
 
 reported-there : (count : ℕ) (past : History) (processor : ℕ) (s' : Figures) (x : Sight) (run : Option Slice) (b : Bool)
-    → IsOfProcessors count past → IsWithin count (Some x) → processor < count → Shows (figures count past) s' (Some x)
+    → IsOfProcessors count past → IsSightWithin count (Some x) → processor < count → Shows (figures count past) s' (Some x)
     → run ≡ run_seen (figures count past) (Some x) → eqb x.processor processor ≡ b
     → ((b ≡ true) × (x.processor ≡ processor)) ⊎ ((b ≡ false) × (x.processor ≢ processor))
     → AreReportedRuns count processor past
-    → AreRuns (reported_runs count processor past ++ cond b (option_to_list run) []) (processor_of s' processor).run
+    → AreRuns (reported_runs count processor past ++ cond b (option_to_list run) []) (processor_in_figures s' processor).run
     (slices_at processor past ++ option_to_list (at_only processor (slice_shown past (Some x))))
 reported-there count past processor s' x run true h w inside k is e (inl same) t =
     let s = figures count past in
-    let p = processor_of s x.processor in
-    let here : p.run ≡ (processor_of s processor).run = ap (λ k. (processor_of s k).run) same.1 in
+    let p = processor_in_figures s x.processor in
+    let here : p.run ≡ (processor_in_figures s processor).run = ap (λ k. (processor_in_figures s k).run) same.1 in
     let o = slice_seen s (Some x) in
     let shown : slice_shown past (Some x) ≡ o = sym (shown-seen count past (Some x) h w) in
     let only : at_only processor (slice_shown past (Some x)) ≡ o =
@@ -194,7 +194,7 @@ reported-there count past processor s' x run true h w inside k is e (inl same) t
     (ap (λ z. reported_runs count processor past ++ option_to_list z) (is ∙ ap (λ z. ended_run z o) here))
     (run-there s s' x processor true e (omega (arith, inside, count-figures count past h)) k ∙ ap (λ z. joined_run z o) here)
     (ap (λ z. slices_at processor past ++ option_to_list z) only)
-    (more (reported_runs count processor past) (processor_of s processor).run o (slices_at processor past) t)
+    (more (reported_runs count processor past) (processor_in_figures s processor).run o (slices_at processor past) t)
 reported-there count past processor s' x run false h w inside k is e (inr other) t =
     let s = figures count past in
     same_runs _ _ _ _ _ _ (append-nil (reported_runs count processor past))
@@ -205,9 +205,9 @@ reported-there count past processor s' x run true h w inside k is e (inr other) 
 reported-there count past processor s' x run false h w inside k is e (inl same) t = absurd (cc)
 
 reported-step : (count : ℕ) (past : History) (processor : ℕ) (s' : Figures) (o : Option Sight) (run : Option Slice)
-    → IsOfProcessors count past → IsWithin count o → processor < count → Shows (figures count past) s' o
+    → IsOfProcessors count past → IsSightWithin count o → processor < count → Shows (figures count past) s' o
     → run ≡ run_seen (figures count past) o → AreReportedRuns count processor past
-    → AreRuns (reported_runs count processor past ++ reported_if processor o run) (processor_of s' processor).run
+    → AreRuns (reported_runs count processor past ++ reported_if processor o run) (processor_in_figures s' processor).run
     (slices_at processor past ++ option_to_list (at_only processor (slice_shown past o)))
 reported-step count past processor s' None run h w inside k is t =
     same_runs _ _ _ _ _ _ (append-nil (reported_runs count processor past)) (ap (λ (v : Works). v.run) (k.0.at processor))
@@ -219,7 +219,7 @@ reported-step count past processor s' (Some x) run h w inside k is t =
 reported : (count : ℕ) (past : History) (processor : ℕ) → IsOfProcessors count past → processor < count
     → AreReportedRuns count processor past
 reported count [] processor h inside =
-    let none : (processor_of (figures count []) processor).run ≡ None =
+    let none : (processor_in_figures (figures count []) processor).run ≡ None =
     ap (λ (p : ProcessorFigures). p.run) (get_or-replicate count processor unread unread inside) in
     record { all = ap (λ o. [] ++ option_to_list o) none; first = λ e. refl }
 reported count (m ∷ past) processor h inside =
@@ -227,10 +227,10 @@ reported count (m ∷ past) processor h inside =
     let o = sight_of m.event m.answer in
     let w = within-figures count past m h in
     let is : slices_at processor (m ∷ past) ≡ slices_at processor past ++ option_to_list (at_only processor (slice_shown past o)) =
-    filter-append (is_at processor) (slices past) (option_to_list (slice_shown past o))
+    filter-append (is_slice_at processor) (slices past) (option_to_list (slice_shown past o))
     ∙ ap (λ ys. slices_at processor past ++ ys) (filter-one processor (slice_shown past o)) in
     same_runs _ _ _ _ _ _ refl refl is
-    (reported-step count past processor (after s m.event m.answer) o (change s m.event m.answer).run h.1 h.0 inside
+    (reported-step count past processor (figures_after s m.event m.answer) o (change s m.event m.answer).run h.1 h.0 inside
     (shows-after s m.event m.answer w) (seen-change s m.event m.answer w) (reported count past processor h.1 inside))
 
 -- in each history the runs told of a processor, with the last one, are the runs of its slices

@@ -11,18 +11,18 @@ use Rattle.bq_parts.specs.declared.refusal.Refusal.{Refusal}
 use Rattle.bq_schedule.specs.declared.slice.Slice.{Slice}
 use Rattle.bq_schedule.specs.declared.change.Start.{Start}
 use Rattle.bq_schedule.specs.Moments.{Moment, History}
-use Rattle.bq_schedule.specs.Figures.{Figures, processor_of}
+use Rattle.bq_schedule.specs.Figures.{Figures, processor_in_figures}
 use Rattle.bq_schedule.specs.Passing.{slice_between, slice_at}
 use Rattle.bq_schedule.specs.Running.{running_task}
 use Rattle.bq_schedule.specs.Slices.{Sight, sight, sight_of, clock, stretch, slice_shown, slices}
 use Rattle.bq_schedule.specs.Steps.{report_of_answer, change, nothing, is_there, figures}
-use Rattle.bq_schedule.specs.Laws.{IsWithin, IsOfProcessors}
+use Rattle.bq_schedule.specs.Laws.{IsSightWithin, IsOfProcessors}
 use Rattle.bq_schedule.proofs.ClockLemmas.{figures-clocks, within-figures, not_below}
 
 -- the slice that figures show
 abbrev pub slice_seen : Figures → Option Sight → Option Slice
 slice_seen s None = None
-slice_seen s (Some x) = slice_at x.processor (processor_of s x.processor) x.now
+slice_seen s (Some x) = slice_at x.processor (processor_in_figures s x.processor) x.now
 
 seen-performed : (s : Figures) (e : Event) (r : Reply) → (report_of_answer s e r).slice ≡ slice_seen s (sight e r)
 seen-performed s (EndWake processor now) (Placed task to by steps) = refl
@@ -32,7 +32,7 @@ seen-performed s (Block processor now) (Blocked task run) = refl
 seen-performed s (Pull processor from now) (Pulled task run by steps) = refl
 seen-performed s e r = refl
 
-seen-nothing : (s : Figures) (e : Event) (r : Reply) → is_there s e ≡ false → IsWithin (length s.processors) (sight e r)
+seen-nothing : (s : Figures) (e : Event) (r : Reply) → is_there s e ≡ false → IsSightWithin (length s.processors) (sight e r)
     → None ≡ slice_seen s (sight e r)
 seen-nothing s (EndWake processor now) (Placed task to by steps) none h = absurd (not_below processor (length s.processors) none h)
 seen-nothing s (Drain processor now) (Drained count run by steps) none h = absurd (not_below processor (length s.processors) none h)
@@ -41,13 +41,13 @@ seen-nothing s (Block processor now) (Blocked task run) none h = absurd (not_bel
 seen-nothing s (Pull processor from now) (Pulled task run by steps) none h = absurd (not_below processor (length s.processors) none h)
 seen-nothing s e r none h = refl
 
-seen-if : (b : Bool) (s : Figures) (e : Event) (r : Reply) → is_there s e ≡ b → IsWithin (length s.processors) (sight e r)
+seen-if : (b : Bool) (s : Figures) (e : Event) (r : Reply) → is_there s e ≡ b → IsSightWithin (length s.processors) (sight e r)
     → (cond b (report_of_answer s e r) nothing).slice ≡ slice_seen s (sight e r)
 seen-if true s e r there h = seen-performed s e r
 seen-if false s e r there h = seen-nothing s e r there h
 
 seen-change : (s : Figures) (e : Event) (a : Result Reply Refusal)
-    → IsWithin (length s.processors) (sight_of e a) → (change s e a).slice ≡ slice_seen s (sight_of e a)
+    → IsSightWithin (length s.processors) (sight_of e a) → (change s e a).slice ≡ slice_seen s (sight_of e a)
 seen-change s e (Ok r) h = seen-if (is_there s e) s e r refl h
 seen-change s e (Err r) h = refl
 
@@ -59,11 +59,11 @@ stretch_is processor from to (Some start) = refl
 
 -- the slice that figures show of a sight is the one that their history shows
 pub shown-seen : (count : ℕ) (past : History) (o : Option Sight)
-    → IsOfProcessors count past → IsWithin count o → slice_seen (figures count past) o ≡ slice_shown past o
+    → IsOfProcessors count past → IsSightWithin count o → slice_seen (figures count past) o ≡ slice_shown past o
 shown-seen count past None h w = refl
 shown-seen count past (Some x) h w =
     let c = figures-clocks count past x.processor h w in
-    let p = processor_of (figures count past) x.processor in
+    let p = processor_in_figures (figures count past) x.processor in
     stretch_is x.processor p.last (reading p.last x.now) p.running
     ∙ ap (λ n. stretch x.processor (running_task p) n (reading n x.now)) c.0
     ∙ ap (λ y. stretch x.processor y (clock x.processor past) (reading (clock x.processor past) x.now)) c.1

@@ -13,11 +13,11 @@ use Rattle.bq_schedule.specs.declared.figures.ProcessorFigures.{ProcessorFigures
 use Rattle.bq_schedule.specs.declared.figures.TaskFigures.{TaskFigures}
 use Rattle.bq_disc.specs.Counts.{saturating_sum}
 use Rattle.bq_schedule.specs.Moments.{Moment, History}
-use Rattle.bq_schedule.specs.Figures.{Figures, unread, unknown, processor_of, task_of, with_processor, with_task}
-use Rattle.bq_schedule.specs.Passing.{slice_between, slice_at, length_of, read_at, processor_read, with_charged, task_charged}
-use Rattle.bq_schedule.specs.Slices.{Sight, sight_of, clock_after, clock, slice_shown, slices, time_if, time_in, is_of, is_at}
-use Rattle.bq_schedule.specs.Steps.{after, figures}
-use Rattle.bq_schedule.specs.Laws.{IsWithin, IsOfProcessors}
+use Rattle.bq_schedule.specs.Figures.{Figures, unread, unknown, processor_in_figures, task_in_figures, figures_with_processor, figures_with_task}
+use Rattle.bq_schedule.specs.Passing.{slice_between, slice_at, slice_length, figures_read, processor_read, with_charged, task_charged}
+use Rattle.bq_schedule.specs.Slices.{Sight, sight_of, clock_after, clock, slice_shown, slices, time_if, time_in, is_of, is_slice_at}
+use Rattle.bq_schedule.specs.Steps.{figures_after, figures}
+use Rattle.bq_schedule.specs.Laws.{IsSightWithin, IsOfProcessors}
 use Rattle.bq_schedule.proofs.FrameLemmas.{Works, KeepsWorks, tasks-read_at, processors-read_at}
 use Rattle.bq_schedule.proofs.SliceTimeLemmas.{slice_seen, shown-seen}
 use Rattle.bq_schedule.proofs.ClockLemmas.{Shows, figures-clocks, shows-after, count-figures, within-figures, processor-read_at}
@@ -83,9 +83,9 @@ slice-le-rise processor now p =
     omega (arith, worth-le-rise processor p.last (reading p.last now) p.running (ltb p.last (reading p.last now)) refl (omega arith))
 
 clocks-read_at : (processor now : ℕ) (s : Figures) → processor < length s.processors
-    → clocks_of s + time_of any (slice_at processor (processor_of s processor) now) ≤ clocks_of (read_at processor now s)
+    → clocks_of s + time_of any (slice_at processor (processor_in_figures s processor) now) ≤ clocks_of (figures_read processor now s)
 clocks-read_at processor now s inside =
-    let p = processor_of s processor in
+    let p = processor_in_figures s processor in
     omega (
       arith,
       slice-le-rise processor now p,
@@ -96,10 +96,10 @@ clocks-read_at processor now s inside =
 clocks-kept : (s t : Figures) → KeepsWorks s t → clocks_of t ≡ clocks_of s
 clocks-kept s t h = sums_alike last_of t.processors s.processors h.count (λ j. ap (λ (w : Works). w.last) (h.at j))
 
-clocks-shown : (s s' : Figures) (o : Option Sight) → IsWithin (length s.processors) o → Shows s s' o
+clocks-shown : (s s' : Figures) (o : Option Sight) → IsSightWithin (length s.processors) o → Shows s s' o
     → clocks_of s + time_of any (slice_seen s o) ≤ clocks_of s'
 clocks-shown s s' None w h = omega (arith, clocks-kept s s' h.0)
-clocks-shown s s' (Some x) w h = omega (arith, clocks-kept (read_at x.processor x.now s) s' h.0, clocks-read_at x.processor x.now s w)
+clocks-shown s s' (Some x) w h = omega (arith, clocks-kept (figures_read x.processor x.now s) s' h.0, clocks-read_at x.processor x.now s w)
 
 -- all slices together are no longer than all clocks
 slices-le-clocks : (count : ℕ) (past : History) → IsOfProcessors count past → time_in any (slices past) ≤ clocks_of (figures count past)
@@ -111,7 +111,7 @@ slices-le-clocks count (m ∷ past) h =
     omega (
       arith,
       slices-le-clocks count past h.1,
-      clocks-shown s (after s m.event m.answer) o w (shows-after s m.event m.answer w),
+      clocks-shown s (figures_after s m.event m.answer) o w (shows-after s m.event m.answer w),
       time_in-more any (slices past) (slice_shown past o),
       ap (time_of any) (shown-seen count past o h.1 h.0),
     )
@@ -143,16 +143,16 @@ clocks-are-short count past few h =
 -- the time of a task rises by the slices that are of it
 task-charged : (s : Figures) (x : Slice) (id : ℕ) (b : Bool) → id < length s.tasks
     → ((b ≡ true) × (x.task ≡ id)) ⊎ ((b ≡ false) × (x.task ≢ id))
-    → (task_of (with_task s x.task (task_charged (task_of s x.task) (x.to - x.from))) id).time
-    ≡ cond b (saturating_sum (task_of s id).time (x.to - x.from)) (task_of s id).time
+    → (task_in_figures (figures_with_task s x.task (task_charged (task_in_figures s x.task) (x.to - x.from))) id).time
+    ≡ cond b (saturating_sum (task_in_figures s id).time (x.to - x.from)) (task_in_figures s id).time
 task-charged s x id true inside (inl same) =
-    ap (λ k. (get_or (slice_set s.tasks k (task_charged (task_of s k) (x.to - x.from))) id unknown).time) same.1
-    ∙ ap (λ (t : TaskFigures). t.time) (get_or-set_same s.tasks id (task_charged (task_of s id) (x.to - x.from)) unknown inside)
+    ap (λ k. (get_or (slice_set s.tasks k (task_charged (task_in_figures s k) (x.to - x.from))) id unknown).time) same.1
+    ∙ ap (λ (t : TaskFigures). t.time) (get_or-set_same s.tasks id (task_charged (task_in_figures s id) (x.to - x.from)) unknown inside)
 task-charged s x id false inside (inl same) = absurd (cc)
 task-charged s x id true inside (inr other) = absurd (cc)
 task-charged s x id false inside (inr other) =
     ap (λ (t : TaskFigures). t.time)
-    (get_or-set_other s.tasks x.task id (task_charged (task_of s x.task) (x.to - x.from)) unknown (λ e. other.1 (sym e)))
+    (get_or-set_other s.tasks x.task id (task_charged (task_in_figures s x.task) (x.to - x.from)) unknown (λ e. other.1 (sym e)))
 
 saturating_sum-is : (b : Bool) (n more : ℕ) → n + cond b more 0 ≤ 18446744073709551615
     → cond b (saturating_sum n more) n ≡ n + cond b more 0
@@ -160,20 +160,20 @@ saturating_sum-is true n more h = omega arith
 saturating_sum-is false n more h = omega arith
 
 time-charged : (s : Figures) (o : Option Slice) (id : ℕ) → id < length s.tasks
-    → (task_of s id).time + time_of (is_of id) o ≤ 18446744073709551615
-    → (task_of (with_charged s o) id).time ≡ (task_of s id).time + time_of (is_of id) o
+    → (task_in_figures s id).time + time_of (is_of id) o ≤ 18446744073709551615
+    → (task_in_figures (with_charged s o) id).time ≡ (task_in_figures s id).time + time_of (is_of id) o
 time-charged s None id inside fits = omega arith
 time-charged s (Some x) id inside fits =
     task-charged s x id (eqb x.task id) inside (eqb_tells x.task id)
-    ∙ saturating_sum-is (eqb x.task id) (task_of s id).time (x.to - x.from) fits
+    ∙ saturating_sum-is (eqb x.task id) (task_in_figures s id).time (x.to - x.from) fits
 
 time-shown : (s s' : Figures) (o : Option Sight) (id : ℕ) → id < length s.tasks
-    → (task_of s id).time + time_of (is_of id) (slice_seen s o) ≤ 18446744073709551615 → Shows s s' o
-    → (task_of s' id).time ≡ (task_of s id).time + time_of (is_of id) (slice_seen s o)
+    → (task_in_figures s id).time + time_of (is_of id) (slice_seen s o) ≤ 18446744073709551615 → Shows s s' o
+    → (task_in_figures s' id).time ≡ (task_in_figures s id).time + time_of (is_of id) (slice_seen s o)
 time-shown s s' None id inside fits h = omega (arith, h.0.times id)
 time-shown s s' (Some x) id inside fits h =
-    h.0.times id ∙ time-charged (with_processor s x.processor (processor_read x.processor (processor_of s x.processor) x.now))
-    (slice_at x.processor (processor_of s x.processor) x.now) id inside fits
+    h.0.times id ∙ time-charged (figures_with_processor s x.processor (processor_read x.processor (processor_in_figures s x.processor) x.now))
+    (slice_at x.processor (processor_in_figures s x.processor) x.now) id inside fits
 
 tasks-shown : (s s' : Figures) (o : Option Sight) → Shows s s' o → length s'.tasks ≡ length s.tasks
 tasks-shown s s' None h = h.0.tasks
@@ -201,7 +201,7 @@ fits-next chosen count past m few h =
 
 -- the time of a task is the sum of its slices
 pub time_is_sum_of_slices : (count : ℕ) (past : History) → count ≤ 255 → IsOfProcessors count past → (id : ℕ) → id < 1024
-    → (task_of (figures count past) id).time ≡ time_in (is_of id) (slices past)
+    → (task_in_figures (figures count past) id).time ≡ time_in (is_of id) (slices past)
 time_is_sum_of_slices count [] few h id inside = ap (λ (t : TaskFigures). t.time) (get_or-replicate 1024 id unknown unknown inside)
 time_is_sum_of_slices count (m ∷ past) few h id inside =
     let s = figures count past in
@@ -209,24 +209,24 @@ time_is_sum_of_slices count (m ∷ past) few h id inside =
     let before = time_is_sum_of_slices count past few h.1 id inside in
     let seen = ap (time_of (is_of id)) (shown-seen count past o h.1 h.0) in
     let inside' : id < length s.tasks = omega (arith, tasks-figures count past h.1) in
-    let fits : (task_of s id).time + time_of (is_of id) (slice_seen s o) ≤ 18446744073709551615 =
+    let fits : (task_in_figures s id).time + time_of (is_of id) (slice_seen s o) ≤ 18446744073709551615 =
     omega (arith, before, seen, fits-next (is_of id) count past m few h) in
     omega (
       arith,
       before,
       seen,
       time_in-more (is_of id) (slices past) (slice_shown past o),
-      time-shown s (after s m.event m.answer) o id inside' fits (shows-after s m.event m.answer (within-figures count past m h)),
+      time-shown s (figures_after s m.event m.answer) o id inside' fits (shows-after s m.event m.answer (within-figures count past m h)),
     )
 
 -- the busy time of a processor rises by the slices that are there
 busy-read_at : (processor now j : ℕ) (s : Figures) (b : Bool)
     → j < length s.processors → ((b ≡ true) × (processor ≡ j)) ⊎ ((b ≡ false) × (processor ≢ j))
-    → (cond b (processor_read processor (processor_of s processor) now) (processor_of s j)).busy
-    ≡ cond b (saturating_sum (processor_of s j).busy (length_of (slice_at processor (processor_of s processor) now)))
-    (processor_of s j).busy
+    → (cond b (processor_read processor (processor_in_figures s processor) now) (processor_in_figures s j)).busy
+    ≡ cond b (saturating_sum (processor_in_figures s j).busy (slice_length (slice_at processor (processor_in_figures s processor) now)))
+    (processor_in_figures s j).busy
 busy-read_at processor now j s true inside (inl same) =
-    ap (λ k. saturating_sum (processor_of s k).busy (length_of (slice_at processor (processor_of s processor) now))) same.1
+    ap (λ k. saturating_sum (processor_in_figures s k).busy (slice_length (slice_at processor (processor_in_figures s processor) now))) same.1
 busy-read_at processor now j s false inside (inl same) = refl
 busy-read_at processor now j s true inside (inr other) = absurd (cc)
 busy-read_at processor now j s false inside (inr other) = refl
@@ -237,56 +237,56 @@ worth-none true = refl
 worth-none false = refl
 
 worth-some : (processor j from to : ℕ) (start : Start) (b : Bool) →
-    time_of (is_at j) (cond b (Some (record { processor = processor; task = start.task; from = from; to = to })) None)
-    ≡ cond (eqb processor j) (length_of (cond b (Some (record { processor = processor; task = start.task; from = from; to = to })) None)) 0
+    time_of (is_slice_at j) (cond b (Some (record { processor = processor; task = start.task; from = from; to = to })) None)
+    ≡ cond (eqb processor j) (slice_length (cond b (Some (record { processor = processor; task = start.task; from = from; to = to })) None)) 0
 worth-some processor j from to start true = refl
 worth-some processor j from to start false = sym (worth-none (eqb processor j))
 
 worth-at : (processor j from to : ℕ) (running : Option Start)
-    → time_of (is_at j) (slice_between processor from to running)
-    ≡ cond (eqb processor j) (length_of (slice_between processor from to running)) 0
+    → time_of (is_slice_at j) (slice_between processor from to running)
+    ≡ cond (eqb processor j) (slice_length (slice_between processor from to running)) 0
 worth-at processor j from to None = sym (worth-none (eqb processor j))
 worth-at processor j from to (Some start) = worth-some processor j from to start (ltb from to)
 
 busy-shown : (s s' : Figures) (o : Option Sight) (j : ℕ) → j < length s.processors
-    → (processor_of s j).busy + time_of (is_at j) (slice_seen s o) ≤ 18446744073709551615 → Shows s s' o
-    → (processor_of s' j).busy ≡ (processor_of s j).busy + time_of (is_at j) (slice_seen s o)
+    → (processor_in_figures s j).busy + time_of (is_slice_at j) (slice_seen s o) ≤ 18446744073709551615 → Shows s s' o
+    → (processor_in_figures s' j).busy ≡ (processor_in_figures s j).busy + time_of (is_slice_at j) (slice_seen s o)
 busy-shown s s' None j inside fits h = ap (λ (w : Works). w.busy) (h.0.at j) ∙ omega arith
 busy-shown s s' (Some x) j inside fits h =
-    let p = processor_of s x.processor in
+    let p = processor_in_figures s x.processor in
     let at = worth-at x.processor j p.last (reading p.last x.now) p.running in
-    let fits' : (processor_of s j).busy + cond (eqb x.processor j) (length_of (slice_at x.processor p x.now)) 0
+    let fits' : (processor_in_figures s j).busy + cond (eqb x.processor j) (slice_length (slice_at x.processor p x.now)) 0
     ≤ 18446744073709551615 = omega (arith, at, fits) in
     ap (λ (w : Works). w.busy) (h.0.at j)
     ∙ ap (λ (q : ProcessorFigures). q.busy) (processor-read_at x.processor x.now j s inside)
     ∙ busy-read_at x.processor x.now j s (eqb x.processor j) inside (eqb_tells x.processor j)
-    ∙ saturating_sum-is (eqb x.processor j) (processor_of s j).busy (length_of (slice_at x.processor p x.now)) fits'
+    ∙ saturating_sum-is (eqb x.processor j) (processor_in_figures s j).busy (slice_length (slice_at x.processor p x.now)) fits'
     ∙ omega (arith, at)
 
 -- the busy time of a processor is the sum of its slices
 pub busy_is_sum_of_slices : (count : ℕ) (past : History) → count ≤ 255 → IsOfProcessors count past
     → (processor : ℕ) → processor < count
-    → (processor_of (figures count past) processor).busy ≡ time_in (is_at processor) (slices past)
+    → (processor_in_figures (figures count past) processor).busy ≡ time_in (is_slice_at processor) (slices past)
 busy_is_sum_of_slices count [] few h processor inside =
     ap (λ (p : ProcessorFigures). p.busy) (get_or-replicate count processor unread unread inside)
 busy_is_sum_of_slices count (m ∷ past) few h processor inside =
     let s = figures count past in
     let o = sight_of m.event m.answer in
     let before = busy_is_sum_of_slices count past few h.1 processor inside in
-    let seen = ap (time_of (is_at processor)) (shown-seen count past o h.1 h.0) in
+    let seen = ap (time_of (is_slice_at processor)) (shown-seen count past o h.1 h.0) in
     let inside' : processor < length s.processors = omega (arith, count-figures count past h.1) in
-    let fits : (processor_of s processor).busy + time_of (is_at processor) (slice_seen s o) ≤ 18446744073709551615 =
-    omega (arith, before, seen, fits-next (is_at processor) count past m few h) in
+    let fits : (processor_in_figures s processor).busy + time_of (is_slice_at processor) (slice_seen s o) ≤ 18446744073709551615 =
+    omega (arith, before, seen, fits-next (is_slice_at processor) count past m few h) in
     omega (
       arith,
       before,
       seen,
-      time_in-more (is_at processor) (slices past) (slice_shown past o),
-      busy-shown s (after s m.event m.answer) o processor inside' fits (shows-after s m.event m.answer (within-figures count past m h)),
+      time_in-more (is_slice_at processor) (slices past) (slice_shown past o),
+      busy-shown s (figures_after s m.event m.answer) o processor inside' fits (shows-after s m.event m.answer (within-figures count past m h)),
     )
 
 -- the times of tasks and the busy times of processors are the sums of their slices
 pub adds_up : (count : ℕ) (past : History) → count ≤ 255 → IsOfProcessors count past →
-    ((id : ℕ) → id < 1024 → (task_of (figures count past) id).time ≡ time_in (is_of id) (slices past))
-    × ((processor : ℕ) → processor < count → (processor_of (figures count past) processor).busy ≡ time_in (is_at processor) (slices past))
+    ((id : ℕ) → id < 1024 → (task_in_figures (figures count past) id).time ≡ time_in (is_of id) (slices past))
+    × ((processor : ℕ) → processor < count → (processor_in_figures (figures count past) processor).busy ≡ time_in (is_slice_at processor) (slices past))
 adds_up count past few h = (time_is_sum_of_slices count past few h, busy_is_sum_of_slices count past few h)

@@ -18,14 +18,14 @@ use Rattle.bq_schedule.specs.declared.change.Left.{Left}
 use Rattle.bq_schedule.specs.declared.change.Left.TheVariants.{Preempted, Blocked}
 use Rattle.bq_schedule.specs.declared.figures.ProcessorFigures.{ProcessorFigures}
 use Rattle.bq_schedule.specs.Moments.{Moment, History}
-use Rattle.bq_schedule.specs.Figures.{Figures, unread, processor_of, task_of}
-use Rattle.bq_schedule.specs.Passing.{read_at}
-use Rattle.bq_schedule.specs.Runnable.{leaves}
-use Rattle.bq_schedule.specs.Running.{stopped, started, starts_as, start_of, stop_of, processor_runs, switched, is_run_by, stop_at, start_at}
+use Rattle.bq_schedule.specs.Figures.{Figures, unread, processor_in_figures, task_in_figures}
+use Rattle.bq_schedule.specs.Passing.{figures_read}
+use Rattle.bq_schedule.specs.Runnable.{figures_left}
+use Rattle.bq_schedule.specs.Running.{stopped, started, starts_as, start_of, stop_of, processor_runs, figures_switched, is_run_by, stop_at, start_at}
 use Rattle.bq_schedule.specs.Slices.{Sight, sight, sight_of, clock, clock_after, runner, runner_after}
-use Rattle.bq_schedule.specs.Steps.{nothing, asked, taken, emptied, decided, blocked, pulled, performed, report_of_answer, time_at, is_there, after, change, figures}
+use Rattle.bq_schedule.specs.Steps.{nothing, figures_asked, figures_taken, emptied, figures_decided, blocked, figures_pulled, performed, report_of_answer, time_at, is_there, figures_after, change, figures}
 use Rattle.bq_schedule.specs.Switches.{why_left}
-use Rattle.bq_schedule.specs.Laws.{IsWithin, IsOfProcessors, ReportsStarts, ReportsStops}
+use Rattle.bq_schedule.specs.Laws.{IsSightWithin, IsOfProcessors, ReportsStarts, ReportsStops}
 use Rattle.bq_schedule.proofs.FrameLemmas.{KeepsRunning, works-asked, works-leaves, works-taken, works-stopped, processors-begun_if, running-then, running-id, running-with_processor, running-asked, running-leaves, running-taken, running-read_at, runs-switched, who_is, count-read_at}
 use Rattle.bq_schedule.proofs.ClockLemmas.{figures-clocks, shows-performed, within-figures, not_below}
 
@@ -33,11 +33,11 @@ use Rattle.bq_schedule.proofs.ClockLemmas.{figures-clocks, shows-performed, with
 pub record Switches (s s' : Figures) (left : Left) (processor at : ℕ) (run : Option ℕ) (stop : Option Stop)
     (start : Option Start) : Type 0 where
   pub before : Figures
-  pub stops : stop ≡ cond (is_run_by (processor_of s processor).running run) None (stop_of left at (processor_of s processor).running)
-  pub starts : start ≡ cond (is_run_by (processor_of s processor).running run) None (starts_as processor at run before)
-  pub runs : (processor_of s' processor).running
-      ≡ cond (is_run_by (processor_of s processor).running run) (processor_of s processor).running (starts_as processor at run before)
-  pub others : (j : ℕ) → j ≢ processor → (processor_of s' j).running ≡ (processor_of s j).running
+  pub stops : stop ≡ cond (is_run_by (processor_in_figures s processor).running run) None (stop_of left at (processor_in_figures s processor).running)
+  pub starts : start ≡ cond (is_run_by (processor_in_figures s processor).running run) None (starts_as processor at run before)
+  pub runs : (processor_in_figures s' processor).running
+      ≡ cond (is_run_by (processor_in_figures s processor).running run) (processor_in_figures s processor).running (starts_as processor at run before)
+  pub others : (j : ℕ) → j ≢ processor → (processor_in_figures s' j).running ≡ (processor_in_figures s j).running
 
 running-processor_runs : (p : ProcessorFigures) (o : Option Start) → (processor_runs p o).running ≡ o
 running-processor_runs p None = refl
@@ -45,35 +45,35 @@ running-processor_runs p (Some start) = refl
 
 running-started : (processor at : ℕ) (run : Option ℕ) (u : Figures)
     → processor < length u.processors
-    → (processor_of (started processor at run u) processor).running ≡ starts_as processor at run u
+    → (processor_in_figures (started processor at run u) processor).running ≡ starts_as processor at run u
 running-started processor at run u inside =
-    let q = processor_runs (processor_of u processor) (starts_as processor at run u) in
+    let q = processor_runs (processor_in_figures u processor) (starts_as processor at run u) in
     ap (λ l. (get_or (slice_set l processor q) processor unread).running) (processors-begun_if processor at run u)
     ∙ ap (λ (p : ProcessorFigures). p.running) (get_or-set_same u.processors processor q unread inside)
-    ∙ running-processor_runs (processor_of u processor) (starts_as processor at run u)
+    ∙ running-processor_runs (processor_in_figures u processor) (starts_as processor at run u)
 
 running-switched_if : (b : Bool) (left : Left) (processor at : ℕ) (run : Option ℕ) (t : Figures)
     → processor < length t.processors
-    → let u = stopped left at (processor_of t processor).running t in
-    (processor_of (cond b t (started processor at run u)) processor).running
-    ≡ cond b (processor_of t processor).running (starts_as processor at run u)
+    → let u = stopped left at (processor_in_figures t processor).running t in
+    (processor_in_figures (cond b t (started processor at run u)) processor).running
+    ≡ cond b (processor_in_figures t processor).running (starts_as processor at run u)
 running-switched_if true left processor at run t inside = refl
 running-switched_if false left processor at run t inside =
-    let u = stopped left at (processor_of t processor).running t in
-    running-started processor at run u (omega (arith, (works-stopped left at (processor_of t processor).running t).count))
+    let u = stopped left at (processor_in_figures t processor).running t in
+    running-started processor at run u (omega (arith, (works-stopped left at (processor_in_figures t processor).running t).count))
 
 -- after a step that keeps who runs, and before another, a switch is one of the whole
 switch : (left : Left) (processor at : ℕ) (run : Option ℕ) (s t s' : Figures)
-    → KeepsRunning s t → processor < length t.processors → KeepsRunning (switched left processor at run t) s'
+    → KeepsRunning s t → processor < length t.processors → KeepsRunning (figures_switched left processor at run t) s'
     → Switches s s' left processor at run (stop_at left processor at run t) (start_at left processor at run t)
 switch left processor at run s t s' k inside k' =
-    let u = stopped left at (processor_of t processor).running t in
+    let u = stopped left at (processor_in_figures t processor).running t in
     record {
       before = u;
       stops = ap (λ o. cond (is_run_by o run) None (stop_of left at o)) (k.at processor);
       starts = ap (λ o. cond (is_run_by o run) None (starts_as processor at run u)) (k.at processor);
       runs =
-          k'.at processor ∙ running-switched_if (is_run_by (processor_of t processor).running run) left processor at run t inside
+          k'.at processor ∙ running-switched_if (is_run_by (processor_in_figures t processor).running run) left processor at run t inside
           ∙ ap (λ o. cond (is_run_by o run) o (starts_as processor at run u)) (k.at processor);
       others = λ j ne. k'.at j ∙ (runs-switched left processor at run t inside).1 j ne ∙ k.at j;
     }
@@ -89,45 +89,45 @@ ReportsSwitch s s' e None stop start = (stop ≡ None) × (start ≡ None) × Ke
 ReportsSwitch s s' e (Some x) stop start = ReportsRunning s s' (why_left e) x.processor (time_at x.processor x.now s) x.run stop start
 
 decided-reports : (processor now : ℕ) (d : Decision) (run : Option ℕ) (s s' : Figures)
-    → processor < length s.processors → KeepsRunning (decided processor now d run s) s'
-    → let t = asked processor d (read_at processor now s) in
+    → processor < length s.processors → KeepsRunning (figures_decided processor now d run s) s'
+    → let t = figures_asked processor d (figures_read processor now s) in
     Switches s s' Preempted processor (time_at processor now s) run (stop_at Preempted processor (time_at processor now s) run t)
     (start_at Preempted processor (time_at processor now s) run t)
 decided-reports processor now d run s s' inside k =
-    let r = read_at processor now s in
-    let t = asked processor d r in
+    let r = figures_read processor now s in
+    let t = figures_asked processor d r in
     switch Preempted processor (time_at processor now s) run s t s'
     (running-then s r t (running-read_at processor now s) (running-asked processor d r))
     (omega (arith, count-read_at processor now s, (works-asked processor d r).count)) k
 
 blocked-reports : (processor now id : ℕ) (run : Option ℕ) (s : Figures)
     → processor < length s.processors
-    → let t = leaves id (read_at processor now s) in
+    → let t = figures_left id (figures_read processor now s) in
     Switches s (blocked processor now id run s) Blocked processor (time_at processor now s) run
     (stop_at Blocked processor (time_at processor now s) run t) (start_at Blocked processor (time_at processor now s) run t)
 blocked-reports processor now id run s inside =
-    let r = read_at processor now s in
-    let t = leaves id r in
+    let r = figures_read processor now s in
+    let t = figures_left id r in
     switch Blocked processor (time_at processor now s) run s t (blocked processor now id run s)
     (running-then s r t (running-read_at processor now s) (running-leaves id r))
     (omega (arith, count-read_at processor now s, (works-leaves id r).count)) (running-id (blocked processor now id run s))
 
 pulled-reports : (processor now : ℕ) (d : Decision) (task run : Option ℕ) (s : Figures)
     → processor < length s.processors
-    → let t = taken processor (time_at processor now s) task (asked processor d (read_at processor now s)) in
-    Switches s (pulled processor now d task run s) Preempted processor
+    → let t = figures_taken processor (time_at processor now s) task (figures_asked processor d (figures_read processor now s)) in
+    Switches s (figures_pulled processor now d task run s) Preempted processor
     (time_at processor now s) run (stop_at Preempted processor (time_at processor now s) run t)
     (start_at Preempted processor (time_at processor now s) run t)
 pulled-reports processor now d task run s inside =
-    let r = read_at processor now s in
-    let a = asked processor d r in
+    let r = figures_read processor now s in
+    let a = figures_asked processor d r in
     let at = time_at processor now s in
-    let t = taken processor at task a in
-    switch Preempted processor at run s t (pulled processor now d task run s)
+    let t = figures_taken processor at task a in
+    switch Preempted processor at run s t (figures_pulled processor now d task run s)
     (running-then s r t (running-read_at processor now s)
     (running-then r a t (running-asked processor d r) (running-taken processor at task a)))
     (omega (arith, count-read_at processor now s, (works-asked processor d r).count, (works-taken processor at task a).count))
-    (running-id (pulled processor now d task run s))
+    (running-id (figures_pulled processor now d task run s))
 
 performed-reports : (s : Figures) (e : Event) (r : Reply) → is_there s e ≡ true
     → ReportsSwitch s (performed s e r) e (sight e r) (report_of_answer s e r).stop (report_of_answer s e r).start
@@ -137,13 +137,13 @@ performed-reports s (EndWake processor now) (Placed task to by steps) there =
     (refl, refl, (shows-performed s (EndWake processor now) (Placed task to by steps) there).1)
 performed-reports s (Drain processor now) (Drained count run by steps) there =
     let d : Decision = record { hook = Preempt; by = by; steps = steps } in
-    let q = decided processor now d run s in
+    let q = figures_decided processor now d run s in
     decided-reports processor now d run s (emptied processor q) (ltb-true processor (length s.processors) there)
     (running-with_processor q processor _ refl)
 performed-reports s (Tick processor now) (Ticked run by steps) there =
     let d : Decision = record { hook = Preempt; by = by; steps = steps } in
-    decided-reports processor now d run s (decided processor now d run s) (ltb-true processor (length s.processors) there)
-    (running-id (decided processor now d run s))
+    decided-reports processor now d run s (figures_decided processor now d run s) (ltb-true processor (length s.processors) there)
+    (running-id (figures_decided processor now d run s))
 performed-reports s (Block processor now) (Went task run) there =
     blocked-reports processor now task run s (ltb-true processor (length s.processors) there)
 performed-reports s (Pull processor from now) (Pulled task run by steps) there =
@@ -151,7 +151,7 @@ performed-reports s (Pull processor from now) (Pulled task run by steps) there =
     (ltb-true processor (length s.processors) there)
 performed-reports s e r there = (refl, refl, running-id s)
 
-nothing-reports : (s : Figures) (e : Event) (r : Reply) → is_there s e ≡ false → IsWithin (length s.processors) (sight e r)
+nothing-reports : (s : Figures) (e : Event) (r : Reply) → is_there s e ≡ false → IsSightWithin (length s.processors) (sight e r)
     → ReportsSwitch s s e (sight e r) None None
 nothing-reports s (EndWake processor now) (Placed task to by steps) none h = absurd (not_below processor (length s.processors) none h)
 nothing-reports s (Drain processor now) (Drained count run by steps) none h = absurd (not_below processor (length s.processors) none h)
@@ -161,7 +161,7 @@ nothing-reports s (Pull processor from now) (Pulled task run by steps) none h = 
 nothing-reports s e r none h = (refl, refl, running-id s)
 
 reports-if : (b : Bool) (s : Figures) (e : Event) (r : Reply)
-    → is_there s e ≡ b → IsWithin (length s.processors) (sight e r)
+    → is_there s e ≡ b → IsSightWithin (length s.processors) (sight e r)
     → ReportsSwitch s (cond b (performed s e r) s) e (sight e r) (cond b (report_of_answer s e r) nothing).stop
     (cond b (report_of_answer s e r) nothing).start
 reports-if true s e r there h = performed-reports s e r there
@@ -169,8 +169,8 @@ reports-if false s e r there h = nothing-reports s e r there h
 
 -- each answer tells the switch that it shows
 reports : (s : Figures) (e : Event) (a : Result Reply Refusal)
-    → IsWithin (length s.processors) (sight_of e a)
-    → ReportsSwitch s (after s e a) e (sight_of e a) (change s e a).stop (change s e a).start
+    → IsSightWithin (length s.processors) (sight_of e a)
+    → ReportsSwitch s (figures_after s e a) e (sight_of e a) (change s e a).stop (change s e a).start
 reports s e (Ok r) h = reports-if (is_there s e) s e r refl h
 reports s e (Err r) h = (refl, refl, record { at = λ j. refl })
 
@@ -202,7 +202,7 @@ pub start_if : (b : Bool) (running : Option Start) (processor at : ℕ) (run : O
 start_if true running processor at run u start is e = cc
 start_if false running processor at None u start is e = cc
 start_if false running processor at (Some id) u start is e =
-    let x : start_of processor id at (task_of u id) ≡ start = cc in
+    let x : start_of processor id at (task_in_figures u id) ≡ start = cc in
     let P : Start → Type 0 = λ st. IsStart running processor at (Some id) st in
     subst P x (record { here = refl; task = refl; time = refl; new = not_who running (Some id) is })
 
@@ -275,7 +275,7 @@ start-run count past processor now (Some run) s' left stop start st h w t e =
     let x : Sight = record { processor = processor; now = now; run = Some run } in
     let c = figures-clocks count past processor h w in
     let i =
-    start_if (is_run_by (processor_of s processor).running run) (processor_of s processor).running processor
+    start_if (is_run_by (processor_in_figures s processor).running run) (processor_in_figures s processor).running processor
     (time_at processor now s) run t.before st refl (sym t.starts ∙ e) in
     let here = i.here in (
       omega arith,
@@ -289,7 +289,7 @@ start-run count past processor now (Some run) s' left stop start st h w t e =
 
 start-shown : (count : ℕ) (past : History) (o : Option Sight) (s' : Figures) (e : Event) (stop : Option Stop)
     (start : Option Start) (st : Start)
-    → IsOfProcessors count past → IsWithin count o → ReportsSwitch (figures count past) s' e o stop start → start ≡ Some st
+    → IsOfProcessors count past → IsSightWithin count o → ReportsSwitch (figures count past) s' e o stop start → start ≡ Some st
     → IsStartOf count past o st
 start-shown count past None s' e stop start st h w t is =
     let t1 = t.1 in
@@ -308,10 +308,10 @@ begun-there : (count : ℕ) (past : History) (processor now j task : ℕ) (run :
 begun-there count past processor now j task run s' left stop start true h w t (inl same) is new =
     let s = figures count past in
     let c = figures-clocks count past processor h w in
-    let off : is_run_by (processor_of s processor).running run ≡ false =
-    is_new (processor_of s processor).running run (is_run_by (processor_of s processor).running run) refl
+    let off : is_run_by (processor_in_figures s processor).running run ≡ false =
+    is_new (processor_in_figures s processor).running run (is_run_by (processor_in_figures s processor).running run) refl
     (λ e. new (ap (λ k. runner k past) (sym same.1) ∙ sym c.1 ∙ e ∙ is)) in
-    and_some start _ (start_of processor task (time_at processor now s) (task_of t.before task))
+    and_some start _ (start_of processor task (time_at processor now s) (task_in_figures t.before task))
     (t.starts ∙ ap (λ v. cond v None (starts_as processor (time_at processor now s) run t.before)) off
     ∙ ap (λ r. starts_as processor (time_at processor now s) r t.before) is) (same.1, refl)
 begun-there count past processor now j task run s' left stop start false h w t (inl same) is new = absurd (cc)
@@ -331,7 +331,7 @@ begun-run count past processor now j task (Some run) s' left stop start h w t be
 
 begun-shown : (count : ℕ) (past : History) (o : Option Sight) (s' : Figures) (e : Event) (stop : Option Stop)
     (start : Option Start) (j task : ℕ)
-    → IsOfProcessors count past → IsWithin count o → ReportsSwitch (figures count past) s' e o stop start
+    → IsOfProcessors count past → IsSightWithin count o → ReportsSwitch (figures count past) s' e o stop start
     → BeginsWith j task past o
     → IsSomeAnd start (λ st. (st.processor ≡ j) × (st.task ≡ task))
 begun-shown count past None s' e stop start j task h w t begins = absurd (begins.1 begins.0)
@@ -358,7 +358,7 @@ reports_starts count past m h =
 
 -- what runs at a processor has begun there
 abbrev pub RunsHere : ℕ → History → Type 0
-RunsHere count past = (j : ℕ) (st : Start) → j < count → (processor_of (figures count past) j).running ≡ Some st → st.processor ≡ j
+RunsHere count past = (j : ℕ) (st : Start) → j < count → (processor_in_figures (figures count past) j).running ≡ Some st → st.processor ≡ j
 
 -- who runs at a processor after a switch has begun there, if who ran before has
 pub begun-here : (b : Bool) (processor at : ℕ) (run : Option ℕ) (u : Figures) (running : Option Start) (st : Start)
@@ -367,33 +367,33 @@ pub begun-here : (b : Bool) (processor at : ℕ) (run : Option ℕ) (u : Figures
 begun-here true processor at run u running st e before = before e
 begun-here false processor at None u running st e before = cc
 begun-here false processor at (Some id) u running st e before =
-    let x : start_of processor id at (task_of u id) ≡ st = cc in
+    let x : start_of processor id at (task_in_figures u id) ≡ st = cc in
     ap (λ (y : Start). y.processor) (sym x)
 
 here-there : (s s' : Figures) (left : Left) (processor at : ℕ) (run : Option ℕ) (stop : Option Stop)
     (start : Option Start) (j : ℕ) (st : Start) (b : Bool)
     → Switches s s' left processor at run stop start → ((b ≡ true) × (processor ≡ j)) ⊎ ((b ≡ false) × (processor ≢ j))
-    → ((processor_of s j).running ≡ Some st → st.processor ≡ j) → (processor_of s' j).running ≡ Some st
+    → ((processor_in_figures s j).running ≡ Some st → st.processor ≡ j) → (processor_in_figures s' j).running ≡ Some st
     → st.processor ≡ j
 here-there s s' left processor at run stop start j st b t (inl same) before e =
-    begun-here (is_run_by (processor_of s processor).running run) processor at run t.before
-    (processor_of s processor).running st (sym t.runs ∙ ap (λ k. (processor_of s' k).running) same.1 ∙ e)
-    (λ is. before (ap (λ k. (processor_of s k).running) (sym same.1) ∙ is) ∙ sym same.1)
+    begun-here (is_run_by (processor_in_figures s processor).running run) processor at run t.before
+    (processor_in_figures s processor).running st (sym t.runs ∙ ap (λ k. (processor_in_figures s' k).running) same.1 ∙ e)
+    (λ is. before (ap (λ k. (processor_in_figures s k).running) (sym same.1) ∙ is) ∙ sym same.1)
     ∙ same.1
 here-there s s' left processor at run stop start j st b t (inr other) before e = before (sym (t.others j (λ is. other.1 (sym is))) ∙ e)
 
 here-run : (s s' : Figures) (left : Left) (processor at : ℕ) (o : Option (Option ℕ)) (stop : Option Stop)
     (start : Option Start) (j : ℕ) (st : Start)
-    → ReportsRunning s s' left processor at o stop start → ((processor_of s j).running ≡ Some st → st.processor ≡ j)
-    → (processor_of s' j).running ≡ Some st
+    → ReportsRunning s s' left processor at o stop start → ((processor_in_figures s j).running ≡ Some st → st.processor ≡ j)
+    → (processor_in_figures s' j).running ≡ Some st
     → st.processor ≡ j
 here-run s s' left processor at None stop start j st t before e = before (sym (t.2.at j) ∙ e)
 here-run s s' left processor at (Some run) stop start j st t before e =
     here-there s s' left processor at run stop start j st (eqb processor j) t (eqb_tells processor j) before e
 
 here-shown : (s s' : Figures) (e : Event) (o : Option Sight) (stop : Option Stop) (start : Option Start) (j : ℕ) (st : Start)
-    → ReportsSwitch s s' e o stop start → ((processor_of s j).running ≡ Some st → st.processor ≡ j)
-    → (processor_of s' j).running ≡ Some st
+    → ReportsSwitch s s' e o stop start → ((processor_in_figures s j).running ≡ Some st → st.processor ≡ j)
+    → (processor_in_figures s' j).running ≡ Some st
     → st.processor ≡ j
 here-shown s s' e None stop start j st t before is = before (sym (t.2.at j) ∙ is)
 here-shown s s' e (Some x) stop start j st t before is =
@@ -402,7 +402,7 @@ here-shown s s' e (Some x) stop start j st t before is =
 -- in each history what runs at a processor has begun there
 pub runs_here : (count : ℕ) (past : History) → IsOfProcessors count past → RunsHere count past
 runs_here count [] h j st inside e =
-    let none : (processor_of (figures count []) j).running ≡ None =
+    let none : (processor_in_figures (figures count []) j).running ≡ None =
     ap (λ (p : ProcessorFigures). p.running) (get_or-replicate count j unread unread inside) in
     cc
 runs_here count (m ∷ past) h j st inside e =
@@ -430,7 +430,7 @@ stop-run count past e processor now (Some run) s' stop start sp h w t is =
     let x : Sight = record { processor = processor; now = now; run = Some run } in
     let c = figures-clocks count past processor h w in
     let i =
-    stop_if (is_run_by (processor_of s processor).running run) (processor_of s processor).running (why_left e)
+    stop_if (is_run_by (processor_in_figures s processor).running run) (processor_in_figures s processor).running (why_left e)
     (time_at processor now s) run sp refl (sym t.stops ∙ is) in
     let here : sp.start.processor ≡ processor = runs_here count past h processor sp.start w i.start in
     let ran : runner processor past ≡ Some sp.start.task = sym c.1 ∙ ap (option_map (λ (y : Start). y.task)) i.start in (
@@ -446,7 +446,7 @@ stop-run count past e processor now (Some run) s' stop start sp h w t is =
 
 stop-shown : (count : ℕ) (past : History) (o : Option Sight) (s' : Figures) (e : Event) (stop : Option Stop)
     (start : Option Start) (sp : Stop)
-    → IsOfProcessors count past → IsWithin count o → ReportsSwitch (figures count past) s' e o stop start → stop ≡ Some sp
+    → IsOfProcessors count past → IsSightWithin count o → ReportsSwitch (figures count past) s' e o stop start → stop ≡ Some sp
     → IsStopOf count past e o sp
 stop-shown count past None s' e stop start sp h w t is =
     let t0 = t.0 in
@@ -473,12 +473,12 @@ ceased-there : (count : ℕ) (past : History) (processor now j task : ℕ) (run 
 ceased-there count past processor now j task run s' left stop start true h w t (inl same) ran new =
     let s = figures count past in
     let c = figures-clocks count past processor h w in
-    let ran' : option_map (λ (x : Start). x.task) (processor_of s processor).running ≡ Some task =
+    let ran' : option_map (λ (x : Start). x.task) (processor_in_figures s processor).running ≡ Some task =
     c.1 ∙ ap (λ k. runner k past) same.1 ∙ ran in
-    let off : is_run_by (processor_of s processor).running run ≡ false =
-    is_new (processor_of s processor).running run (is_run_by (processor_of s processor).running run) refl (λ e. new (sym e ∙ ran')) in
-    ceased-reported (processor_of s processor).running left (time_at processor now s) j task stop
-    (t.stops ∙ ap (λ v. cond v None (stop_of left (time_at processor now s) (processor_of s processor).running)) off)
+    let off : is_run_by (processor_in_figures s processor).running run ≡ false =
+    is_new (processor_in_figures s processor).running run (is_run_by (processor_in_figures s processor).running run) refl (λ e. new (sym e ∙ ran')) in
+    ceased-reported (processor_in_figures s processor).running left (time_at processor now s) j task stop
+    (t.stops ∙ ap (λ v. cond v None (stop_of left (time_at processor now s) (processor_in_figures s processor).running)) off)
     ran' (λ st e. runs_here count past h processor st w e ∙ same.1)
 ceased-there count past processor now j task run s' left stop start false h w t (inl same) ran new = absurd (cc)
 ceased-there count past processor now j task run s' left stop start true h w t (inr other) ran new = absurd (cc)
@@ -497,7 +497,7 @@ ceased-run count past processor now j task (Some run) s' left stop start h w t c
 
 ceased-shown : (count : ℕ) (past : History) (o : Option Sight) (s' : Figures) (e : Event) (stop : Option Stop)
     (start : Option Start) (j task : ℕ)
-    → IsOfProcessors count past → IsWithin count o → ReportsSwitch (figures count past) s' e o stop start
+    → IsOfProcessors count past → IsSightWithin count o → ReportsSwitch (figures count past) s' e o stop start
     → CeasesWith j task past o
     → IsSomeAnd stop (λ sp. (sp.start.processor ≡ j) × (sp.start.task ≡ task))
 ceased-shown count past None s' e stop start j task h w t ceases = absurd (ceases.1 ceases.0)

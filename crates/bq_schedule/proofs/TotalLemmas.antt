@@ -20,14 +20,14 @@ use Rattle.bq_schedule.specs.declared.figures.TaskFigures.{TaskFigures}
 use Rattle.bq_schedule.specs.declared.figures.ProcessorFigures.{ProcessorFigures}
 use Rattle.bq_schedule.specs.Counts.{parts_per_nanosecond}
 use Rattle.bq_schedule.specs.Moments.{Moment, History}
-use Rattle.bq_schedule.specs.Figures.{Figures, opening, unread, unknown, processor_of, task_of, with_processor, with_task}
-use Rattle.bq_schedule.specs.Passing.{slice_at, length_of, part_of, processor_read, read_at, with_charged}
-use Rattle.bq_schedule.specs.Runnable.{fair_at, fair_of, leaves, comes}
-use Rattle.bq_schedule.specs.Running.{switched}
+use Rattle.bq_schedule.specs.Figures.{Figures, opening_figures, unread, unknown, processor_in_figures, task_in_figures, figures_with_processor, figures_with_task}
+use Rattle.bq_schedule.specs.Passing.{slice_at, slice_length, parts_per_weight, processor_read, figures_read, with_charged}
+use Rattle.bq_schedule.specs.Runnable.{fair_at, fair_of, figures_left, comes}
+use Rattle.bq_schedule.specs.Running.{figures_switched}
 use Rattle.bq_schedule.specs.Slices.{Sight, sight, sight_of, is_this}
-use Rattle.bq_schedule.specs.Steps.{asked, admitted, waited_there, emptied, taken, placed, decided, blocked, pulled, performed, time_at, is_there, after, figures}
+use Rattle.bq_schedule.specs.Steps.{figures_asked, figures_admitted, waited_there, emptied, figures_taken, placed, figures_decided, blocked, figures_pulled, performed, time_at, is_there, figures_after, figures}
 use Rattle.bq_schedule.specs.FairTimes.{weight_there, weights_at, share, all_fair, all_unshared, all_busy}
-use Rattle.bq_schedule.specs.Laws.{IsWithin, IsOfProcessors, SharesOut, AddsUpFairTimes}
+use Rattle.bq_schedule.specs.Laws.{IsSightWithin, IsOfProcessors, SharesOut, AddsUpFairTimes}
 use Rattle.bq_schedule.proofs.FrameLemmas.{Works, KeepsWorks, works-id, works-then, processor_kept, task_kept, works-with_processor, works-with_task, works-asked, works-leaves, works-comes, works-switched, processors-read_at, count-read_at, tasks-read_at}
 use Rattle.bq_schedule.proofs.ClockLemmas.{count-figures, within-figures, not_below}
 use Rattle.bq_schedule.proofs.SumLemmas.{clocks-are-short}
@@ -44,7 +44,7 @@ all_raw s = sum_by (PurseLemmas.uncapped_of s) s.tasks
 pub record IsFull (s : Figures) : Type 0 where
   pub sound : PurseLemmas.IsSound s
   pub total : all_raw s + all_unshared s ≡ parts_per_nanosecond * all_busy s
-  pub ahead : (j : ℕ) → PurseLemmas.shared_at s j ≤ parts_per_nanosecond * (processor_of s j).busy
+  pub ahead : (j : ℕ) → PurseLemmas.shared_at s j ≤ parts_per_nanosecond * (processor_in_figures s j).busy
 
 -- all busy times stay below 2^56
 abbrev pub IsShort : Figures → Type 0
@@ -94,7 +94,7 @@ fair-raw_if s t None h = refl
 fair-raw_if s t (Some processor) h = omega (arith, h)
 
 fair-raw : (s : Figures) (id : ℕ) → IsFull s → IsShort s → fair_of s id ≡ PurseLemmas.uncapped s id
-fair-raw s id f short = fair-raw_if s (task_of s id) (task_of s id).place (small s id f short)
+fair-raw s id f short = fair-raw_if s (task_in_figures s id) (task_in_figures s id).place (small s id f short)
 
 -- a move leaves all full, and each task what it has
 pub record Goes (s s' : Figures) : Type 0 where
@@ -123,18 +123,18 @@ goes-purses s s' w k = record {
   };
 }
 
-goes-with_task : (s : Figures) (id : ℕ) (t : TaskFigures) → t.time ≡ (task_of s id).time
-    → PurseLemmas.purse t ≡ PurseLemmas.purse (task_of s id)
-    → Goes s (with_task s id t)
+goes-with_task : (s : Figures) (id : ℕ) (t : TaskFigures) → t.time ≡ (task_in_figures s id).time
+    → PurseLemmas.purse t ≡ PurseLemmas.purse (task_in_figures s id)
+    → Goes s (figures_with_task s id t)
 goes-with_task s id t e p = goes-purses s _ (works-with_task s id t e) (PurseLemmas.kept-with_task s id t p)
 
-goes-asked : (processor : ℕ) (d : Decision) (s : Figures) → Goes s (asked processor d s)
+goes-asked : (processor : ℕ) (d : Decision) (s : Figures) → Goes s (figures_asked processor d s)
 goes-asked processor d s = goes-purses s _ (works-asked processor d s) (PurseLemmas.kept-asked processor d s)
 
 goes-emptied : (processor : ℕ) (s : Figures) → Goes s (emptied processor s)
 goes-emptied processor s = goes-purses s _ (works-with_processor s processor _ refl) (PurseLemmas.kept-with_processor s processor _ refl)
 
-goes-leaves : (id : ℕ) (s : Figures) → Goes s (leaves id s)
+goes-leaves : (id : ℕ) (s : Figures) → Goes s (figures_left id s)
 goes-leaves id s = record {
   keeps = works-leaves id s;
   goes = λ f short. let l = Leaving.leaves-stays s id f.sound (small s id f short) in record { sound = l.sound; raws = l.raws };
@@ -145,24 +145,24 @@ goes-comes id processor now s = record {
   keeps = works-comes id processor now s;
   goes = λ f short.
       let l = Leaving.leaves-stays s id f.sound (small s id f short) in
-      let c = Coming.joined-stays (leaves id s) id processor now l.sound l.nowhere in
+      let c = Coming.joined-stays (figures_left id s) id processor now l.sound l.nowhere in
       record { sound = c.sound; raws = λ j. c.raws j ∙ l.raws j };
 }
 
-goes-admitted : (id : ℕ) (nice : ℤ) (s : Figures) → Goes s (admitted id nice (leaves id s))
+goes-admitted : (id : ℕ) (nice : ℤ) (s : Figures) → Goes s (figures_admitted id nice (figures_left id s))
 goes-admitted id nice s = record {
-  keeps = works-then s (leaves id s) _ (works-leaves id s) (works-with_task (leaves id s) id _ refl);
+  keeps = works-then s (figures_left id s) _ (works-leaves id s) (works-with_task (figures_left id s) id _ refl);
   goes = λ f short.
       let l = Leaving.leaves-stays s id f.sound (small s id f short) in
-      let c = Coming.admitted-stays (leaves id s) id nice l.sound l.nowhere in
+      let c = Coming.admitted-stays (figures_left id s) id nice l.sound l.nowhere in
       record { sound = c.sound; raws = λ j. c.raws j ∙ l.raws j };
 }
 
-goes-switched : (left : Left) (processor now : ℕ) (run : Option ℕ) (s : Figures) → Goes s (switched left processor now run s)
+goes-switched : (left : Left) (processor now : ℕ) (run : Option ℕ) (s : Figures) → Goes s (figures_switched left processor now run s)
 goes-switched left processor now run s =
     goes-purses s _ (works-switched left processor now run s) (PurseLemmas.kept-switched left processor now run s)
 
-goes-taken : (processor now : ℕ) (task : Option ℕ) (s : Figures) → Goes s (taken processor now task s)
+goes-taken : (processor now : ℕ) (task : Option ℕ) (s : Figures) → Goes s (figures_taken processor now task s)
 goes-taken processor now None s = goes-id s
 goes-taken processor now (Some id) s =
     goes-then s (waited_there id now s) _ (goes-with_task s id _ refl refl)
@@ -171,37 +171,37 @@ goes-taken processor now (Some id) s =
 -- after its reading, what an event does
 abbrev pub GoesFrom : Figures → Option Sight → Figures → Type 0
 GoesFrom s None s' = Goes s s'
-GoesFrom s (Some x) s' = Goes (read_at x.processor x.now s) s'
+GoesFrom s (Some x) s' = Goes (figures_read x.processor x.now s) s'
 
 goes-decided : (processor now : ℕ) (d : Decision) (run : Option ℕ) (s : Figures)
-    → Goes (read_at processor now s) (decided processor now d run s)
+    → Goes (figures_read processor now s) (figures_decided processor now d run s)
 goes-decided processor now d run s =
-    let r = read_at processor now s in
-    goes-then r (asked processor d r) _ (goes-asked processor d r)
-    (goes-switched Preempted processor (time_at processor now s) run (asked processor d r))
+    let r = figures_read processor now s in
+    goes-then r (figures_asked processor d r) _ (goes-asked processor d r)
+    (goes-switched Preempted processor (time_at processor now s) run (figures_asked processor d r))
 
-goes-placed : (processor now : ℕ) (d : Decision) (id to : ℕ) (s : Figures) → Goes (read_at processor now s) (placed processor now d id to s)
+goes-placed : (processor now : ℕ) (d : Decision) (id to : ℕ) (s : Figures) → Goes (figures_read processor now s) (placed processor now d id to s)
 goes-placed processor now d id to s =
-    let r = read_at processor now s in
-    let a = asked processor d r in
+    let r = figures_read processor now s in
+    let a = figures_asked processor d r in
     let c = comes id to (time_at processor now s) a in
     goes-then r a _ (goes-asked processor d r)
     (goes-then a c _ (goes-comes id to (time_at processor now s) a) (goes-with_task c id _ refl refl))
 
 goes-pulled : (processor now : ℕ) (d : Decision) (task run : Option ℕ) (s : Figures)
-    → Goes (read_at processor now s) (pulled processor now d task run s)
+    → Goes (figures_read processor now s) (figures_pulled processor now d task run s)
 goes-pulled processor now d task run s =
-    let r = read_at processor now s in
-    let a = asked processor d r in
-    let k = taken processor (time_at processor now s) task a in
+    let r = figures_read processor now s in
+    let a = figures_asked processor d r in
+    let k = figures_taken processor (time_at processor now s) task a in
     goes-then r a _ (goes-asked processor d r)
     (goes-then a k _ (goes-taken processor (time_at processor now s) task a)
     (goes-switched Preempted processor (time_at processor now s) run k))
 
-goes-blocked : (processor now id : ℕ) (run : Option ℕ) (s : Figures) → Goes (read_at processor now s) (blocked processor now id run s)
+goes-blocked : (processor now id : ℕ) (run : Option ℕ) (s : Figures) → Goes (figures_read processor now s) (blocked processor now id run s)
 goes-blocked processor now id run s =
-    let r = read_at processor now s in
-    goes-then r (leaves id r) _ (goes-leaves id r) (goes-switched Blocked processor (time_at processor now s) run (leaves id r))
+    let r = figures_read processor now s in
+    goes-then r (figures_left id r) _ (goes-leaves id r) (goes-switched Blocked processor (time_at processor now s) run (figures_left id r))
 
 goes-performed : (s : Figures) (e : Event) (r : Reply) → GoesFrom s (sight e r) (performed s e r)
 goes-performed s (Admit id nice mask slice) Admitted = goes-admitted id nice s
@@ -209,8 +209,8 @@ goes-performed s (EndWake processor now) (Placed task to by steps) =
     goes-placed processor now (record { hook = Place; by = by; steps = steps }) task to s
 goes-performed s (Drain processor now) (Drained count run by steps) =
     let d : Decision = record { hook = Preempt; by = by; steps = steps } in
-    goes-then _ (decided processor now d run s) _ (goes-decided processor now d run s)
-    (goes-emptied processor (decided processor now d run s))
+    goes-then _ (figures_decided processor now d run s) _ (goes-decided processor now d run s)
+    (goes-emptied processor (figures_decided processor now d run s))
 goes-performed s (Tick processor now) (Ticked run by steps) =
     goes-decided processor now (record { hook = Preempt; by = by; steps = steps }) run s
 goes-performed s (Block processor now) (Went task run) = goes-blocked processor now task run s
@@ -218,7 +218,7 @@ goes-performed s (Pull processor from now) (Pulled task run by steps) =
     goes-pulled processor now (record { hook = OnPull; by = by; steps = steps }) task run s
 goes-performed s e r = goes-id s
 
-goes-nothing : (s : Figures) (e : Event) (r : Reply) → is_there s e ≡ false → IsWithin (length s.processors) (sight e r)
+goes-nothing : (s : Figures) (e : Event) (r : Reply) → is_there s e ≡ false → IsSightWithin (length s.processors) (sight e r)
     → GoesFrom s (sight e r) s
 goes-nothing s (EndWake processor now) (Placed task to by steps) none h = absurd (not_below processor (length s.processors) none h)
 goes-nothing s (Drain processor now) (Drained count run by steps) none h = absurd (not_below processor (length s.processors) none h)
@@ -227,13 +227,13 @@ goes-nothing s (Block processor now) (Went task run) none h = absurd (not_below 
 goes-nothing s (Pull processor from now) (Pulled task run by steps) none h = absurd (not_below processor (length s.processors) none h)
 goes-nothing s e r none h = goes-id s
 
-goes-if : (b : Bool) (s : Figures) (e : Event) (r : Reply) → is_there s e ≡ b → IsWithin (length s.processors) (sight e r)
+goes-if : (b : Bool) (s : Figures) (e : Event) (r : Reply) → is_there s e ≡ b → IsSightWithin (length s.processors) (sight e r)
     → GoesFrom s (sight e r) (cond b (performed s e r) s)
 goes-if true s e r there h = goes-performed s e r
 goes-if false s e r there h = goes-nothing s e r there h
 
 goes-after : (s : Figures) (e : Event) (a : Result Reply Refusal)
-    → IsWithin (length s.processors) (sight_of e a) → GoesFrom s (sight_of e a) (after s e a)
+    → IsSightWithin (length s.processors) (sight_of e a) → GoesFrom s (sight_of e a) (figures_after s e a)
 goes-after s e (Ok r) h = goes-if (is_there s e) s e r refl h
 goes-after s e (Err r) h = record {
   keeps = record { at = λ j. refl; count = refl; tasks = refl; times = λ id. refl };
@@ -245,27 +245,27 @@ goes-after s e (Err r) h = record {
 
 -- a reading changes no purse
 purse-with_charged : (s : Figures) (o : Option Slice) (id : ℕ)
-    → PurseLemmas.purse (task_of (with_charged s o) id) ≡ PurseLemmas.purse (task_of s id)
+    → PurseLemmas.purse (task_in_figures (with_charged s o) id) ≡ PurseLemmas.purse (task_in_figures s id)
 purse-with_charged s None id = refl
 purse-with_charged s (Some x) id = task_kept PurseLemmas.purse s x.task id _ refl
 
 purse-read_at : (processor now : ℕ) (s : Figures) (id : ℕ)
-    → PurseLemmas.purse (task_of (read_at processor now s) id) ≡ PurseLemmas.purse (task_of s id)
+    → PurseLemmas.purse (task_in_figures (figures_read processor now s) id) ≡ PurseLemmas.purse (task_in_figures s id)
 purse-read_at processor now s id =
-    purse-with_charged (with_processor s processor (processor_read processor (processor_of s processor) now))
-    (slice_at processor (processor_of s processor) now) id
+    purse-with_charged (figures_with_processor s processor (processor_read processor (processor_in_figures s processor) now))
+    (slice_at processor (processor_in_figures s processor) now) id
 
 -- what each unit of weight is given at a reading
 abbrev pub given : ℕ → ℕ → Figures → ℕ
-given processor now s = part_of (length_of (slice_at processor (processor_of s processor) now)) (processor_of s processor).weight
+given processor now s = parts_per_weight (slice_length (slice_at processor (processor_in_figures s processor) now)) (processor_in_figures s processor).weight
 
 shared-read : (processor now j : ℕ) (s : Figures) (b : Bool) → processor < length s.processors
     → PurseLemmas.shared_at s processor + given processor now s ≤ 340282366920938463463374607431768211455
     → ((b ≡ true) × (processor ≡ j)) ⊎ ((b ≡ false) × (processor ≢ j))
-    → (get_or (slice_set s.processors processor (processor_read processor (processor_of s processor) now)) j unread).shared
+    → (get_or (slice_set s.processors processor (processor_read processor (processor_in_figures s processor) now)) j unread).shared
     ≡ PurseLemmas.shared_at s j + cond b (given processor now s) 0
 shared-read processor now j s true inside fits (inl e) =
-    let q = processor_read processor (processor_of s processor) now in
+    let q = processor_read processor (processor_in_figures s processor) now in
     let same : PurseLemmas.shared_at s processor ≡ PurseLemmas.shared_at s j = ap (PurseLemmas.shared_at s) e.1 in
     ap (λ k. (get_or (slice_set s.processors processor q) k unread).shared) (sym e.1)
     ∙ ap (λ (p : ProcessorFigures). p.shared) (get_or-set_same s.processors processor q unread inside)
@@ -274,12 +274,12 @@ shared-read processor now j s false inside fits (inl e) = absurd (cc)
 shared-read processor now j s true inside fits (inr e) = absurd (cc)
 shared-read processor now j s false inside fits (inr e) =
     ap (λ (p : ProcessorFigures). p.shared)
-    (get_or-set_other s.processors processor j (processor_read processor (processor_of s processor) now) unread (λ h. e.1 (sym h)))
+    (get_or-set_other s.processors processor j (processor_read processor (processor_in_figures s processor) now) unread (λ h. e.1 (sym h)))
     ∙ omega arith
 
 shared-read_at : (processor now j : ℕ) (s : Figures) → processor < length s.processors
     → PurseLemmas.shared_at s processor + given processor now s ≤ 340282366920938463463374607431768211455
-    → PurseLemmas.shared_at (read_at processor now s) j ≡ PurseLemmas.shared_at s j + cond (eqb processor j) (given processor now s) 0
+    → PurseLemmas.shared_at (figures_read processor now s) j ≡ PurseLemmas.shared_at s j + cond (eqb processor j) (given processor now s) 0
 shared-read_at processor now j s inside fits =
     ap (λ l. (get_or l j unread).shared) (processors-read_at processor now s)
     ∙ shared-read processor now j s (eqb processor j) inside fits (eqb_tells processor j)
@@ -312,13 +312,13 @@ worth-more f g processor part u (Some k) e h =
 
 raw-read_at : (processor now id : ℕ) (s : Figures) → PurseLemmas.IsSound s → processor < length s.processors
     → PurseLemmas.shared_at s processor + given processor now s ≤ 340282366920938463463374607431768211455
-    → PurseLemmas.uncapped (read_at processor now s) id
-    ≡ PurseLemmas.uncapped s id + weight_there processor (task_of s id) * given processor now s
+    → PurseLemmas.uncapped (figures_read processor now s) id
+    ≡ PurseLemmas.uncapped s id + weight_there processor (task_in_figures s id) * given processor now s
 raw-read_at processor now id s h inside fits =
-    let r = read_at processor now s in
+    let r = figures_read processor now s in
     ap (λ (u : PurseLemmas.Purse). PurseLemmas.worth_at (PurseLemmas.shared_at r) u u.place) (purse-read_at processor now s id)
     ∙ worth-more (PurseLemmas.shared_at s) (PurseLemmas.shared_at r) processor (given processor now s)
-    (PurseLemmas.purse (task_of s id)) (task_of s id).place (λ j. shared-read_at processor now j s inside fits) (h.joined id)
+    (PurseLemmas.purse (task_in_figures s id)) (task_in_figures s id).place (λ j. shared-read_at processor now j s inside fits) (h.joined id)
 
 -- two sums at once
 sums_both : (f g : TaskFigures → ℕ) (n : ℕ) (xs : List TaskFigures)
@@ -335,10 +335,10 @@ sums_both f g n (x ∷ xs) =
 
 sound-read_at : (processor now : ℕ) (s : Figures) → PurseLemmas.IsSound s → processor < length s.processors
     → PurseLemmas.shared_at s processor + given processor now s ≤ 340282366920938463463374607431768211455
-    → PurseLemmas.IsSound (read_at processor now s)
+    → PurseLemmas.IsSound (figures_read processor now s)
 sound-read_at processor now s h inside fits =
-    let r = read_at processor now s in
-    let q = processor_read processor (processor_of s processor) now in
+    let r = figures_read processor now s in
+    let q = processor_read processor (processor_in_figures s processor) now in
     record {
       weights = λ j there.
           ap (λ l. (get_or l j unread).weight) (processors-read_at processor now s)
@@ -347,27 +347,27 @@ sound-read_at processor now s h inside fits =
           ∙ sym (PurseLemmas.sums_like (weight_there j) (weight_there j) unknown r.tasks s.tasks
           (tasks-read_at processor now s) (λ i. ap (PurseLemmas.weight_of_purse j) (purse-read_at processor now s i)));
       joined = λ id.
-          PurseLemmas.joined-more (PurseLemmas.shared_at s) (PurseLemmas.shared_at r) (PurseLemmas.purse (task_of r id))
-          (task_of r id).place (λ j. omega (arith, shared-read_at processor now j s inside fits))
-          (PurseLemmas.joined-same (PurseLemmas.shared_at s) (PurseLemmas.purse (task_of r id))
-          (PurseLemmas.purse (task_of s id)) (purse-read_at processor now s id) (h.joined id));
+          PurseLemmas.joined-more (PurseLemmas.shared_at s) (PurseLemmas.shared_at r) (PurseLemmas.purse (task_in_figures r id))
+          (task_in_figures r id).place (λ j. omega (arith, shared-read_at processor now j s inside fits))
+          (PurseLemmas.joined-same (PurseLemmas.shared_at s) (PurseLemmas.purse (task_in_figures r id))
+          (PurseLemmas.purse (task_in_figures s id)) (purse-read_at processor now s id) (h.joined id));
       table = λ id. omega (arith, h.table id, ap (λ (u : PurseLemmas.Purse). u.weight) (purse-read_at processor now s id));
       ids = tasks-read_at processor now s ∙ h.ids;
     }
 
 -- a reading, all of whose numbers fit
 pub record Reads (processor now : ℕ) (s : Figures) : Type 0 where
-  pub full : IsFull (read_at processor now s)
+  pub full : IsFull (figures_read processor now s)
   pub raws : (id : ℕ)
-      → PurseLemmas.uncapped (read_at processor now s) id
-      ≡ PurseLemmas.uncapped s id + weight_there processor (task_of s id) * given processor now s
+      → PurseLemmas.uncapped (figures_read processor now s) id
+      ≡ PurseLemmas.uncapped s id + weight_there processor (task_in_figures s id) * given processor now s
 
 ahead-read : (processor now j : ℕ) (s : Figures) (b : Bool) → processor < length s.processors
     → ((b ≡ true) × (processor ≡ j)) ⊎ ((b ≡ false) × (processor ≢ j))
-    → (processor_of (read_at processor now s) j).busy
-    ≡ cond b (processor_read processor (processor_of s processor) now).busy (processor_of s j).busy
+    → (processor_in_figures (figures_read processor now s) j).busy
+    ≡ cond b (processor_read processor (processor_in_figures s processor) now).busy (processor_in_figures s j).busy
 ahead-read processor now j s true inside (inl e) =
-    let q = processor_read processor (processor_of s processor) now in
+    let q = processor_read processor (processor_in_figures s processor) now in
     ap (λ l. (get_or l j unread).busy) (processors-read_at processor now s)
     ∙ ap (λ k. (get_or (slice_set s.processors processor q) k unread).busy) (sym e.1)
     ∙ ap (λ (p : ProcessorFigures). p.busy) (get_or-set_same s.processors processor q unread inside)
@@ -376,15 +376,15 @@ ahead-read processor now j s true inside (inr e) = absurd (cc)
 ahead-read processor now j s false inside (inr e) =
     ap (λ l. (get_or l j unread).busy) (processors-read_at processor now s)
     ∙ ap (λ (p : ProcessorFigures). p.busy)
-    (get_or-set_other s.processors processor j (processor_read processor (processor_of s processor) now) unread (λ h. e.1 (sym h)))
+    (get_or-set_other s.processors processor j (processor_read processor (processor_in_figures s processor) now) unread (λ h. e.1 (sym h)))
 
 ahead-if : (s : Figures) (processor j shared busy part time busy' : ℕ) (b : Bool)
     → ((b ≡ true) × (processor ≡ j)) ⊎ ((b ≡ false) × (processor ≢ j)) → IsFull s
-    → shared ≡ PurseLemmas.shared_at s j + cond b part 0 → busy ≡ cond b busy' (processor_of s j).busy
-    → busy' ≡ (processor_of s processor).busy + time → part ≤ time * parts_per_nanosecond
+    → shared ≡ PurseLemmas.shared_at s j + cond b part 0 → busy ≡ cond b busy' (processor_in_figures s j).busy
+    → busy' ≡ (processor_in_figures s processor).busy + time → part ≤ time * parts_per_nanosecond
     → shared ≤ parts_per_nanosecond * busy
 ahead-if s processor j shared busy part time busy' true (inl e) f is now more le =
-    let same : (processor_of s processor).busy ≡ (processor_of s j).busy = ap (λ k. (processor_of s k).busy) e.1 in
+    let same : (processor_in_figures s processor).busy ≡ (processor_in_figures s j).busy = ap (λ k. (processor_in_figures s k).busy) e.1 in
     omega (arith, f.ahead j, is, now, more, le, same)
 ahead-if s processor j shared busy part time busy' false (inl e) f is now more le = absurd (cc)
 ahead-if s processor j shared busy part time busy' true (inr e) f is now more le = absurd (cc)
@@ -392,13 +392,13 @@ ahead-if s processor j shared busy part time busy' false (inr e) f is now more l
 
 -- a reading leaves all full, and gives each task its part by its weight there, if busy times stay short
 pub read_at-full : (processor now : ℕ) (s : Figures) → IsFull s → processor < length s.processors
-    → IsShort (read_at processor now s)
+    → IsShort (figures_read processor now s)
     → Reads processor now s
 read_at-full processor now s f inside short =
-    let r = read_at processor now s in
-    let p = processor_of s processor in
+    let r = figures_read processor now s in
+    let p = processor_in_figures s processor in
     let q = processor_read processor p now in
-    let time = length_of (slice_at processor p now) in
+    let time = slice_length (slice_at processor p now) in
     let part = given processor now s in
     let busies : sum_by (λ (x : ProcessorFigures). x.busy) (slice_set s.processors processor q) + p.busy
     ≡ all_busy s + q.busy = sum_by-set (λ (x : ProcessorFigures). x.busy) s.processors processor q unread inside in
@@ -419,7 +419,7 @@ read_at-full processor now s f inside short =
     omega (arith, f.ahead processor, little, busy, short, busies, is-busy, part-of-all) in
     let unshared : q.unshared ≡ p.unshared + (time * parts_per_nanosecond - p.weight * part) =
     omega (arith, part-of-rest, f.total, short, busies, is-busy, part-of-all, busy) in
-    let raws : (id : ℕ) → PurseLemmas.uncapped r id ≡ PurseLemmas.uncapped s id + weight_there processor (task_of s id) * part =
+    let raws : (id : ℕ) → PurseLemmas.uncapped r id ≡ PurseLemmas.uncapped s id + weight_there processor (task_in_figures s id) * part =
     λ id. raw-read_at processor now id s f.sound inside fits in
     let all : all_raw r ≡ all_raw s + weights_at s processor * part =
     PurseLemmas.sums_like (PurseLemmas.uncapped_of r)
@@ -432,7 +432,7 @@ read_at-full processor now s f inside short =
         sound = sound-read_at processor now s f.sound inside fits;
         total = omega (arith, all, weights, unshared, unshareds, is-unshared, busies, is-busy, busy, f.total, shares);
         ahead = λ j.
-            ahead-if s processor j (PurseLemmas.shared_at r j) (processor_of r j).busy part time q.busy
+            ahead-if s processor j (PurseLemmas.shared_at r j) (processor_in_figures r j).busy part time q.busy
             (eqb processor j) (eqb_tells processor j) f (shared-read_at processor now j s inside fits)
             (ahead-read processor now j s (eqb processor j) inside (eqb_tells processor j)) busy little;
       };
@@ -457,7 +457,7 @@ is_short count past few h =
       arith,
       clocks-are-short count past few h,
       sums_le (λ (p : ProcessorFigures). p.busy) (λ (p : ProcessorFigures). p.last) s.processors (λ j inside.
-          busy-le (processor_of s j).first (processor_of s j)
+          busy-le (processor_in_figures s j).first (processor_in_figures s j)
           (figures_are_filled count past j h (omega (arith, inside, count-figures count past h)))),
     )
 
@@ -475,16 +475,16 @@ sum-none : {X : Type 0} (f : X → ℕ) (x : X) (n : ℕ) → f x ≡ 0 → sum_
 sum-none f x zero e = refl
 sum-none f x (suc n) e = omega (arith, sum_by-cons f x (replicate n x), e, sum-none f x n e)
 
-opening-full : (count : ℕ) → IsFull (opening count)
+opening-full : (count : ℕ) → IsFull (opening_figures count)
 opening-full count =
-    let s = opening count in
+    let s = opening_figures count in
     record {
       sound = record {
         weights = λ processor inside.
             ap (λ (p : ProcessorFigures). p.weight) (same_everywhere count processor unread)
             ∙ sym (sum-none (weight_there processor) unknown 1024 refl);
         joined = λ id.
-            PurseLemmas.joined-same (PurseLemmas.shared_at s) (PurseLemmas.purse (task_of s id)) (PurseLemmas.purse unknown)
+            PurseLemmas.joined-same (PurseLemmas.shared_at s) (PurseLemmas.purse (task_in_figures s id)) (PurseLemmas.purse unknown)
             (ap PurseLemmas.purse (same_everywhere 1024 id unknown)) tt;
         table = λ id. omega (arith, ap (λ (t : TaskFigures). t.weight) (same_everywhere 1024 id unknown));
         ids = length-replicate 1024 unknown;
@@ -504,13 +504,13 @@ pub record Rises (s s' : Figures) (o : Option Sight) : Type 0 where
   pub raws : (id : ℕ) → PurseLemmas.uncapped s' id ≡ PurseLemmas.uncapped s id + share s o id
 
 rises : (s s' : Figures) (o : Option Sight) → IsFull s → IsShort s → IsShort s'
-    → IsWithin (length s.processors) o → GoesFrom s o s'
+    → IsSightWithin (length s.processors) o → GoesFrom s o s'
     → Rises s s' o
 rises s s' None f short short' w g =
     let m = g.goes f short in
     record { full = full-kept s s' f g.keeps m; raws = λ id. m.raws id ∙ omega arith }
 rises s s' (Some x) f short short' w g =
-    let r = read_at x.processor x.now s in
+    let r = figures_read x.processor x.now s in
     let short-r : IsShort r = omega (arith, short', busy-kept r s' g.keeps) in
     let k = read_at-full x.processor x.now s f w short-r in
     let m = g.goes k.full short-r in
@@ -520,7 +520,7 @@ rises s s' (Some x) f short short' w g =
           m.raws id ∙ k.raws id
           ∙ ap (λ n.
           PurseLemmas.uncapped s id
-          + weight_there x.processor (task_of s id) * part_of (length_of (slice_at x.processor (processor_of s x.processor) x.now)) n)
+          + weight_there x.processor (task_in_figures s id) * parts_per_weight (slice_length (slice_at x.processor (processor_in_figures s x.processor) x.now)) n)
           (f.sound.weights x.processor w);
     }
 
@@ -529,7 +529,7 @@ step : (count : ℕ) (past : History) (m : Moment) → count ≤ 255 → IsOfPro
 step count past m few h f =
     let s = figures count past in
     let w = within-figures count past m h in
-    rises s (after s m.event m.answer) (sight_of m.event m.answer) f (is_short count past few h.1)
+    rises s (figures_after s m.event m.answer) (sight_of m.event m.answer) f (is_short count past few h.1)
     (is_short count (m ∷ past) few h) w (goes-after s m.event m.answer w)
 
 -- in each history what tasks have, and what is left over, is what was run

@@ -22,14 +22,14 @@ use Rattle.bq_schedule.specs.declared.figures.ProcessorFigures.{ProcessorFigures
 use Rattle.bq_schedule.specs.declared.figures.TaskFigures.{TaskFigures}
 use Rattle.bq_disc.specs.Counts.{saturating_sum}
 use Rattle.bq_schedule.specs.Moments.{Moment, History}
-use Rattle.bq_schedule.specs.Figures.{Figures, unknown, processor_of, task_of, with_processor, with_task}
-use Rattle.bq_schedule.specs.Passing.{read_at, with_charged, processor_read, slice_at}
-use Rattle.bq_schedule.specs.Runnable.{left_from, leaves, processor_joined, comes}
-use Rattle.bq_schedule.specs.Running.{running_task, stopped, started, starts_as, start_of, start_at, begun_if, switched, is_run_by, with_latency}
+use Rattle.bq_schedule.specs.Figures.{Figures, unknown, processor_in_figures, task_in_figures, figures_with_processor, figures_with_task}
+use Rattle.bq_schedule.specs.Passing.{figures_read, with_charged, processor_read, slice_at}
+use Rattle.bq_schedule.specs.Runnable.{left_from, figures_left, processor_joined, comes}
+use Rattle.bq_schedule.specs.Running.{running_task, stopped, started, starts_as, start_of, start_at, begun_if, figures_switched, is_run_by, with_latency}
 use Rattle.bq_schedule.specs.Slices.{sight, sight_of, clock, is_this}
-use Rattle.bq_schedule.specs.Steps.{nothing, asked, waited_there, taken, move_of, moves_as, placed, pulled, performed, report_of_answer, time_at, is_there, after, change, figures}
+use Rattle.bq_schedule.specs.Steps.{nothing, figures_asked, waited_there, figures_taken, pulled_report, moves_as, placed, figures_pulled, performed, report_of_answer, time_at, is_there, figures_after, change, figures}
 use Rattle.bq_schedule.specs.Waits.{gives_way, then_if, wait_begins, waits_since, wait_of_pull, wait_of_start, reported_wait}
-use Rattle.bq_schedule.specs.Laws.{IsWithin, IsOfProcessors, ReportsWaits, AddsUpWaits}
+use Rattle.bq_schedule.specs.Laws.{IsSightWithin, IsOfProcessors, ReportsWaits, AddsUpWaits}
 use Rattle.bq_schedule.proofs.FrameLemmas.{task_kept, who_is}
 use Rattle.bq_schedule.proofs.ClockLemmas.{figures-clocks, within-figures, not_below}
 use Rattle.bq_schedule.proofs.SumLemmas.{tasks-figures}
@@ -38,8 +38,8 @@ use Rattle.bq_schedule.proofs.SwitchLemmas.{not_who, of_some}
 
 -- what keeps since when tasks wait, and how long they have
 pub record KeepsWaits (s s' : Figures) : Type 0 where
-  pub since : (id : ℕ) → (task_of s' id).since ≡ (task_of s id).since
-  pub waited : (id : ℕ) → (task_of s' id).waited ≡ (task_of s id).waited
+  pub since : (id : ℕ) → (task_in_figures s' id).since ≡ (task_in_figures s id).since
+  pub waited : (id : ℕ) → (task_in_figures s' id).waited ≡ (task_in_figures s id).waited
   pub tasks : length s'.tasks ≡ length s.tasks
 
 same : (s : Figures) → KeepsWaits s s
@@ -48,46 +48,46 @@ same s = record { since = λ id. refl; waited = λ id. refl; tasks = refl }
 both : (s t u : Figures) → KeepsWaits s t → KeepsWaits t u → KeepsWaits s u
 both s t u a b = record { since = λ id. b.since id ∙ a.since id; waited = λ id. b.waited id ∙ a.waited id; tasks = b.tasks ∙ a.tasks }
 
-with_one : (s : Figures) (i : ℕ) (t : TaskFigures) → t.since ≡ (task_of s i).since → t.waited ≡ (task_of s i).waited
-    → KeepsWaits s (with_task s i t)
+with_one : (s : Figures) (i : ℕ) (t : TaskFigures) → t.since ≡ (task_in_figures s i).since → t.waited ≡ (task_in_figures s i).waited
+    → KeepsWaits s (figures_with_task s i t)
 with_one s i t e f = record {
   since = λ id. task_kept (λ (u : TaskFigures). u.since) s i id t e;
   waited = λ id. task_kept (λ (u : TaskFigures). u.waited) s i id t f;
   tasks = length-set s.tasks i t;
 }
 
-of_processor : (s : Figures) (i : ℕ) (p : ProcessorFigures) → KeepsWaits s (with_processor s i p)
+of_processor : (s : Figures) (i : ℕ) (p : ProcessorFigures) → KeepsWaits s (figures_with_processor s i p)
 of_processor s i p = record { since = λ id. refl; waited = λ id. refl; tasks = refl }
 
 kept-with_charged : (s : Figures) (o : Option Slice) → KeepsWaits s (with_charged s o)
 kept-with_charged s None = same s
 kept-with_charged s (Some x) = with_one s x.task _ refl refl
 
-kept-ask : (processor now : ℕ) (d : Decision) (s : Figures) → KeepsWaits s (asked processor d (read_at processor now s))
+kept-ask : (processor now : ℕ) (d : Decision) (s : Figures) → KeepsWaits s (figures_asked processor d (figures_read processor now s))
 kept-ask processor now d s =
-    let r = with_processor s processor (processor_read processor (processor_of s processor) now) in
-    both s (read_at processor now s) _
-    (both s r _ (of_processor s processor _) (kept-with_charged r (slice_at processor (processor_of s processor) now)))
-    (of_processor (read_at processor now s) processor _)
+    let r = figures_with_processor s processor (processor_read processor (processor_in_figures s processor) now) in
+    both s (figures_read processor now s) _
+    (both s r _ (of_processor s processor _) (kept-with_charged r (slice_at processor (processor_in_figures s processor) now)))
+    (of_processor (figures_read processor now s) processor _)
 
 kept-left_from : (id : ℕ) (s : Figures) (place : Option ℕ) → KeepsWaits s (left_from id s place)
 kept-left_from id s None = same s
 kept-left_from id s (Some processor) = both s _ _ (of_processor s processor _) (with_one _ id _ refl refl)
 
-kept-leaves : (id : ℕ) (s : Figures) → KeepsWaits s (leaves id s)
-kept-leaves id s = kept-left_from id s (task_of s id).place
+kept-leaves : (id : ℕ) (s : Figures) → KeepsWaits s (figures_left id s)
+kept-leaves id s = kept-left_from id s (task_in_figures s id).place
 
-kept-block : (processor now id : ℕ) (s : Figures) → KeepsWaits s (leaves id (read_at processor now s))
+kept-block : (processor now id : ℕ) (s : Figures) → KeepsWaits s (figures_left id (figures_read processor now s))
 kept-block processor now id s =
-    let r = with_processor s processor (processor_read processor (processor_of s processor) now) in
-    both s (read_at processor now s) _
-    (both s r _ (of_processor s processor _) (kept-with_charged r (slice_at processor (processor_of s processor) now)))
-    (kept-leaves id (read_at processor now s))
+    let r = figures_with_processor s processor (processor_read processor (processor_in_figures s processor) now) in
+    both s (figures_read processor now s) _
+    (both s r _ (of_processor s processor _) (kept-with_charged r (slice_at processor (processor_in_figures s processor) now)))
+    (kept-leaves id (figures_read processor now s))
 
 -- what is read of a task where one is set
 set-at : (f : TaskFigures → ℕ) (s : Figures) (i j : ℕ) (t : TaskFigures) (b : Bool)
     → j < length s.tasks → ((b ≡ true) × (i ≡ j)) ⊎ ((b ≡ false) × (i ≢ j))
-    → f (task_of (with_task s i t) j) ≡ cond b (f t) (f (task_of s j))
+    → f (task_in_figures (figures_with_task s i t) j) ≡ cond b (f t) (f (task_in_figures s j))
 set-at f s i j t true inside (inl e) =
     ap (λ k. f (get_or (slice_set s.tasks k t) j unknown)) e.1 ∙ ap f (get_or-set_same s.tasks j t unknown inside)
 set-at f s i j t false inside (inl e) = absurd (cc)
@@ -100,52 +100,52 @@ saturating_sum-none n h = omega arith
 
 -- one task's count is so much further
 saturating_sum-at : (s : Figures) (i j more : ℕ) (b : Bool) → ((b ≡ true) × (i ≡ j)) ⊎ ((b ≡ false) × (i ≢ j))
-    → (task_of s j).waited ≤ 18446744073709551615
-    → cond b (saturating_sum (task_of s i).waited more) (task_of s j).waited ≡ saturating_sum (task_of s j).waited (cond b more 0)
-saturating_sum-at s i j more true (inl e) h = ap (λ k. saturating_sum (task_of s k).waited more) e.1
+    → (task_in_figures s j).waited ≤ 18446744073709551615
+    → cond b (saturating_sum (task_in_figures s i).waited more) (task_in_figures s j).waited ≡ saturating_sum (task_in_figures s j).waited (cond b more 0)
+saturating_sum-at s i j more true (inl e) h = ap (λ k. saturating_sum (task_in_figures s k).waited more) e.1
 saturating_sum-at s i j more false (inl e) h = absurd (cc)
 saturating_sum-at s i j more true (inr e) h = absurd (cc)
 saturating_sum-at s i j more false (inr e) h = omega arith
 
 -- a task that comes to a processor waits from then on
 since-comes : (id processor at : ℕ) (s : Figures) (j : ℕ) → j < length s.tasks
-    → (task_of (comes id processor at s) j).since ≡ cond (eqb id j) at (task_of s j).since
+    → (task_in_figures (comes id processor at s) j).since ≡ cond (eqb id j) at (task_in_figures s j).since
 since-comes id processor at s j inside =
-    let l = leaves id s in
+    let l = figures_left id s in
     let k = kept-leaves id s in
-    let q = with_processor l processor (processor_joined (processor_of l processor) (task_of l id).weight) in
+    let q = figures_with_processor l processor (processor_joined (processor_in_figures l processor) (task_in_figures l id).weight) in
     set-at (λ t. t.since) q id j _ (eqb id j) (omega (arith, k.tasks)) (eqb_tells id j) ∙ ap (λ n. cond (eqb id j) at n) (k.since j)
 
-waited-comes : (id processor at : ℕ) (s : Figures) (j : ℕ) → (task_of (comes id processor at s) j).waited ≡ (task_of s j).waited
+waited-comes : (id processor at : ℕ) (s : Figures) (j : ℕ) → (task_in_figures (comes id processor at s) j).waited ≡ (task_in_figures s j).waited
 waited-comes id processor at s j =
-    let l = leaves id s in
-    let q = with_processor l processor (processor_joined (processor_of l processor) (task_of l id).weight) in
+    let l = figures_left id s in
+    let q = figures_with_processor l processor (processor_joined (processor_in_figures l processor) (task_in_figures l id).weight) in
     task_kept (λ (t : TaskFigures). t.waited) q id j _ refl ∙ (kept-leaves id s).waited j
 
 -- a task that is pulled, if there is one, waits from then on
 since-taken : (processor at : ℕ) (task : Option ℕ) (s : Figures) (j : ℕ)
     → j < length s.tasks
-    → (task_of (taken processor at task s) j).since ≡ cond (is_this j task) at (task_of s j).since
+    → (task_in_figures (figures_taken processor at task s) j).since ≡ cond (is_this j task) at (task_in_figures s j).since
 since-taken processor at None s j inside = refl
 since-taken processor at (Some id) s j inside =
     let w = waited_there id at s in
     since-comes id processor at w j
     (omega (
       arith,
-      length-set s.tasks id (record (task_of s id) { waited = saturating_sum (task_of s id).waited (at - (task_of s id).since) }),
+      length-set s.tasks id (record (task_in_figures s id) { waited = saturating_sum (task_in_figures s id).waited (at - (task_in_figures s id).since) }),
     ))
     ∙ ap (λ n. cond (eqb id j) at n) (task_kept (λ (t : TaskFigures). t.since) s id j _ refl)
 
 -- what it has waited counts
 waited-taken : (processor from at : ℕ) (task : Option ℕ) (s : Figures) (j : ℕ)
-    → j < length s.tasks → (task_of s j).waited ≤ 18446744073709551615
-    → (task_of (taken processor at task s) j).waited
-    ≡ saturating_sum (task_of s j).waited (wait_of_pull j (moves_as from processor at task s))
-waited-taken processor from at None s j inside h = saturating_sum-none (task_of s j).waited h
+    → j < length s.tasks → (task_in_figures s j).waited ≤ 18446744073709551615
+    → (task_in_figures (figures_taken processor at task s) j).waited
+    ≡ saturating_sum (task_in_figures s j).waited (wait_of_pull j (moves_as from processor at task s))
+waited-taken processor from at None s j inside h = saturating_sum-none (task_in_figures s j).waited h
 waited-taken processor from at (Some id) s j inside h =
     waited-comes id processor at (waited_there id at s) j
     ∙ set-at (λ t. t.waited) s id j _ (eqb id j) inside (eqb_tells id j)
-    ∙ saturating_sum-at s id j (at - (task_of s id).since) (eqb id j) (eqb_tells id j) h
+    ∙ saturating_sum-at s id j (at - (task_in_figures s id).since) (eqb id j) (eqb_tells id j) h
 
 -- one that is preempted waits from then on, and one that blocks does not
 abbrev pub if_preempted : Left → Bool → Bool
@@ -154,15 +154,15 @@ if_preempted Blocked b = false
 
 since-stopped : (left : Left) (at : ℕ) (running : Option Start) (s : Figures) (j : ℕ)
     → j < length s.tasks
-    → (task_of (stopped left at running s) j).since
-    ≡ cond (if_preempted left (is_this j (option_map (λ (x : Start). x.task) running))) at (task_of s j).since
+    → (task_in_figures (stopped left at running s) j).since
+    ≡ cond (if_preempted left (is_this j (option_map (λ (x : Start). x.task) running))) at (task_in_figures s j).since
 since-stopped Preempted at None s j inside = refl
 since-stopped Blocked at None s j inside = refl
 since-stopped Blocked at (Some old) s j inside = refl
 since-stopped Preempted at (Some old) s j inside = set-at (λ t. t.since) s old.task j _ (eqb old.task j) inside (eqb_tells old.task j)
 
 waited-stopped : (left : Left) (at : ℕ) (running : Option Start) (s : Figures) (j : ℕ)
-    → (task_of (stopped left at running s) j).waited ≡ (task_of s j).waited
+    → (task_in_figures (stopped left at running s) j).waited ≡ (task_in_figures s j).waited
 waited-stopped left at None s j = refl
 waited-stopped Blocked at (Some old) s j = refl
 waited-stopped Preempted at (Some old) s j = task_kept (λ (t : TaskFigures). t.waited) s old.task j _ refl
@@ -177,18 +177,18 @@ since-with_latency t None = refl
 since-with_latency t (Some n) = refl
 
 since-begun_if : (processor at : ℕ) (run : Option ℕ) (s : Figures) (j : ℕ)
-    → (task_of (begun_if processor at run s) j).since ≡ (task_of s j).since
+    → (task_in_figures (begun_if processor at run s) j).since ≡ (task_in_figures s j).since
 since-begun_if processor at None s j = refl
-since-begun_if processor at (Some id) s j = task_kept (λ (t : TaskFigures). t.since) s id j _ (since-with_latency (task_of s id) _)
+since-begun_if processor at (Some id) s j = task_kept (λ (t : TaskFigures). t.since) s id j _ (since-with_latency (task_in_figures s id) _)
 
 waited-begun_if : (processor at : ℕ) (run : Option ℕ) (s : Figures) (j : ℕ)
-    → j < length s.tasks → (task_of s j).waited ≤ 18446744073709551615
-    → (task_of (begun_if processor at run s) j).waited
-    ≡ saturating_sum (task_of s j).waited (wait_of_start j (starts_as processor at run s))
-waited-begun_if processor at None s j inside h = saturating_sum-none (task_of s j).waited h
+    → j < length s.tasks → (task_in_figures s j).waited ≤ 18446744073709551615
+    → (task_in_figures (begun_if processor at run s) j).waited
+    ≡ saturating_sum (task_in_figures s j).waited (wait_of_start j (starts_as processor at run s))
+waited-begun_if processor at None s j inside h = saturating_sum-none (task_in_figures s j).waited h
 waited-begun_if processor at (Some id) s j inside h =
     set-at (λ t. t.waited) s id j _ (eqb id j) inside (eqb_tells id j)
-    ∙ saturating_sum-at s id j (at - (task_of s id).since) (eqb id j) (eqb_tells id j) h
+    ∙ saturating_sum-at s id j (at - (task_in_figures s id).since) (eqb id j) (eqb_tells id j) h
 
 is_this-shows : (j : ℕ) (o : Option ℕ) → is_this j o ≡ true → o ≡ Some j
 is_this-shows j None e = cc
@@ -211,38 +211,38 @@ none-preempted Preempted = refl
 none-preempted Blocked = refl
 
 since-switched_if : (b : Bool) (left : Left) (processor at : ℕ) (run : Option ℕ) (s : Figures) (j : ℕ)
-    → is_run_by (processor_of s processor).running run ≡ b → j < length s.tasks
-    → (task_of (cond b s (started processor at run (stopped left at (processor_of s processor).running s))) j).since
-    ≡ cond (if_preempted left (gives_way j (running_task (processor_of s processor)) run)) at (task_of s j).since
+    → is_run_by (processor_in_figures s processor).running run ≡ b → j < length s.tasks
+    → (task_in_figures (cond b s (started processor at run (stopped left at (processor_in_figures s processor).running s))) j).since
+    ≡ cond (if_preempted left (gives_way j (running_task (processor_in_figures s processor)) run)) at (task_in_figures s j).since
 since-switched_if true left processor at run s j e inside =
-    let running = (processor_of s processor).running in
-    let same : running_task (processor_of s processor) ≡ run = who_is running run e in
-    sym (ap (λ b. cond (if_preempted left b) at (task_of s j).since)
+    let running = (processor_in_figures s processor).running in
+    let same : running_task (processor_in_figures s processor) ≡ run = who_is running run e in
+    sym (ap (λ b. cond (if_preempted left b) at (task_in_figures s j).since)
     (ap (λ w. is_this j w && not (is_this j run)) same ∙ gives_way-same (is_this j run))
-    ∙ ap (λ b. cond b at (task_of s j).since) (none-preempted left))
+    ∙ ap (λ b. cond b at (task_in_figures s j).since) (none-preempted left))
 since-switched_if false left processor at run s j e inside =
-    let running = (processor_of s processor).running in
+    let running = (processor_in_figures s processor).running in
     since-begun_if processor at run (stopped left at running s) j ∙ since-stopped left at running s j inside
-    ∙ ap (λ b. cond (if_preempted left b) at (task_of s j).since)
-    (sym (gives_way-new j (running_task (processor_of s processor)) run (is_this j (running_task (processor_of s processor)))
+    ∙ ap (λ b. cond (if_preempted left b) at (task_in_figures s j).since)
+    (sym (gives_way-new j (running_task (processor_in_figures s processor)) run (is_this j (running_task (processor_in_figures s processor)))
     (is_this j run) refl refl (not_who running run e)))
 
 -- after a switch the task that gave way waits, where it is preempted
 since-switched : (left : Left) (processor at : ℕ) (run : Option ℕ) (s : Figures) (j : ℕ)
     → j < length s.tasks
-    → (task_of (switched left processor at run s) j).since
-    ≡ cond (if_preempted left (gives_way j (running_task (processor_of s processor)) run)) at (task_of s j).since
+    → (task_in_figures (figures_switched left processor at run s) j).since
+    ≡ cond (if_preempted left (gives_way j (running_task (processor_in_figures s processor)) run)) at (task_in_figures s j).since
 since-switched left processor at run s j inside =
-    since-switched_if (is_run_by (processor_of s processor).running run) left processor at run s j refl inside
+    since-switched_if (is_run_by (processor_in_figures s processor).running run) left processor at run s j refl inside
 
 waited-switched_if : (b : Bool) (left : Left) (processor at : ℕ) (run : Option ℕ) (s : Figures) (j : ℕ)
-    → j < length s.tasks → (task_of s j).waited ≤ 18446744073709551615
-    → let u = stopped left at (processor_of s processor).running s in
-    (task_of (cond b s (started processor at run u)) j).waited
-    ≡ saturating_sum (task_of s j).waited (wait_of_start j (cond b None (starts_as processor at run u)))
-waited-switched_if true left processor at run s j inside h = saturating_sum-none (task_of s j).waited h
+    → j < length s.tasks → (task_in_figures s j).waited ≤ 18446744073709551615
+    → let u = stopped left at (processor_in_figures s processor).running s in
+    (task_in_figures (cond b s (started processor at run u)) j).waited
+    ≡ saturating_sum (task_in_figures s j).waited (wait_of_start j (cond b None (starts_as processor at run u)))
+waited-switched_if true left processor at run s j inside h = saturating_sum-none (task_in_figures s j).waited h
 waited-switched_if false left processor at run s j inside h =
-    let running = (processor_of s processor).running in
+    let running = (processor_in_figures s processor).running in
     let u = stopped left at running s in
     let w = waited-stopped left at running s j in
     waited-begun_if processor at run u j (omega (arith, tasks-stopped left at running s)) (omega (arith, w))
@@ -250,54 +250,54 @@ waited-switched_if false left processor at run s j inside h =
 
 -- after a switch what the task that begins has waited counts
 waited-switched : (left : Left) (processor at : ℕ) (run : Option ℕ) (s : Figures) (j : ℕ)
-    → j < length s.tasks → (task_of s j).waited ≤ 18446744073709551615
-    → (task_of (switched left processor at run s) j).waited
-    ≡ saturating_sum (task_of s j).waited (wait_of_start j (start_at left processor at run s))
+    → j < length s.tasks → (task_in_figures s j).waited ≤ 18446744073709551615
+    → (task_in_figures (figures_switched left processor at run s) j).waited
+    ≡ saturating_sum (task_in_figures s j).waited (wait_of_start j (start_at left processor at run s))
 waited-switched left processor at run s j inside h =
-    waited-switched_if (is_run_by (processor_of s processor).running run) left processor at run s j inside h
+    waited-switched_if (is_run_by (processor_in_figures s processor).running run) left processor at run s j inside h
 
 starts-waited_if : (b : Bool) (left : Left) (processor at : ℕ) (run : Option ℕ) (s : Figures) (st : Start)
-    → let u = stopped left at (processor_of s processor).running s in
+    → let u = stopped left at (processor_in_figures s processor).running s in
     cond b None (starts_as processor at run u) ≡ Some st →
-    st.waited ≡ st.at - (task_of (cond b s (started processor at run u)) st.task).since
+    st.waited ≡ st.at - (task_in_figures (cond b s (started processor at run u)) st.task).since
 starts-waited_if true left processor at run s st e = cc
 starts-waited_if false left processor at None s st e = cc
 starts-waited_if false left processor at (Some id) s st e =
-    let u = stopped left at (processor_of s processor).running s in
-    let x : start_of processor id at (task_of u id) ≡ st = cc in
-    let P : Start → Type 0 = λ y. y.waited ≡ y.at - (task_of (started processor at (Some id) u) y.task).since in
+    let u = stopped left at (processor_in_figures s processor).running s in
+    let x : start_of processor id at (task_in_figures u id) ≡ st = cc in
+    let P : Start → Type 0 = λ y. y.waited ≡ y.at - (task_in_figures (started processor at (Some id) u) y.task).since in
     subst P x (ap (λ n. at - n) (sym (since-begun_if processor at (Some id) u id)))
 
 -- a start that a switch tells says how long its task has waited
 starts-waited : (left : Left) (processor at : ℕ) (run : Option ℕ) (s : Figures) (st : Start)
     → start_at left processor at run s ≡ Some st
-    → st.waited ≡ st.at - (task_of (switched left processor at run s) st.task).since
+    → st.waited ≡ st.at - (task_in_figures (figures_switched left processor at run s) st.task).since
 starts-waited left processor at run s st e =
-    starts-waited_if (is_run_by (processor_of s processor).running run) left processor at run s st e
+    starts-waited_if (is_run_by (processor_in_figures s processor).running run) left processor at run s st e
 
 pull-waited : (from processor at : ℕ) (task : Option ℕ) (s : Figures) (p : PulledTask)
-    → moves_as from processor at task s ≡ Some p → p.waited ≡ p.at - (task_of s p.task).since
+    → moves_as from processor at task s ≡ Some p → p.waited ≡ p.at - (task_in_figures s p.task).since
 pull-waited from processor at None s p e = cc
 pull-waited from processor at (Some id) s p e =
-    let x : move_of from processor at id s ≡ p = cc in
-    let P : PulledTask → Type 0 = λ y. y.waited ≡ y.at - (task_of s y.task).since in
+    let x : pulled_report from processor at id s ≡ p = cc in
+    let P : PulledTask → Type 0 = λ y. y.waited ≡ y.at - (task_in_figures s y.task).since in
     subst P x refl
 
 -- when an answer has a task wait, by who ran in the figures
 abbrev pub wait_seen : ℕ → Figures → Event → Result Reply Refusal → Option ℕ
 wait_seen j s (EndWake processor now) (Ok (Placed task to by steps)) = then_if (eqb task j) (time_at processor now s)
 wait_seen j s (Drain processor now) (Ok (Drained count run by steps)) =
-    then_if (gives_way j (running_task (processor_of s processor)) run) (time_at processor now s)
+    then_if (gives_way j (running_task (processor_in_figures s processor)) run) (time_at processor now s)
 wait_seen j s (Tick processor now) (Ok (Ticked run by steps)) =
-    then_if (gives_way j (running_task (processor_of s processor)) run) (time_at processor now s)
+    then_if (gives_way j (running_task (processor_in_figures s processor)) run) (time_at processor now s)
 wait_seen j s (Pull processor from now) (Ok (Pulled task run by steps)) =
-    then_if (is_this j task || gives_way j (running_task (processor_of s processor)) run) (time_at processor now s)
+    then_if (is_this j task || gives_way j (running_task (processor_in_figures s processor)) run) (time_at processor now s)
 wait_seen j s e a = None
 
 -- since when a task waits, and how long it has, after an answer; and what that tells
 pub record ReportsWaited (s s' : Figures) (j : ℕ) (seen : Option ℕ) (c : Change) : Type 0 where
-  pub since : (task_of s' j).since ≡ unwrap_or seen (task_of s j).since
-  pub waited : (task_of s j).waited ≤ 18446744073709551615 → (task_of s' j).waited ≡ saturating_sum (task_of s j).waited (reported_wait j c)
+  pub since : (task_in_figures s' j).since ≡ unwrap_or seen (task_in_figures s j).since
+  pub waited : (task_in_figures s j).waited ≤ 18446744073709551615 → (task_in_figures s' j).waited ≡ saturating_sum (task_in_figures s j).waited (reported_wait j c)
 
 then-is : (b : Bool) (at since : ℕ) → cond b at since ≡ unwrap_or (then_if b at) since
 then-is true at since = refl
@@ -308,44 +308,44 @@ placed-reports : (processor now : ℕ) (d : Decision) (id to : ℕ) (s : Figures
     → ReportsWaited s (placed processor now d id to s) j (then_if (eqb id j) (time_at processor now s)) c
 placed-reports processor now d id to s j c inside p st =
     let at = time_at processor now s in
-    let a = asked processor d (read_at processor now s) in
+    let a = figures_asked processor d (figures_read processor now s) in
     let k = kept-ask processor now d s in
     let m = comes id to at a in
     record {
       since =
           task_kept (λ (t : TaskFigures). t.since) m id j _ refl ∙ since-comes id to at a j (omega (arith, k.tasks))
-          ∙ ap (λ n. cond (eqb id j) at n) (k.since j) ∙ then-is (eqb id j) at (task_of s j).since;
+          ∙ ap (λ n. cond (eqb id j) at n) (k.since j) ∙ then-is (eqb id j) at (task_in_figures s j).since;
       waited = λ h.
           task_kept (λ (t : TaskFigures). t.waited) m id j _ refl ∙ waited-comes id to at a j ∙ k.waited j
-          ∙ saturating_sum-none (task_of s j).waited h
-          ∙ sym (ap (λ o. saturating_sum (task_of s j).waited (wait_of_pull j o + wait_of_start j c.start)) p
-          ∙ ap (λ o. saturating_sum (task_of s j).waited (0 + wait_of_start j o)) st);
+          ∙ saturating_sum-none (task_in_figures s j).waited h
+          ∙ sym (ap (λ o. saturating_sum (task_in_figures s j).waited (wait_of_pull j o + wait_of_start j c.start)) p
+          ∙ ap (λ o. saturating_sum (task_in_figures s j).waited (0 + wait_of_start j o)) st);
     }
 
 switch-reports : (left : Left) (processor at : ℕ) (run : Option ℕ) (s t : Figures) (j : ℕ) (c : Change)
-    → j < length s.tasks → KeepsWaits s t → (processor_of t processor).running ≡ (processor_of s processor).running
+    → j < length s.tasks → KeepsWaits s t → (processor_in_figures t processor).running ≡ (processor_in_figures s processor).running
     → c.pull ≡ None → c.start ≡ start_at left processor at run t
-    → ReportsWaited s (switched left processor at run t) j
-    (then_if (if_preempted left (gives_way j (running_task (processor_of s processor)) run)) at) c
+    → ReportsWaited s (figures_switched left processor at run t) j
+    (then_if (if_preempted left (gives_way j (running_task (processor_in_figures s processor)) run)) at) c
 switch-reports left processor at run s t j c inside k r p st =
     let inside' : j < length t.tasks = omega (arith, k.tasks) in
     record {
       since = since-switched left processor at run t j inside'
-          ∙ ap (λ n. cond (if_preempted left (gives_way j (running_task (processor_of t processor)) run)) at n) (k.since j)
-          ∙ ap (λ o. cond (if_preempted left (gives_way j (option_map (λ (x : Start). x.task) o) run)) at (task_of s j).since) r
-          ∙ then-is (if_preempted left (gives_way j (running_task (processor_of s processor)) run)) at (task_of s j).since;
+          ∙ ap (λ n. cond (if_preempted left (gives_way j (running_task (processor_in_figures t processor)) run)) at n) (k.since j)
+          ∙ ap (λ o. cond (if_preempted left (gives_way j (option_map (λ (x : Start). x.task) o) run)) at (task_in_figures s j).since) r
+          ∙ then-is (if_preempted left (gives_way j (running_task (processor_in_figures s processor)) run)) at (task_in_figures s j).since;
       waited = λ h.
           waited-switched left processor at run t j inside' (omega (arith, k.waited j))
           ∙ ap (λ n. saturating_sum n (wait_of_start j (start_at left processor at run t))) (k.waited j)
-          ∙ ap (saturating_sum (task_of s j).waited) (sym (zero-add (wait_of_start j (start_at left processor at run t))))
-          ∙ sym (ap (λ o. saturating_sum (task_of s j).waited (wait_of_pull j o + wait_of_start j c.start)) p
-          ∙ ap (λ o. saturating_sum (task_of s j).waited (0 + wait_of_start j o)) st);
+          ∙ ap (saturating_sum (task_in_figures s j).waited) (sym (zero-add (wait_of_start j (start_at left processor at run t))))
+          ∙ sym (ap (λ o. saturating_sum (task_in_figures s j).waited (wait_of_pull j o + wait_of_start j c.start)) p
+          ∙ ap (λ o. saturating_sum (task_in_figures s j).waited (0 + wait_of_start j o)) st);
     }
 
 tasks-comes : (id processor at : ℕ) (s : Figures) → length (comes id processor at s).tasks ≡ length s.tasks
-tasks-comes id processor at s = length-set (leaves id s).tasks id _ ∙ (kept-leaves id s).tasks
+tasks-comes id processor at s = length-set (figures_left id s).tasks id _ ∙ (kept-leaves id s).tasks
 
-tasks-taken : (processor at : ℕ) (task : Option ℕ) (s : Figures) → length (taken processor at task s).tasks ≡ length s.tasks
+tasks-taken : (processor at : ℕ) (task : Option ℕ) (s : Figures) → length (figures_taken processor at task s).tasks ≡ length s.tasks
 tasks-taken processor at None s = refl
 tasks-taken processor at (Some id) s = tasks-comes id processor at (waited_there id at s) ∙ length-set s.tasks id _
 
@@ -359,46 +359,46 @@ saturating_sum-both : (n a b : ℕ) → saturating_sum (saturating_sum n a) b �
 saturating_sum-both n a b = omega arith
 
 pulled-reports : (processor from now : ℕ) (d : Decision) (task run : Option ℕ) (s : Figures) (j : ℕ) (c : Change)
-    → j < length s.tasks → c.pull ≡ moves_as from processor (time_at processor now s) task (asked processor d (read_at processor now s))
+    → j < length s.tasks → c.pull ≡ moves_as from processor (time_at processor now s) task (figures_asked processor d (figures_read processor now s))
     → c.start ≡ start_at Preempted processor (time_at processor now s) run
-    (taken processor (time_at processor now s) task (asked processor d (read_at processor now s)))
-    → ReportsWaited s (pulled processor now d task run s) j
-    (then_if (is_this j task || gives_way j (running_task (processor_of s processor)) run) (time_at processor now s)) c
+    (figures_taken processor (time_at processor now s) task (figures_asked processor d (figures_read processor now s)))
+    → ReportsWaited s (figures_pulled processor now d task run s) j
+    (then_if (is_this j task || gives_way j (running_task (processor_in_figures s processor)) run) (time_at processor now s)) c
 pulled-reports processor from now d task run s j c inside p st =
     let at = time_at processor now s in
-    let a = asked processor d (read_at processor now s) in
-    let t = taken processor at task a in
+    let a = figures_asked processor d (figures_read processor now s) in
+    let t = figures_taken processor at task a in
     let k = kept-ask processor now d s in
     let inside' : j < length a.tasks = omega (arith, k.tasks) in
     let inside'' : j < length t.tasks = omega (arith, inside', tasks-taken processor at task a) in
     record {
       since =
           since-switched Preempted processor at run t j inside''
-          ∙ ap (λ n. cond (gives_way j (running_task (processor_of t processor)) run) at n)
+          ∙ ap (λ n. cond (gives_way j (running_task (processor_in_figures t processor)) run) at n)
           (since-taken processor at task a j inside' ∙ ap (λ n. cond (is_this j task) at n) (k.since j))
-          ∙ ap (λ o. cond (gives_way j (option_map (λ (x : Start). x.task) o) run) at (cond (is_this j task) at (task_of s j).since))
+          ∙ ap (λ o. cond (gives_way j (option_map (λ (x : Start). x.task) o) run) at (cond (is_this j task) at (task_in_figures s j).since))
           (runs-pull processor now d task s processor)
-          ∙ or-is (is_this j task) (gives_way j (running_task (processor_of s processor)) run) at (task_of s j).since
-          ∙ then-is (is_this j task || gives_way j (running_task (processor_of s processor)) run) at (task_of s j).since;
+          ∙ or-is (is_this j task) (gives_way j (running_task (processor_in_figures s processor)) run) at (task_in_figures s j).since
+          ∙ then-is (is_this j task || gives_way j (running_task (processor_in_figures s processor)) run) at (task_in_figures s j).since;
       waited = λ h.
-          let w : (task_of t j).waited ≡ saturating_sum (task_of s j).waited (wait_of_pull j (moves_as from processor at task a)) =
+          let w : (task_in_figures t j).waited ≡ saturating_sum (task_in_figures s j).waited (wait_of_pull j (moves_as from processor at task a)) =
           waited-taken processor from at task a j inside' (omega (arith, h, k.waited j))
           ∙ ap (λ n. saturating_sum n (wait_of_pull j (moves_as from processor at task a))) (k.waited j) in
           waited-switched Preempted processor at run t j inside'' (omega (arith, w))
           ∙ ap (λ n. saturating_sum n (wait_of_start j (start_at Preempted processor at run t))) w
-          ∙ saturating_sum-both (task_of s j).waited (wait_of_pull j (moves_as from processor at task a))
+          ∙ saturating_sum-both (task_in_figures s j).waited (wait_of_pull j (moves_as from processor at task a))
           (wait_of_start j (start_at Preempted processor at run t))
-          ∙ sym (ap (λ o. saturating_sum (task_of s j).waited (wait_of_pull j o + wait_of_start j c.start)) p
-          ∙ ap (λ o. saturating_sum (task_of s j).waited (wait_of_pull j (moves_as from processor at task a) + wait_of_start j o)) st);
+          ∙ sym (ap (λ o. saturating_sum (task_in_figures s j).waited (wait_of_pull j o + wait_of_start j c.start)) p
+          ∙ ap (λ o. saturating_sum (task_in_figures s j).waited (wait_of_pull j (moves_as from processor at task a) + wait_of_start j o)) st);
     }
 
 nothing-reports : (s : Figures) (j : ℕ) (c : Change) → c.pull ≡ None → c.start ≡ None → ReportsWaited s s j None c
 nothing-reports s j c p st = record {
   since = refl;
   waited = λ h.
-      saturating_sum-none (task_of s j).waited h
-      ∙ sym (ap (λ o. saturating_sum (task_of s j).waited (wait_of_pull j o + wait_of_start j c.start)) p
-      ∙ ap (λ o. saturating_sum (task_of s j).waited (0 + wait_of_start j o)) st);
+      saturating_sum-none (task_in_figures s j).waited h
+      ∙ sym (ap (λ o. saturating_sum (task_in_figures s j).waited (wait_of_pull j o + wait_of_start j c.start)) p
+      ∙ ap (λ o. saturating_sum (task_in_figures s j).waited (0 + wait_of_start j o)) st);
 }
 
 admitted-reports : (s s' : Figures) (j : ℕ) (c : Change) → KeepsWaits s s' → c.pull ≡ None → c.start ≡ None → ReportsWaited s s' j None c
@@ -410,7 +410,7 @@ performed-reports : (s : Figures) (e : Event) (r : Reply) (j : ℕ)
     → j < length s.tasks
     → ReportsWaited s (performed s e r) j (wait_seen j s e (Ok r)) (report_of_answer s e r)
 performed-reports s (Admit id nice mask slice) Admitted j inside =
-    let l = leaves id s in
+    let l = figures_left id s in
     admitted-reports s (performed s (Admit id nice mask slice) Admitted) j nothing
     (both s l _ (kept-leaves id s) (with_one l id _ refl refl)) refl refl
 performed-reports s (EndWake processor now) (Placed task to by steps) j inside =
@@ -419,17 +419,17 @@ performed-reports s (EndWake processor now) (Placed task to by steps) j inside =
 performed-reports s (Drain processor now) (Drained count run by steps) j inside =
     let d : Decision = record { hook = Preempt; by = by; steps = steps } in
     let t =
-    switch-reports Preempted processor (time_at processor now s) run s (asked processor d (read_at processor now s)) j
+    switch-reports Preempted processor (time_at processor now s) run s (figures_asked processor d (figures_read processor now s)) j
     (report_of_answer s (Drain processor now) (Drained count run by steps)) inside (kept-ask processor now d s)
     (runs-ask processor now d s processor) refl refl in
     record { since = t.since; waited = t.waited }
 performed-reports s (Tick processor now) (Ticked run by steps) j inside =
     let d : Decision = record { hook = Preempt; by = by; steps = steps } in
-    switch-reports Preempted processor (time_at processor now s) run s (asked processor d (read_at processor now s)) j
+    switch-reports Preempted processor (time_at processor now s) run s (figures_asked processor d (figures_read processor now s)) j
     (report_of_answer s (Tick processor now) (Ticked run by steps)) inside (kept-ask processor now d s)
     (runs-ask processor now d s processor) refl refl
 performed-reports s (Block processor now) (Went task run) j inside =
-    switch-reports Blocked processor (time_at processor now s) run s (leaves task (read_at processor now s)) j
+    switch-reports Blocked processor (time_at processor now s) run s (figures_left task (figures_read processor now s)) j
     (report_of_answer s (Block processor now) (Went task run)) inside (kept-block processor now task s)
     (runs-block processor now task s processor) refl refl
 performed-reports s (Pull processor from now) (Pulled task run by steps) j inside =
@@ -439,7 +439,7 @@ performed-reports s (Pull processor from now) (Pulled task run by steps) j insid
 performed-reports s e r j inside = nothing-reports s j nothing refl refl
 
 none-reports : (s : Figures) (e : Event) (r : Reply) (j : ℕ) → is_there s e ≡ false
-    → IsWithin (length s.processors) (sight e r)
+    → IsSightWithin (length s.processors) (sight e r)
     → ReportsWaited s s j (wait_seen j s e (Ok r)) nothing
 none-reports s (EndWake processor now) (Placed task to by steps) j none h = absurd (not_below processor (length s.processors) none h)
 none-reports s (Drain processor now) (Drained count run by steps) j none h = absurd (not_below processor (length s.processors) none h)
@@ -449,14 +449,14 @@ none-reports s (Pull processor from now) (Pulled task run by steps) j none h = a
 none-reports s e r j none h = nothing-reports s j nothing refl refl
 
 reports-if : (b : Bool) (s : Figures) (e : Event) (r : Reply) (j : ℕ)
-    → is_there s e ≡ b → j < length s.tasks → IsWithin (length s.processors) (sight e r)
+    → is_there s e ≡ b → j < length s.tasks → IsSightWithin (length s.processors) (sight e r)
     → ReportsWaited s (cond b (performed s e r) s) j (wait_seen j s e (Ok r)) (cond b (report_of_answer s e r) nothing)
 reports-if true s e r j there inside h = performed-reports s e r j inside
 reports-if false s e r j there inside h = none-reports s e r j there h
 
 reports-after : (s : Figures) (e : Event) (a : Result Reply Refusal) (j : ℕ)
-    → j < length s.tasks → IsWithin (length s.processors) (sight_of e a)
-    → ReportsWaited s (after s e a) j (wait_seen j s e a) (change s e a)
+    → j < length s.tasks → IsSightWithin (length s.processors) (sight_of e a)
+    → ReportsWaited s (figures_after s e a) j (wait_seen j s e a) (change s e a)
 reports-after s e (Ok r) j inside h = reports-if (is_there s e) s e r j refl inside h
 reports-after s (EndWake processor now) (Err r) j inside h =
     let t = nothing-reports s j nothing refl refl in
@@ -467,21 +467,21 @@ reports-after s e (Err r) j inside h =
 
 -- the figures' waits are those of the history
 seen-wait : (count : ℕ) (past : History) (e : Event) (a : Result Reply Refusal) (j : ℕ)
-    → IsOfProcessors count past → IsWithin count (sight_of e a)
+    → IsOfProcessors count past → IsSightWithin count (sight_of e a)
     → wait_seen j (figures count past) e a ≡ wait_begins j past e a
 seen-wait count past (EndWake processor now) (Ok (Placed task to by steps)) j h w =
     ap (λ n. then_if (eqb task j) (reading n now)) (figures-clocks count past processor h w).0
 seen-wait count past (Drain processor now) (Ok (Drained n run by steps)) j h w =
     let c = figures-clocks count past processor h w in
-    ap (λ n. then_if (gives_way j (running_task (processor_of (figures count past) processor)) run) (reading n now)) c.0
+    ap (λ n. then_if (gives_way j (running_task (processor_in_figures (figures count past) processor)) run) (reading n now)) c.0
     ∙ ap (λ y. then_if (gives_way j y run) (reading (clock processor past) now)) c.1
 seen-wait count past (Tick processor now) (Ok (Ticked run by steps)) j h w =
     let c = figures-clocks count past processor h w in
-    ap (λ n. then_if (gives_way j (running_task (processor_of (figures count past) processor)) run) (reading n now)) c.0
+    ap (λ n. then_if (gives_way j (running_task (processor_in_figures (figures count past) processor)) run) (reading n now)) c.0
     ∙ ap (λ y. then_if (gives_way j y run) (reading (clock processor past) now)) c.1
 seen-wait count past (Pull processor from now) (Ok (Pulled task run by steps)) j h w =
     let c = figures-clocks count past processor h w in
-    ap (λ n. then_if (is_this j task || gives_way j (running_task (processor_of (figures count past) processor)) run) (reading n now)) c.0
+    ap (λ n. then_if (is_this j task || gives_way j (running_task (processor_in_figures (figures count past) processor)) run) (reading n now)) c.0
     ∙ ap (λ y. then_if (is_this j task || gives_way j y run) (reading (clock processor past) now)) c.1
 seen-wait count past e a j h w = refl
 
@@ -496,62 +496,62 @@ reported-of count past m j h inside =
 
 -- figures show since when each task waits
 since-shown : (count : ℕ) (past : History) (j : ℕ) → IsOfProcessors count past → j < 1024
-    → (task_of (figures count past) j).since ≡ waits_since j past
+    → (task_in_figures (figures count past) j).since ≡ waits_since j past
 since-shown count [] j h inside = ap (λ (t : TaskFigures). t.since) (get_or-replicate 1024 j unknown unknown inside)
 since-shown count (m ∷ past) j h inside =
     (reported-of count past m j h inside).since
-    ∙ ap (λ o. unwrap_or o (task_of (figures count past) j).since) (seen-wait count past m.event m.answer j h.1 h.0)
+    ∙ ap (λ o. unwrap_or o (task_in_figures (figures count past) j).since) (seen-wait count past m.event m.answer j h.1 h.0)
     ∙ ap (λ n. unwrap_or (wait_begins j past m.event m.answer) n) (since-shown count past j h.1 inside)
 
 -- a start and a pull say how long their task has waited, by the figures
 start-performed : (s : Figures) (e : Event) (r : Reply) (st : Start)
     → (report_of_answer s e r).start ≡ Some st
-    → st.waited ≡ st.at - (task_of (performed s e r) st.task).since
+    → st.waited ≡ st.at - (task_in_figures (performed s e r) st.task).since
 start-performed s (EndWake processor now) (Placed task to by steps) st e = cc
 start-performed s (Drain processor now) (Drained count run by steps) st e =
     starts-waited Preempted processor (time_at processor now s) run
-    (asked processor (record { hook = Preempt; by = by; steps = steps }) (read_at processor now s)) st e
+    (figures_asked processor (record { hook = Preempt; by = by; steps = steps }) (figures_read processor now s)) st e
 start-performed s (Tick processor now) (Ticked run by steps) st e =
     starts-waited Preempted processor (time_at processor now s) run
-    (asked processor (record { hook = Preempt; by = by; steps = steps }) (read_at processor now s)) st e
+    (figures_asked processor (record { hook = Preempt; by = by; steps = steps }) (figures_read processor now s)) st e
 start-performed s (Block processor now) (Went task run) st e =
-    starts-waited Blocked processor (time_at processor now s) run (leaves task (read_at processor now s)) st e
+    starts-waited Blocked processor (time_at processor now s) run (figures_left task (figures_read processor now s)) st e
 start-performed s (Pull processor from now) (Pulled task run by steps) st e =
     starts-waited Preempted processor (time_at processor now s) run
-    (taken processor (time_at processor now s) task
-    (asked processor (record { hook = OnPull; by = by; steps = steps }) (read_at processor now s))) st e
+    (figures_taken processor (time_at processor now s) task
+    (figures_asked processor (record { hook = OnPull; by = by; steps = steps }) (figures_read processor now s))) st e
 start-performed s e r st h = cc
 
 start-reported_if : (b : Bool) (s : Figures) (e : Event) (r : Reply) (st : Start)
     → (cond b (report_of_answer s e r) nothing).start ≡ Some st
-    → st.waited ≡ st.at - (task_of (cond b (performed s e r) s) st.task).since
+    → st.waited ≡ st.at - (task_in_figures (cond b (performed s e r) s) st.task).since
 start-reported_if true s e r st h = start-performed s e r st h
 start-reported_if false s e r st h = cc
 
 start-reported : (s : Figures) (e : Event) (a : Result Reply Refusal) (st : Start)
-    → (change s e a).start ≡ Some st → st.waited ≡ st.at - (task_of (after s e a) st.task).since
+    → (change s e a).start ≡ Some st → st.waited ≡ st.at - (task_in_figures (figures_after s e a) st.task).since
 start-reported s e (Ok r) st h = start-reported_if (is_there s e) s e r st h
 start-reported s e (Err r) st h = cc
 
 pull-performed : (s : Figures) (e : Event) (r : Reply) (p : PulledTask)
-    → (report_of_answer s e r).pull ≡ Some p → p.waited ≡ p.at - (task_of s p.task).since
+    → (report_of_answer s e r).pull ≡ Some p → p.waited ≡ p.at - (task_in_figures s p.task).since
 pull-performed s (EndWake processor now) (Placed task to by steps) p e = cc
 pull-performed s (Drain processor now) (Drained count run by steps) p e = cc
 pull-performed s (Tick processor now) (Ticked run by steps) p e = cc
 pull-performed s (Block processor now) (Went task run) p e = cc
 pull-performed s (Pull processor from now) (Pulled task run by steps) p e =
     let d : Decision = record { hook = OnPull; by = by; steps = steps } in
-    pull-waited from processor (time_at processor now s) task (asked processor d (read_at processor now s)) p e
+    pull-waited from processor (time_at processor now s) task (figures_asked processor d (figures_read processor now s)) p e
     ∙ ap (λ n. p.at - n) ((kept-ask processor now d s).since p.task)
 pull-performed s e r p h = cc
 
 pull-reported_if : (b : Bool) (s : Figures) (e : Event) (r : Reply) (p : PulledTask)
-    → (cond b (report_of_answer s e r) nothing).pull ≡ Some p → p.waited ≡ p.at - (task_of s p.task).since
+    → (cond b (report_of_answer s e r) nothing).pull ≡ Some p → p.waited ≡ p.at - (task_in_figures s p.task).since
 pull-reported_if true s e r p h = pull-performed s e r p h
 pull-reported_if false s e r p h = cc
 
 pull-reported : (s : Figures) (e : Event) (a : Result Reply Refusal) (p : PulledTask)
-    → (change s e a).pull ≡ Some p → p.waited ≡ p.at - (task_of s p.task).since
+    → (change s e a).pull ≡ Some p → p.waited ≡ p.at - (task_in_figures s p.task).since
 pull-reported s e (Ok r) p h = pull-reported_if (is_there s e) s e r p h
 pull-reported s e (Err r) p h = cc
 

@@ -19,21 +19,21 @@ use Rattle.bq_schedule.specs.declared.change.Left.TheVariants.{Preempted, Blocke
 use Rattle.bq_schedule.specs.declared.figures.ProcessorFigures.{ProcessorFigures}
 use Rattle.bq_schedule.specs.declared.figures.TaskFigures.{TaskFigures}
 use Rattle.bq_schedule.specs.Moments.{History}
-use Rattle.bq_schedule.specs.Figures.{Figures, unknown, processor_of, task_of, with_processor, with_task}
-use Rattle.bq_schedule.specs.Passing.{read_at, with_charged, processor_read, slice_at}
-use Rattle.bq_schedule.specs.Runnable.{left_from, leaves, comes}
-use Rattle.bq_schedule.specs.Running.{running_task, stopped, started, starts_as, start_of, start_at, begun_if, switched, is_run_by}
+use Rattle.bq_schedule.specs.Figures.{Figures, unknown, processor_in_figures, task_in_figures, figures_with_processor, figures_with_task}
+use Rattle.bq_schedule.specs.Passing.{figures_read, with_charged, processor_read, slice_at}
+use Rattle.bq_schedule.specs.Runnable.{left_from, figures_left, comes}
+use Rattle.bq_schedule.specs.Running.{running_task, stopped, started, starts_as, start_of, start_at, begun_if, figures_switched, is_run_by}
 use Rattle.bq_schedule.specs.Slices.{Sight, sight, sight_of, clock, clock_after, runner, is_this}
-use Rattle.bq_schedule.specs.Wakes.{begins_as, begins, wake_end, awaited_after, awaited}
-use Rattle.bq_schedule.specs.Steps.{nothing, asked, waited_there, taken, placed, decided, blocked, pulled, performed, report_of_answer, time_at, is_there, after, change, figures}
-use Rattle.bq_schedule.specs.Laws.{IsWithin, IsOfProcessors, ReportsLatencies}
+use Rattle.bq_schedule.specs.Wakes.{begins_as, begins_run, wake_end, awaited_after, awaited}
+use Rattle.bq_schedule.specs.Steps.{nothing, figures_asked, waited_there, figures_taken, placed, figures_decided, blocked, figures_pulled, performed, report_of_answer, time_at, is_there, figures_after, change, figures}
+use Rattle.bq_schedule.specs.Laws.{IsSightWithin, IsOfProcessors, ReportsLatencies}
 use Rattle.bq_schedule.proofs.FrameLemmas.{task_kept, running-asked, running-leaves, running-taken, running-read_at}
 use Rattle.bq_schedule.proofs.ClockLemmas.{figures-clocks, within-figures, not_below}
 use Rattle.bq_schedule.proofs.SumLemmas.{tasks-figures}
 
 -- what keeps which wakes are awaited
 pub record KeepsWakes (s s' : Figures) : Type 0 where
-  pub at : (id : ℕ) → (task_of s' id).woken ≡ (task_of s id).woken
+  pub at : (id : ℕ) → (task_in_figures s' id).woken ≡ (task_in_figures s id).woken
   pub tasks : length s'.tasks ≡ length s.tasks
 
 same : (s : Figures) → KeepsWakes s s
@@ -42,34 +42,34 @@ same s = record { at = λ id. refl; tasks = refl }
 both : (s t u : Figures) → KeepsWakes s t → KeepsWakes t u → KeepsWakes s u
 both s t u a b = record { at = λ id. b.at id ∙ a.at id; tasks = b.tasks ∙ a.tasks }
 
-with_one : (s : Figures) (i : ℕ) (t : TaskFigures) → t.woken ≡ (task_of s i).woken → KeepsWakes s (with_task s i t)
+with_one : (s : Figures) (i : ℕ) (t : TaskFigures) → t.woken ≡ (task_in_figures s i).woken → KeepsWakes s (figures_with_task s i t)
 with_one s i t e = record { at = λ id. task_kept (λ (u : TaskFigures). u.woken) s i id t e; tasks = length-set s.tasks i t }
 
-of_processor : (s : Figures) (i : ℕ) (p : ProcessorFigures) → KeepsWakes s (with_processor s i p)
+of_processor : (s : Figures) (i : ℕ) (p : ProcessorFigures) → KeepsWakes s (figures_with_processor s i p)
 of_processor s i p = record { at = λ id. refl; tasks = refl }
 
 kept-with_charged : (s : Figures) (o : Option Slice) → KeepsWakes s (with_charged s o)
 kept-with_charged s None = same s
 kept-with_charged s (Some x) = with_one s x.task _ refl
 
-kept-read_at : (processor now : ℕ) (s : Figures) → KeepsWakes s (read_at processor now s)
+kept-read_at : (processor now : ℕ) (s : Figures) → KeepsWakes s (figures_read processor now s)
 kept-read_at processor now s =
-    both s (with_processor s processor (processor_read processor (processor_of s processor) now)) _
-    (of_processor s processor _) (kept-with_charged _ (slice_at processor (processor_of s processor) now))
+    both s (figures_with_processor s processor (processor_read processor (processor_in_figures s processor) now)) _
+    (of_processor s processor _) (kept-with_charged _ (slice_at processor (processor_in_figures s processor) now))
 
 kept-left_from : (id : ℕ) (s : Figures) (place : Option ℕ) → KeepsWakes s (left_from id s place)
 kept-left_from id s None = same s
 kept-left_from id s (Some processor) = both s _ _ (of_processor s processor _) (with_one _ id _ refl)
 
-kept-leaves : (id : ℕ) (s : Figures) → KeepsWakes s (leaves id s)
-kept-leaves id s = kept-left_from id s (task_of s id).place
+kept-leaves : (id : ℕ) (s : Figures) → KeepsWakes s (figures_left id s)
+kept-leaves id s = kept-left_from id s (task_in_figures s id).place
 
 kept-comes : (id processor now : ℕ) (s : Figures) → KeepsWakes s (comes id processor now s)
 kept-comes id processor now s =
-    both s (leaves id s) _ (kept-leaves id s)
-    (both (leaves id s) _ _ (of_processor (leaves id s) processor _) (with_one _ id _ refl))
+    both s (figures_left id s) _ (kept-leaves id s)
+    (both (figures_left id s) _ _ (of_processor (figures_left id s) processor _) (with_one _ id _ refl))
 
-kept-taken : (processor now : ℕ) (task : Option ℕ) (s : Figures) → KeepsWakes s (taken processor now task s)
+kept-taken : (processor now : ℕ) (task : Option ℕ) (s : Figures) → KeepsWakes s (figures_taken processor now task s)
 kept-taken processor now None s = same s
 kept-taken processor now (Some id) s =
     both s (waited_there id now s) _ (with_one s id _ refl) (kept-comes id processor now (waited_there id now s))
@@ -81,7 +81,7 @@ kept-stopped Preempted now (Some old) s = with_one s old.task _ refl
 
 -- a task is set whose wake is one thing or the other
 set-one : (s : Figures) (i j : ℕ) (t : TaskFigures) (b : Bool) → j < length s.tasks → ((b ≡ true) × (i ≡ j)) ⊎ ((b ≡ false) × (i ≢ j)) →
-    (task_of (with_task s i t) j).woken ≡ cond b t.woken (task_of s j).woken
+    (task_in_figures (figures_with_task s i t) j).woken ≡ cond b t.woken (task_in_figures s j).woken
 set-one s i j t true inside (inl e) =
     ap (λ k. (get_or (slice_set s.tasks k t) j unknown).woken) e.1
     ∙ ap (λ (u : TaskFigures). u.woken) (get_or-set_same s.tasks j t unknown inside)
@@ -91,7 +91,7 @@ set-one s i j t false inside (inr e) = ap (λ (u : TaskFigures). u.woken) (get_o
 
 woken-begun_if : (processor now : ℕ) (run : Option ℕ) (s : Figures) (j : ℕ)
     → j < length s.tasks
-    → (task_of (begun_if processor now run s) j).woken ≡ cond (is_this j run) None (task_of s j).woken
+    → (task_in_figures (begun_if processor now run s) j).woken ≡ cond (is_this j run) None (task_in_figures s j).woken
 woken-begun_if processor now None s j inside = refl
 woken-begun_if processor now (Some id) s j inside = set-one s id j _ (eqb id j) inside (eqb_tells id j)
 
@@ -141,22 +141,22 @@ begins-old j (Some start) (Some id) e =
     old_at j start.task id (eqb id j) (eqb start.task j) (eqb_tells id j) (eqb_tells start.task j) (eqb-true start.task id e)
 
 woken-switched_if : (b : Bool) (left : Left) (processor now : ℕ) (run : Option ℕ) (s : Figures) (j : ℕ)
-    → is_run_by (processor_of s processor).running run ≡ b → j < length s.tasks
-    → (task_of (cond b s (started processor now run (stopped left now (processor_of s processor).running s))) j).woken
-    ≡ cond (begins_as j (running_task (processor_of s processor)) (Some run)) None (task_of s j).woken
-woken-switched_if true left processor now run s j e inside = rw (begins-old j (processor_of s processor).running run e) refl
+    → is_run_by (processor_in_figures s processor).running run ≡ b → j < length s.tasks
+    → (task_in_figures (cond b s (started processor now run (stopped left now (processor_in_figures s processor).running s))) j).woken
+    ≡ cond (begins_as j (running_task (processor_in_figures s processor)) (Some run)) None (task_in_figures s j).woken
+woken-switched_if true left processor now run s j e inside = rw (begins-old j (processor_in_figures s processor).running run e) refl
 woken-switched_if false left processor now run s j e inside =
-    let t = stopped left now (processor_of s processor).running s in
-    let k = kept-stopped left now (processor_of s processor).running s in
+    let t = stopped left now (processor_in_figures s processor).running s in
+    let k = kept-stopped left now (processor_in_figures s processor).running s in
     woken-begun_if processor now run t j (omega (arith, k.tasks)) ∙ ap (λ o. cond (is_this j run) None o) (k.at j)
-    ∙ ap (λ b. cond b None (task_of s j).woken) (sym (begins-new j (processor_of s processor).running run e))
+    ∙ ap (λ b. cond b None (task_in_figures s j).woken) (sym (begins-new j (processor_in_figures s processor).running run e))
 
 woken-switched : (left : Left) (processor now : ℕ) (run : Option ℕ) (s : Figures) (j : ℕ)
     → j < length s.tasks
-    → (task_of (switched left processor now run s) j).woken
-    ≡ cond (begins_as j (running_task (processor_of s processor)) (Some run)) None (task_of s j).woken
+    → (task_in_figures (figures_switched left processor now run s) j).woken
+    ≡ cond (begins_as j (running_task (processor_in_figures s processor)) (Some run)) None (task_in_figures s j).woken
 woken-switched left processor now run s j inside =
-    woken-switched_if (is_run_by (processor_of s processor).running run) left processor now run s j refl inside
+    woken-switched_if (is_run_by (processor_in_figures s processor).running run) left processor now run s j refl inside
 
 -- what becomes of the wake that a task has waited for
 abbrev pub wake_seen : ℕ → Figures → Event → Result Reply Refusal → Option ℕ
@@ -166,11 +166,11 @@ wake_seen j s e a = None
 -- a task begins to run with a sight, by who ran in the figures
 abbrev pub begins_seen : ℕ → Figures → Option Sight → Bool
 begins_seen j s None = false
-begins_seen j s (Some x) = begins_as j (running_task (processor_of s x.processor)) x.run
+begins_seen j s (Some x) = begins_as j (running_task (processor_in_figures s x.processor)) x.run
 
 -- the wake that figures show after an event
 abbrev pub AwaitsAfter : ℕ → Figures → Figures → Event → Result Reply Refusal → Type 0
-AwaitsAfter j s s' e a = (task_of s' j).woken ≡ awaited_after (wake_seen j s e a) (begins_seen j s (sight_of e a)) (task_of s j).woken
+AwaitsAfter j s s' e a = (task_in_figures s' j).woken ≡ awaited_after (wake_seen j s e a) (begins_seen j s (sight_of e a)) (task_in_figures s j).woken
 
 awaits-placed : (b : Bool) (at : ℕ) (before : Option ℕ) → cond b (Some at) before ≡ awaited_after (cond b (Some at) None) false before
 awaits-placed true at before = refl
@@ -178,85 +178,85 @@ awaits-placed false at before = refl
 
 placed-awaits : (processor now : ℕ) (d : Decision) (id to : ℕ) (s : Figures) (j : ℕ)
     → j < length s.tasks
-    → (task_of (placed processor now d id to s) j).woken
-    ≡ awaited_after (cond (eqb id j) (Some (time_at processor now s)) None) false (task_of s j).woken
+    → (task_in_figures (placed processor now d id to s) j).woken
+    ≡ awaited_after (cond (eqb id j) (Some (time_at processor now s)) None) false (task_in_figures s j).woken
 placed-awaits processor now d id to s j inside =
     let at = time_at processor now s in
-    let r = read_at processor now s in
-    let a = asked processor d r in
+    let r = figures_read processor now s in
+    let a = figures_asked processor d r in
     let c = comes id to at a in
     let k : KeepsWakes s c = both s r c (kept-read_at processor now s) (both r a c (of_processor r processor _) (kept-comes id to at a)) in
     set-one c id j _ (eqb id j) (omega (arith, k.tasks)) (eqb_tells id j)
     ∙ ap (λ o. cond (eqb id j) (Some at) o) (k.at j)
-    ∙ awaits-placed (eqb id j) at (task_of s j).woken
+    ∙ awaits-placed (eqb id j) at (task_in_figures s j).woken
 
 -- after moves that keep wakes and who runs
 switched-awaits : (left : Left) (processor now : ℕ) (run : Option ℕ) (s t : Figures) (j : ℕ)
-    → j < length s.tasks → KeepsWakes s t → (processor_of t processor).running ≡ (processor_of s processor).running
-    → (task_of (switched left processor now run t) j).woken
-    ≡ cond (begins_as j (running_task (processor_of s processor)) (Some run)) None (task_of s j).woken
+    → j < length s.tasks → KeepsWakes s t → (processor_in_figures t processor).running ≡ (processor_in_figures s processor).running
+    → (task_in_figures (figures_switched left processor now run t) j).woken
+    ≡ cond (begins_as j (running_task (processor_in_figures s processor)) (Some run)) None (task_in_figures s j).woken
 switched-awaits left processor now run s t j inside k r =
     woken-switched left processor now run t j (omega (arith, k.tasks))
-    ∙ ap (λ o. cond (begins_as j (option_map (λ (x : Start). x.task) o) (Some run)) None (task_of t j).woken) r
-    ∙ ap (λ o. cond (begins_as j (running_task (processor_of s processor)) (Some run)) None o) (k.at j)
+    ∙ ap (λ o. cond (begins_as j (option_map (λ (x : Start). x.task) o) (Some run)) None (task_in_figures t j).woken) r
+    ∙ ap (λ o. cond (begins_as j (running_task (processor_in_figures s processor)) (Some run)) None o) (k.at j)
 
-kept-ask : (processor now : ℕ) (d : Decision) (s : Figures) → KeepsWakes s (asked processor d (read_at processor now s))
+kept-ask : (processor now : ℕ) (d : Decision) (s : Figures) → KeepsWakes s (figures_asked processor d (figures_read processor now s))
 kept-ask processor now d s =
-    both s (read_at processor now s) _ (kept-read_at processor now s) (of_processor (read_at processor now s) processor _)
+    both s (figures_read processor now s) _ (kept-read_at processor now s) (of_processor (figures_read processor now s) processor _)
 
 -- counting a decision and reading a clock keep who runs
 pub runs-ask : (processor now : ℕ) (d : Decision) (s : Figures) (j : ℕ)
-    → (processor_of (asked processor d (read_at processor now s)) j).running ≡ (processor_of s j).running
-runs-ask processor now d s j = (running-asked processor d (read_at processor now s)).at j ∙ (running-read_at processor now s).at j
+    → (processor_in_figures (figures_asked processor d (figures_read processor now s)) j).running ≡ (processor_in_figures s j).running
+runs-ask processor now d s j = (running-asked processor d (figures_read processor now s)).at j ∙ (running-read_at processor now s).at j
 
 decided-awaits : (processor now : ℕ) (d : Decision) (run : Option ℕ) (s : Figures) (j : ℕ)
     → j < length s.tasks
-    → (task_of (decided processor now d run s) j).woken
-    ≡ cond (begins_as j (running_task (processor_of s processor)) (Some run)) None (task_of s j).woken
+    → (task_in_figures (figures_decided processor now d run s) j).woken
+    ≡ cond (begins_as j (running_task (processor_in_figures s processor)) (Some run)) None (task_in_figures s j).woken
 decided-awaits processor now d run s j inside =
     switched-awaits Preempted processor (time_at processor now s) run s _ j inside (kept-ask processor now d s)
     (runs-ask processor now d s processor)
 
-kept-block : (processor now id : ℕ) (s : Figures) → KeepsWakes s (leaves id (read_at processor now s))
-kept-block processor now id s = both s (read_at processor now s) _ (kept-read_at processor now s) (kept-leaves id (read_at processor now s))
+kept-block : (processor now id : ℕ) (s : Figures) → KeepsWakes s (figures_left id (figures_read processor now s))
+kept-block processor now id s = both s (figures_read processor now s) _ (kept-read_at processor now s) (kept-leaves id (figures_read processor now s))
 
 -- a task's leaving keeps who runs
 pub runs-block : (processor now id : ℕ) (s : Figures) (j : ℕ)
-    → (processor_of (leaves id (read_at processor now s)) j).running ≡ (processor_of s j).running
-runs-block processor now id s j = (running-leaves id (read_at processor now s)).at j ∙ (running-read_at processor now s).at j
+    → (processor_in_figures (figures_left id (figures_read processor now s)) j).running ≡ (processor_in_figures s j).running
+runs-block processor now id s j = (running-leaves id (figures_read processor now s)).at j ∙ (running-read_at processor now s).at j
 
 blocked-awaits : (processor now id : ℕ) (run : Option ℕ) (s : Figures) (j : ℕ)
     → j < length s.tasks
-    → (task_of (blocked processor now id run s) j).woken
-    ≡ cond (begins_as j (running_task (processor_of s processor)) (Some run)) None (task_of s j).woken
+    → (task_in_figures (blocked processor now id run s) j).woken
+    ≡ cond (begins_as j (running_task (processor_in_figures s processor)) (Some run)) None (task_in_figures s j).woken
 blocked-awaits processor now id run s j inside =
     switched-awaits Blocked processor (time_at processor now s) run s _ j inside (kept-block processor now id s)
     (runs-block processor now id s processor)
 
 kept-pull : (processor now : ℕ) (d : Decision) (task : Option ℕ) (s : Figures)
-    → KeepsWakes s (taken processor (time_at processor now s) task (asked processor d (read_at processor now s)))
+    → KeepsWakes s (figures_taken processor (time_at processor now s) task (figures_asked processor d (figures_read processor now s)))
 kept-pull processor now d task s =
-    both s (asked processor d (read_at processor now s)) _ (kept-ask processor now d s)
+    both s (figures_asked processor d (figures_read processor now s)) _ (kept-ask processor now d s)
     (kept-taken processor (time_at processor now s) task _)
 
 -- a pull keeps who runs
 pub runs-pull : (processor now : ℕ) (d : Decision) (task : Option ℕ) (s : Figures) (j : ℕ)
-    → (processor_of (taken processor (time_at processor now s) task (asked processor d (read_at processor now s))) j).running
-    ≡ (processor_of s j).running
+    → (processor_in_figures (figures_taken processor (time_at processor now s) task (figures_asked processor d (figures_read processor now s))) j).running
+    ≡ (processor_in_figures s j).running
 runs-pull processor now d task s j =
-    (running-taken processor (time_at processor now s) task (asked processor d (read_at processor now s))).at j
+    (running-taken processor (time_at processor now s) task (figures_asked processor d (figures_read processor now s))).at j
     ∙ runs-ask processor now d s j
 
 pulled-awaits : (processor now : ℕ) (d : Decision) (task run : Option ℕ) (s : Figures) (j : ℕ)
     → j < length s.tasks
-    → (task_of (pulled processor now d task run s) j).woken
-    ≡ cond (begins_as j (running_task (processor_of s processor)) (Some run)) None (task_of s j).woken
+    → (task_in_figures (figures_pulled processor now d task run s) j).woken
+    ≡ cond (begins_as j (running_task (processor_in_figures s processor)) (Some run)) None (task_in_figures s j).woken
 pulled-awaits processor now d task run s j inside =
     switched-awaits Preempted processor (time_at processor now s) run s _ j inside (kept-pull processor now d task s)
     (runs-pull processor now d task s processor)
 
 performed-awaits : (s : Figures) (e : Event) (r : Reply) (j : ℕ) → j < length s.tasks → AwaitsAfter j s (performed s e r) e (Ok r)
-performed-awaits s (Admit id nice mask slice) Admitted j inside = (with_one (leaves id s) id _ refl).at j ∙ (kept-leaves id s).at j
+performed-awaits s (Admit id nice mask slice) Admitted j inside = (with_one (figures_left id s) id _ refl).at j ∙ (kept-leaves id s).at j
 performed-awaits s (EndWake processor now) (Placed task to by steps) j inside =
     placed-awaits processor now (record { hook = Place; by = by; steps = steps }) task to s j inside
 performed-awaits s (Drain processor now) (Drained count run by steps) j inside =
@@ -269,7 +269,7 @@ performed-awaits s (Pull processor from now) (Pulled task run by steps) j inside
 performed-awaits s e r j inside = refl
 
 nothing-awaits : (s : Figures) (e : Event) (r : Reply) (j : ℕ)
-    → is_there s e ≡ false → IsWithin (length s.processors) (sight e r) → AwaitsAfter j s s e (Ok r)
+    → is_there s e ≡ false → IsSightWithin (length s.processors) (sight e r) → AwaitsAfter j s s e (Ok r)
 nothing-awaits s (EndWake processor now) (Placed task to by steps) j none h = absurd (not_below processor (length s.processors) none h)
 nothing-awaits s (Drain processor now) (Drained count run by steps) j none h = absurd (not_below processor (length s.processors) none h)
 nothing-awaits s (Tick processor now) (Ticked run by steps) j none h = absurd (not_below processor (length s.processors) none h)
@@ -278,84 +278,84 @@ nothing-awaits s (Pull processor from now) (Pulled task run by steps) j none h =
 nothing-awaits s e r j none h = refl
 
 awaits-if : (b : Bool) (s : Figures) (e : Event) (r : Reply) (j : ℕ)
-    → is_there s e ≡ b → j < length s.tasks → IsWithin (length s.processors) (sight e r)
+    → is_there s e ≡ b → j < length s.tasks → IsSightWithin (length s.processors) (sight e r)
     → AwaitsAfter j s (cond b (performed s e r) s) e (Ok r)
 awaits-if true s e r j there inside h = performed-awaits s e r j inside
 awaits-if false s e r j there inside h = nothing-awaits s e r j there h
 
 -- which wake is awaited after an event is what it was, except for what the answer shows
 awaits-after : (s : Figures) (e : Event) (a : Result Reply Refusal) (j : ℕ)
-    → j < length s.tasks → IsWithin (length s.processors) (sight_of e a) → AwaitsAfter j s (after s e a) e a
+    → j < length s.tasks → IsSightWithin (length s.processors) (sight_of e a) → AwaitsAfter j s (figures_after s e a) e a
 awaits-after s e (Ok r) j inside h = awaits-if (is_there s e) s e r j refl inside h
 awaits-after s (EndWake processor now) (Err r) j inside h = refl
 awaits-after s e (Err r) j inside h = refl
 
 seen-wake : (count : ℕ) (past : History) (e : Event) (a : Result Reply Refusal) (j : ℕ)
-    → IsOfProcessors count past → IsWithin count (sight_of e a)
+    → IsOfProcessors count past → IsSightWithin count (sight_of e a)
     → wake_seen j (figures count past) e a ≡ wake_end j past e a
 seen-wake count past (EndWake processor now) (Ok (Placed task to by steps)) j h w =
     ap (λ n. cond (eqb task j) (Some (reading n now)) None) (figures-clocks count past processor h w).0
 seen-wake count past e a j h w = refl
 
 seen-begins : (count : ℕ) (past : History) (o : Option Sight) (j : ℕ)
-    → IsOfProcessors count past → IsWithin count o → begins_seen j (figures count past) o ≡ begins j past o
+    → IsOfProcessors count past → IsSightWithin count o → begins_seen j (figures count past) o ≡ begins_run j past o
 seen-begins count past None j h w = refl
 seen-begins count past (Some x) j h w = ap (λ y. begins_as j y x.run) (figures-clocks count past x.processor h w).1
 
 -- figures show the wakes that are awaited
 awaits : (count : ℕ) (past : History) (j : ℕ) → IsOfProcessors count past → j < 1024
-    → (task_of (figures count past) j).woken ≡ awaited j past
+    → (task_in_figures (figures count past) j).woken ≡ awaited j past
 awaits count [] j h inside = ap (λ (t : TaskFigures). t.woken) (get_or-replicate 1024 j unknown unknown inside)
 awaits count (m ∷ past) j h inside =
     let s = figures count past in
     let o = sight_of m.event m.answer in
     awaits-after s m.event m.answer j (omega (arith, tasks-figures count past h.1)) (within-figures count past m h)
-    ∙ ap (λ w. awaited_after w (begins_seen j s o) (task_of s j).woken) (seen-wake count past m.event m.answer j h.1 h.0)
-    ∙ ap (λ b. awaited_after (wake_end j past m.event m.answer) b (task_of s j).woken) (seen-begins count past o j h.1 h.0)
-    ∙ ap (λ before. awaited_after (wake_end j past m.event m.answer) (begins j past o) before) (awaits count past j h.1 inside)
+    ∙ ap (λ w. awaited_after w (begins_seen j s o) (task_in_figures s j).woken) (seen-wake count past m.event m.answer j h.1 h.0)
+    ∙ ap (λ b. awaited_after (wake_end j past m.event m.answer) b (task_in_figures s j).woken) (seen-begins count past o j h.1 h.0)
+    ∙ ap (λ before. awaited_after (wake_end j past m.event m.answer) (begins_run j past o) before) (awaits count past j h.1 inside)
 
 -- a start at a processor, at a reading of its clock
 pub record Starts (s : Figures) (processor now : ℕ) (run : Option ℕ) (start : Start) : Type 0 where
   pub here : start.processor ≡ processor
-  pub new : begins_as start.task (running_task (processor_of s processor)) (Some run) ≡ true
+  pub new : begins_as start.task (running_task (processor_in_figures s processor)) (Some run) ≡ true
   pub reading : start.at ≡ time_at processor now s
-  pub late : start.latency ≡ option_map (λ (woken : ℕ). start.at - woken) (task_of s start.task).woken
+  pub late : start.latency ≡ option_map (λ (woken : ℕ). start.at - woken) (task_in_figures s start.task).woken
 
 starts_by : (s u : Figures) (processor now : ℕ) (run : Option ℕ) (start : Start)
-    → KeepsWakes s u → is_run_by (processor_of s processor).running run ≡ false
+    → KeepsWakes s u → is_run_by (processor_in_figures s processor).running run ≡ false
     → starts_as processor (time_at processor now s) run u ≡ Some start
     → Starts s processor now run start
 starts_by s u processor now None start k new e = cc
 starts_by s u processor now (Some id) start k new e =
-    let x = start_of processor id (time_at processor now s) (task_of u id) in
+    let x = start_of processor id (time_at processor now s) (task_in_figures u id) in
     let is : x ≡ start = cc in
     let P : Start → Type 0 = λ st. Starts s processor now (Some id) st in
     subst P is (record {
       here = refl;
-      new = begins-new id (processor_of s processor).running (Some id) new ∙ eq-eqb id id refl;
+      new = begins-new id (processor_in_figures s processor).running (Some id) new ∙ eq-eqb id id refl;
       reading = refl;
       late = ap (option_map (λ (woken : ℕ). time_at processor now s - woken)) (k.at id);
     })
 
 starts_if : (b : Bool) (left : Left) (s t : Figures) (processor now : ℕ) (run : Option ℕ) (start : Start)
-    → KeepsWakes s t → (processor_of t processor).running ≡ (processor_of s processor).running
-    → is_run_by (processor_of t processor).running run ≡ b
+    → KeepsWakes s t → (processor_in_figures t processor).running ≡ (processor_in_figures s processor).running
+    → is_run_by (processor_in_figures t processor).running run ≡ b
     → cond b None
-    (starts_as processor (time_at processor now s) run (stopped left (time_at processor now s) (processor_of t processor).running t))
+    (starts_as processor (time_at processor now s) run (stopped left (time_at processor now s) (processor_in_figures t processor).running t))
     ≡ Some start
     → Starts s processor now run start
 starts_if true left s t processor now run start k r is e = cc
 starts_if false left s t processor now run start k r is e =
-    let u = stopped left (time_at processor now s) (processor_of t processor).running t in
-    starts_by s u processor now run start (both s t u k (kept-stopped left (time_at processor now s) (processor_of t processor).running t))
+    let u = stopped left (time_at processor now s) (processor_in_figures t processor).running t in
+    starts_by s u processor now run start (both s t u k (kept-stopped left (time_at processor now s) (processor_in_figures t processor).running t))
     (ap (λ o. is_run_by o run) (sym r) ∙ is) e
 
 starts : (left : Left) (s t : Figures) (processor now : ℕ) (run : Option ℕ) (start : Start)
-    → KeepsWakes s t → (processor_of t processor).running ≡ (processor_of s processor).running
+    → KeepsWakes s t → (processor_in_figures t processor).running ≡ (processor_in_figures s processor).running
     → start_at left processor (time_at processor now s) run t ≡ Some start
     → Starts s processor now run start
 starts left s t processor now run start k r e =
-    starts_if (is_run_by (processor_of t processor).running run) left s t processor now run start k r refl e
+    starts_if (is_run_by (processor_in_figures t processor).running run) left s t processor now run start k r refl e
 
 -- what is reported of a start, by what the answer shows
 abbrev pub StartsAs : Figures → Option Sight → Start → Type 0
@@ -368,27 +368,27 @@ starts-performed s (Drain processor now) (Drained count run by steps) start e =
     let d : Decision = record { hook = Preempt; by = by; steps = steps } in (
       run,
       refl,
-      starts Preempted s (asked processor d (read_at processor now s)) processor now run start (kept-ask processor now d s)
+      starts Preempted s (figures_asked processor d (figures_read processor now s)) processor now run start (kept-ask processor now d s)
           (runs-ask processor now d s processor) e,
     )
 starts-performed s (Tick processor now) (Ticked run by steps) start e =
     let d : Decision = record { hook = Preempt; by = by; steps = steps } in (
       run,
       refl,
-      starts Preempted s (asked processor d (read_at processor now s)) processor now run start (kept-ask processor now d s)
+      starts Preempted s (figures_asked processor d (figures_read processor now s)) processor now run start (kept-ask processor now d s)
           (runs-ask processor now d s processor) e,
     )
 starts-performed s (Block processor now) (Went task run) start e = (
   run,
   refl,
-  starts Blocked s (leaves task (read_at processor now s)) processor now run start (kept-block processor now task s)
+  starts Blocked s (figures_left task (figures_read processor now s)) processor now run start (kept-block processor now task s)
       (runs-block processor now task s processor) e,
 )
 starts-performed s (Pull processor from now) (Pulled task run by steps) start e =
     let d : Decision = record { hook = OnPull; by = by; steps = steps } in (
       run,
       refl,
-      starts Preempted s (taken processor (time_at processor now s) task (asked processor d (read_at processor now s)))
+      starts Preempted s (figures_taken processor (time_at processor now s) task (figures_asked processor d (figures_read processor now s)))
           processor now run start (kept-pull processor now d task s) (runs-pull processor now d task s processor) e,
     )
 starts-performed s (EndWake processor now) (Placed task to by steps) start e = cc
@@ -410,8 +410,8 @@ clock-there : (processor : ℕ) (past : History) (x : Sight) → x.processor ≡
 clock-there processor past x e = rw e (rw (eq-eqb processor processor refl) refl)
 
 latency-shown : (count : ℕ) (past : History) (o : Option Sight) (start : Start)
-    → IsOfProcessors count past → IsWithin count o → start.task < 1024 → StartsAs (figures count past) o start
-    → (begins start.task past o ≡ true) × (start.at ≡ clock_after start.processor (clock start.processor past) o)
+    → IsOfProcessors count past → IsSightWithin count o → start.task < 1024 → StartsAs (figures count past) o start
+    → (begins_run start.task past o ≡ true) × (start.at ≡ clock_after start.processor (clock start.processor past) o)
     × (start.latency ≡ option_map (λ (woken : ℕ). start.at - woken) (awaited start.task past))
 latency-shown count past None start h w inside t = absurd t
 latency-shown count past (Some x) start h w inside t =

@@ -7,10 +7,10 @@ use Rattle.bq_schedule.specs.declared.slice.Slice.{Slice}
 use Rattle.bq_schedule.specs.declared.change.Start.{Start}
 use Rattle.bq_schedule.specs.declared.figures.ProcessorFigures.{ProcessorFigures}
 use Rattle.bq_schedule.specs.Moments.{History}
-use Rattle.bq_schedule.specs.Figures.{Figures, unread, processor_of}
-use Rattle.bq_schedule.specs.Passing.{slice_between, slice_at, length_of, passed, processor_read, read_at, idle_of}
+use Rattle.bq_schedule.specs.Figures.{Figures, unread, processor_in_figures}
+use Rattle.bq_schedule.specs.Passing.{slice_between, slice_at, slice_length, passed, processor_read, figures_read, idle_of}
 use Rattle.bq_schedule.specs.Slices.{Sight, sight_of}
-use Rattle.bq_schedule.specs.Steps.{after, figures}
+use Rattle.bq_schedule.specs.Steps.{figures_after, figures}
 use Rattle.bq_schedule.specs.Laws.{IsOfProcessors, window_since, FillsWindow}
 use Rattle.bq_schedule.proofs.FrameLemmas.{Works, works, RunsAs}
 use Rattle.bq_schedule.proofs.ClockLemmas.{Shows, shows-after, count-figures, within-figures, processor-read_at}
@@ -33,13 +33,13 @@ begun : (p : ProcessorFigures) → HasBegun (works p) → Filled p
 begun p h = rw h.1 h.2
 
 length-le-rise : (processor from to : ℕ) (running : Option Start) (b : Bool)
-    → ltb from to ≡ b → from ≤ to → from + length_of (slice_between processor from to running) ≤ to
+    → ltb from to ≡ b → from ≤ to → from + slice_length (slice_between processor from to running) ≤ to
 length-le-rise processor from to None b e h = omega arith
 length-le-rise processor from to (Some start) true e h = rw e (omega arith)
 length-le-rise processor from to (Some start) false e h = rw e (omega arith)
 
 begun-read_as : (p : ProcessorFigures) (to : ℕ) (s : Option Slice) (first : Option ℕ)
-    → p.first ≡ first → p.last + length_of s ≤ to → (p.running ≡ None → length_of s ≡ 0)
+    → p.first ≡ first → p.last + slice_length s ≤ to → (p.running ≡ None → slice_length s ≡ 0)
     → IsFilled first p.last p.busy p.running
     → HasBegun (works (passed p to s))
 begun-read_as p to s None e le none h = (to, rw e refl, omega (arith, h.0, none h.1))
@@ -50,7 +50,7 @@ begun-read : (processor now : ℕ) (p : ProcessorFigures) → Filled p → HasBe
 begun-read processor now p h =
     begun-read_as p (reading p.last now) (slice_at processor p now) p.first refl
     (length-le-rise processor p.last (reading p.last now) p.running (ltb p.last (reading p.last now)) refl (omega arith))
-    (λ none. ap (λ o. length_of (slice_between processor p.last (reading p.last now) o)) none)
+    (λ none. ap (λ o. slice_length (slice_between processor p.last (reading p.last now) o)) none)
     h
 
 same_works : (p q : ProcessorFigures) → works q ≡ works p → q.running ≡ p.running → Filled p → Filled q
@@ -62,46 +62,46 @@ same_works p q w r h =
 
 -- at another processor nothing changes that this reads
 runs_elsewhere : (o : Option (Option ℕ)) (s s' : Figures) (processor j : ℕ)
-    → j ≢ processor → RunsAs o processor s s' → (processor_of s' j).running ≡ (processor_of s j).running
+    → j ≢ processor → RunsAs o processor s s' → (processor_in_figures s' j).running ≡ (processor_in_figures s j).running
 runs_elsewhere None s s' processor j ne h = h.at j
 runs_elsewhere (Some run) s s' processor j ne h = h.1 j ne
 
 filled-there : (s s' : Figures) (x : Sight) (j : ℕ) (b : Bool)
-    → eqb x.processor j ≡ b → j < length s.processors → Shows s s' (Some x) → Filled (processor_of s j)
+    → eqb x.processor j ≡ b → j < length s.processors → Shows s s' (Some x) → Filled (processor_in_figures s j)
     → ((b ≡ true) × (x.processor ≡ j)) ⊎ ((b ≡ false) × (x.processor ≢ j))
-    → Filled (processor_of s' j)
+    → Filled (processor_in_figures s' j)
 filled-there s s' x j true is inside h f (inl same) =
     let r = processor-read_at x.processor x.now j s inside in
-    let q = processor_read x.processor (processor_of s x.processor) x.now in
-    let read : processor_of (read_at x.processor x.now s) j ≡ q = r ∙ ap (λ b. cond b q (processor_of s j)) is in
+    let q = processor_read x.processor (processor_in_figures s x.processor) x.now in
+    let read : processor_in_figures (figures_read x.processor x.now s) j ≡ q = r ∙ ap (λ b. cond b q (processor_in_figures s j)) is in
     let P : Works → Type 0 = λ w. HasBegun w in
-    let Q : ℕ → Type 0 = λ k. Filled (processor_of s k) in
-    begun (processor_of s' j)
-    (subst P (sym (h.0.at j ∙ ap works read)) (begun-read x.processor x.now (processor_of s x.processor) (subst Q (sym same.1) f)))
+    let Q : ℕ → Type 0 = λ k. Filled (processor_in_figures s k) in
+    begun (processor_in_figures s' j)
+    (subst P (sym (h.0.at j ∙ ap works read)) (begun-read x.processor x.now (processor_in_figures s x.processor) (subst Q (sym same.1) f)))
 filled-there s s' x j false is inside h f (inr other) =
-    let q = processor_read x.processor (processor_of s x.processor) x.now in
-    let read : processor_of (read_at x.processor x.now s) j ≡ processor_of s j =
-    processor-read_at x.processor x.now j s inside ∙ ap (λ b. cond b q (processor_of s j)) is in
-    same_works (processor_of s j) (processor_of s' j) (h.0.at j ∙ ap works read)
+    let q = processor_read x.processor (processor_in_figures s x.processor) x.now in
+    let read : processor_in_figures (figures_read x.processor x.now s) j ≡ processor_in_figures s j =
+    processor-read_at x.processor x.now j s inside ∙ ap (λ b. cond b q (processor_in_figures s j)) is in
+    same_works (processor_in_figures s j) (processor_in_figures s' j) (h.0.at j ∙ ap works read)
     (runs_elsewhere x.run s s' x.processor j (λ e. other.1 (sym e)) h.1) f
 filled-there s s' x j false is inside h f (inl same) = absurd (cc)
 filled-there s s' x j true is inside h f (inr other) = absurd (cc)
 
 filled-shown : (s s' : Figures) (o : Option Sight) (j : ℕ) → j < length s.processors → Shows s s' o
-    → Filled (processor_of s j)
-    → Filled (processor_of s' j)
-filled-shown s s' None j inside h f = same_works (processor_of s j) (processor_of s' j) (h.0.at j) (h.1.at j) f
+    → Filled (processor_in_figures s j)
+    → Filled (processor_in_figures s' j)
+filled-shown s s' None j inside h f = same_works (processor_in_figures s j) (processor_in_figures s' j) (h.0.at j) (h.1.at j) f
 filled-shown s s' (Some x) j inside h f = filled-there s s' x j (eqb x.processor j) refl inside h f (eqb_tells x.processor j)
 
 -- in each history no processor ran before its first reading, nor longer since then than its clock rose
 pub figures_are_filled : (count : ℕ) (past : History) (processor : ℕ)
-    → IsOfProcessors count past → processor < count → Filled (processor_of (figures count past) processor)
+    → IsOfProcessors count past → processor < count → Filled (processor_in_figures (figures count past) processor)
 figures_are_filled count [] processor h inside =
     let P : ProcessorFigures → Type 0 = λ p. Filled p in
     subst P (sym (get_or-replicate count processor unread unread inside)) (refl, refl)
 figures_are_filled count (m ∷ past) processor h inside =
     let s = figures count past in
-    filled-shown s (after s m.event m.answer) (sight_of m.event m.answer) processor (omega (arith, count-figures count past h.1))
+    filled-shown s (figures_after s m.event m.answer) (sight_of m.event m.answer) processor (omega (arith, count-figures count past h.1))
     (shows-after s m.event m.answer (within-figures count past m h)) (figures_are_filled count past processor h.1 inside)
 
 fills_if : (first : Option ℕ) (p : ProcessorFigures) → p.first ≡ first → IsFilled first p.last p.busy p.running
@@ -112,6 +112,6 @@ fills_if (Some first) p e h = rw e (omega (arith, h))
 -- the slices of a processor and its idle time fill the time from its first reading to the last
 pub fills_window : FillsWindow
 fills_window count past processor few h inside =
-    let p = processor_of (figures count past) processor in
+    let p = processor_in_figures (figures count past) processor in
     ap (λ n. n + idle_of p) (sym (busy_is_sum_of_slices count past few h processor inside))
     ∙ fills_if p.first p refl (figures_are_filled count past processor h inside)

@@ -15,7 +15,7 @@ use Rattle.bq_parts.specs.declared.reply.Reply.{Reply}
 use Rattle.bq_parts.specs.declared.reply.Reply.TheVariants.{Admitted, Retired, Drawn, Installed, Begun, Placed, Drained, Ticked, Blocked, Pulled}
 use Rattle.bq_parts.specs.declared.refusal.Refusal.{Refusal}
 use Rattle.bq_parts.specs.declared.refusal.Refusal.TheVariants as no
-use Rattle.bq_parts.specs.Processors.{Processor, opening}
+use Rattle.bq_parts.specs.Processors.{Processor, new_processor}
 use Rattle.bq_parts.specs.World.{World, opening_world, processor_at, count_in, with_processor}
 use Rattle.bq_parts.specs.Refusals.{refusal}
 use Rattle.bq_parts.specs.Moves.{with_pulled, started_if_idle, without_task, taken_from}
@@ -26,7 +26,7 @@ use Rattle.bq_parts.specs.Steps.{Performs, WorldStep, WorldRun}
 use Rattle.bq_parts.proofs.RefusalLemmas.{not_refused_is_there, first_refusal_passed, accepted}
 use Rattle.bq_schedule.specs.Moments.{History}
 use Rattle.bq_schedule.specs.Slices.{Sight, sight, sight_of, clock_after, clock, runner_after, runner}
-use Rattle.bq_schedule.specs.Laws.{IsWithin, IsOfProcessors, grown, IsCharged}
+use Rattle.bq_schedule.specs.Laws.{IsSightWithin, IsOfProcessors, history_grown, IsCharged}
 use Rattle.bq_schedule.proofs.FrameLemmas.{get_or-set_like}
 use Rattle.bq_schedule.proofs.ClockLemmas.{within_same}
 
@@ -49,16 +49,16 @@ kept : (w : World) (i : ℕ) (p : Processor) → p.running.last ≡ last_at w i 
     → Shown w (with_processor w i p) None
 kept w i p l c = record {
   count = length-set w.processors i p;
-  last = λ j inside. get_or-set_like (λ (q : Processor). q.running.last) w.processors i j p opening l;
-  who = λ j inside. get_or-set_like (λ (q : Processor). id_of q.running.current) w.processors i j p opening c;
+  last = λ j inside. get_or-set_like (λ (q : Processor). q.running.last) w.processors i j p new_processor l;
+  who = λ j inside. get_or-set_like (λ (q : Processor). id_of q.running.current) w.processors i j p new_processor c;
 }
 
 -- what is shown of a world depends only on its processors
 like : (w u w' : World) (o : Option Sight) → u.processors ≡ w'.processors → Shown w u o → Shown w w' o
 like w u w' o e h = record {
   count = ap (λ (l : List Processor). length l) (sym e) ∙ h.count;
-  last = λ j inside. ap (λ l. (get_or l j opening).running.last) (sym e) ∙ h.last j inside;
-  who = λ j inside. ap (λ l. id_of (get_or l j opening).running.current) (sym e) ∙ h.who j inside;
+  last = λ j inside. ap (λ l. (get_or l j new_processor).running.last) (sym e) ∙ h.last j inside;
+  who = λ j inside. ap (λ l. id_of (get_or l j new_processor).running.current) (sym e) ∙ h.who j inside;
 }
 
 same : (w : World) → Shown w w None
@@ -66,27 +66,27 @@ same w = record { count = refl; last = λ j inside. refl; who = λ j inside. ref
 
 last_there : (w : World) (i j now : ℕ) (p : Processor) (b : Bool)
     → j < count_in w → p.running.last ≡ reading (last_at w i) now → ((b ≡ true) × (i ≡ j)) ⊎ ((b ≡ false) × (i ≢ j))
-    → (get_or (slice_set w.processors i p) j opening).running.last ≡ cond b (reading (last_at w j) now) (last_at w j)
+    → (get_or (slice_set w.processors i p) j new_processor).running.last ≡ cond b (reading (last_at w j) now) (last_at w j)
 last_there w i j now p true inside l (inl e) =
-    ap (λ k. (get_or (slice_set w.processors k p) j opening).running.last) e.1
-    ∙ ap (λ (q : Processor). q.running.last) (get_or-set_same w.processors j p opening inside) ∙ l
+    ap (λ k. (get_or (slice_set w.processors k p) j new_processor).running.last) e.1
+    ∙ ap (λ (q : Processor). q.running.last) (get_or-set_same w.processors j p new_processor inside) ∙ l
     ∙ ap (λ k. reading (last_at w k) now) e.1
 last_there w i j now p false inside l (inl e) = absurd (cc)
 last_there w i j now p true inside l (inr e) = absurd (cc)
 last_there w i j now p false inside l (inr e) =
-    ap (λ (q : Processor). q.running.last) (get_or-set_other w.processors i j p opening (λ h. e.1 (sym h)))
+    ap (λ (q : Processor). q.running.last) (get_or-set_other w.processors i j p new_processor (λ h. e.1 (sym h)))
 
 who_there : (w : World) (i j : ℕ) (run : Option (Option ℕ)) (p : Processor) (b : Bool)
     → j < count_in w → id_of p.running.current ≡ unwrap_or run (who_at w i) → ((b ≡ true) × (i ≡ j)) ⊎ ((b ≡ false) × (i ≢ j))
-    → id_of (get_or (slice_set w.processors i p) j opening).running.current ≡ cond b (unwrap_or run (who_at w j)) (who_at w j)
+    → id_of (get_or (slice_set w.processors i p) j new_processor).running.current ≡ cond b (unwrap_or run (who_at w j)) (who_at w j)
 who_there w i j run p true inside l (inl e) =
-    ap (λ k. id_of (get_or (slice_set w.processors k p) j opening).running.current) e.1
-    ∙ ap (λ (q : Processor). id_of q.running.current) (get_or-set_same w.processors j p opening inside) ∙ l
+    ap (λ k. id_of (get_or (slice_set w.processors k p) j new_processor).running.current) e.1
+    ∙ ap (λ (q : Processor). id_of q.running.current) (get_or-set_same w.processors j p new_processor inside) ∙ l
     ∙ ap (λ k. unwrap_or run (who_at w k)) e.1
 who_there w i j run p false inside l (inl e) = absurd (cc)
 who_there w i j run p true inside l (inr e) = absurd (cc)
 who_there w i j run p false inside l (inr e) =
-    ap (λ (q : Processor). id_of q.running.current) (get_or-set_other w.processors i j p opening (λ h. e.1 (sym h)))
+    ap (λ (q : Processor). id_of q.running.current) (get_or-set_other w.processors i j p new_processor (λ h. e.1 (sym h)))
 
 -- a processor's clock is read, and who runs there is reported or stays
 read_there : (w : World) (x : Sight) (p : Processor) → p.running.last ≡ reading (last_at w x.processor) x.now
@@ -204,7 +204,7 @@ shown-performs s w (Pull processor from now) calls r w' h k =
     let taken = taken_from other.running task in
     let u = with_processor w processor k.0 in
     let there' : processor_at u from ≡ processor_at w from =
-    get_or-set_other w.processors processor from k.0 opening (λ e. apart (sym e)) in
+    get_or-set_other w.processors processor from k.0 new_processor (λ e. apart (sym e)) in
     shown_as w w' (Pull processor from now) r (Pulled task (id_of k.0.running.current) x.settled.by x.settled.steps) x.replies
     (then_kept w u w' (Some (record { processor = processor; now = now; run = Some (id_of k.0.running.current) }))
     (read_there w (record { processor = processor; now = now; run = Some (id_of k.0.running.current) }) k.0
@@ -216,12 +216,12 @@ shown-performs s w (Pull processor from now) calls r w' h k =
     (ap (λ (q : Processor). id_of q.running.current) x.there ∙ ap id_of (current-without_task other.running task)
     ∙ ap (λ (v : Processor). id_of v.running.current) (sym there')))))
 
-within_as : (n : ℕ) (e : Event) (r x : Reply) → r ≡ x → IsWithin n (sight e x) → IsWithin n (sight e r)
+within_as : (n : ℕ) (e : Event) (r x : Reply) → r ≡ x → IsSightWithin n (sight e x) → IsSightWithin n (sight e r)
 within_as n e r x h k = rw h k
 
 -- an event that is not refused names a processor that is there
 within-performs : (s : PolicySemantics) (w : World) (e : Event) (calls : List CounterCall) (r : Reply) (w' : World)
-    → refusal w e ≡ None → Performs s w e calls r w' → IsWithin (count_in w) (sight e r)
+    → refusal w e ≡ None → Performs s w e calls r w' → IsSightWithin (count_in w) (sight e r)
 within-performs s w (EndWake processor now) calls r w' h k =
     within_as (count_in w) (EndWake processor now) r (Placed k.0.task.id k.0.to k.0.by k.0.steps) k.3
     (not_refused_is_there (count_in w) processor None (accepted w (EndWake processor now) h).0).0
@@ -247,7 +247,7 @@ within-performs s w (BeginWake processor id) calls r w' h k = within_as (count_i
 
 -- each step shows what its answer says, refused or not
 shown-step : (s : PolicySemantics) (w : World) (e : Event) (calls : List CounterCall) (a : Result Reply Refusal) (w' : World)
-    → WorldStep s w e calls a w' → Shown w w' (sight_of e a) × IsWithin (count_in w) (sight_of e a)
+    → WorldStep s w e calls a w' → Shown w w' (sight_of e a) × IsSightWithin (count_in w) (sight_of e a)
 shown-step s w e calls (Ok r) w' k = (shown-performs s w e calls r w' k.0 k.1, within-performs s w e calls r w' k.0 k.1)
 shown-step s w e calls (Err r) w' k = (like w w w' None (ap (λ (v : World). v.processors) (sym k.1)) (same w), tt)
 
@@ -274,7 +274,7 @@ reported-step count s w past e calls a w' t k =
 reported-run : (count : ℕ) (s : PolicySemantics) (w : World) (past : History) (es : List Event)
     (calls : List (List CounterCall)) (answers : List (Result Reply Refusal)) (w' : World)
     → HasClocksOf count w past → WorldRun s w es calls answers w'
-    → HasClocksOf count w' (grown past es answers)
+    → HasClocksOf count w' (history_grown past es answers)
 reported-run count s w past [] [] [] w' t k = rw k t
 reported-run count s w past (e ∷ es) (c ∷ calls) (a ∷ answers) w' t k =
     reported-run count s k.0 (record { event = e; answer = a } ∷ past) es calls answers w'
@@ -283,10 +283,10 @@ reported-run count s w past es calls answers w' t k = absurd k
 
 opening-reported : (count : ℕ) → HasClocksOf count (opening_world count) []
 opening-reported count = record {
-  many = length-replicate count opening;
+  many = length-replicate count new_processor;
   within = tt;
-  last = λ j inside. ap (λ (p : Processor). p.running.last) (get_or-replicate count j opening opening inside);
-  who = λ j inside. ap (λ (p : Processor). id_of p.running.current) (get_or-replicate count j opening opening inside);
+  last = λ j inside. ap (λ (p : Processor). p.running.last) (get_or-replicate count j new_processor new_processor inside);
+  who = λ j inside. ap (λ (p : Processor). id_of p.running.current) (get_or-replicate count j new_processor new_processor inside);
 }
 
 -- in each history of a world every processor's last reading, and its current task, are those of the history

@@ -3,8 +3,8 @@ use Rattle.std.specs.Prelude.{ℕ, ◌*◌, Option, Some, None, if◌then◌else
 use Rattle.std.specs.List.{sum_by}
 use Rattle.bq_schedule.specs.declared.figures.TaskFigures.{TaskFigures}
 use Rattle.bq_schedule.specs.declared.figures.ProcessorFigures.{ProcessorFigures}
-use Rattle.bq_schedule.specs.Figures.{Figures, processor_of, task_of}
-use Rattle.bq_schedule.specs.Passing.{slice_at, length_of, part_of}
+use Rattle.bq_schedule.specs.Figures.{Figures, processor_in_figures, task_in_figures}
+use Rattle.bq_schedule.specs.Passing.{slice_at, slice_length, parts_per_weight}
 use Rattle.bq_schedule.specs.Runnable.{fair_at}
 use Rattle.bq_schedule.specs.Slices.{is_this, Sight}
 
@@ -20,7 +20,7 @@ weights_at s processor = sum_by (weight_there processor) s.tasks
 abbrev pub share : Figures → Option Sight → ℕ → ℕ
 share s None id = 0
 share s (Some x) id =
-    weight_there x.processor (task_of s id) * part_of (length_of (slice_at x.processor (processor_of s x.processor) x.now)) (weights_at s x.processor)
+    weight_there x.processor (task_in_figures s id) * parts_per_weight (slice_length (slice_at x.processor (processor_in_figures s x.processor) x.now)) (weights_at s x.processor)
 
 -- the sum of the fair times of all tasks
 abbrev pub all_fair : Figures → ℕ

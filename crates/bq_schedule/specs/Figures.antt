@@ -12,8 +12,8 @@ pub record Figures : Type 0 where
   pub refused : ℕ
 
 -- the figures of a hook before anything is decided there
-abbrev pub unasked : HookFigures
-unasked = record { asked = 0; overruled = 0; steps = 0 }
+abbrev pub unasked_hook : HookFigures
+unasked_hook = record { asked = 0; overruled = 0; steps = 0 }
 
 -- the figures of a processor whose clock was never read
 abbrev pub unread : ProcessorFigures
@@ -29,9 +29,9 @@ unread = record {
   busy = 0;
   switches = 0;
   drains = 0;
-  place = unasked;
-  preempt = unasked;
-  pull = unasked;
+  place = unasked_hook;
+  preempt = unasked_hook;
+  pull = unasked_hook;
 }
 
 -- the figures of an id that was never admitted
@@ -59,21 +59,21 @@ unknown = record {
 }
 
 -- the figures of this many processors before the first event
-abbrev pub opening : ℕ → Figures
-opening count = record { processors = replicate count unread; tasks = replicate TASKS unknown; refused = 0 }
+abbrev pub opening_figures : ℕ → Figures
+opening_figures count = record { processors = replicate count unread; tasks = replicate TASKS unknown; refused = 0 }
 
 -- the figures of a processor; if it does not exist, those of one that was never read
-abbrev pub processor_of : Figures → ℕ → ProcessorFigures
-processor_of s processor = slice_index_or s.processors processor unread
+abbrev pub processor_in_figures : Figures → ℕ → ProcessorFigures
+processor_in_figures s processor = slice_index_or s.processors processor unread
 
 -- the figures of a task; if the id is out of range, those of one that was never admitted
-abbrev pub task_of : Figures → ℕ → TaskFigures
-task_of s id = slice_index_or s.tasks id unknown
+abbrev pub task_in_figures : Figures → ℕ → TaskFigures
+task_in_figures s id = slice_index_or s.tasks id unknown
 
 -- the figures with those of one processor replaced
-abbrev pub with_processor : Figures → ℕ → ProcessorFigures → Figures
-with_processor s processor p = record s { processors = slice_set s.processors processor p }
+abbrev pub figures_with_processor : Figures → ℕ → ProcessorFigures → Figures
+figures_with_processor s processor p = record s { processors = slice_set s.processors processor p }
 
 -- the figures with those of one task replaced
-abbrev pub with_task : Figures → ℕ → TaskFigures → Figures
-with_task s id t = record s { tasks = slice_set s.tasks id t }
+abbrev pub figures_with_task : Figures → ℕ → TaskFigures → Figures
+figures_with_task s id t = record s { tasks = slice_set s.tasks id t }

@@ -15,32 +15,32 @@ use Rattle.bq_schedule.specs.declared.slice.Slice.{Slice}
 use Rattle.bq_schedule.specs.declared.change.Start.{Start}
 use Rattle.bq_schedule.specs.declared.change.Stop.{Stop}
 use Rattle.bq_schedule.specs.Moments.{Moment, History}
-use Rattle.bq_schedule.specs.Figures.{processor_of, task_of}
+use Rattle.bq_schedule.specs.Figures.{processor_in_figures, task_in_figures}
 use Rattle.bq_schedule.specs.Running.{running_task}
 use Rattle.bq_schedule.specs.Counts.{parts_per_nanosecond}
-use Rattle.bq_schedule.specs.Passing.{idle_of, part_of}
+use Rattle.bq_schedule.specs.Passing.{idle_of, parts_per_weight}
 use Rattle.bq_schedule.specs.Runnable.{fair_of}
 use Rattle.bq_schedule.specs.FairTimes.{share, all_fair, all_unshared, all_busy}
-use Rattle.bq_schedule.specs.Slices.{Sight, sight_of, clock, runner, slices, time_in, is_of, is_at, StandApart, slices_at, runs}
-use Rattle.bq_schedule.specs.Wakes.{begins, awaited}
+use Rattle.bq_schedule.specs.Slices.{Sight, sight_of, clock, runner, slices, time_in, is_of, is_slice_at, StandApart, slices_at, runs}
+use Rattle.bq_schedule.specs.Wakes.{begins_run, awaited}
 use Rattle.bq_schedule.specs.Steps.{change, figures}
 use Rattle.bq_schedule.specs.Switches.{BeginsAt, CeasesAt, why_left, starts_reported_at, stops_reported_at}
 use Rattle.bq_schedule.specs.Waits.{waits_since, reported_waits}
 
 -- what an answer shows is of one of this many processors
-abbrev pub IsWithin : ℕ → Option Sight → Type 0
-IsWithin count None = Unit {0}
-IsWithin count (Some s) = s.processor < count
+abbrev pub IsSightWithin : ℕ → Option Sight → Type 0
+IsSightWithin count None = Unit {0}
+IsSightWithin count (Some s) = s.processor < count
 
 -- a history of this many processors
 abbrev pub IsOfProcessors : ℕ → History → Type 0
 IsOfProcessors count [] = Unit {0}
-IsOfProcessors count (m ∷ past) = IsWithin count (sight_of m.event m.answer) × IsOfProcessors count past
+IsOfProcessors count (m ∷ past) = IsSightWithin count (sight_of m.event m.answer) × IsOfProcessors count past
 
 -- a history with some events and their answers on top
-abbrev pub grown : History → List Event → List (Result Reply Refusal) → History
-grown past (e ∷ es) (a ∷ answers) = grown (record { event = e; answer = a } ∷ past) es answers
-grown past es answers = past
+abbrev pub history_grown : History → List Event → List (Result Reply Refusal) → History
+history_grown past (e ∷ es) (a ∷ answers) = history_grown (record { event = e; answer = a } ∷ past) es answers
+history_grown past es answers = past
 
 -- What the world charges is what the slices say. Take any history of a world of this many processors, under any discipline and
 -- any answers of policies. Then each processor's last reading is the clock of the history, and its current task is the one that runs.
@@ -48,7 +48,7 @@ grown past es answers = past
 abbrev pub IsCharged : Type 0
 IsCharged = (d : Discipline) (count : ℕ) (es : List Event) (calls : List (List CounterCall)) (answers : List (Result Reply Refusal)) (w : World) →
     WorldRun (under_any_answers d) (opening_world count) es calls answers w →
-    let past = grown [] es answers in
+    let past = history_grown [] es answers in
     IsOfProcessors count past
     × ((processor : ℕ) → processor < count →
     ((processor_at w processor).running.last ≡ clock processor past) × (id_of (processor_at w processor).running.current ≡ runner processor past))
@@ -56,8 +56,8 @@ IsCharged = (d : Discipline) (count : ℕ) (es : List Event) (calls : List (List
 -- the figures show each processor's last reading and which task runs there
 abbrev pub ShowsClocks : Type 0
 ShowsClocks = (count : ℕ) (past : History) (processor : ℕ) → IsOfProcessors count past → processor < count →
-    ((processor_of (figures count past) processor).last ≡ clock processor past)
-    × (running_task (processor_of (figures count past) processor) ≡ runner processor past)
+    ((processor_in_figures (figures count past) processor).last ≡ clock processor past)
+    × (running_task (processor_in_figures (figures count past) processor) ≡ runner processor past)
 
 -- each moment reports the slice that it ends
 abbrev pub ReportsSlices : Type 0
@@ -67,8 +67,8 @@ ReportsSlices = (count : ℕ) (past : History) (m : Moment) → IsOfProcessors c
 -- the time of a task is the sum of its slices, and the time of a processor is the sum of its slices
 abbrev pub AddsUpSlices : Type 0
 AddsUpSlices = (count : ℕ) (past : History) → count ≤ 255 → IsOfProcessors count past →
-    ((id : ℕ) → id < TASKS → (task_of (figures count past) id).time ≡ time_in (is_of id) (slices past))
-    × ((processor : ℕ) → processor < count → (processor_of (figures count past) processor).busy ≡ time_in (is_at processor) (slices past))
+    ((id : ℕ) → id < TASKS → (task_in_figures (figures count past) id).time ≡ time_in (is_of id) (slices past))
+    × ((processor : ℕ) → processor < count → (processor_in_figures (figures count past) processor).busy ≡ time_in (is_slice_at processor) (slices past))
 
 -- the slices of a processor do not overlap, and none ends after its last reading
 abbrev pub SlicesStandApart : Type 0
@@ -82,15 +82,15 @@ window_since (Some first) last = last - first
 -- the slices of a processor and its idle time fill its window from the first reading to the last
 abbrev pub FillsWindow : Type 0
 FillsWindow = (count : ℕ) (past : History) (processor : ℕ) → count ≤ 255 → IsOfProcessors count past → processor < count →
-    let p = processor_of (figures count past) processor in
-    time_in (is_at processor) (slices past) + idle_of p ≡ window_since p.first p.last
+    let p = processor_in_figures (figures count past) processor in
+    time_in (is_slice_at processor) (slices past) + idle_of p ≡ window_since p.first p.last
 
 -- A start is reported when its task starts running. If the task has not run since its last wake, the start reports the time from the
 -- end of that wake. So a wake has at most one latency: the time to its task's first run
 abbrev pub ReportsLatencies : Type 0
 ReportsLatencies = (count : ℕ) (past : History) (m : Moment) (start : Start) → IsOfProcessors count (m ∷ past) → start.task < TASKS →
     (change (figures count past) m.event m.answer).start ≡ Some start →
-    (begins start.task past (sight_of m.event m.answer) ≡ true)
+    (begins_run start.task past (sight_of m.event m.answer) ≡ true)
     × (start.at ≡ clock start.processor (m ∷ past))
     × (start.latency ≡ option_map (λ (woken : ℕ). start.at - woken) (awaited start.task past))
 
@@ -107,7 +107,7 @@ AddsUpFairTimes = (count : ℕ) (past : History) → count ≤ 255 → IsOfProce
 
 -- each slice leaves over fewer parts than there are units of weight
 abbrev pub LeavesLittle : Type 0
-LeavesLittle = (time weight : ℕ) → 0 < weight → time * parts_per_nanosecond - weight * part_of time weight < weight
+LeavesLittle = (time weight : ℕ) → 0 < weight → time * parts_per_nanosecond - weight * parts_per_weight time weight < weight
 
 -- the run that a moment reports, if it is of this processor
 abbrev pub reported_if : ℕ → Option Sight → Option Slice → List Slice
@@ -123,7 +123,7 @@ reported_runs count processor (m ∷ past) =
 -- the reported runs of a processor and its last run, which may go on, are the runs that the slices there make
 abbrev pub ReportsRuns : Type 0
 ReportsRuns = (count : ℕ) (past : History) (processor : ℕ) → IsOfProcessors count past → processor < count →
-    reported_runs count processor past ++ option_to_list (processor_of (figures count past) processor).run ≡ runs (slices_at processor past)
+    reported_runs count processor past ++ option_to_list (processor_in_figures (figures count past) processor).run ≡ runs (slices_at processor past)
 
 -- a start is reported exactly when a task starts running: each task that starts is reported, and each reported start is of a task that
 -- starts there, with the reading of that processor's clock
@@ -148,7 +148,7 @@ ReportsStops = (count : ℕ) (past : History) (m : Moment) → IsOfProcessors co
 -- runs: so each start ends with one stop, and starts and stops alternate
 abbrev pub EndsStarts : Type 0
 EndsStarts = (count : ℕ) (past : History) (processor : ℕ) → IsOfProcessors count past → processor < count →
-    starts_reported_at count processor past ≡ map (λ (s : Stop). s.start) (stops_reported_at count processor past) ++ option_to_list (processor_of (figures count past) processor).running
+    starts_reported_at count processor past ≡ map (λ (s : Stop). s.start) (stops_reported_at count processor past) ++ option_to_list (processor_in_figures (figures count past) processor).running
 
 -- a start reports how long its task has waited: from when it was placed, preempted or pulled to the start. A pull reports how long
 -- the task had waited until then. A wait that would be negative, because clocks disagree, is 0
@@ -161,4 +161,4 @@ ReportsWaits = (count : ℕ) (past : History) (m : Moment) → IsOfProcessors co
 -- how long a task has waited in all is the sum of the waits in its pulls and starts, up to the greatest number of 64 bits
 abbrev pub AddsUpWaits : Type 0
 AddsUpWaits = (count : ℕ) (past : History) (id : ℕ) → IsOfProcessors count past → id < TASKS →
-    (task_of (figures count past) id).waited ≡ min (reported_waits count id past) (2 ^ 64 - 1)
+    (task_in_figures (figures count past) id).waited ≡ min (reported_waits count id past) (2 ^ 64 - 1)

@@ -4,7 +4,7 @@ use Rattle.bq_schedule.specs.declared.figures.TaskFigures.{TaskFigures}
 use Rattle.bq_schedule.specs.declared.figures.ProcessorFigures.{ProcessorFigures}
 use Rattle.bq_disc.specs.Counts.{saturating_sum}
 use Rattle.bq_schedule.specs.Counts.{counted_wide}
-use Rattle.bq_schedule.specs.Figures.{Figures, processor_of, task_of, with_processor, with_task}
+use Rattle.bq_schedule.specs.Figures.{Figures, processor_in_figures, task_in_figures, figures_with_processor, figures_with_task}
 
 -- the share that a task has had at its processor since it came
 abbrev pub pending : ProcessorFigures → TaskFigures → ℕ
@@ -13,20 +13,20 @@ pending p t = min (t.weight * (p.shared - t.joined)) (2 ^ 128 - 1)
 -- the fair time of a task, in parts: what it got at all processors where it was before, and what it got where it is
 abbrev pub fair_at : Figures → TaskFigures → Option ℕ → ℕ
 fair_at s t None = t.accrued
-fair_at s t (Some processor) = counted_wide t.accrued (pending (processor_of s processor) t)
+fair_at s t (Some processor) = counted_wide t.accrued (pending (processor_in_figures s processor) t)
 
 -- the fair time of the task with this id, in parts
 abbrev pub fair_of : Figures → ℕ → ℕ
-fair_of s id = let t = task_of s id in fair_at s t t.place
+fair_of s id = let t = task_in_figures s id in fair_at s t t.place
 
 -- the processor on which a task was placed, if that processor has made no more drains since
 abbrev pub undrained_at : Figures → Option ℕ → Option ℕ → Option ℕ
-undrained_at s (Some processor) (Some drains) = if (processor_of s processor).drains == drains then Some processor else None
+undrained_at s (Some processor) (Some drains) = if (processor_in_figures s processor).drains == drains then Some processor else None
 undrained_at s place drains = None
 
 -- the processor on which the task with this id was placed, if that processor has not drained its inbox since
 abbrev pub undrained : Figures → ℕ → Option ℕ
-undrained s id = let t = task_of s id in undrained_at s t.place t.drains
+undrained s id = let t = task_in_figures s id in undrained_at s t.place t.drains
 
 -- a processor's figures after a task of this weight left
 abbrev pub processor_left : ProcessorFigures → ℕ → ProcessorFigures
@@ -40,22 +40,22 @@ processor_joined p weight = record p { runnable = saturating_sum p.runnable 1; w
 abbrev pub left_from : ℕ → Figures → Option ℕ → Figures
 left_from id s None = s
 left_from id s (Some processor) =
-    let t = task_of s id in
-    with_task (with_processor s processor (processor_left (processor_of s processor) t.weight)) id
+    let t = task_in_figures s id in
+    figures_with_task (figures_with_processor s processor (processor_left (processor_in_figures s processor) t.weight)) id
     (record t { accrued = fair_at s t (Some processor); place = None; drains = None })
 
 -- a task is no longer runnable, if it was
-abbrev pub leaves : ℕ → Figures → Figures
-leaves id s = left_from id s (task_of s id).place
+abbrev pub figures_left : ℕ → Figures → Figures
+figures_left id s = left_from id s (task_in_figures s id).place
 
 -- a task that is not runnable becomes runnable here now, and waits
 abbrev pub joins : ℕ → ℕ → ℕ → Figures → Figures
 joins id processor now s =
-    let t = task_of s id in
-    let p = processor_of s processor in
-    with_task (with_processor s processor (processor_joined p t.weight)) id
+    let t = task_in_figures s id in
+    let p = processor_in_figures s processor in
+    figures_with_task (figures_with_processor s processor (processor_joined p t.weight)) id
     (record t { place = Some processor; since = now; joined = p.shared })
 
 -- a task becomes runnable here, and nowhere else
 abbrev pub comes : ℕ → ℕ → ℕ → Figures → Figures
-comes id processor now s = joins id processor now (leaves id s)
+comes id processor now s = joins id processor now (figures_left id s)

@@ -8,7 +8,7 @@ use Rattle.bq_schedule.specs.declared.change.Left.TheVariants.{Preempted, Blocke
 use Rattle.bq_schedule.specs.declared.figures.TaskFigures.{TaskFigures}
 use Rattle.bq_schedule.specs.declared.figures.ProcessorFigures.{ProcessorFigures}
 use Rattle.bq_disc.specs.Counts.{saturating_sum}
-use Rattle.bq_schedule.specs.Figures.{Figures, processor_of, task_of, with_processor, with_task}
+use Rattle.bq_schedule.specs.Figures.{Figures, processor_in_figures, task_in_figures, figures_with_processor, figures_with_task}
 
 -- the task that runs at a processor
 abbrev pub running_task : ProcessorFigures → Option ℕ
@@ -60,20 +60,20 @@ task_preempted t now = record t { since = now; preemptions = saturating_sum t.pr
 abbrev pub stopped : Left → ℕ → Option Start → Figures → Figures
 stopped left now None s = s
 stopped Blocked now (Some old) s = s
-stopped Preempted now (Some old) s = with_task s old.task (task_preempted (task_of s old.task) now)
+stopped Preempted now (Some old) s = figures_with_task s old.task (task_preempted (task_in_figures s old.task) now)
 
 -- the figures after a task started running
-abbrev pub begun : ℕ → ℕ → ℕ → Figures → Figures
-begun processor now id s = with_task s id (task_started (task_of s id) (start_of processor id now (task_of s id)))
+abbrev pub figures_begun : ℕ → ℕ → ℕ → Figures → Figures
+figures_begun processor now id s = figures_with_task s id (task_started (task_in_figures s id) (start_of processor id now (task_in_figures s id)))
 
 -- the figures after a task started running, if one does
 abbrev pub begun_if : ℕ → ℕ → Option ℕ → Figures → Figures
 begun_if processor now None s = s
-begun_if processor now (Some id) s = begun processor now id s
+begun_if processor now (Some id) s = figures_begun processor now id s
 
 -- the start of the task that starts running, if one does
 abbrev pub starts_as : ℕ → ℕ → Option ℕ → Figures → Option Start
-starts_as processor now run s = option_map (λ (id : ℕ). start_of processor id now (task_of s id)) run
+starts_as processor now run s = option_map (λ (id : ℕ). start_of processor id now (task_in_figures s id)) run
 
 -- the processor runs this task from now on, or none
 abbrev pub processor_runs : ProcessorFigures → Option Start → ProcessorFigures
@@ -82,12 +82,12 @@ processor_runs p (Some start) = record p { running = Some start; switches = satu
 
 -- the figures after a task started running at a processor, or none did
 abbrev pub started : ℕ → ℕ → Option ℕ → Figures → Figures
-started processor now run s = with_processor (begun_if processor now run s) processor (processor_runs (processor_of s processor) (starts_as processor now run s))
+started processor now run s = figures_with_processor (begun_if processor now run s) processor (processor_runs (processor_in_figures s processor) (starts_as processor now run s))
 
 -- from now on this task runs at a processor, or none does; if it is the one that ran before, nothing changes
-abbrev pub switched : Left → ℕ → ℕ → Option ℕ → Figures → Figures
-switched left processor now run s =
-    let p = processor_of s processor in
+abbrev pub figures_switched : Left → ℕ → ℕ → Option ℕ → Figures → Figures
+figures_switched left processor now run s =
+    let p = processor_in_figures s processor in
     if is_run_by p.running run then s else started processor now run (stopped left now p.running s)
 
 -- the stop of the task that ran, if there was one
@@ -97,11 +97,11 @@ stop_of left now running = option_map (λ (old : Start). record { start = old; a
 -- the stop that a change of the running task reports, if the task changes
 abbrev pub stop_at : Left → ℕ → ℕ → Option ℕ → Figures → Option Stop
 stop_at left processor now run s =
-    let p = processor_of s processor in
+    let p = processor_in_figures s processor in
     if is_run_by p.running run then None else stop_of left now p.running
 
 -- the start that a change of the running task reports, if the task changes
 abbrev pub start_at : Left → ℕ → ℕ → Option ℕ → Figures → Option Start
 start_at left processor now run s =
-    let p = processor_of s processor in
+    let p = processor_in_figures s processor in
     if is_run_by p.running run then None else starts_as processor now run (stopped left now p.running s)

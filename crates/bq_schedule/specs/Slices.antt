@@ -9,7 +9,7 @@ use Rattle.bq_parts.specs.declared.reply.Reply.TheVariants.{Placed, Drained, Tic
 use Rattle.bq_parts.specs.declared.refusal.Refusal.{Refusal}
 use Rattle.bq_schedule.specs.declared.slice.Slice.{Slice}
 use Rattle.bq_schedule.specs.Moments.{History}
-use Rattle.bq_schedule.specs.Passing.{goes_on}
+use Rattle.bq_schedule.specs.Passing.{continues_run}
 
 -- there is a number, and it is this one
 abbrev pub is_this : ℕ → Option ℕ → Bool
@@ -84,8 +84,8 @@ abbrev pub is_of : ℕ → Slice → Bool
 is_of id s = s.task == id
 
 -- whether a slice is of this processor
-abbrev pub is_at : ℕ → Slice → Bool
-is_at processor s = s.processor == processor
+abbrev pub is_slice_at : ℕ → Slice → Bool
+is_slice_at processor s = s.processor == processor
 
 -- each slice ends no later than any later one begins, and none is empty
 abbrev pub StandApart : List Slice → Type 0
@@ -94,14 +94,14 @@ StandApart (s ∷ xs) = (s.from < s.to) × All (λ next. s.to ≤ next.from) xs 
 
 -- the slices of one processor
 abbrev pub slices_at : ℕ → History → List Slice
-slices_at processor past = filter (is_at processor) (slices past)
+slices_at processor past = filter (is_slice_at processor) (slices past)
 
 -- a slice in front of some runs: it joins the first run if that one continues it
-abbrev pub joined : Slice → List Slice → List Slice
-joined s [] = s ∷ []
-joined s (r ∷ rs) = if goes_on s r then record s { to = r.to } ∷ rs else s ∷ r ∷ rs
+abbrev pub slice_joined : Slice → List Slice → List Slice
+slice_joined s [] = s ∷ []
+slice_joined s (r ∷ rs) = if continues_run s r then record s { to = r.to } ∷ rs else s ∷ r ∷ rs
 
 -- the runs that slices make: slices of one task that touch are one run
 abbrev pub runs : List Slice → List Slice
 runs [] = []
-runs (s ∷ xs) = joined s (runs xs)
+runs (s ∷ xs) = slice_joined s (runs xs)

@@ -20,10 +20,10 @@ use Rattle.bq_schedule.specs.declared.figures.ProcessorFigures.{ProcessorFigures
 use Rattle.bq_schedule.specs.declared.figures.HookFigures.{HookFigures}
 use Rattle.bq_disc.specs.Counts.{saturating_sum}
 use Rattle.bq_schedule.specs.Moments.{History}
-use Rattle.bq_schedule.specs.Figures.{Figures, opening, processor_of, task_of, with_processor, with_task}
-use Rattle.bq_schedule.specs.Passing.{reading_at, slice_at, ended_run, read_at}
-use Rattle.bq_schedule.specs.Runnable.{leaves, comes}
-use Rattle.bq_schedule.specs.Running.{switched, stop_at, start_at}
+use Rattle.bq_schedule.specs.Figures.{Figures, opening_figures, processor_in_figures, task_in_figures, figures_with_processor, figures_with_task}
+use Rattle.bq_schedule.specs.Passing.{reading_at, slice_at, ended_run, figures_read}
+use Rattle.bq_schedule.specs.Runnable.{figures_left, comes}
+use Rattle.bq_schedule.specs.Running.{figures_switched, stop_at, start_at}
 
 -- nothing is reported
 abbrev pub nothing : Change
@@ -57,61 +57,61 @@ processor_asked p d Preempt = record p { preempt = hook_asked p.preempt d }
 processor_asked p d OnPull = record p { pull = hook_asked p.pull d }
 
 -- the figures after a decision of a processor's hook
-abbrev pub asked : ℕ → Decision → Figures → Figures
-asked processor d s = with_processor s processor (processor_asked (processor_of s processor) d d.hook)
+abbrev pub figures_asked : ℕ → Decision → Figures → Figures
+figures_asked processor d s = figures_with_processor s processor (processor_asked (processor_in_figures s processor) d d.hook)
 
 -- the weight of a nice value; 0 if the value is outside the table
-abbrev pub weight_at : ℤ → ℕ
-weight_at nice = if is_nice nice then weight_of nice else 0
+abbrev pub weight_or_zero : ℤ → ℕ
+weight_or_zero nice = if is_nice nice then weight_of nice else 0
 
 -- an id is admitted, with its nice value
-abbrev pub admitted : ℕ → ℤ → Figures → Figures
-admitted id nice s = with_task s id (record (task_of s id) { is_admitted = true; nice = nice; weight = weight_at nice })
+abbrev pub figures_admitted : ℕ → ℤ → Figures → Figures
+figures_admitted id nice s = figures_with_task s id (record (task_in_figures s id) { is_admitted = true; nice = nice; weight = weight_or_zero nice })
 
 -- the wake of a placed task ended at this moment
-abbrev pub woken : ℕ → ℕ → ℕ → Figures → Figures
-woken id processor now s =
-    let t = task_of s id in
-    with_task s id (record t { wakes = saturating_sum t.wakes 1; woken = Some now; drains = Some (processor_of s processor).drains })
+abbrev pub figures_woken : ℕ → ℕ → ℕ → Figures → Figures
+figures_woken id processor now s =
+    let t = task_in_figures s id in
+    figures_with_task s id (record t { wakes = saturating_sum t.wakes 1; woken = Some now; drains = Some (processor_in_figures s processor).drains })
 
 -- the figures after a task's wait was counted where it was
 abbrev pub waited_there : ℕ → ℕ → Figures → Figures
 waited_there id now s =
-    let t = task_of s id in
-    with_task s id (record t { waited = saturating_sum t.waited (now - t.since) })
+    let t = task_in_figures s id in
+    figures_with_task s id (record t { waited = saturating_sum t.waited (now - t.since) })
 
 -- the figures after a processor drained its inbox
 abbrev pub emptied : ℕ → Figures → Figures
-emptied processor s = let p = processor_of s processor in with_processor s processor (record p { drains = saturating_sum p.drains 1 })
+emptied processor s = let p = processor_in_figures s processor in figures_with_processor s processor (record p { drains = saturating_sum p.drains 1 })
 
 -- the figures after a task was pulled, if one was
-abbrev pub taken : ℕ → ℕ → Option ℕ → Figures → Figures
-taken processor now None s = s
-taken processor now (Some id) s = comes id processor now (waited_there id now s)
+abbrev pub figures_taken : ℕ → ℕ → Option ℕ → Figures → Figures
+figures_taken processor now None s = s
+figures_taken processor now (Some id) s = comes id processor now (waited_there id now s)
 
 -- what is reported of a task that is pulled
-abbrev pub move_of : ℕ → ℕ → ℕ → ℕ → Figures → PulledTask
-move_of from to at id s = record { task = id; from = from; to = to; at = at; waited = at - (task_of s id).since }
+abbrev pub pulled_report : ℕ → ℕ → ℕ → ℕ → Figures → PulledTask
+pulled_report from to at id s = record { task = id; from = from; to = to; at = at; waited = at - (task_in_figures s id).since }
 
 -- what is reported of the task that is pulled, if one is
 abbrev pub moves_as : ℕ → ℕ → ℕ → Option ℕ → Figures → Option PulledTask
-moves_as from to at task s = option_map (λ (id : ℕ). move_of from to at id s) task
+moves_as from to at task s = option_map (λ (id : ℕ). pulled_report from to at id s) task
 
 -- the reading of the clock, as it counts
 abbrev pub time_at : ℕ → ℕ → Figures → ℕ
-time_at processor now s = reading (processor_of s processor).last now
+time_at processor now s = reading (processor_in_figures s processor).last now
 
 -- what is reported of only a reading
 abbrev pub report_of_reading : ℕ → ℕ → Figures → Change
 report_of_reading processor now s =
-    let p = processor_of s processor in
+    let p = processor_in_figures s processor in
     record nothing { reading = Some (reading_at processor p now); slice = slice_at processor p now; run = ended_run p.run (slice_at processor p now) }
 
 -- the figures after a wake ended and its task was placed
 abbrev pub placed : ℕ → ℕ → Decision → ℕ → ℕ → Figures → Figures
 placed processor now d id to s =
     let at = time_at processor now s in
-    woken id to at (comes id to at (asked processor d (read_at processor now s)))
+    figures_woken id to at (comes id to at (figures_asked processor d (figures_read processor now s)))
 
 -- what is reported of a wake that ended
 abbrev pub report_of_placement : ℕ → ℕ → Decision → ℕ → ℕ → Figures → Change
@@ -119,39 +119,39 @@ report_of_placement processor now d id to s =
     record (report_of_reading processor now s) { decision = Some d; wake = Some (record { task = id; from = processor; to = to; at = time_at processor now s }) }
 
 -- the figures after the hook `preempt` decided, and this task runs
-abbrev pub decided : ℕ → ℕ → Decision → Option ℕ → Figures → Figures
-decided processor now d run s = switched Preempted processor (time_at processor now s) run (asked processor d (read_at processor now s))
+abbrev pub figures_decided : ℕ → ℕ → Decision → Option ℕ → Figures → Figures
+figures_decided processor now d run s = figures_switched Preempted processor (time_at processor now s) run (figures_asked processor d (figures_read processor now s))
 
 -- what is reported of a decision of the hook `preempt`
 abbrev pub report_of_decision : ℕ → ℕ → Decision → Option ℕ → Figures → Change
 report_of_decision processor now d run s =
-    let s' = asked processor d (read_at processor now s) in
+    let s' = figures_asked processor d (figures_read processor now s) in
     let at = time_at processor now s in
     record (report_of_reading processor now s) { decision = Some d; stop = stop_at Preempted processor at run s'; start = start_at Preempted processor at run s' }
 
 -- the figures after the running task went to sleep, and this one runs
 abbrev pub blocked : ℕ → ℕ → ℕ → Option ℕ → Figures → Figures
-blocked processor now id run s = switched Blocked processor (time_at processor now s) run (leaves id (read_at processor now s))
+blocked processor now id run s = figures_switched Blocked processor (time_at processor now s) run (figures_left id (figures_read processor now s))
 
 -- what is reported of a task that went to sleep
 abbrev pub report_of_block : ℕ → ℕ → ℕ → Option ℕ → Figures → Change
 report_of_block processor now id run s =
-    let s' = leaves id (read_at processor now s) in
+    let s' = figures_left id (figures_read processor now s) in
     let at = time_at processor now s in
     record (report_of_reading processor now s) { stop = stop_at Blocked processor at run s'; start = start_at Blocked processor at run s' }
 
 -- the figures after a task was pulled, if one was, and this one runs
-abbrev pub pulled : ℕ → ℕ → Decision → Option ℕ → Option ℕ → Figures → Figures
-pulled processor now d task run s =
+abbrev pub figures_pulled : ℕ → ℕ → Decision → Option ℕ → Option ℕ → Figures → Figures
+figures_pulled processor now d task run s =
     let at = time_at processor now s in
-    switched Preempted processor at run (taken processor at task (asked processor d (read_at processor now s)))
+    figures_switched Preempted processor at run (figures_taken processor at task (figures_asked processor d (figures_read processor now s)))
 
 -- what is reported of a pull
 abbrev pub report_of_pull : ℕ → ℕ → ℕ → Decision → Option ℕ → Option ℕ → Figures → Change
 report_of_pull processor from now d task run s =
     let at = time_at processor now s in
-    let s1 = asked processor d (read_at processor now s) in
-    let s2 = taken processor at task s1 in
+    let s1 = figures_asked processor d (figures_read processor now s) in
+    let s2 = figures_taken processor at task s1 in
     record (report_of_reading processor now s) {
       decision = Some d;
       pull = moves_as from processor at task s1;
@@ -161,12 +161,12 @@ report_of_pull processor from now d task run s =
 
 -- What an answer changes in the figures. An answer that is not of its event's kind changes nothing
 abbrev pub performed : Figures → Event → Reply → Figures
-performed s (Admit id nice mask slice) Admitted = admitted id nice (leaves id s)
+performed s (Admit id nice mask slice) Admitted = figures_admitted id nice (figures_left id s)
 performed s (EndWake processor now) (Placed task to by steps) = placed processor now (record { hook = Place; by = by; steps = steps }) task to s
-performed s (Drain processor now) (Drained count run by steps) = emptied processor (decided processor now (record { hook = Preempt; by = by; steps = steps }) run s)
-performed s (Tick processor now) (Ticked run by steps) = decided processor now (record { hook = Preempt; by = by; steps = steps }) run s
+performed s (Drain processor now) (Drained count run by steps) = emptied processor (figures_decided processor now (record { hook = Preempt; by = by; steps = steps }) run s)
+performed s (Tick processor now) (Ticked run by steps) = figures_decided processor now (record { hook = Preempt; by = by; steps = steps }) run s
 performed s (Block processor now) (Went task run) = blocked processor now task run s
-performed s (Pull processor from now) (Pulled task run by steps) = pulled processor now (record { hook = OnPull; by = by; steps = steps }) task run s
+performed s (Pull processor from now) (Pulled task run by steps) = figures_pulled processor now (record { hook = OnPull; by = by; steps = steps }) task run s
 performed s e r = s
 
 -- what is reported of an answer
@@ -188,9 +188,9 @@ is_there s (Pull processor from now) = nat_lt processor (length s.processors)
 is_there s e = true
 
 -- the figures after an event and its answer. A refused event is counted, and changes nothing else
-abbrev pub after : Figures → Event → Result Reply Refusal → Figures
-after s e (Ok r) = if is_there s e then performed s e r else s
-after s e (Err r) = record s { refused = saturating_sum s.refused 1 }
+abbrev pub figures_after : Figures → Event → Result Reply Refusal → Figures
+figures_after s e (Ok r) = if is_there s e then performed s e r else s
+figures_after s e (Err r) = record s { refused = saturating_sum s.refused 1 }
 
 -- what is reported of an event and its answer
 abbrev pub change : Figures → Event → Result Reply Refusal → Change
@@ -199,5 +199,5 @@ change s e (Err r) = nothing
 
 -- the figures that a history leaves
 abbrev pub figures : ℕ → History → Figures
-figures count [] = opening count
-figures count (m ∷ past) = after (figures count past) m.event m.answer
+figures count [] = opening_figures count
+figures count (m ∷ past) = figures_after (figures count past) m.event m.answer

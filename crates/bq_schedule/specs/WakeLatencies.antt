@@ -16,8 +16,8 @@ abbrev pub latencies_of : Tasks → ℕ → List ℕ
 latencies_of tasks task = unwrap_or (lookup (is_at (nat_cmp task)) tasks) []
 
 -- each task has the same latencies as before
-abbrev pub IsSame : Tasks → Tasks → Type 0
-IsSame old new = (task : ℕ) → latencies_of new task ≡ latencies_of old task
+abbrev pub HaveSameLatencies : Tasks → Tasks → Type 0
+HaveSameLatencies old new = (task : ℕ) → latencies_of new task ≡ latencies_of old task
 
 -- a task has one more latency at the end, and every other task has the same as before
 pub record HasOneMore (task latency : ℕ) (old new : Tasks) : Type 0 where
@@ -26,12 +26,12 @@ pub record HasOneMore (task latency : ℕ) (old new : Tasks) : Type 0 where
 
 -- the latency of a task's start is taken, if it has one
 abbrev pub TakesLatency : ℕ → Option ℕ → Tasks → Tasks → Type 0
-TakesLatency task None old new = IsSame old new
+TakesLatency task None old new = HaveSameLatencies old new
 TakesLatency task (Some latency) old new = HasOneMore task latency old new
 
 -- the latency of a start is taken, if there is a start and it has one
 abbrev pub TakesStart : Option Start → Tasks → Tasks → Type 0
-TakesStart None old new = IsSame old new
+TakesStart None old new = HaveSameLatencies old new
 TakesStart (Some start) old new = TakesLatency start.task start.latency old new
 
 -- the 50th, the 95th and the 99th percentile of some sorted numbers, by nearest rank, and the greatest number, which is the last

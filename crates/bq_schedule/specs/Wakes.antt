@@ -15,9 +15,9 @@ begins_as id who None = false
 begins_as id who (Some run) = is_this id run && not (is_this id who)
 
 -- the task starts running with what an answer shows
-abbrev pub begins : ℕ → History → Option Sight → Bool
-begins id past None = false
-begins id past (Some s) = begins_as id (runner s.processor past) s.run
+abbrev pub begins_run : ℕ → History → Option Sight → Bool
+begins_run id past None = false
+begins_run id past (Some s) = begins_as id (runner s.processor past) s.run
 
 -- when a wake of the task ends, by the clock of the processor that wakes it
 abbrev pub wake_end : ℕ → History → Event → Result Reply Refusal → Option ℕ
@@ -33,4 +33,4 @@ awaited_after None has_begun before = if has_begun then None else before
 abbrev pub awaited : ℕ → History → Option ℕ
 awaited id [] = None
 awaited id (m ∷ past) =
-    awaited_after (wake_end id past m.event m.answer) (begins id past (sight_of m.event m.answer)) (awaited id past)
+    awaited_after (wake_end id past m.event m.answer) (begins_run id past (sight_of m.event m.answer)) (awaited id past)

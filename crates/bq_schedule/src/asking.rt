@@ -1,7 +1,7 @@
 //! How often each hook's policies were asked, and what became of their answers.
 ghost use Rattle.std.specs.Prelude.{◌≡◌, if◌then◌else◌};
 ghost use Rattle.bq_disc.specs.Counts.{saturating_sum};
-ghost use Rattle.bq_schedule.specs.Steps.{hook_asked, processor_asked, asked};
+ghost use Rattle.bq_schedule.specs.Steps.{hook_asked, processor_asked, figures_asked};
 
 use crate::change::Decision;
 use crate::figures::{HookFigures, ProcessorFigures};
@@ -11,7 +11,7 @@ use bq_hooks::Hook;
 impl Schedule {
     /// Counts a decision of a processor's hook.
     pub(crate) fn ask(&mut self, processor: u8, decision: &Decision)
-        ensures { self.new ≡ asked processor decision.now self.old }
+        ensures { self.new ≡ figures_asked processor decision.now self.old }
     {
         if let Some(figures) = self.processors.get_mut(usize::from(processor)) {
             figures.ask(decision);

@@ -161,11 +161,11 @@ pub struct HookFigures {
 }
 
 impl HookFigures {
-    ghost use Rattle.bq_schedule.specs.Figures.{unasked};
+    ghost use Rattle.bq_schedule.specs.Figures.{unasked_hook};
 
     /// The figures of a hook before anything is decided there.
     pub fn new() -> HookFigures
-        ensures { result ≡ unasked }
+        ensures { result ≡ unasked_hook }
     {
         HookFigures {
             asked: 0,

@@ -1,6 +1,6 @@
 //! A clock is read: the running task is charged, and its time is shared out among the tasks that are runnable there.
 ghost use Rattle.std.specs.Prelude.{◌≡◌, ◌<◌, length};
-ghost use Rattle.bq_schedule.specs.Passing.{reading_at, slice_between, length_of, joined_run, ended_run, passed, task_charged, with_charged, read_at, goes_on};
+ghost use Rattle.bq_schedule.specs.Passing.{reading_at, slice_between, slice_length, joined_run, ended_run, passed, task_charged, with_charged, figures_read, continues_run};
 ghost use Rattle.bq_schedule.specs.Steps.{report_of_reading};
 
 use crate::change::{Change, ClockReading, Start};
@@ -13,7 +13,7 @@ impl Schedule {
     /// The clock of a processor is read.
     pub(crate) fn read(&mut self, processor: u8, now: u64) -> Change
         requires { processor < length self.old.processors }
-        ensures figures { self.new ≡ read_at processor now self.old }
+        ensures figures { self.new ≡ figures_read processor now self.old }
         ensures change { result ≡ report_of_reading processor now self.old }
     {
         let figures = &mut self.processors[usize::from(processor)];
@@ -46,14 +46,14 @@ impl Schedule {
 impl Slice {
     /// How long the slice is, in nanoseconds.
     pub fn length(&self) -> u64
-        ensures { result ≡ length_of (Some self.now) }
+        ensures { result ≡ slice_length (Some self.now) }
     {
         self.to.saturating_sub(self.from)
     }
 
     /// Whether `next` continues this slice: it is of the same task, and begins where this one ends.
     fn goes_on(&self, next: &Slice) -> bool
-        ensures { result ≡ goes_on self.now next.now }
+        ensures { result ≡ continues_run self.now next.now }
     {
         self.task == next.task && self.to == next.from
     }
@@ -117,7 +117,7 @@ fn slice_between(processor: u8, from: u64, to: u64, running: Option<Start>) -> O
 
 /// How long a slice is, in nanoseconds; 0 if there is no slice.
 fn length_of(slice: Option<Slice>) -> u64
-    ensures { result ≡ length_of slice }
+    ensures { result ≡ slice_length slice }
 {
     match slice {
         Some(slice) => slice.length(),

@@ -1,7 +1,7 @@
 //! The latencies of tasks, from wake to run.
 ghost use Rattle.std.specs.Prelude.{◌≡◌, ℕ, [], OnOk, OnErr, IsPermutation, IsSorted};
 ghost use Rattle.std.specs.Ordering.{nat_cmp};
-ghost use Rattle.bq_schedule.specs.WakeLatencies.{latencies_of, percentiles_of, IsSame, TakesStart};
+ghost use Rattle.bq_schedule.specs.WakeLatencies.{latencies_of, percentiles_of, HaveSameLatencies, TakesStart};
 
 use crate::change::Change;
 use crate::latencies::Latencies;
@@ -48,7 +48,7 @@ impl WakeLatencies {
     /// Takes the latency of the start in a change, if there is one. If memory runs out, nothing changes.
     pub fn take(&mut self, change: &Change) -> Result<(), AllocError>
         ensures ok { OnOk result (TakesStart change.now.start self.old self.new) }
-        ensures err { OnErr result (IsSame self.old self.new) }
+        ensures err { OnErr result (HaveSameLatencies self.old self.new) }
     {
         let Some(start) = change.start else {
             return Ok(());

@@ -1,8 +1,8 @@
 //! What each answer changes.
 ghost use Rattle.std.specs.Prelude.{◌≡◌, ◌-◌, ◌<◌, length, true};
-ghost use Rattle.bq_schedule.specs.Steps.{weight_at, admitted, woken, emptied, taken, waited_there, moves_as, placed, report_of_placement, decided, report_of_decision, blocked, report_of_block, pulled, report_of_pull, performed, report_of_answer, is_there};
-ghost use Rattle.bq_schedule.specs.Figures.{task_of};
-ghost use Rattle.bq_schedule.specs.Runnable.{leaves};
+ghost use Rattle.bq_schedule.specs.Steps.{weight_or_zero, figures_admitted, figures_woken, emptied, figures_taken, waited_there, moves_as, placed, report_of_placement, figures_decided, report_of_decision, blocked, report_of_block, figures_pulled, report_of_pull, performed, report_of_answer, is_there};
+ghost use Rattle.bq_schedule.specs.Figures.{task_in_figures};
+ghost use Rattle.bq_schedule.specs.Runnable.{figures_left};
 
 use crate::change::{Change, Decision, Left, PulledTask, Wake};
 use crate::schedule::Schedule;
@@ -92,7 +92,7 @@ impl Schedule {
 
     /// An id is admitted. If it was runnable, it no longer is.
     fn admit(&mut self, id: u16, nice: i8)
-        ensures { self.new ≡ admitted id nice (leaves id self.old) }
+        ensures { self.new ≡ figures_admitted id nice (figures_left id self.old) }
     {
         self.leave(id);
         let mut task = self.task(id);
@@ -128,7 +128,7 @@ impl Schedule {
     /// All placed tasks entered, and the hook `preempt` decided.
     fn drain(&mut self, processor: u8, now: u64, decision: Decision, run: Option<u16>) -> Change
         requires { processor < length self.old.processors }
-        ensures figures { self.new ≡ emptied processor (decided processor now decision run self.old) }
+        ensures figures { self.new ≡ emptied processor (figures_decided processor now decision run self.old) }
         ensures change { result ≡ report_of_decision processor now decision run self.old }
     {
         let change = self.decide(processor, now, decision, run);
@@ -141,7 +141,7 @@ impl Schedule {
     /// The hook `preempt` decided, and `run` runs now.
     fn decide(&mut self, processor: u8, now: u64, decision: Decision, run: Option<u16>) -> Change
         requires { processor < length self.old.processors }
-        ensures figures { self.new ≡ decided processor now decision run self.old }
+        ensures figures { self.new ≡ figures_decided processor now decision run self.old }
         ensures change { result ≡ report_of_decision processor now decision run self.old }
     {
         let read = self.read(processor, now);
@@ -184,7 +184,7 @@ impl Schedule {
         run: Option<u16>,
     ) -> Change
         requires { processor < length self.old.processors }
-        ensures figures { self.new ≡ pulled processor now decision task run self.old }
+        ensures figures { self.new ≡ figures_pulled processor now decision task run self.old }
         ensures change { result ≡ report_of_pull processor from now decision task run self.old }
     {
         let read = self.read(processor, now);
@@ -203,7 +203,7 @@ impl Schedule {
 
     /// If a task is pulled, its wait so far is counted, and it waits again at its new processor.
     fn take_over(&mut self, task: Option<u16>, from: u8, to: u8, at: u64) -> Option<PulledTask>
-        ensures figures { self.new ≡ taken to at task self.old }
+        ensures figures { self.new ≡ figures_taken to at task self.old }
         ensures reported { result ≡ moves_as from to at task self.old }
     {
         let id = task?;
@@ -221,7 +221,7 @@ impl Schedule {
     /// Counts how long a task has waited where it is.
     fn count_wait(&mut self, id: u16, now: u64) -> u64
         ensures figures { self.new ≡ waited_there id now self.old }
-        ensures waited { result ≡ now - (task_of self.old id).since }
+        ensures waited { result ≡ now - (task_in_figures self.old id).since }
     {
         let mut task = self.task(id);
         let waited = now.saturating_sub(task.since);
@@ -232,7 +232,7 @@ impl Schedule {
 
     /// The wake of a placed task ended now.
     fn wake(&mut self, id: u16, processor: u8, now: u64)
-        ensures { self.new ≡ woken id processor now self.old }
+        ensures { self.new ≡ figures_woken id processor now self.old }
     {
         let drains = self.processor(processor).drains;
         let mut task = self.task(id);
@@ -245,7 +245,7 @@ impl Schedule {
 
 /// The weight of a nice value; 0 if the value is outside the table.
 fn weight_at(nice: i8) -> u32
-    ensures { result ≡ weight_at nice }
+    ensures { result ≡ weight_or_zero nice }
 {
     if is_nice(i64::from(nice)) {
         weight(nice)

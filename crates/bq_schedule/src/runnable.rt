@@ -1,6 +1,6 @@
 //! Where tasks are runnable: a task comes to a processor, and leaves it.
 ghost use Rattle.std.specs.Prelude.{◌≡◌};
-ghost use Rattle.bq_schedule.specs.Runnable.{pending, fair_at, processor_left, processor_joined, leaves, joins, comes};
+ghost use Rattle.bq_schedule.specs.Runnable.{pending, fair_at, processor_left, processor_joined, figures_left, joins, comes};
 
 use crate::figures::{ProcessorFigures, TaskFigures};
 use crate::schedule::Schedule;
@@ -20,7 +20,7 @@ impl Schedule {
 
     /// A task is no longer runnable, if it was.
     pub(crate) fn leave(&mut self, id: u16)
-        ensures { self.new ≡ leaves id self.old }
+        ensures { self.new ≡ figures_left id self.old }
     {
         let mut task = self.task(id);
         let Some(processor) = task.place else {

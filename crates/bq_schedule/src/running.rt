@@ -1,7 +1,7 @@
 //! Who runs at a processor.
 ghost use Rattle.std.specs.Prelude.{◌≡◌};
-ghost use Rattle.bq_schedule.specs.Figures.{task_of};
-ghost use Rattle.bq_schedule.specs.Running.{is_run_by, start_of, starts_as, begun, processor_runs, with_latency, task_started, task_preempted, stopped, started, switched, stop_of, stop_at, start_at};
+ghost use Rattle.bq_schedule.specs.Figures.{task_in_figures};
+ghost use Rattle.bq_schedule.specs.Running.{is_run_by, start_of, starts_as, figures_begun, processor_runs, with_latency, task_started, task_preempted, stopped, started, figures_switched, stop_of, stop_at, start_at};
 
 use crate::asking::count_if;
 use crate::change::{Left, Start, Stop};
@@ -17,7 +17,7 @@ impl Schedule {
         now: u64,
         run: Option<u16>,
     ) -> (Option<Stop>, Option<Start>)
-        ensures figures { self.new ≡ switched left processor now run self.old }
+        ensures figures { self.new ≡ figures_switched left processor now run self.old }
         ensures stop { result.0 ≡ stop_at left processor now run self.old }
         ensures start { result.1 ≡ start_at left processor now run self.old }
     {
@@ -66,8 +66,8 @@ impl Schedule {
 
     /// A task starts running.
     fn begin(&mut self, processor: u8, now: u64, id: u16) -> Start
-        ensures figures { self.new ≡ begun processor now id self.old }
-        ensures start { result ≡ start_of processor id now (task_of self.old id) }
+        ensures figures { self.new ≡ figures_begun processor now id self.old }
+        ensures start { result ≡ start_of processor id now (task_in_figures self.old id) }
     {
         let mut task = self.task(id);
         let start = task.starting(processor, now, id);

@@ -1,8 +1,8 @@
 //! A schedule, from answers only.
 ghost use Rattle.std.specs.Prelude.{◌≡◌, IfOk, length};
-ghost use Rattle.bq_schedule.specs.Figures.{opening, processor_of, task_of, with_processor, with_task};
+ghost use Rattle.bq_schedule.specs.Figures.{opening_figures, processor_in_figures, task_in_figures, figures_with_processor, figures_with_task};
 ghost use Rattle.bq_schedule.specs.Runnable.{fair_of, undrained};
-ghost use Rattle.bq_schedule.specs.Steps.{after, change, is_there};
+ghost use Rattle.bq_schedule.specs.Steps.{figures_after, change, is_there};
 
 use crate::change::Change;
 use crate::figures::{ProcessorFigures, TaskFigures};
@@ -36,7 +36,7 @@ impl Model for Schedule {
 impl Schedule {
     /// The schedule of this many processors before the first event. Takes all the memory that it ever needs.
     pub fn new(alloc: Global, processors: u8) -> Result<Schedule, AllocError>
-        ensures { IfOk result (λ s. s ≡ opening processors) }
+        ensures { IfOk result (λ s. s ≡ opening_figures processors) }
     {
         let mut figures = Vec::with_capacity(alloc, usize::from(processors))?;
         'processors: for _ in 0..processors {
@@ -56,7 +56,7 @@ impl Schedule {
     /// Takes an event and its answer, and reports what they changed. A refused event is counted, and changes nothing else. An event
     /// also changes nothing if its answer is not of its kind, or if it names a processor that does not exist.
     pub fn take(&mut self, event: &Event, answer: &Result<Reply, Refusal>) -> Change
-        ensures figures { self.new ≡ after self.old event.now answer.now }
+        ensures figures { self.new ≡ figures_after self.old event.now answer.now }
         ensures change { result ≡ change self.old event.now answer.now }
     {
         match answer {
@@ -71,7 +71,7 @@ impl Schedule {
 
     /// The figures of a processor. If the processor does not exist: the figures of one where nothing happened.
     pub fn processor(&self, number: u8) -> ProcessorFigures
-        ensures { result ≡ processor_of self.now number }
+        ensures { result ≡ processor_in_figures self.now number }
     {
         match self.processors.get(usize::from(number)) {
             Some(figures) => *figures,
@@ -81,7 +81,7 @@ impl Schedule {
 
     /// The figures of a task. If the id was never admitted: the figures of one to which nothing happened.
     pub fn task(&self, id: u16) -> TaskFigures
-        ensures { result ≡ task_of self.now id }
+        ensures { result ≡ task_in_figures self.now id }
     {
         match self.tasks.get(usize::from(id)) {
             Some(figures) => *figures,
@@ -147,7 +147,7 @@ impl Schedule {
 
     /// Replaces the figures of a processor, if the processor exists.
     pub(crate) fn set_processor(&mut self, number: u8, figures: ProcessorFigures)
-        ensures { self.new ≡ with_processor self.old number figures }
+        ensures { self.new ≡ figures_with_processor self.old number figures }
     {
         if let Some(place) = self.processors.get_mut(usize::from(number)) {
             *place = figures;
@@ -156,7 +156,7 @@ impl Schedule {
 
     /// Replaces the figures of a task, if its id is below 1024.
     pub(crate) fn set_task(&mut self, id: u16, figures: TaskFigures)
-        ensures { self.new ≡ with_task self.old id figures }
+        ensures { self.new ≡ figures_with_task self.old id figures }
     {
         if let Some(place) = self.tasks.get_mut(usize::from(id)) {
             *place = figures;

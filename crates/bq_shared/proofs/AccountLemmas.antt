@@ -8,7 +8,7 @@ use Rattle.bq_history.specs.History.{SharesOutAmong, EachOnce}
 use Rattle.bq_history.proofs.CallerLemmas.{callers_total}
 use Rattle.bq_history.proofs.SharingLemmas.{receipts_from}
 use Rattle.bq_shared.specs.declared.account.Account.{Account}
-use Rattle.bq_shared.specs.Sums.{AreSumsOf, joined_accounts, calling}
+use Rattle.bq_shared.specs.Sums.{AreSumsOf, joined_accounts, account_called}
 use Rattle.bq_shared.proofs.KeepingLemmas.{sum-append}
 use Rattle.bq_shared.specs.Calls.{account_of, account_by, ahead, calls_by, calls_in, calls_of}
 
@@ -24,7 +24,7 @@ mapped_more f v p ys x y e same =
 
 -- what a board went through is in its account
 pub through_calling : {B : Type 0} (account : B → Account) (b : B) (made : List CounterCall) (d : B)
-    → Through (λ (old : B) (c : CounterCall) (new : B). account new ≡ calling (account old) c) b made d
+    → Through (λ (old : B) (c : CounterCall) (new : B). account new ≡ account_called (account old) c) b made d
     → account d ≡ record { seats = (account b).seats; calls = (account b).calls ++ made }
 through_calling account b [] d same =
     ap account same
@@ -43,7 +43,7 @@ module _ {R : Type 0} (calls : R → List CounterCall) where
   -- after a run on a desk the account is ahead by the calls of the run
   pub goes_ahead : {B : Type 0} (account : B → Account) (b d : B) (xs : List (Receipt R)) (made : List CounterCall)
       → account b ≡ account_of calls xs
-      → Through (λ (old : B) (c : CounterCall) (new : B). account new ≡ calling (account old) c) b made d
+      → Through (λ (old : B) (c : CounterCall) (new : B). account new ≡ account_called (account old) c) b made d
       → account d ≡ ahead calls xs made
   goes_ahead account b d xs made e t =
       through_calling account b made d t

@@ -29,7 +29,7 @@ use Rattle.bq_core.proofs.StepLemmas.{in_range_not_refused}
 use Rattle.bq_core.proofs.MoveLemmas.{tally-after_leaving}
 use Rattle.bq_core.proofs.ShareStepLemmas.{admits_step, retires_step, ticks_step, drains_step, blocks_step, begins_step, places_step, installs_step}
 use Rattle.bq_shared.specs.declared.law.JournalState.{JournalState}
-use Rattle.bq_shared.specs.Parts.{cpu_part, inbox_part, lobby_part, kept_of, one_less, one_more, kept_by_block}
+use Rattle.bq_shared.specs.Parts.{cpu_part, inbox_part, lobby_part, journal_state_of, one_less, with_one_more, kept_by_block}
 use Rattle.bq_shared.proofs.ReachedLemmas.{IsSound}
 use Rattle.bq_shared.proofs.WantLemmas.{admits_named, retires_named, blocks_named, begins_named, installs_named}
 use Rattle.bq_shared.proofs.LoadLemmas.{loads_set, loads_same, loads_moved, load_kept, loads_box}
@@ -67,9 +67,9 @@ begin_size id loads p l (Err e) q m b = ap size_of b.1
 
 -- a task has left the processor
 pub kept_less : (w : World) (c : ℕ) (p q : Processor) (k : JournalState)
-    → length w.inboxes ≡ length w.processors → kept_of w ≡ k → c < count_in w → processor_at w c ≡ p
+    → length w.inboxes ≡ length w.processors → journal_state_of w ≡ k → c < count_in w → processor_at w c ≡ p
     → size_of q + 1 ≡ size_of p
-    → kept_of (with_processor w c q) ≡ one_less c k
+    → journal_state_of (with_processor w c q) ≡ one_less c k
 kept_less w c p q k even kw there at e =
     let was : get_or (loads_of w.processors w.inboxes) c 0 ≡ load_of p (inbox w c) =
     load_kept w.processors w.inboxes c even there ∙ ap (λ (x : Processor). load_of x (inbox w c)) at in
@@ -80,21 +80,21 @@ kept_less w c p q k even kw there at e =
 
 -- a task has come to the processor
 pub kept_more : (w : World) (c : ℕ) (p q : Processor) (k : JournalState)
-    → length w.inboxes ≡ length w.processors → kept_of w ≡ k → c < count_in w → processor_at w c ≡ p
+    → length w.inboxes ≡ length w.processors → journal_state_of w ≡ k → c < count_in w → processor_at w c ≡ p
     → size_of q ≡ size_of p + 1 → load_of p (inbox w c) ≤ 1024
-    → kept_of (with_processor w c q) ≡ one_more c k
+    → journal_state_of (with_processor w c q) ≡ with_one_more c k
 kept_more w c p q k even kw there at e few =
     let was : get_or (loads_of w.processors w.inboxes) c 0 ≡ load_of p (inbox w c) =
     load_kept w.processors w.inboxes c even there ∙ ap (λ (x : Processor). load_of x (inbox w c)) at in
     let is : load_of q (inbox w c) ≡ min (get_or (loads_of w.processors w.inboxes) c 0 + 1) (2 ^ 16 - 1) = rw was (omega (arith, e, few)) in
     ap (λ (ls : List ℕ). record { drawn = w.drawn; loads = ls })
     (loads_set w.processors w.inboxes c q even ∙ ap (λ (x : ℕ). set (loads_of w.processors w.inboxes) c x) is)
-    ∙ ap (one_more c) kw
+    ∙ ap (with_one_more c) kw
 
 module _ (d : Discipline) (n : ℕ) where
   -- a processor of the same size
   pub kept_same : (w : World) (c : ℕ) (p q : Processor) (k : JournalState)
-      → kept_of w ≡ k → processor_at w c ≡ p → size_of q ≡ size_of p → kept_of (with_processor w c q) ≡ k
+      → journal_state_of w ≡ k → processor_at w c ≡ p → size_of q ≡ size_of p → journal_state_of (with_processor w c q) ≡ k
   kept_same w c p q k kw at e =
       ap (λ (ls : List ℕ). record { drawn = w.drawn; loads = ls }) (loads_same w.processors w.inboxes c q (e ∙ sym (ap size_of at))) ∙ kw
 
@@ -169,8 +169,8 @@ module _ (d : Discipline) (n : ℕ) where
       )
 
   block_kept : (w : World) (c now : ℕ) (p q : Processor) (l m : List LobbyEntry) (k : JournalState) (r : Result Reply Refusal)
-      → IsSound n w → kept_of w ≡ k → c < count_in w → processor_at w c ≡ p → Blocks d c now p l r q m
-      → kept_of (with_processor w c q) ≡ kept_by_block c r k
+      → IsSound n w → journal_state_of w ≡ k → c < count_in w → processor_at w c ≡ p → Blocks d c now p l r q m
+      → journal_state_of (with_processor w c q) ≡ kept_by_block c r k
   block_kept w c now p q l m k (Err e) s kw there at b = kept_same w c p q k kw at (ap size_of b.2)
   block_kept w c now p q l m k (Ok r) s kw there at b =
       kept_less w c p q k (s.boxes ∙ sym s.many) kw there at (block_load c now p q l m r b)
@@ -212,10 +212,10 @@ module _ (d : Discipline) (n : ℕ) where
       (k : JournalState) (x : Placement)
       → task ≡ x.task.id → Places (by_programs d) n c now p calls (Some x) q
       → MayCommitHere d n k (cpu_part c p ∷ inbox_part x.to xs ∷ [])
-      (record { event = EndWake c now; reply = Ok (Placed task x.to x.by x.steps); calls = calls }) (one_more x.to k)
+      (record { event = EndWake c now; reply = Ok (Placed task x.to x.by x.steps); calls = calls }) (with_one_more x.to k)
       (cpu_part c q ∷ inbox_part x.to (xs ++ x.task ∷ []) ∷ [])
   place_moves c now task p q xs calls k x own b =
-      moves_cpu_inbox d n c x.to p q xs (xs ++ x.task ∷ []) k (one_more x.to k)
+      moves_cpu_inbox d n c x.to p q xs (xs ++ x.task ∷ []) k (with_one_more x.to k)
       (record { event = EndWake c now; reply = Ok (Placed task x.to x.by x.steps); calls = calls }) (λ w s kw l at m box.
       let step : WorldStep (by_programs d) w (EndWake c now) calls (Ok (Placed task x.to x.by x.steps))
       (with_inbox (with_processor w c q) x.to (xs ++ x.task ∷ [])) =
@@ -224,9 +224,9 @@ module _ (d : Discipline) (n : ℕ) where
     where
       place_kept : (w : World) (c now : ℕ) (p q : Processor) (xs : List Task) (calls : List CounterCall)
           (k : JournalState) (x : Placement)
-          → IsSound n w → kept_of w ≡ k → processor_at w c ≡ p → x.to < length w.inboxes → inbox w x.to ≡ xs
+          → IsSound n w → journal_state_of w ≡ k → processor_at w c ≡ p → x.to < length w.inboxes → inbox w x.to ≡ xs
           → Places (by_programs d) n c now p calls (Some x) q
-          → kept_of (with_inbox (with_processor w c q) x.to (xs ++ x.task ∷ [])) ≡ one_more x.to k
+          → journal_state_of (with_inbox (with_processor w c q) x.to (xs ++ x.task ∷ [])) ≡ with_one_more x.to k
       place_kept w c now p q xs calls k x s kw at m box b =
           let even : length w.inboxes ≡ length w.processors = s.boxes ∙ sym s.many in
           let ys : List Task = xs ++ x.task ∷ [] in
@@ -239,7 +239,7 @@ module _ (d : Discipline) (n : ℕ) where
           rw (was, box) (omega (arith, length-append xs (x.task ∷ []), few, ap (λ (z : List Task). length z) box)) in
           ap (λ (ls : List ℕ). record { drawn = w.drawn; loads = ls })
           (one ∙ loads_box w.processors w.inboxes x.to ys even ∙ ap (λ (z : ℕ). set (loads_of w.processors w.inboxes) x.to z) is)
-          ∙ ap (one_more x.to) kw
+          ∙ ap (with_one_more x.to) kw
 
 module _ (d : Discipline) (n : ℕ) where
   pub draw_moves : (k : JournalState)

@@ -7,11 +7,11 @@ use Rattle.std.proofs.lemmas.Bool.Decides.{eqb_tells}
 use Rattle.atomic_table.proofs.Lists.{at_set, at_snoc, set_else}
 use Rattle.bq_bpf.specs.declared.board.CounterCall.{CounterCall}
 use Rattle.bq_bpf.specs.declared.board.CounterCall.TheVariants.{Add, Read}
-use Rattle.bq_bpf.specs.Counters.{added, sum_of}
+use Rattle.bq_bpf.specs.Counters.{counter_added, sum_of}
 use Rattle.bq_history.specs.Whole.{total}
 use Rattle.bq_history.proofs.MoveLemmas.{total_set, total_snoc, total_at}
 use Rattle.bq_shared.specs.declared.account.Account.{Account}
-use Rattle.bq_shared.specs.Sums.{AreSums, AreSumsOf, spent, opened, calling, joined_accounts, without_one}
+use Rattle.bq_shared.specs.Sums.{AreSums, AreSumsOf, spent, opened, account_called, joined_accounts, without_one}
 
 -- the sum over two lists of calls joined
 pub sum-append : (i : ℕ) (v w : List CounterCall) → sum_of i (v ++ w) ≡ sum_of i v + sum_of i w
@@ -71,24 +71,24 @@ added_other i j k x b (inr (e, other)) is = rw e refl
 pub sums_after_add : (seats : ℕ) (words : List ℕ) (accounts : List Account) (id i k : ℕ) (v : Account)
     → AreSums seats words accounts → get_elem? accounts id ≡ some v → i < 64 → 1 ≤ v.seats
     → AreSums seats (slice_set words i ((slice_index words i + k) % 2 ^ 64))
-    (slice_set accounts id (calling v (Add i k (slice_index words i))))
+    (slice_set accounts id (account_called v (Add i k (slice_index words i))))
 sums_after_add seats words accounts id i k v rule at low some_seat =
-    steps seats words accounts id v (calling v (Add i k (slice_index words i))) i k ((slice_index words i + k) % 2 ^ 64) rule
+    steps seats words accounts id v (account_called v (Add i k (slice_index words i))) i k ((slice_index words i + k) % 2 ^ 64) rule
     at low refl refl (λ none. absurd (omega arith))
     (λ j same.
     let h = sum-append j v.calls (Add i k (slice_index words i) ∷ []) in
-    let one : added j (Add i k (slice_index words i)) ≡ k = added_same i j k 0 _ (eqb_tells i j) same in
+    let one : counter_added j (Add i k (slice_index words i)) ≡ k = added_same i j k 0 _ (eqb_tells i j) same in
     omega (arith, h, one)) (λ j other.
     let h = sum-append j v.calls (Add i k (slice_index words i) ∷ []) in
-    let none : added j (Add i k (slice_index words i)) ≡ 0 = added_other i j k 0 _ (eqb_tells i j) other in
+    let none : counter_added j (Add i k (slice_index words i)) ≡ 0 = added_other i j k 0 _ (eqb_tells i j) other in
     omega (arith, h, none))
 
 -- a read
 pub sums_after_read : (seats : ℕ) (words : List ℕ) (accounts : List Account) (id i : ℕ) (v : Account)
     → AreSums seats words accounts → get_elem? accounts id ≡ some v → i < 64 → 1 ≤ v.seats → slice_index words i < 2 ^ 64
-    → AreSums seats (slice_set words i (slice_index words i)) (slice_set accounts id (calling v (Read i (slice_index words i))))
+    → AreSums seats (slice_set words i (slice_index words i)) (slice_set accounts id (account_called v (Read i (slice_index words i))))
 sums_after_read seats words accounts id i v rule at low some_seat fits =
-    steps seats words accounts id v (calling v (Read i (slice_index words i))) i 0 (slice_index words i) rule at low (omega arith) refl
+    steps seats words accounts id v (account_called v (Read i (slice_index words i))) i 0 (slice_index words i) rule at low (omega arith) refl
     (λ none. absurd (omega arith))
     (λ j same. let h = sum-append j v.calls (Read i (slice_index words i) ∷ []) in omega (arith, h))
     (λ j other. let h = sum-append j v.calls (Read i (slice_index words i) ∷ []) in omega (arith, h))

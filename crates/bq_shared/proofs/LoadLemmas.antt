@@ -1,7 +1,7 @@
 -- The loads that the journal keeps, as processors and inboxes change.
 use Rattle.std.proofs.Common.{◌≡◌, ℕ, zero, suc, ◌+◌, ◌<◌, List, [], ◌∷◌, length, refl, ap, arith, get_or, set, replicate}
 use Rattle.bq_disc.specs.Tasks.{Task}
-use Rattle.bq_parts.specs.Processors.{Processor, opening, size_of, load_of}
+use Rattle.bq_parts.specs.Processors.{Processor, new_processor, size_of, load_of}
 use Rattle.bq_parts.specs.World.{loads_of}
 
 -- a processor of another load
@@ -15,7 +15,7 @@ loads_set (p ∷ ps) (t ∷ boxes) (suc c) q e = ap (λ ns. load_of p t ∷ ns) 
 
 -- a processor of the same load
 pub loads_same : (ps : List Processor) (boxes : List (List Task)) (c : ℕ) (q : Processor)
-    → size_of q ≡ size_of (get_or ps c opening) → loads_of (set ps c q) boxes ≡ loads_of ps boxes
+    → size_of q ≡ size_of (get_or ps c new_processor) → loads_of (set ps c q) boxes ≡ loads_of ps boxes
 loads_same [] boxes c q e = refl
 loads_same (p ∷ ps) [] zero q e = refl
 loads_same (p ∷ ps) [] (suc c) q e = refl
@@ -24,7 +24,7 @@ loads_same (p ∷ ps) (t ∷ boxes) (suc c) q e = ap (λ ns. load_of p t ∷ ns)
 
 -- a processor and its inbox, whose loads together are the same
 pub loads_moved : (ps : List Processor) (boxes : List (List Task)) (c : ℕ) (q : Processor) (tasks : List Task)
-    → c < length ps → length boxes ≡ length ps → load_of q tasks ≡ load_of (get_or ps c opening) (get_or boxes c [])
+    → c < length ps → length boxes ≡ length ps → load_of q tasks ≡ load_of (get_or ps c new_processor) (get_or boxes c [])
     → loads_of (set ps c q) (set boxes c tasks) ≡ loads_of ps boxes
 loads_moved [] boxes c q tasks l s e = absurd (omega arith)
 loads_moved (p ∷ ps) [] c q tasks l s e = absurd (omega arith)
@@ -35,7 +35,7 @@ loads_moved (p ∷ ps) (t ∷ boxes) (suc c) q tasks l s e =
 -- the load of a processor, as it is kept
 pub load_kept : (ps : List Processor) (boxes : List (List Task)) (c : ℕ)
     → length boxes ≡ length ps → c < length ps
-    → get_or (loads_of ps boxes) c 0 ≡ load_of (get_or ps c opening) (get_or boxes c [])
+    → get_or (loads_of ps boxes) c 0 ≡ load_of (get_or ps c new_processor) (get_or boxes c [])
 load_kept [] boxes c e l = absurd (omega arith)
 load_kept (p ∷ ps) [] c e l = absurd (omega arith)
 load_kept (p ∷ ps) (t ∷ boxes) zero e l = refl
@@ -44,7 +44,7 @@ load_kept (p ∷ ps) (t ∷ boxes) (suc c) e l = load_kept ps boxes c (omega ari
 -- an inbox of another length
 pub loads_box : (ps : List Processor) (boxes : List (List Task)) (b : ℕ) (ys : List Task)
     → length boxes ≡ length ps
-    → loads_of ps (set boxes b ys) ≡ set (loads_of ps boxes) b (load_of (get_or ps b opening) ys)
+    → loads_of ps (set boxes b ys) ≡ set (loads_of ps boxes) b (load_of (get_or ps b new_processor) ys)
 loads_box [] [] b ys e = refl
 loads_box [] (t ∷ boxes) b ys e = absurd (omega arith)
 loads_box (p ∷ ps) [] b ys e = absurd (omega arith)
@@ -52,6 +52,6 @@ loads_box (p ∷ ps) (t ∷ boxes) zero ys e = refl
 loads_box (p ∷ ps) (t ∷ boxes) (suc b) ys e = ap (λ ns. load_of p t ∷ ns) (loads_box ps boxes b ys (omega arith))
 
 -- at the opening there is no load
-pub opening_loads : (n : ℕ) → loads_of (replicate n opening) (replicate n []) ≡ replicate n 0
+pub opening_loads : (n : ℕ) → loads_of (replicate n new_processor) (replicate n []) ≡ replicate n 0
 opening_loads zero = refl
 opening_loads (suc n) = ap (λ ns. 0 ∷ ns) (opening_loads n)

@@ -6,7 +6,7 @@ use Rattle.bq_history.specs.Whole.{count, Each}
 use Rattle.bq_history.proofs.MoveLemmas.{count-append, each-append}
 use Rattle.bq_history.specs.Items.{part_item}
 use Rattle.std.proofs.lemmas.List.{length-replicate}
-use Rattle.bq_parts.specs.Processors.{opening}
+use Rattle.bq_parts.specs.Processors.{new_processor}
 use Rattle.bq_core.proofs.OnTheWayLemmas.{same_everywhere}
 use Rattle.bq_parts.specs.World.{opening_world}
 use Rattle.bq_shared.proofs.SeatLemmas.{left_over}
@@ -81,7 +81,7 @@ each_part_once n (part.Lobby l) =
 
 cpus_there : (all c n : ℕ) → c + n ≡ all → Each (HasPart (opening_world all)) (cpus_from c n)
 cpus_there all c zero e = tt
-cpus_there all c (suc n) e = ((rw length-replicate (omega arith), same_everywhere opening all c), cpus_there all (c + 1) n (omega arith))
+cpus_there all c (suc n) e = ((rw length-replicate (omega arith), same_everywhere new_processor all c), cpus_there all (c + 1) n (omega arith))
 
 inboxes_there : (all c n : ℕ) → c + n ≡ all → Each (HasPart (opening_world all)) (inboxes_from c n)
 inboxes_there all c zero e = tt
@@ -97,7 +97,7 @@ parts_there n = (
 
 -- of the processors' items that are left the next comes first, and then the others
 pub cpu_turn : (i n : ℕ) (rest : List ItemOf) → i < n
-    → cpu_items i (n - i) ++ rest ≡ part_item (part.Cpu i opening) ∷ (cpu_items (i + 1) (n - (i + 1)) ++ rest)
+    → cpu_items i (n - i) ++ rest ≡ part_item (part.Cpu i new_processor) ∷ (cpu_items (i + 1) (n - (i + 1)) ++ rest)
 cpu_turn i n rest b = ap (λ (k : ℕ). cpu_items i k ++ rest) (left_over i n b)
 
 -- of the inboxes' items that are left the next comes first, and then the others
@@ -109,7 +109,7 @@ inbox_turn i n rest b = ap (λ (k : ℕ). inbox_items i k ++ rest) (left_over i 
 cpus_first : (c n : ℕ) (ps : List WorldPart) (rest : List ItemOf)
     → map part_item (cpus_from c n ++ ps) ++ rest ≡ cpu_items c n ++ (map part_item ps ++ rest)
 cpus_first c zero ps rest = refl
-cpus_first c (suc n) ps rest = ap (λ ys. part_item (part.Cpu c opening) ∷ ys) (cpus_first (c + 1) n ps rest)
+cpus_first c (suc n) ps rest = ap (λ ys. part_item (part.Cpu c new_processor) ∷ ys) (cpus_first (c + 1) n ps rest)
 
 inboxes_next : (c n : ℕ) (rest : List ItemOf) → map part_item (inboxes_from c n) ++ rest ≡ inbox_items c n ++ rest
 inboxes_next c zero rest = refl

@@ -16,7 +16,7 @@ use Rattle.bq_hooks.specs.Permitted.{may_pull, task_numbered}
 use Rattle.bq_parts.specs.declared.event.Event.TheVariants.{Pull}
 use Rattle.bq_parts.specs.declared.reply.Reply.{Reply}
 use Rattle.bq_parts.specs.declared.reply.Reply.TheVariants.{Pulled}
-use Rattle.bq_parts.specs.Processors.{Processor, opening, size_of, HasEachOnce}
+use Rattle.bq_parts.specs.Processors.{Processor, new_processor, size_of, HasEachOnce}
 use Rattle.bq_parts.specs.World.{World, processor_at, count_in, with_processor}
 use Rattle.bq_parts.specs.Choices.{SettledChoice, SettlesPull, by_programs, own_pull}
 use Rattle.bq_parts.specs.Moves.{taken_from, without_task, with_pulled, started_if_idle}
@@ -28,7 +28,7 @@ use Rattle.bq_core.proofs.StepLemmas.{in_range_not_refused}
 use Rattle.bq_core.proofs.MoveLemmas.{tally-pulled, tally-without_task}
 use Rattle.bq_core.proofs.ShareStepLemmas.{pulls_step}
 use Rattle.bq_shared.specs.declared.law.JournalState.{JournalState}
-use Rattle.bq_shared.specs.Parts.{cpu_part, kept_of, one_less, kept_by_pull}
+use Rattle.bq_shared.specs.Parts.{cpu_part, journal_state_of, one_less, kept_by_pull}
 use Rattle.bq_shared.proofs.ReachedLemmas.{IsSound}
 use Rattle.bq_shared.proofs.ShapeLemmas.{MayCommitHere, moves_two_cpus}
 use Rattle.bq_shared.proofs.CallStepLemmas.{ones, length_is, time_size, kept_same, kept_less, kept_more}
@@ -92,13 +92,13 @@ chosen_there d processor from now id p o settled once h e =
 
 -- a processor beside one that was written
 beside : (w : World) (c b : ℕ) (q o : Processor) → b ≢ c → processor_at w b ≡ o → processor_at (with_processor w c q) b ≡ o
-beside w c b q o apart at = get_or-set_other w.processors c b q opening apart ∙ at
+beside w c b q o apart at = get_or-set_other w.processors c b q new_processor apart ∙ at
 
 module _ (d : Discipline) (n : ℕ) where
   kept_by_task : (w : World) (c b : ℕ) (p q o r : Processor) (k : JournalState) (task run : Option ℕ) (by : By) (steps t : ℕ)
-      → IsSound n w → kept_of w ≡ k → c < count_in w → processor_at w c ≡ p → b < count_in w → processor_at w b ≡ o → c ≢ b
+      → IsSound n w → journal_state_of w ≡ k → c < count_in w → processor_at w c ≡ p → b < count_in w → processor_at w b ≡ o → c ≢ b
       → size_of q ≡ size_of p + t → size_of r + t ≡ size_of o → ((id : ℕ) → task ≡ Some id → t ≡ 1) → (task ≡ None → t ≡ 0)
-      → kept_of (with_processor (with_processor w c q) b r) ≡ kept_by_pull c b (Pulled task run by steps) k
+      → journal_state_of (with_processor (with_processor w c q) b r) ≡ kept_by_pull c b (Pulled task run by steps) k
   kept_by_task w c b p q o r k None run by steps t s kw here at there at' apart more less some none =
       let zero : t ≡ 0 = none refl in
       kept_same d n (with_processor w c q) b o r k (kept_same d n w c p q k kw at (omega (arith, more, zero)))
@@ -109,7 +109,7 @@ module _ (d : Discipline) (n : ℕ) where
       let long : length (with_processor w b r).processors ≡ length w.processors = length-set w.processors b r in
       let first = kept_less w b o r k even kw there at' (omega (arith, less, one)) in
       let few = few_at w c s.lobby s.orderly in
-      ap (λ ps. kept_of (record w { processors = ps })) (set_comm w.processors c b q r apart)
+      ap (λ ps. journal_state_of (record w { processors = ps })) (set_comm w.processors c b q r apart)
       ∙ kept_more (with_processor w b r) c p q (one_less b k) (even ∙ sym long) first (omega (arith, here, long))
       (beside w b c r p apart at) (omega (arith, more, one)) (rw (← at) few)
 
@@ -118,9 +118,9 @@ module _ (d : Discipline) (n : ℕ) where
   none_taken s (Some id) e = absurd (let no : ⊥ = cc in no)
 
   pub pull_kept : (w : World) (c b now : ℕ) (p q o r : Processor) (calls : List CounterCall) (k : JournalState) (x : Reply)
-      → IsSound n w → kept_of w ≡ k → c < count_in w → processor_at w c ≡ p → b < count_in w → processor_at w b ≡ o → c ≢ b
+      → IsSound n w → journal_state_of w ≡ k → c < count_in w → processor_at w c ≡ p → b < count_in w → processor_at w b ≡ o → c ≢ b
       → Pulls (by_programs d) c b now p o calls x q r
-      → kept_of (with_processor (with_processor w c q) b r) ≡ kept_by_pull c b x k
+      → journal_state_of (with_processor (with_processor w c q) b r) ≡ kept_by_pull c b x k
   pull_kept w c b now p q o r calls k x s kw here at there at' apart u =
       let source = remarked d o in
       let task = task_numbered u.settled.choice in

@@ -9,7 +9,7 @@ use Rattle.bq_parts.specs.declared.event.Event.TheVariants.{Admit, Retire, Draw,
 use Rattle.bq_parts.specs.declared.reply.Reply.{Reply}
 use Rattle.bq_parts.specs.declared.refusal.Refusal.{Refusal}
 use Rattle.bq_parts.specs.declared.lobby_entry.LobbyEntry.TheVariants.{Absent, Away}
-use Rattle.bq_parts.specs.Processors.{opening}
+use Rattle.bq_parts.specs.Processors.{new_processor}
 use Rattle.bq_parts.specs.World.{World, opening_world, count_in}
 use Rattle.bq_parts.specs.Choices.{PolicySemantics, by_programs}
 use Rattle.bq_parts.specs.Steps.{WorldStep, Performs}
@@ -60,7 +60,7 @@ step_sound d n v x u s reported =
 
 opening_sound : (n : ℕ) → IsSound n (opening_world n)
 opening_sound n = record {
-  many = length-replicate n opening;
+  many = length-replicate n new_processor;
   boxes = length-replicate n [];
   lobby = length-replicate 1024 Absent;
   orderly = opening_is_orderly n;

@@ -4,7 +4,7 @@ use Rattle.bq_history.specs.Items.{callers_from}
 use Rattle.bq_history.specs.declared.shared_state.Item.{Item}
 use Rattle.bq_shared.specs.Sums.{opened, without_one}
 use Rattle.bq_history.specs.declared.shared_state.Receipt.{Receipt}
-use Rattle.bq_shared.specs.Calls.{fresh}
+use Rattle.bq_shared.specs.Calls.{fresh_callers}
 
 -- one less is left after a turn
 pub left_over : (i n : ℕ) → i < n → n - i ≡ suc (n - (i + 1))
@@ -20,6 +20,6 @@ pub account_turn : (i n : ℕ) → i < n → without_one (opened (n - i)) ≡ op
 account_turn i n b = ap opened (let e : n - i - 1 ≡ n - (i + 1) = omega arith in e)
 
 -- one more fresh seat at the end
-pub fresh_more : {R : Type 0} (s n : ℕ) → let l : List (ℕ × List (Receipt R)) = fresh s (suc n) in l ≡ fresh s n ++ (s + n, []) ∷ []
+pub fresh_more : {R : Type 0} (s n : ℕ) → let l : List (ℕ × List (Receipt R)) = fresh_callers s (suc n) in l ≡ fresh_callers s n ++ (s + n, []) ∷ []
 fresh_more s zero = ap (λ (k : ℕ). (k, []) ∷ []) (omega arith)
-fresh_more s (suc n) = ap (λ ys. (s, []) ∷ ys) (fresh_more (s + 1) n ∙ ap (λ (k : ℕ). fresh (s + 1) n ++ (k, []) ∷ []) (omega arith))
+fresh_more s (suc n) = ap (λ ys. (s, []) ∷ ys) (fresh_more (s + 1) n ∙ ap (λ (k : ℕ). fresh_callers (s + 1) n ++ (k, []) ∷ []) (omega arith))

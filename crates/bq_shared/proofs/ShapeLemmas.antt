@@ -6,13 +6,13 @@ use Rattle.bq_history.specs.Items.{MayCommit}
 use Rattle.bq_disc.specs.Tasks.{Task}
 use Rattle.bq_disc.specs.Discipline.{Discipline}
 use Rattle.bq_parts.specs.declared.lobby_entry.LobbyEntry.{LobbyEntry}
-use Rattle.bq_parts.specs.Processors.{Processor, opening}
+use Rattle.bq_parts.specs.Processors.{Processor, new_processor}
 use Rattle.bq_parts.specs.World.{World, opening_world, processor_at, inbox, count_in, with_processor, with_inbox}
 use Rattle.bq_shared.specs.declared.law.JournalState.{JournalState}
 use Rattle.bq_shared.specs.declared.law.WorldPart.{WorldPart}
 use Rattle.bq_shared.specs.declared.law.WorldPart.TheVariants as part
 use Rattle.bq_shared.specs.declared.record.Record.{Record}
-use Rattle.bq_shared.specs.Parts.{RecordStep, cpu_part, inbox_part, lobby_part, same_part, HasPart, kept_of}
+use Rattle.bq_shared.specs.Parts.{RecordStep, cpu_part, inbox_part, lobby_part, same_part, HasPart, journal_state_of}
 use Rattle.bq_shared.proofs.ReachedLemmas.{IsSound, reached_sound}
 
 same_self : (x : WorldPart) → same_part x x ≡ true
@@ -26,22 +26,22 @@ apart d c none e = let one : cond {A = ℕ} (eqb d c) 1 0 ≡ 1 = ap (λ (b : Bo
 -- a processor that was written is there, and is what was written
 pub written_is_there : (w : World) (c : ℕ) (q : Processor) → c < count_in w
     → (c < count_in (with_processor w c q)) × (processor_at (with_processor w c q) c ≡ q)
-written_is_there w c q l = (rw length-set l, get_or-set_same w.processors c q opening l)
+written_is_there w c q l = (rw length-set l, get_or-set_same w.processors c q new_processor l)
 
 -- where another processor was written, a processor is there as before
 pub others_are_as_before : (w : World) (c d : ℕ) (q r : Processor)
     → d ≢ c → (d < count_in w) × (processor_at w d ≡ r)
     → (d < count_in (with_processor w c q)) × (processor_at (with_processor w c q) d ≡ r)
-others_are_as_before w c d q r n f = (rw length-set f.0, get_or-set_other w.processors c d q opening n ∙ f.1)
+others_are_as_before w c d q r n f = (rw length-set f.0, get_or-set_other w.processors c d q new_processor n ∙ f.1)
 
 module _ (d : Discipline) (n : ℕ) where
   -- what a commit asks, of the world
   abbrev pub MayCommitHere : JournalState → List WorldPart → Record → JournalState → List WorldPart → Type 0
-  MayCommitHere = MayCommit (RecordStep d) (opening_world n) kept_of same_part HasPart
+  MayCommitHere = MayCommit (RecordStep d) (opening_world n) journal_state_of same_part HasPart
 
   -- no part
   pub moves_none : (g : ℕ) (k m : JournalState) (e : Record)
-      → ((w : World) → IsSound n w → kept_of w ≡ k → RecordStep d w e (record w { drawn = g }) × (kept_of (record w { drawn = g }) ≡ m))
+      → ((w : World) → IsSound n w → journal_state_of w ≡ k → RecordStep d w e (record w { drawn = g }) × (journal_state_of (record w { drawn = g }) ≡ m))
       → MayCommitHere k [] e m []
   moves_none g k m e steps = record {
     itself = same_self;
@@ -81,8 +81,8 @@ module _ (d : Discipline) (n : ℕ) where
 
   -- one processor
   pub moves_cpu : (c : ℕ) (p q : Processor) (k m : JournalState) (e : Record)
-      → ((w : World) → IsSound n w → kept_of w ≡ k → c < count_in w → processor_at w c ≡ p →
-      RecordStep d w e (with_processor w c q) × (kept_of (with_processor w c q) ≡ m))
+      → ((w : World) → IsSound n w → journal_state_of w ≡ k → c < count_in w → processor_at w c ≡ p →
+      RecordStep d w e (with_processor w c q) × (journal_state_of (with_processor w c q) ≡ m))
       → MayCommitHere k (cpu_part c p ∷ []) e m (cpu_part c q ∷ [])
   moves_cpu c p q k m e steps = record {
     itself = same_self;
@@ -104,8 +104,8 @@ module _ (d : Discipline) (n : ℕ) where
 
   -- one processor and the lobby
   pub moves_cpu_lobby : (c : ℕ) (p q : Processor) (l o : List LobbyEntry) (k m : JournalState) (e : Record)
-      → ((w : World) → IsSound n w → kept_of w ≡ k → c < count_in w → processor_at w c ≡ p → w.lobby ≡ l →
-      RecordStep d w e (record (with_processor w c q) { lobby = o }) × (kept_of (with_processor w c q) ≡ m))
+      → ((w : World) → IsSound n w → journal_state_of w ≡ k → c < count_in w → processor_at w c ≡ p → w.lobby ≡ l →
+      RecordStep d w e (record (with_processor w c q) { lobby = o }) × (journal_state_of (with_processor w c q) ≡ m))
       → MayCommitHere k (cpu_part c p ∷ lobby_part l ∷ []) e m (cpu_part c q ∷ lobby_part o ∷ [])
   moves_cpu_lobby c p q l o k m e steps = record {
     itself = same_self;
@@ -131,8 +131,8 @@ module _ (d : Discipline) (n : ℕ) where
 
   -- one processor and an inbox
   pub moves_cpu_inbox : (c b : ℕ) (p q : Processor) (xs ys : List Task) (k m : JournalState) (e : Record) →
-      ((w : World) → IsSound n w → kept_of w ≡ k → c < count_in w → processor_at w c ≡ p → b < length w.inboxes → inbox w b ≡ xs →
-      RecordStep d w e (with_inbox (with_processor w c q) b ys) × (kept_of (with_inbox (with_processor w c q) b ys) ≡ m)) →
+      ((w : World) → IsSound n w → journal_state_of w ≡ k → c < count_in w → processor_at w c ≡ p → b < length w.inboxes → inbox w b ≡ xs →
+      RecordStep d w e (with_inbox (with_processor w c q) b ys) × (journal_state_of (with_inbox (with_processor w c q) b ys) ≡ m)) →
       MayCommitHere k (cpu_part c p ∷ inbox_part b xs ∷ []) e m (cpu_part c q ∷ inbox_part b ys ∷ [])
   moves_cpu_inbox c b p q xs ys k m e steps = record {
     itself = same_self;
@@ -163,8 +163,8 @@ module _ (d : Discipline) (n : ℕ) where
 
   -- two processors
   pub moves_two_cpus : (c b : ℕ) (p q o r : Processor) (k m : JournalState) (e : Record) → c ≢ b →
-      ((w : World) → IsSound n w → kept_of w ≡ k → c < count_in w → processor_at w c ≡ p → b < count_in w → processor_at w b ≡ o →
-      RecordStep d w e (with_processor (with_processor w c q) b r) × (kept_of (with_processor (with_processor w c q) b r) ≡ m)) →
+      ((w : World) → IsSound n w → journal_state_of w ≡ k → c < count_in w → processor_at w c ≡ p → b < count_in w → processor_at w b ≡ o →
+      RecordStep d w e (with_processor (with_processor w c q) b r) × (journal_state_of (with_processor (with_processor w c q) b r) ≡ m)) →
       MayCommitHere k (cpu_part c p ∷ cpu_part b o ∷ []) e m (cpu_part c q ∷ cpu_part b r ∷ [])
   moves_two_cpus c b p q o r k m e two steps = record {
     itself = same_self;

@@ -34,6 +34,6 @@ module _ {R : Type 0} (calls : R → List CounterCall) where
   account_by callers = record { seats = length callers; calls = calls_by callers }
 
 -- n callers without receipts, numbered from s on
-abbrev pub fresh : {R : Type 0} → ℕ → ℕ → List (ℕ × List (Receipt R))
-fresh s zero = []
-fresh s (suc n) = (s, []) ∷ fresh (s + 1) n
+abbrev pub fresh_callers : {R : Type 0} → ℕ → ℕ → List (ℕ × List (Receipt R))
+fresh_callers s zero = []
+fresh_callers s (suc n) = (s, []) ∷ fresh_callers (s + 1) n

@@ -2,7 +2,7 @@
 use Rattle.std.specs.Prelude.{ℕ, zero, suc, ◌+◌, List, [], ◌∷◌}
 use Rattle.bq_history.specs.declared.shared_state.Item.{Item}
 use Rattle.bq_history.specs.Items.{part_item}
-use Rattle.bq_parts.specs.Processors.{opening}
+use Rattle.bq_parts.specs.Processors.{new_processor}
 use Rattle.bq_shared.specs.declared.law.JournalState.{JournalState}
 use Rattle.bq_shared.specs.declared.law.WorldPart.{WorldPart}
 use Rattle.bq_shared.specs.declared.law.WorldPart.TheVariants as part
@@ -15,7 +15,7 @@ ItemOf = Item Record WorldPart JournalState
 -- the items of n processors at the start, numbered from c on
 abbrev pub cpu_items : ℕ → ℕ → List ItemOf
 cpu_items c zero = []
-cpu_items c (suc n) = part_item (part.Cpu c opening) ∷ cpu_items (c + 1) n
+cpu_items c (suc n) = part_item (part.Cpu c new_processor) ∷ cpu_items (c + 1) n
 
 -- the items of n inboxes at the start, numbered from c on
 abbrev pub inbox_items : ℕ → ℕ → List ItemOf

@@ -10,7 +10,7 @@ use Rattle.bq_parts.specs.declared.refusal.Refusal.{Refusal}
 use Rattle.bq_parts.specs.declared.refusal.Refusal.TheVariants as no
 use Rattle.bq_parts.specs.declared.lobby_entry.LobbyEntry.{LobbyEntry}
 use Rattle.bq_parts.specs.declared.lobby_entry.LobbyEntry.TheVariants.{Absent}
-use Rattle.bq_parts.specs.Processors.{Processor, opening}
+use Rattle.bq_parts.specs.Processors.{Processor, new_processor}
 use Rattle.bq_parts.specs.World.{World, processor_at, inbox, count_in, loads_of}
 use Rattle.bq_parts.specs.Refusals.{argument_refusal}
 use Rattle.bq_parts.specs.Choices.{by_programs}
@@ -62,16 +62,16 @@ HasPart w (part.Inbox c tasks) = (c < length w.inboxes) × (inbox w c ≡ tasks)
 HasPart w (part.Lobby lobby) = w.lobby ≡ lobby
 
 -- what the journal keeps of a world
-abbrev pub kept_of : World → JournalState
-kept_of w = record { drawn = w.drawn; loads = loads_of w.processors w.inboxes }
+abbrev pub journal_state_of : World → JournalState
+journal_state_of w = record { drawn = w.drawn; loads = loads_of w.processors w.inboxes }
 
 -- what is kept after a task has left a processor
 abbrev pub one_less : ℕ → JournalState → JournalState
 one_less c k = record k { loads = slice_set k.loads c (slice_index k.loads c - 1) }
 
 -- what is kept after a task has come to a processor
-abbrev pub one_more : ℕ → JournalState → JournalState
-one_more c k = record k { loads = slice_set k.loads c (min (slice_index k.loads c + 1) (2 ^ 16 - 1)) }
+abbrev pub with_one_more : ℕ → JournalState → JournalState
+with_one_more c k = record k { loads = slice_set k.loads c (min (slice_index k.loads c + 1) (2 ^ 16 - 1)) }
 
 -- what is kept after the answer to a block
 abbrev pub kept_by_block : ℕ → Result Reply Refusal → JournalState → JournalState
@@ -80,13 +80,13 @@ kept_by_block c (Err e) k = k
 
 -- what is kept after the reply to a pull
 abbrev pub kept_by_pull : ℕ → ℕ → Reply → JournalState → JournalState
-kept_by_pull c from (Pulled (Some id) run by steps) k = one_more c (one_less from k)
+kept_by_pull c from (Pulled (Some id) run by steps) k = with_one_more c (one_less from k)
 kept_by_pull c from r k = k
 
 -- the parts of n processors at the start, numbered from c on
 abbrev pub cpus_from : ℕ → ℕ → List WorldPart
 cpus_from c zero = []
-cpus_from c (suc n) = part.Cpu c opening ∷ cpus_from (c + 1) n
+cpus_from c (suc n) = part.Cpu c new_processor ∷ cpus_from (c + 1) n
 
 -- the parts of n inboxes at the start, numbered from c on
 abbrev pub inboxes_from : ℕ → ℕ → List WorldPart

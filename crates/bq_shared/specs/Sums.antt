@@ -17,8 +17,8 @@ abbrev pub opened : ℕ → Account
 opened n = record { seats = n; calls = [] }
 
 -- the account after one more call
-abbrev pub calling : Account → CounterCall → Account
-calling a c = record { seats = a.seats; calls = a.calls ++ c ∷ [] }
+abbrev pub account_called : Account → CounterCall → Account
+account_called a c = record { seats = a.seats; calls = a.calls ++ c ∷ [] }
 
 -- two accounts as one
 abbrev pub joined_accounts : Account → Account → Account

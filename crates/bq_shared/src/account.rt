@@ -59,9 +59,9 @@ pub struct Adding;
 impl Play<(), Account> for Adding {
     ghost use Rattle.std.specs.Prelude.{◌≡◌};
     ghost use Rattle.bq_bpf.specs.declared.board.CounterCall.TheVariants.{Add};
-    ghost use Rattle.bq_shared.specs.Sums.{calling};
+    ghost use Rattle.bq_shared.specs.Sums.{account_called};
 
-    ghost then = { λ step v found w. (w.0 ≡ calling v.0 (Add step.word step.first found)) × (w.1 ≡ v.1) };
+    ghost then = { λ step v found w. (w.0 ≡ account_called v.0 (Add step.word step.first found)) × (w.1 ≡ v.1) };
 }
 
 /// A read, which the account records.
@@ -70,9 +70,9 @@ pub struct Reading;
 impl Play<(), Account> for Reading {
     ghost use Rattle.std.specs.Prelude.{◌≡◌};
     ghost use Rattle.bq_bpf.specs.declared.board.CounterCall.TheVariants.{Read};
-    ghost use Rattle.bq_shared.specs.Sums.{calling};
+    ghost use Rattle.bq_shared.specs.Sums.{account_called};
 
-    ghost then = { λ step v found w. (w.0 ≡ calling v.0 (Read step.word found)) × (w.1 ≡ v.1) };
+    ghost then = { λ step v found w. (w.0 ≡ account_called v.0 (Read step.word found)) × (w.1 ≡ v.1) };
 }
 
 /// A look, which no account records.

@@ -60,11 +60,11 @@ impl Model for PackedAnswer {
     ghost use Rattle.std.specs.Prelude.{Result};
     ghost use Rattle.bq_parts.specs.declared.reply.Reply.{Reply as Replied};
     ghost use Rattle.bq_parts.specs.declared.refusal.Refusal.{Refusal as Refused};
-    ghost use Rattle.bq_shared.specs.PackedReplies.{answer_of};
+    ghost use Rattle.bq_shared.specs.PackedReplies.{unpacked_answer};
 
     ghost Value = { Result Replied Refused };
 
-    ghost view = { λ a. answer_of a.brief };
+    ghost view = { λ a. unpacked_answer a.brief };
 }
 
 impl PackedAnswer {

@@ -15,9 +15,9 @@ pub struct CounterBoard<'a, N: Counting> {
 
 impl<'a, N: Counting> Board for CounterBoard<'a, N> {
     ghost use Rattle.std.specs.Prelude.{◌≡◌};
-    ghost use Rattle.bq_shared.specs.Sums.{calling};
+    ghost use Rattle.bq_shared.specs.Sums.{account_called};
 
-    ghost leads = { λ old call new. new.tally ≡ calling old.tally call };
+    ghost leads = { λ old call new. new.tally ≡ account_called old.tally call };
 
     fn add(&mut self, counter: u8, amount: u64) -> u64 {
         self.counters.add(&mut self.tally, counter, amount)

@@ -1,7 +1,7 @@
 //! The counters.
 ghost use Rattle.std.specs.Prelude.{◌≡◌, ◌<◌, ◌≤◌, IfOk, []};
 ghost use Rattle.bq_bpf.specs.declared.board.CounterCall.TheVariants.{Add, Read};
-ghost use Rattle.bq_shared.specs.Sums.{AreSumsOf, joined_accounts, calling, opened, spent, without_one};
+ghost use Rattle.bq_shared.specs.Sums.{AreSumsOf, joined_accounts, account_called, opened, spent, without_one};
 
 use crate::account::{
     Account, Adding, Apart, CounterTally, Counting, Looking, Reading, Summed, Together,
@@ -127,7 +127,7 @@ impl<N: Counting> Counters<N> {
     pub fn add(&self, tally: &mut CounterTally<N>, counter: u8, amount: u64) -> u64
         requires counter { counter < COUNTERS }
         requires seat { 1 ≤ tally.old.seats }
-        ensures { tally.new ≡ calling tally.old (Add counter amount result) }
+        ensures { tally.new ≡ account_called tally.old (Add counter amount result) }
     {
         self.table
             .shared
@@ -138,7 +138,7 @@ impl<N: Counting> Counters<N> {
     pub fn read(&self, tally: &mut CounterTally<N>, counter: u8) -> u64
         requires counter { counter < COUNTERS }
         requires seat { 1 ≤ tally.old.seats }
-        ensures { tally.new ≡ calling tally.old (Read counter result) }
+        ensures { tally.new ≡ account_called tally.old (Read counter result) }
     {
         self.table
             .shared

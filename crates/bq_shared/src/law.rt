@@ -1,7 +1,7 @@
 //! The world in parts, as the holders know them.
 ghost use Rattle.std.specs.Prelude.{◌≡◌};
 ghost use Rattle.bq_history.specs.Items.{kept_after};
-ghost use Rattle.bq_shared.specs.Parts.{kept_by_block, kept_by_pull, one_less, one_more};
+ghost use Rattle.bq_shared.specs.Parts.{kept_by_block, kept_by_pull, one_less, with_one_more};
 
 use crate::record::Record;
 use bq_disc::RunQueue;
@@ -14,11 +14,11 @@ use std::marker::{Model, PhantomData};
 pub struct CpuState;
 
 impl Model for CpuState {
-    ghost use Rattle.bq_parts.specs.Processors.{Processor, opening};
+    ghost use Rattle.bq_parts.specs.Processors.{Processor, new_processor};
 
     ghost Value = { Processor };
 
-    ghost view = { λ _. opening };
+    ghost view = { λ _. new_processor };
 }
 
 /// For contracts only, so no value exists at run time: the world.
@@ -59,7 +59,7 @@ impl JournalState {
 
     /// Counts a task that has come to a processor.
     pub fn one_more(&mut self, processor: u8)
-        ensures { self.new ≡ one_more processor self.old }
+        ensures { self.new ≡ with_one_more processor self.old }
     {
         let index = usize::from(processor);
         let load = self.loads.get(index).saturating_add(1);
@@ -127,13 +127,13 @@ impl<Q: RunQueue> World for SchedulerLaw<Q> {
     type Fixed = u64;
 
     ghost use Rattle.bq_parts.specs.World.{opening_world};
-    ghost use Rattle.bq_shared.specs.Parts.{RecordStep, kept_of, same_part, HasPart, first_parts};
+    ghost use Rattle.bq_shared.specs.Parts.{RecordStep, journal_state_of, same_part, HasPart, first_parts};
 
     ghost opening = { opening_world };
 
     ghost step = { λ _. RecordStep Q.R.discipline };
 
-    ghost kept = { kept_of };
+    ghost kept = { journal_state_of };
 
     ghost same = { same_part };
 

@@ -1,9 +1,9 @@
 //! The seats at the start.
 ghost use Rattle.std.specs.Prelude.{◌≡◌, ◌≤◌, ◌∷◌, [], IfOk};
-ghost use Rattle.bq_history.specs.Whole.{first_of, others_of};
+ghost use Rattle.bq_history.specs.Whole.{first_item, others_of};
 ghost use Rattle.bq_history.specs.Items.{caller_item, callers_from};
 ghost use Rattle.bq_shared.specs.Sums.{opened, without_one};
-ghost use Rattle.bq_shared.specs.Calls.{fresh};
+ghost use Rattle.bq_shared.specs.Calls.{fresh_callers};
 
 use crate::seat::{ReportsCalls, Seat};
 use crate::{CounterTally, Counters, Counting};
@@ -22,7 +22,7 @@ pub fn seats<R: ReportsCalls + Drop, M: World<Record = R>, N: Naming + Counting>
 ) -> Result<Vec<Seat<R, M::Part, M::Kept, N>>, AllocError>
     requires all { all.old ≡ callers_from 0 count }
     requires account { account ≡ opened count }
-    ensures { IfOk result (λ v. v.items ≡ fresh 0 count) }
+    ensures { IfOk result (λ v. v.items ≡ fresh_callers 0 count) }
 {
     let mut seats = Vec::new(alloc);
     let mut account = account;
@@ -40,7 +40,7 @@ fn next_seat<R: ReportsCalls + Drop, M: World<Record = R>, N: Naming + Counting>
     account: &mut CounterTally<N>,
     number: u64,
 ) -> Seat<R, M::Part, M::Kept, N>
-    requires first { first_of all.old ≡ caller_item number [] ∷ [] }
+    requires first { first_item all.old ≡ caller_item number [] ∷ [] }
     requires left { (1 ≤ account.old.seats) × (account.old.calls ≡ []) }
     ensures seat { result ≡ (number, []) }
     ensures callers { all.new ≡ others_of all.old }

@@ -10,11 +10,11 @@ use Rattle.bq_workload.specs.declared.progress.TaskState.{TaskState}
 use Rattle.bq_workload.specs.declared.progress.TaskState.TheVariants.{Runnable}
 use Rattle.bq_workload.specs.declared.processor_state.ProcessorState.{ProcessorState}
 use Rattle.bq_workload.specs.declared.roster.Periods.{Periods}
-use Rattle.bq_workload.specs.Accounts.{Accounts, changed_at, charged, charged_by, grown, idled, is_same, occupied, of_processor, of_task, shrunk, switched, taken_over}
-use Rattle.bq_workload.specs.TaskProgress.{moved_to, run_for, woken}
+use Rattle.bq_workload.specs.Accounts.{Accounts, changed_at, accounts_charged, runner_charged, grown, idled, is_same, occupied, of_processor, of_task, shrunk, accounts_switched, taken_over}
+use Rattle.bq_workload.specs.TaskProgress.{moved_to, run_for, progress_woken}
 use Rattle.bq_workload.specs.Dues.{size_at}
 use Rattle.bq_workload.proofs.AgreeLemmas.{changed_at-here, changed_at-others, some_or_none}
-use Rattle.bq_simulate.specs.Agreement.{run_at, state_at}
+use Rattle.bq_simulate.specs.Agreement.{runner_at, state_at}
 
 -- what is read at a place of some list
 abbrev pub read : {A B : Type 0} → (A → B) → B → List A → ℕ → B
@@ -58,9 +58,9 @@ changed_at-length {A} f xs n =
 pub record Reads (processor : ℕ) (run : Option ℕ) (size : ℕ) (a b : Accounts) : Type 0 where
   pub many : length b.by_processor ≡ length a.by_processor
   pub states : (task : ℕ) → state_at b.by_task task ≡ state_at a.by_task task
-  pub run_here : run_at b.by_processor processor ≡ run
+  pub run_here : runner_at b.by_processor processor ≡ run
   pub size_here : size_at b.by_processor processor ≡ size
-  pub runs : (other : ℕ) → other ≢ processor → run_at b.by_processor other ≡ run_at a.by_processor other
+  pub runs : (other : ℕ) → other ≢ processor → runner_at b.by_processor other ≡ runner_at a.by_processor other
   pub sizes : (other : ℕ) → other ≢ processor → size_at b.by_processor other ≡ size_at a.by_processor other
 
 -- one such change and another
@@ -117,45 +117,45 @@ reads_same processor a l at = record {
 
 -- the time of the task that runs there is counted
 reads_charged_by : (processor : ℕ) (l : ProcessorState) (now : ℕ) (a : Accounts)
-    → slice_get a.by_processor processor ≡ Some l → Reads processor l.run l.size a (charged_by l now a)
+    → slice_get a.by_processor processor ≡ Some l → Reads processor l.run l.size a (runner_charged l now a)
 reads_charged_by processor l now a at =
-    elim l.run as (λ (o : Option ℕ). Reads processor l.run l.size a (charged_by (record l { run = o }) now a)) [
+    elim l.run as (λ (o : Option ℕ). Reads processor l.run l.size a (runner_charged (record l { run = o }) now a)) [
       | None ↦ reads_same processor a l at
       | Some task ↦ reads_task (run_for (now - l.since)) (λ c. refl) processor task l.size l.run a a (reads_same processor a l at)
     ]
 
-charged_by-processors : (l : ProcessorState) (now : ℕ) (a : Accounts) → (charged_by l now a).by_processor ≡ a.by_processor
+charged_by-processors : (l : ProcessorState) (now : ℕ) (a : Accounts) → (runner_charged l now a).by_processor ≡ a.by_processor
 charged_by-processors l now a =
     elim l.run
-    as (λ (o : Option ℕ). (charged_by (record l { run = o }) now a).by_processor ≡ a.by_processor) [ None ↦ refl | Some task ↦ refl ]
+    as (λ (o : Option ℕ). (runner_charged (record l { run = o }) now a).by_processor ≡ a.by_processor) [ None ↦ refl | Some task ↦ refl ]
 
 -- the time of the task that runs is counted from now on
 pub reads_charged : (processor now : ℕ) (a : Accounts) (l : ProcessorState)
-    → slice_get a.by_processor processor ≡ Some l → Reads processor l.run l.size a (charged processor now a)
+    → slice_get a.by_processor processor ≡ Some l → Reads processor l.run l.size a (accounts_charged processor now a)
 reads_charged processor now a l at =
     let f : ProcessorState → ProcessorState = λ x. record x { since = now } in
-    let b : Accounts = charged_by l now a in
+    let b : Accounts = runner_charged l now a in
     let there : slice_get b.by_processor processor ≡ Some l =
     ap (λ (ls : List ProcessorState). slice_get ls processor) (charged_by-processors l now a) ∙ at in
     let one : Reads processor l.run l.size a (of_processor f processor b) =
     reads_join processor l.size l.size l.run l.run a b (of_processor f processor b) (reads_charged_by processor l now a at)
     (reads_processor f processor b l there) in
     subst (λ (o : Option ProcessorState).
-    Reads processor l.run l.size a (option_map_or (λ (x : ProcessorState). of_processor f processor (charged_by x now a)) o a))
+    Reads processor l.run l.size a (option_map_or (λ (x : ProcessorState). of_processor f processor (runner_charged x now a)) o a))
     (sym at) one
 
 -- after that the processor has its state, counted until now
 pub charged_there : (processor now : ℕ) (a : Accounts) (l : ProcessorState)
     → slice_get a.by_processor processor ≡ Some l
-    → slice_get (charged processor now a).by_processor processor ≡ Some (record l { since = now })
+    → slice_get (accounts_charged processor now a).by_processor processor ≡ Some (record l { since = now })
 charged_there processor now a l at =
     let f : ProcessorState → ProcessorState = λ x. record x { since = now } in
-    let there : slice_get (charged_by l now a).by_processor processor ≡ Some l =
+    let there : slice_get (runner_charged l now a).by_processor processor ≡ Some l =
     ap (λ (ls : List ProcessorState). slice_get ls processor) (charged_by-processors l now a) ∙ at in
     ap (λ (o : Option ProcessorState).
-    slice_get (option_map_or (λ (x : ProcessorState). of_processor f processor (charged_by x now a)) o a).by_processor
+    slice_get (option_map_or (λ (x : ProcessorState). of_processor f processor (runner_charged x now a)) o a).by_processor
     processor) at
-    ∙ changed_at-here f (charged_by l now a).by_processor processor l there
+    ∙ changed_at-here f (runner_charged l now a).by_processor processor l there
 
 -- from now on this task runs there, or none
 reads_taken_over : (processor : ℕ) (run : Option ℕ) (now : ℕ) (periods : Periods) (a : Accounts) (l : ProcessorState)
@@ -184,9 +184,9 @@ switched_by_test false processor run a over l same at h = h
 -- as an answer says who runs there now, that is read, and nothing else changes
 pub reads_switched : (processor : ℕ) (run : Option ℕ) (now : ℕ) (periods : Periods) (a : Accounts) (l : ProcessorState)
     → slice_get a.by_processor processor ≡ Some l
-    → Reads processor run l.size a (switched processor run now periods a)
+    → Reads processor run l.size a (accounts_switched processor run now periods a)
 reads_switched processor run now periods a l at =
-    let mid : Accounts = charged processor now a in
+    let mid : Accounts = accounts_charged processor now a in
     let over : Accounts = taken_over processor run now periods mid in
     let counted : ProcessorState = record l { since = now } in
     let whole : Reads processor run l.size a over =
@@ -209,8 +209,8 @@ reads_grown processor count a l at = reads_processor (λ x. record x { size = x.
 
 -- a task that is woken can run, and the others are in the states that they were in
 pub state_woken : (task : ℕ) (a : Accounts) (c : TaskProgress)
-    → slice_get a.by_task task ≡ Some c → state_at (of_task woken task a).by_task task ≡ Some Runnable
-state_woken task a c there = read_changed woken (λ (x : TaskProgress). Some x.task_state) None a.by_task task c there
+    → slice_get a.by_task task ≡ Some c → state_at (of_task progress_woken task a).by_task task ≡ Some Runnable
+state_woken task a c there = read_changed progress_woken (λ (x : TaskProgress). Some x.task_state) None a.by_task task c there
 
 -- the tasks other than the one that is changed are in the states that they were in
 pub state_others : (f : TaskProgress → TaskProgress) (task other : ℕ) (a : Accounts)

@@ -18,11 +18,11 @@ use Rattle.bq_workload.specs.declared.progress.TaskState.TheVariants.{Runnable}
 use Rattle.bq_workload.specs.declared.workload.TaskKind.{TaskKind}
 use Rattle.bq_workload.specs.Accounts.{is_same}
 use Rattle.bq_workload.specs.Draws.{length_drawn, logarithm}
-use Rattle.bq_workload.specs.Kinds.{count_of}
+use Rattle.bq_workload.specs.Kinds.{kind_count}
 use Rattle.bq_workload.specs.Lengths.{is_length, longest, takes_time}
 use Rattle.bq_workload.specs.Soundness.{is_action}
-use Rattle.bq_simulate.specs.Actions.{acted, action_at, actions_of, advanced_in, asked_by, next_action, woken_one_in}
-use Rattle.bq_simulate.specs.AtOnce.{actions_ahead, actions_in, left_in, left_of_task, steps_ahead, steps_until, uncounted}
+use Rattle.bq_simulate.specs.Actions.{acted, action_at, action_count, advanced_in, asked_by, next_action, woken_one_in}
+use Rattle.bq_simulate.specs.AtOnce.{actions_ahead, kind_actions, left_in, left_of_task, steps_ahead, steps_until, uncounted}
 use Rattle.bq_simulate.specs.Chronicles.{length_taken}
 use Rattle.bq_simulate.proofs.MeetAgreeLemmas.{advanced_state, woken_one_state}
 use Rattle.bq_simulate.proofs.StandingLemmas.{else_of}
@@ -58,30 +58,30 @@ at-kind kinds c action (Some kind) h = else_of (is_same kind.loops (Some c.loops
 
 -- a task's next action stands among all that tasks of its kind do
 pub stands-at : (kinds : List TaskKind) (c : TaskProgress) (action : Action)
-    → next_action kinds c ≡ Some action → slice_get (actions_in kinds c.kind) c.action ≡ Some action
+    → next_action kinds c ≡ Some action → slice_get (kind_actions kinds c.kind) c.action ≡ Some action
 stands-at kinds c action h = at-kind kinds c action (slice_get kinds c.kind) h
 
 -- the actions ahead begin with the action at which the task stands
 ahead-is : (kinds : List TaskKind) (c : TaskProgress) (action : Action)
     → next_action kinds c ≡ Some action
     → steps_ahead kinds c
-    ≡ steps_until kinds c.woken (action ∷ (drop (suc c.action) (actions_in kinds c.kind) ++ actions_in kinds c.kind))
+    ≡ steps_until kinds c.woken (action ∷ (drop (suc c.action) (kind_actions kinds c.kind) ++ kind_actions kinds c.kind))
 ahead-is kinds c action next =
-    ap (λ (l : List Action). steps_until kinds c.woken (l ++ actions_in kinds c.kind))
-    (dropped-first (actions_in kinds c.kind) c.action action (stands-at kinds c action next))
+    ap (λ (l : List Action). steps_until kinds c.woken (l ++ kind_actions kinds c.kind))
+    (dropped-first (kind_actions kinds c.kind) c.action action (stands-at kinds c action next))
 
 -- one of what is ahead takes time
-ahead-some : (kinds : List TaskKind) (c : TaskProgress) → list_any takes_time (actions_in kinds c.kind) ≡ true → 1 ≤ steps_ahead kinds c
+ahead-some : (kinds : List TaskKind) (c : TaskProgress) → list_any takes_time (kind_actions kinds c.kind) ≡ true → 1 ≤ steps_ahead kinds c
 ahead-some kinds c h =
     steps-some kinds c.woken (actions_ahead kinds c)
-    (list_any-append takes_time (drop c.action (actions_in kinds c.kind)) (actions_in kinds c.kind)
-    ∙ either (list_any takes_time (drop c.action (actions_in kinds c.kind))) (list_any takes_time (actions_in kinds c.kind)) h)
+    (list_any-append takes_time (drop c.action (kind_actions kinds c.kind)) (kind_actions kinds c.kind)
+    ∙ either (list_any takes_time (drop c.action (kind_actions kinds c.kind))) (list_any takes_time (kind_actions kinds c.kind)) h)
   where
     either : (a b : Bool) → b ≡ true → (a || b) ≡ true
     either true b h = refl
     either false b h = h
 
-count-is : (kinds : List TaskKind) (c : TaskProgress) → actions_of kinds c ≡ length (actions_in kinds c.kind)
+count-is : (kinds : List TaskKind) (c : TaskProgress) → action_count kinds c ≡ length (kind_actions kinds c.kind)
 count-is kinds c =
     elim (slice_get kinds c.kind) as (λ (o : Option TaskKind).
     option_map_or (λ (kind : TaskKind). length kind.actions.items) o 0
@@ -89,45 +89,45 @@ count-is kinds c =
 
 -- once it has come to the next action, what was behind is ahead
 advanced-by_test : (kinds : List TaskKind) (c : TaskProgress) (b : Bool)
-    → nat_le (actions_of kinds c) (c.action + 1) ≡ b → list_any takes_time (actions_in kinds c.kind) ≡ true
+    → nat_le (action_count kinds c) (c.action + 1) ≡ b → list_any takes_time (kind_actions kinds c.kind) ≡ true
     → steps_ahead kinds (if b
     then record c { action = 0; woken = 0; loops = min (c.loops + 1) 18446744073709551615 }
     else record c { action = c.action + 1; woken = 0 })
-    ≡ steps_until kinds 0 (drop (suc c.action) (actions_in kinds c.kind) ++ actions_in kinds c.kind)
+    ≡ steps_until kinds 0 (drop (suc c.action) (kind_actions kinds c.kind) ++ kind_actions kinds c.kind)
 advanced-by_test kinds c true test h =
-    let xs = actions_in kinds c.kind in
-    let all : length xs ≤ suc c.action = omega (arith, leb-true (actions_of kinds c) (c.action + 1) test, count-is kinds c) in
+    let xs = kind_actions kinds c.kind in
+    let all : length xs ≤ suc c.action = omega (arith, leb-true (action_count kinds c) (c.action + 1) test, count-is kinds c) in
     steps-first kinds 0 xs xs h ∙ sym (ap (λ (l : List Action). steps_until kinds 0 (l ++ xs)) (drop_all (suc c.action) xs all))
 advanced-by_test kinds c false test h =
-    let xs = actions_in kinds c.kind in
+    let xs = kind_actions kinds c.kind in
     let e : c.action + 1 ≡ suc c.action = omega arith in
     ap (λ n. steps_until kinds 0 (drop n xs ++ xs)) e
 
-advanced-ahead : (kinds : List TaskKind) (c : TaskProgress) → list_any takes_time (actions_in kinds c.kind) ≡ true
+advanced-ahead : (kinds : List TaskKind) (c : TaskProgress) → list_any takes_time (kind_actions kinds c.kind) ≡ true
     → steps_ahead kinds (advanced_in kinds c)
-    ≡ steps_until kinds 0 (drop (suc c.action) (actions_in kinds c.kind) ++ actions_in kinds c.kind)
-advanced-ahead kinds c h = advanced-by_test kinds c (nat_le (actions_of kinds c) (c.action + 1)) refl h
+    ≡ steps_until kinds 0 (drop (suc c.action) (kind_actions kinds c.kind) ++ kind_actions kinds c.kind)
+advanced-ahead kinds c h = advanced-by_test kinds c (nat_le (action_count kinds c) (c.action + 1)) refl h
 
 -- a wait takes a step
-waited-ahead : (kinds : List TaskKind) (c : TaskProgress) → list_any takes_time (actions_in kinds c.kind) ≡ true
+waited-ahead : (kinds : List TaskKind) (c : TaskProgress) → list_any takes_time (kind_actions kinds c.kind) ≡ true
     → next_action kinds c ≡ Some Wait
     → steps_ahead kinds (advanced_in kinds c) + 1 ≤ steps_ahead kinds c
 waited-ahead kinds c h next = omega (arith, advanced-ahead kinds c h, ahead-is kinds c Wait next)
 
 -- a wake takes a step for each task that it wakes
 woken-by_test : (kinds : List TaskKind) (kind : ℕ) (c : TaskProgress) (b : Bool)
-    → nat_lt (c.woken + 1) (count_of kinds kind) ≡ b → list_any takes_time (actions_in kinds c.kind) ≡ true
-    → next_action kinds c ≡ Some (Wake kind) → c.woken < count_of kinds kind
+    → nat_lt (c.woken + 1) (kind_count kinds kind) ≡ b → list_any takes_time (kind_actions kinds c.kind) ≡ true
+    → next_action kinds c ≡ Some (Wake kind) → c.woken < kind_count kinds kind
     → steps_ahead kinds (if b then record c { woken = c.woken + 1 } else advanced_in kinds c) + 1 ≤ steps_ahead kinds c
 woken-by_test kinds kind c true test h next low =
     omega (arith, low, ahead-is kinds c (Wake kind) next, ahead-is kinds (record c { woken = c.woken + 1 }) (Wake kind) next)
 woken-by_test kinds kind c false test h next low = omega (arith, low, ahead-is kinds c (Wake kind) next, advanced-ahead kinds c h)
 
 woken-ahead : (kinds : List TaskKind) (kind : ℕ) (c : TaskProgress)
-    → list_any takes_time (actions_in kinds c.kind) ≡ true → next_action kinds c ≡ Some (Wake kind)
-    → c.woken < count_of kinds kind
+    → list_any takes_time (kind_actions kinds c.kind) ≡ true → next_action kinds c ≡ Some (Wake kind)
+    → c.woken < kind_count kinds kind
     → steps_ahead kinds (woken_one_in kinds kind c) + 1 ≤ steps_ahead kinds c
-woken-ahead kinds kind c h next low = woken-by_test kinds kind c (nat_lt (c.woken + 1) (count_of kinds kind)) refl h next low
+woken-ahead kinds kind c h next low = woken-by_test kinds kind c (nat_lt (c.woken + 1) (kind_count kinds kind)) refl h next low
 
 -- What is left
 
@@ -143,9 +143,9 @@ at-most s rings false steps is = omega (arith, runs-left s rings steps is)
 -- of a task that can run, has done its phase, and does its next action: two are taken, for the action and for a processor that it may leave
 -- idle
 pub act-takes : (kinds : List TaskKind) (now seed task : ℕ) (drawn : List ℕ) (ls : List ProcessorState) (c : TaskProgress)
-    → now < 2 ^ 48 → list_any takes_time (actions_in kinds c.kind) ≡ true
+    → now < 2 ^ 48 → list_any takes_time (kind_actions kinds c.kind) ≡ true
     → ((action : Action) → next_action kinds c ≡ Some action → is_action (length kinds) action ≡ true)
-    → ((number : ℕ) → next_action kinds c ≡ Some (Wake number) → c.woken < count_of kinds number) → c.task_state ≡ Runnable
+    → ((number : ℕ) → next_action kinds c ≡ Some (Wake number) → c.woken < kind_count kinds number) → c.task_state ≡ Runnable
     → c.got ≡ c.due → uncounted now ls task ≡ 0 → (action : Option Action) → next_action kinds c ≡ action
     → left_of_task kinds now ls task (acted kinds action (length_taken seed task drawn (asked_by action)) now c) + 2
     ≤ left_of_task kinds now ls task c
@@ -170,7 +170,7 @@ act-takes kinds now seed task drawn ls c early some sound low runs done none act
         (omega (arith, none, taken-some seed task drawn asked (sound (Run asked) next))) in
         let k : left_of_task kinds now ls task e ≡ 0 =
         ap (λ b. left_in e.task_state (e.timer == now) b (steps_ahead kinds e)) more
-        ∙ runs-left e.task_state (e.timer == now) (steps_ahead kinds e) (advanced_state (actions_of kinds c) c ∙ runs) in
+        ∙ runs-left e.task_state (e.timer == now) (steps_ahead kinds e) (advanced_state (action_count kinds c) c ∙ runs) in
         omega (arith, k, ahead-some kinds c some)
     after (Some (Sleep asked)) next =
         let long : ℕ = length_taken seed task drawn (Some asked) in

@@ -8,7 +8,7 @@ use Rattle.bq_workload.specs.declared.workload.TaskKind.{TaskKind}
 use Rattle.bq_workload.specs.Soundness.{IsFirstAllowed}
 use Rattle.bq_parts.specs.declared.event.Event.TheVariants.{Admit}
 use Rattle.bq_workload.specs.Kinds.{tasks_in}
-use Rattle.bq_simulate.specs.Actions.{first_of}
+use Rattle.bq_simulate.specs.Actions.{first_task_of}
 use Rattle.bq_simulate.specs.Chronicles.{Deed, Happens}
 use Rattle.bq_simulate.specs.Steps.{AreAdmitted, AreAllAdmitted, AreJust, IsAdmission, IsJoin}
 
@@ -75,7 +75,7 @@ AreAllAdmitted-more processors number task (k ∷ kinds) kind n t xs ys at from 
 -- the kind of this number, after those before it
 pub AreAllAdmitted-next : (processors : ℕ) (kinds : List TaskKind) (number : ℕ) (kind : TaskKind) (xs ys : List Deed)
     → slice_get kinds number ≡ Some kind → AreAllAdmitted processors 0 0 (take number kinds) xs
-    → AreAdmitted processors number kind (first_of kinds number) kind.count ys
+    → AreAdmitted processors number kind (first_task_of kinds number) kind.count ys
     → AreAllAdmitted processors 0 0 (take (number + 1) kinds) (xs ++ ys)
 AreAllAdmitted-next processors kinds number kind xs ys there before are =
     let within = slice_get_within kinds number kind there in
@@ -84,6 +84,6 @@ AreAllAdmitted-next processors kinds number kind xs ys there before are =
     take_more kinds number kind within
     ∙ ap (λ (k : TaskKind). take number kinds ++ k ∷ []) (get_or_from_slice_get kinds number kind kind there) in
     let at : number ≡ 0 + length (take number kinds) = omega (arith, length-take-le number kinds low) in
-    let from : first_of kinds number ≡ 0 + tasks_in (take number kinds) = omega arith in
+    let from : first_task_of kinds number ≡ 0 + tasks_in (take number kinds) = omega arith in
     subst (λ (l : List TaskKind). AreAllAdmitted processors 0 0 l (xs ++ ys)) (sym is)
-    (AreAllAdmitted-more processors 0 0 (take number kinds) kind number (first_of kinds number) xs ys at from before are)
+    (AreAllAdmitted-more processors 0 0 (take number kinds) kind number (first_task_of kinds number) xs ys at from before are)

@@ -20,7 +20,7 @@ use Rattle.bq_parts.specs.declared.reply.Reply.{Reply}
 use Rattle.bq_parts.specs.Choices.{by_programs}
 use Rattle.bq_parts.specs.Moves.{admitted}
 use Rattle.bq_parts.specs.Steps.{WorldStep}
-use Rattle.bq_parts.specs.World.{World, entry, count_in, with_lobby}
+use Rattle.bq_parts.specs.World.{World, entry_of_id, count_in, with_lobby}
 use Rattle.bq_workload.specs.declared.progress.TaskProgress.{TaskProgress}
 use Rattle.bq_workload.specs.declared.progress.TaskState.{TaskState}
 use Rattle.bq_workload.specs.declared.progress.TaskState.TheVariants.{Asleep}
@@ -28,9 +28,9 @@ use Rattle.bq_workload.specs.declared.workload.TaskKind.{TaskKind}
 use Rattle.bq_workload.specs.Accounts.{Accounts}
 use Rattle.bq_workload.specs.Soundness.{goes_round, has_numbers}
 use Rattle.bq_workload.specs.Lengths.{longest}
-use Rattle.bq_workload.specs.TaskProgress.{fresh}
+use Rattle.bq_workload.specs.TaskProgress.{fresh_task}
 use Rattle.bq_simulate.specs.Agreement.{AgreesWith, HaveProcessors, StandsAs, state_at}
-use Rattle.bq_simulate.specs.AgreementLaws.{AdmissionsAreTaken, with_task}
+use Rattle.bq_simulate.specs.AgreementLaws.{AdmissionsAreTaken, accounts_with_task}
 use Rattle.bq_simulate.proofs.MirrorLemmas.{agree_after, at_set_else}
 
 -- the numbers of a kind, as an admission asks for them
@@ -97,12 +97,12 @@ pub admit_kept : (d : Discipline) (w v : World) (a : Accounts) (c : TaskProgress
     (calls : List CounterCall) (r : Reply)
     → AgreesWith w a → length a.by_task < 1024 → c.task_state ≡ Asleep → c.home < count_in w
     → WorldStep (by_programs d) w (Admit (length a.by_task) kind.nice kind.mask kind.slice) calls (Ok r) v
-    → AgreesWith v (with_task c a)
+    → AgreesWith v (accounts_with_task c a)
 admit_kept d w v a c kind calls r h few asleep low step =
     let k = step.1 in
     let n : ℕ = length a.by_task in
     let t : Task = admitted (count_in w) n kind.nice kind.mask kind.slice in
-    let b : Accounts = with_task c a in
+    let b : Accounts = accounts_with_task c a in
     let form : World = with_lobby w (slice_set w.lobby n (Sleeping t)) in
     let is : v ≡ form = k.3 ∙ ap (with_lobby w) k.1.2 in
     let m = h.mirrors.processors in
@@ -119,7 +119,7 @@ admit_kept d w v a c kind calls r h few asleep low step =
       tasks =
           at_set_else (λ i (s : LobbyEntry). StandsAs (state_at b.by_task i) s) w.lobby n (Sleeping t) Absent
           (omega (arith, h.entries, few)) (subst (λ o. StandsAs o (Sleeping t)) (sym here) (refl, refl))
-          (λ i apart. subst (λ o. StandsAs o (entry w i)) (sym (ap state_of (appended_others a.by_task c i apart))) (h.mirrors.tasks i));
+          (λ i apart. subst (λ o. StandsAs o (entry_of_id w i)) (sym (ap state_of (appended_others a.by_task c i apart))) (h.mirrors.tasks i));
       processors = record { many = m.many; runs = m.runs; sizes = m.sizes };
     }) homes
 
@@ -130,7 +130,7 @@ admissions_are_taken d w a number home kind h may =
     let few = may.few in
     let first = may.first in
     let its = numbers_of kind may.numbers in
-    let absent = subst (λ o. StandsAs o (entry w n)) (ap state_of (slice_get_past a.by_task n (omega arith))) (h.mirrors.tasks n) in
+    let absent = subst (λ o. StandsAs o (entry_of_id w n)) (ap state_of (slice_get_past a.by_task n (omega arith))) (h.mirrors.tasks n) in
     record {
       taken =
           rw (
@@ -141,5 +141,5 @@ admissions_are_taken d w a number home kind h may =
                 (le-ltb kind.slice LEAST_SLICE its.least) (le-ltb GREATEST_SLICE kind.slice its.greatest),
             absent,
           ) refl;
-      leaves = λ calls r v step. admit_kept d w v a (fresh number home kind.start) kind calls r h few refl first.within step;
+      leaves = λ calls r v step. admit_kept d w v a (fresh_task number home kind.start) kind calls r h few refl first.within step;
     }

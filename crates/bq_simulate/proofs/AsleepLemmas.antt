@@ -18,7 +18,7 @@ use Rattle.bq_workload.specs.Strays.{HasNoNext, IsStrayLeave, IsStraySwitch}
 use Rattle.bq_workload.proofs.AgreeLemmas.{some_or_none}
 use Rattle.bq_simulate.specs.declared.driver.Driver.{Driver}
 use Rattle.bq_simulate.specs.declared.simulation.Simulation.{Simulation}
-use Rattle.bq_simulate.specs.Agreement.{run_at}
+use Rattle.bq_simulate.specs.Agreement.{runner_at}
 use Rattle.bq_simulate.specs.AgreementLaws.{FailsForMemory, RunsAlone}
 use Rattle.bq_simulate.specs.Drives.{DrivesEvent, runs_now}
 use Rattle.bq_simulate.specs.Order.{FallsAsleep}
@@ -30,7 +30,7 @@ use Rattle.bq_simulate.proofs.StraySwitchLemmas.{CanSwitch, can_switch_sized, ne
 
 -- what runs at a processor is read where that is there
 runs_at_one : (ls : List ProcessorState) (processor task : ℕ)
-    → run_at ls processor ≡ Some task
+    → runner_at ls processor ≡ Some task
     → (l : ProcessorState) × (slice_get ls processor ≡ Some l) × (l.run ≡ Some task)
 runs_at_one ls processor task runs = elim (some_or_none (slice_get ls processor)) [
   | inl none ↦

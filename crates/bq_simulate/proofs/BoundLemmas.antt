@@ -9,17 +9,17 @@ use Rattle.bq_workload.specs.declared.roster.Periods.{Periods}
 use Rattle.bq_workload.specs.declared.workload.Workload.{Workload}
 use Rattle.bq_workload.specs.Accounts.{Accounts, accounts_of}
 use Rattle.bq_workload.specs.Bounds.{most_steps, steps_at_once}
-use Rattle.bq_workload.specs.Next.{IsNext}
+use Rattle.bq_workload.specs.Next.{IsNextDue}
 use Rattle.bq_workload.specs.Soundness.{first_flaw}
 use Rattle.bq_simulate.specs.declared.driver.Driver.{Driver}
 use Rattle.bq_simulate.specs.declared.simulation.Simulation.{Simulation}
-use Rattle.bq_simulate.specs.AtOnce.{left_at}
+use Rattle.bq_simulate.specs.AtOnce.{steps_left_at}
 use Rattle.bq_simulate.specs.Chronicles.{Book, Deed, Lives}
 use Rattle.bq_simulate.specs.Kept.{IsKept}
-use Rattle.bq_simulate.specs.KeptLaws.{FewComeAtOnce, FewComeUntilTheEnd, Leads}
-use Rattle.bq_simulate.specs.Order.{GoesWell, HasProcessors}
+use Rattle.bq_simulate.specs.KeptLaws.{FewComeAtOnce, FewComeUntilTheEnd, DeedsLead}
+use Rattle.bq_simulate.specs.Order.{SimulationGoesWell, HasProcessors}
 use Rattle.bq_simulate.specs.Simulations.{Lived, book_of, opening_book, periods_of, with_seed}
-use Rattle.bq_simulate.specs.Steps.{AreInOrder, Meet, Step, deeds_of}
+use Rattle.bq_simulate.specs.Steps.{AreInOrder, Meet, MetDue, deeds_of}
 use Rattle.bq_simulate.proofs.CountedLemmas.{few-left, processors_in-some}
 use Rattle.bq_simulate.proofs.KeptLemmas.{all_is_kept}
 use Rattle.bq_simulate.proofs.MeetAgreeLemmas.{world_of}
@@ -42,7 +42,7 @@ few_come_at_once = record {
 
 -- `came` things have come. With those that may still come now they are no more than are counted for all instants until now
 abbrev pub IsCounted : Workload → ℕ → ℕ → Accounts → Type 0
-IsCounted w came now a = came + left_at w.tasks.items now a ≤ (now + 1) * (steps_at_once w - 1)
+IsCounted w came now a = came + steps_left_at w.tasks.items now a ≤ (now + 1) * (steps_at_once w - 1)
 
 -- some are counted
 some-at-once : (w : Workload) → 1 ≤ steps_at_once w
@@ -68,17 +68,17 @@ comes-counted w came last now d b sound low h many counted = elim (cases_eq last
   | inr apart ↦
       let more : ℕ = now - last - 1 in
       let is : last + more + 1 ≡ now = omega (arith, low, apart) in
-      let left : ℕ = left_at w.tasks.items now b.accounts in
+      let left : ℕ = steps_left_at w.tasks.items now b.accounts in
       subst (λ n. came + left ≤ (n + 1) * (steps_at_once w - 1)) is
-      (later-counted came (left_at w.tasks.items last b.accounts) left last more (steps_at_once w - 1) counted
+      (later-counted came (steps_left_at w.tasks.items last b.accounts) left last more (steps_at_once w - 1) counted
       (omega (arith, few-left w now d b sound h many)))
 ]
 
 -- the next thing that comes is counted once it is met
 pub met-counted : (w : Workload) (came now : ℕ) (d e : Driver) (b c : Book) (due : Due) (deeds : List Deed)
     (reported : Reported)
-    → first_flaw w ≡ None → now ≤ w.machine.duration → IsNext w.machine.duration b.accounts due now → Meet due now deeds
-    → Leads w d b deeds reported e c → IsKept w.tasks.items now d b → IsCounted w came now b.accounts
+    → first_flaw w ≡ None → now ≤ w.machine.duration → IsNextDue w.machine.duration b.accounts due now → Meet due now deeds
+    → DeedsLead w d b deeds reported e c → IsKept w.tasks.items now d b → IsCounted w came now b.accounts
     → IsCounted w (came + 1) now c.accounts
 met-counted w came now d e b c due deeds reported sound until next meet leads h counted =
     omega (arith, counted, meet-takes w d e b c due now deeds reported sound until next meet leads h)
@@ -94,15 +94,15 @@ counted-below w came now a until counted =
     let end : now + (w.machine.duration - now) ≡ w.machine.duration = omega (arith, until) in
     let all : each + 1 ≡ steps_at_once w = omega (arith, some-at-once w) in
     subst (λ n. came < (w.machine.duration + 1) * n) all
-    (subst (λ n. came < (n + 1) * (each + 1)) end (below came (left_at w.tasks.items now a) now (w.machine.duration - now) each counted))
+    (subst (λ n. came < (n + 1) * (each + 1)) end (below came (steps_left_at w.tasks.items now a) now (w.machine.duration - now) each counted))
 
 -- A simulation that goes well
 
 -- it goes on so from one thing to the next
 pub counted-well : {S : Type 0} (takes : S → ℕ → TraceEvent → S → Type 0) (x y : S) (w : Workload)
     (due : Due) (came last now : ℕ) (s t : Simulation)
-    → last ≤ now → IsNext s.roster.periods.end (accounts_of s.roster) due now
-    → Lived takes w.tasks.items (Meet due now) x s y t → GoesWell w now s → HasProcessors w s
+    → last ≤ now → IsNextDue s.roster.periods.end (accounts_of s.roster) due now
+    → Lived takes w.tasks.items (Meet due now) x s y t → SimulationGoesWell w now s → HasProcessors w s
     → IsCounted w came last (accounts_of s.roster)
     → HasProcessors w t × IsCounted w (came + 1) now (accounts_of t.roster)
 counted-well takes x y w due came last now s t low next lived h many counted =
@@ -111,12 +111,12 @@ counted-well takes x y w due came last now s t low next lived h many counted =
     let seeded : Workload = with_seed w s.seed in
     let was : Book = book_of s h.drawn in
     let is : Book = book_of t g.after in
-    let leads : Leads seeded s.driver was g.deeds g.reports.reported t.driver is =
+    let leads : DeedsLead seeded s.driver was g.deeds g.reports.reported t.driver is =
     subst (λ (p : Periods). Lives kinds s.seed p s.driver was g.deeds g.reports.reported t.driver is)
     h.periods g.reports.holds in
-    let its : IsNext w.machine.duration (accounts_of s.roster) due now =
-    subst (λ (p : Periods). IsNext p.end (accounts_of s.roster) due now) h.periods next in
-    let after : GoesWell w now t = met-well takes x y w due now s t lived h in
+    let its : IsNextDue w.machine.duration (accounts_of s.roster) due now =
+    subst (λ (p : Periods). IsNextDue p.end (accounts_of s.roster) due now) h.periods next in
+    let after : SimulationGoesWell w now t = met-well takes x y w due now s t lived h in
     let still = processors_kept kinds s.seed (periods_of w.machine) s.driver t.driver was is g.deeds g.reports.reported leads in
     let before : IsCounted w came now (accounts_of s.roster) =
     comes-counted w came last now s.driver was h.sound low h.kept many counted in (
@@ -132,9 +132,9 @@ bound-passed w came now most a until all is counted = omega (arith, all, is, cou
 
 -- A whole simulation
 
-steps_counted : (w : Workload) (d e : Driver) (b c : Book) (steps : List Step) (reported : Reported) (now came : ℕ)
+steps_counted : (w : Workload) (d e : Driver) (b c : Book) (steps : List MetDue) (reported : Reported) (now came : ℕ)
     → first_flaw w ≡ None → AreInOrder w.tasks.items w.machine.seed (periods_of w.machine) b steps
-    → Leads w d b (deeds_of steps) reported e c → now ≤ w.machine.duration → IsKept w.tasks.items now d b
+    → DeedsLead w d b (deeds_of steps) reported e c → now ≤ w.machine.duration → IsKept w.tasks.items now d b
     → count_in (world_of d) ≡ processors_in w.machine.size → IsCounted w came now b.accounts
     → came + length steps < (w.machine.duration + 1) * steps_at_once w
 steps_counted w d e b c [] reported now came sound order leads low h count counted =

@@ -16,8 +16,8 @@ use Rattle.bq_simulate.specs.declared.drive_fault.DriveFault.{DriveFault}
 use Rattle.bq_simulate.specs.declared.drive_fault.DriveFault.TheVariants.{OutOfMemory}
 use Rattle.bq_simulate.specs.declared.driver.Driver.{Driver}
 use Rattle.bq_simulate.specs.Agreement.{IsReadable, can_run}
-use Rattle.bq_simulate.specs.AgreementLaws.{CallsFailForMemory, FailsForMemory, IsReady}
-use Rattle.bq_simulate.specs.Drives.{IsWakeFault, Places, reading_of}
+use Rattle.bq_simulate.specs.AgreementLaws.{CallsFailForMemory, FailsForMemory, IsDriverReady}
+use Rattle.bq_simulate.specs.Drives.{IsWakeFault, PlacesWoken, reading_of_event}
 use Rattle.bq_simulate.proofs.AdmissionTakenLemmas.{admissions_are_taken}
 use Rattle.bq_simulate.proofs.FaultLemmas.{only_memory_is_wanted}
 use Rattle.bq_simulate.proofs.MeetAgreeLemmas.{same_rule, step_of, world_of}
@@ -29,11 +29,11 @@ any_periods : Periods
 any_periods = record { end = 0; tick = 0; balance = 0; migration_cost = 0 }
 
 -- what can be read and is not refused
-for_memory : (d : Driver) (event : Event) → IsReadable d.now (reading_of event) → refusal (world_of d) event ≡ None → FailsForMemory d event
+for_memory : (d : Driver) (event : Event) → IsReadable d.now (reading_of_event event) → refusal (world_of d) event ≡ None → FailsForMemory d event
 for_memory d event readable taken = λ why fails. only_memory_is_wanted d event why readable taken fails
 
 wake_fails : (d : Driver) (a : Accounts) (from task now : ℕ) (c : TaskProgress) (why : DriveFault)
-    → IsReady d a now → from < count_in (world_of d) → slice_get a.by_task task ≡ Some c → can_run c.task_state ≡ false
+    → IsDriverReady d a now → from < count_in (world_of d) → slice_get a.by_task task ≡ Some c → can_run c.task_state ≡ false
     → IsWakeFault d from task now why
     → why ≡ OutOfMemory
 wake_fails d a from task now c why ready low at sleeps (inl fails) =
@@ -45,8 +45,8 @@ wake_fails d a from task now c why ready low at sleeps (inr (begun, reported, mi
     for_memory mid (EndWake from now) (subst (λ n. IsReadable n (Some now)) (sym does.rises) ready.reading) end.taken why fails
 
 drain_fails : (d e : Driver) (a : Accounts) (from task to now : ℕ) (c : TaskProgress) (reported : Reported)
-    → IsReady d a now → from < count_in (world_of d) → slice_get a.by_task task ≡ Some c → can_run c.task_state ≡ false
-    → Places d from task now to reported e
+    → IsDriverReady d a now → from < count_in (world_of d) → slice_get a.by_task task ≡ Some c → can_run c.task_state ≡ false
+    → PlacesWoken d from task now to reported e
     → FailsForMemory e (Drain to now)
 drain_fails d e a from task to now c reported ready low at sleeps places =
     let mid : Driver = places.mid in

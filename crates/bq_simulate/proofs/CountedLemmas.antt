@@ -24,8 +24,8 @@ use Rattle.bq_workload.specs.Lengths.{takes_time}
 use Rattle.bq_workload.specs.Soundness.{first_flaw}
 use Rattle.bq_workload.proofs.AgreeLemmas.{some_or_none}
 use Rattle.bq_simulate.specs.declared.driver.Driver.{Driver}
-use Rattle.bq_simulate.specs.Actions.{IsOfKind, first_of}
-use Rattle.bq_simulate.specs.AtOnce.{actions_in, in_all, left_at, left_in, left_of_processor, left_of_task, steps_ahead, uncounted}
+use Rattle.bq_simulate.specs.Actions.{IsTaskOfKind, first_task_of}
+use Rattle.bq_simulate.specs.AtOnce.{kind_actions, in_all, steps_left_at, left_in, left_of_processor, left_of_task, steps_ahead, uncounted}
 use Rattle.bq_simulate.specs.Chronicles.{Book}
 use Rattle.bq_simulate.specs.Kept.{IsKept}
 use Rattle.bq_simulate.proofs.InAllLemmas.{in_all-no_more, sum-most}
@@ -73,12 +73,12 @@ front-most (suc n) m rest f (c ∷ cs) long h last =
 -- a task of one of these kinds has twice so much at most as that kind says
 pub record IsMost (kinds : List TaskKind) (f : ℕ → TaskProgress → ℕ) (g : TaskKind → ℕ) (task : ℕ) (c : TaskProgress) : Type 0 where
   pub number : ℕ
-  pub of : IsOfKind kinds task number
+  pub of : IsTaskOfKind kinds task number
   pub most : f task c ≤ g of.kind * 2
 
 -- the tasks of the kinds behind the first come behind its own
 first-behind : (kind : TaskKind) (kinds : List TaskKind) (number : ℕ)
-    → first_of (kind ∷ kinds) (suc number) ≡ kind.count + first_of kinds number
+    → first_task_of (kind ∷ kinds) (suc number) ≡ kind.count + first_task_of kinds number
 first-behind kind kinds number = sum_by-cons (λ (k : TaskKind). k.count) kind (take number kinds)
 
 first-is : (kind : TaskKind) (kinds : List TaskKind) (f : ℕ → TaskProgress → ℕ) (g : TaskKind → ℕ)
@@ -86,7 +86,7 @@ first-is : (kind : TaskKind) (kinds : List TaskKind) (f : ℕ → TaskProgress �
     → task < kind.count → IsMost (kind ∷ kinds) f g task c → f task c ≤ g kind * 2
 first-is kind kinds f g task c low h = go h.number h.of h.most
   where
-    go : (number : ℕ) (of : IsOfKind (kind ∷ kinds) task number) → f task c ≤ g of.kind * 2 → f task c ≤ g kind * 2
+    go : (number : ℕ) (of : IsTaskOfKind (kind ∷ kinds) task number) → f task c ≤ g of.kind * 2 → f task c ≤ g kind * 2
     go zero of most = subst (λ (k : TaskKind). f task c ≤ g k * 2) (sym (same_Some kind of.kind of.there)) most
     go (suc number) of most = absurd (omega (arith, of.from, low, first-behind kind kinds number))
 
@@ -95,10 +95,10 @@ behind-is : (kind : TaskKind) (kinds : List TaskKind) (f : ℕ → TaskProgress 
     → IsMost (kind ∷ kinds) f g (kind.count + task) c → IsMost kinds (λ i. f (kind.count + i)) g task c
 behind-is kind kinds f g task c h = go h.number h.of h.most
   where
-    go : (number : ℕ) (of : IsOfKind (kind ∷ kinds) (kind.count + task) number)
+    go : (number : ℕ) (of : IsTaskOfKind (kind ∷ kinds) (kind.count + task) number)
         → f (kind.count + task) c ≤ g of.kind * 2 → IsMost kinds (λ i. f (kind.count + i)) g task c
     go zero of most =
-        let none : first_of (kind ∷ kinds) 0 ≡ 0 = refl in
+        let none : first_task_of (kind ∷ kinds) 0 ≡ 0 = refl in
         absurd (omega (arith, of.below, none, ap (λ (k : TaskKind). k.count) (same_Some kind of.kind of.there)))
     go (suc number) of most = record {
       number = number;
@@ -144,16 +144,16 @@ in-most Over rings done steps = omega arith
 
 -- a task takes no more steps at once than its kind does once, and one for its timer
 task-most : (w : Workload) (now : ℕ) (ls : List ProcessorState) (task : ℕ) (c : TaskProgress)
-    → first_flaw w ≡ None → (of : IsOfKind w.tasks.items task c.kind)
+    → first_flaw w ≡ None → (of : IsTaskOfKind w.tasks.items task c.kind)
     → left_of_task w.tasks.items now ls task c ≤ steps_of w.tasks.items of.kind.actions.items * 2
 task-most w now ls task c sound of =
     let kinds = w.tasks.items in
     let good : IsSoundKind (length kinds) of.kind = sound_kind w c.kind of.kind sound of.there in
-    let actions : actions_in kinds c.kind ≡ of.kind.actions.items =
+    let actions : kind_actions kinds c.kind ≡ of.kind.actions.items =
     ap (λ (o : Option TaskKind). option_map_or (λ (x : TaskKind). x.actions.items) o []) of.there in
     let round : steps_ahead kinds c ≤ sum_by (steps_for kinds) of.kind.actions.items =
     subst (λ (l : List Action). steps_ahead kinds c ≤ sum_by (steps_for kinds) l) actions
-    (steps-round kinds c.woken c.action (actions_in kinds c.kind) (ap (list_any takes_time) actions ∙ good.time)) in
+    (steps-round kinds c.woken c.action (kind_actions kinds c.kind) (ap (list_any takes_time) actions ∙ good.time)) in
     omega (arith, round, in-most c.task_state (c.timer == now) (nat_le c.due (c.got + uncounted now ls task)) (steps_ahead kinds c))
 
 processor-most : (now : ℕ) (l : ProcessorState) → left_of_processor now l ≤ 2
@@ -197,7 +197,7 @@ none-ticks w now d b h none n l at = elim (some_or_none l.run) [
 -- at no instant may as many things still come as are counted for one
 pub few-left : (w : Workload) (now : ℕ) (d : Driver) (b : Book)
     → first_flaw w ≡ None → IsKept w.tasks.items now d b → length b.accounts.by_processor ≡ processors_in w.machine.size
-    → left_at w.tasks.items now b.accounts < steps_at_once w
+    → steps_left_at w.tasks.items now b.accounts < steps_at_once w
 few-left w now d b sound h many =
     let kinds = w.tasks.items in
     let a : Accounts = b.accounts in

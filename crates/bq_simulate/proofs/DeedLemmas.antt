@@ -8,22 +8,22 @@ use Rattle.bq_parts.specs.declared.reply.Reply.{Reply}
 use Rattle.bq_trace.specs.TraceEvents.{TraceEvent, Reported, Gets}
 use Rattle.bq_trace.proofs.TakingLemmas.{TakesAll-append}
 use Rattle.bq_simulate.specs.declared.driver.Driver.{Driver}
-use Rattle.bq_simulate.specs.Drives.{Did, Drives, Drove, Places}
+use Rattle.bq_simulate.specs.Drives.{Did, Drives, Drove, PlacesWoken}
 use Rattle.bq_workload.specs.Streams.{stream_of_task}
 use Rattle.bq_workload.specs.declared.action.Action.{Action}
 use Rattle.bq_workload.specs.declared.workload.TaskKind.{TaskKind}
 use Rattle.bq_workload.specs.declared.progress.TaskProgress.{TaskProgress}
 use Rattle.bq_workload.specs.declared.roster.Periods.{Periods}
-use Rattle.bq_workload.specs.Accounts.{Accounts, IsDone, LooksAt, TicksAt, accounts_of, beaten, charged, looked, of_task}
-use Rattle.bq_workload.specs.TaskProgress.{fresh, woken}
+use Rattle.bq_workload.specs.Accounts.{Accounts, IsPhaseDone, LooksAt, TicksAt, accounts_of, beaten, accounts_charged, looked, of_task}
+use Rattle.bq_workload.specs.TaskProgress.{fresh_task, progress_woken}
 use Rattle.bq_workload.specs.Dues.{IsSource}
 use Rattle.bq_workload.specs.Next.{IsAgreed, StaysAgreed}
 use Rattle.bq_workload.proofs.AgreedLemmas.{both}
 use Rattle.bq_workload.proofs.DueLemmas.{same-accounts}
 use Rattle.bq_simulate.specs.declared.simulation.Simulation.{Simulation}
-use Rattle.bq_simulate.specs.Actions.{IsOfKind, acted, aim_of, asked_by, first_of, next_action, start_of}
-use Rattle.bq_simulate.specs.Chronicles.{Acts, Beats, Book, Deed, Happens, IsDue, IsWoken, Joins, Lives, Looks, Misses, Reaches, Rings, after_act, after_answer, after_beat, after_event, after_look, drawn_with, events_of, joined, length_taken}
-use Rattle.bq_simulate.specs.Simulations.{BeginsMore, Befell, DrawsFor, GoesByDeeds, HasDrawn, HasFirsts, Lived, Same, Silent, Stays, book_of, streams_after}
+use Rattle.bq_simulate.specs.Actions.{IsTaskOfKind, acted, aim_of, asked_by, first_task_of, next_action, kind_start}
+use Rattle.bq_simulate.specs.Chronicles.{Acts, Beats, Book, Deed, Happens, MayCome, IsWoken, Joins, Lives, Looks, Misses, Reaches, Rings, after_act, after_answer, after_beat, after_event, after_look, drawn_with, events_of, task_added, length_taken}
+use Rattle.bq_simulate.specs.Simulations.{BeginsMore, Befell, DrawsFor, GoesByDeeds, HasDrawn, HasFirsts, Lived, Same, Silent, SimulationStays, book_of, streams_after}
 use Rattle.bq_simulate.specs.Steps.{AreJust, AreWake, Follow, IsAct, IsJoin}
 use Rattle.bq_simulate.proofs.KindLemmas.{firsts-pushed}
 use Rattle.bq_simulate.proofs.StreamLemmas.{gives_if_asked, opened-streams}
@@ -49,7 +49,7 @@ Lives-append kinds seed periods d m e a b c (Happens event reply ∷ xs) ys repo
       ap (λ t. t ++ more) whole ∙ append_assoc first rest more,
     )
 Lives-append kinds seed periods d m e a b c (Joins kind home ∷ xs) ys reported more (of, lives) k =
-    (of, Lives-append kinds seed periods d m e (joined kinds kind home a) b c xs ys reported more lives k)
+    (of, Lives-append kinds seed periods d m e (task_added kinds kind home a) b c xs ys reported more lives k)
 Lives-append kinds seed periods d m e a b c (Acts at task now action aim ∷ xs) ys reported more (c', done, is, to, lives) k = (
   c',
   done,
@@ -83,7 +83,7 @@ drives-of-lives kinds seed periods d e a b (Happens event reply ∷ xs) reported
   whole,
 )
 drives-of-lives kinds seed periods d e a b (Joins kind home ∷ xs) reported (of, lives) =
-    drives-of-lives kinds seed periods d e (joined kinds kind home a) b xs reported lives
+    drives-of-lives kinds seed periods d e (task_added kinds kind home a) b xs reported lives
 drives-of-lives kinds seed periods d e a b (Acts at task now action aim ∷ xs) reported (c, done, is, to, lives) =
     drives-of-lives kinds seed periods d e (after_act kinds seed at task now c a) b xs reported lives
 drives-of-lives kinds seed periods d e a b (Rings task now ∷ xs) reported (c, there, asleep, timer, lives) =
@@ -191,18 +191,18 @@ Lived-silent takes kinds A x s t silent drawn had firsts =
     }
 
 -- streams that have not changed
-pub streams-stay : (s t : Simulation) (drawn : List ℕ) → Stays s t → HasDrawn s drawn → HasDrawn t drawn
+pub streams-stay : (s t : Simulation) (drawn : List ℕ) → SimulationStays s t → HasDrawn s drawn → HasDrawn t drawn
 streams-stay s t drawn stays had = ap (λ v. v.items) stays.streams ∙ had ∙ ap (λ n. streams_after n 0 drawn) (sym stays.seed)
 
 -- the first tasks of kinds have not changed
-pub firsts-stay : (kinds : List TaskKind) (s t : Simulation) → Stays s t → HasFirsts kinds s → HasFirsts kinds t
+pub firsts-stay : (kinds : List TaskKind) (s t : Simulation) → SimulationStays s t → HasFirsts kinds s → HasFirsts kinds t
 firsts-stay kinds s t stays had number first there = had number first (ap (λ v. slice_get v.items number) (sym stays.firsts) ∙ there)
 
 -- where the first tasks of kinds have not changed they are not fewer
 begun-same : (s t : Simulation) → t.firsts ≡ s.firsts → BeginsMore s t
 begun-same s t same = omega (arith, ap (λ v. length v.items) same)
 
-begun-stay : (s t : Simulation) → Stays s t → BeginsMore s t
+begun-stay : (s t : Simulation) → SimulationStays s t → BeginsMore s t
 begun-stay s t stays = begun-same s t stays.firsts
 
 -- nothing was done
@@ -277,17 +277,17 @@ of_task_at f task a c there =
 -- a phase has ended, and the task does its next action, for which a length is drawn where it takes one
 pub Silent-acts : (kinds : List TaskKind) (s m n t : Simulation) (processor task now length : ℕ) (action : Option Action)
     (c next : TaskProgress)
-    → action ≡ next_action kinds c → Stays s m → m.driver ≡ s.driver
-    → accounts_of m.roster ≡ charged processor now (accounts_of s.roster) → IsDone (accounts_of m.roster) processor task c
+    → action ≡ next_action kinds c → SimulationStays s m → m.driver ≡ s.driver
+    → accounts_of m.roster ≡ accounts_charged processor now (accounts_of s.roster) → IsPhaseDone (accounts_of m.roster) processor task c
     → DrawsFor task (asked_by (next_action kinds c)) m length n → next ≡ acted kinds (next_action kinds c) length now c
-    → Stays n t → t.driver ≡ n.driver → t.roster.by_task.items ≡ slice_set n.roster.by_task.items task next
+    → SimulationStays n t → t.driver ≡ n.driver → t.roster.by_task.items ≡ slice_set n.roster.by_task.items task next
     → t.roster.by_processor.items ≡ n.roster.by_processor.items
     → Silent kinds (IsAct processor task now action (aim_of kinds c action)) s t
 Silent-acts kinds s m n t processor task now length action c next is ended driver counted done draws does set
     driver' by_task by_processor drawn had firsts =
     let asked = asked_by (next_action kinds c) in
     let g = gives_if_asked task asked m length n draws drawn (streams-stay s m drawn ended had) in
-    let P : Accounts → Type 0 = λ a. IsDone a processor task c in
+    let P : Accounts → Type 0 = λ a. IsPhaseDone a processor task c in
     let same = ap accounts_of g.roster in
     let there : slice_get n.roster.by_task.items task ≡ Some c = ap (λ (a : Accounts). slice_get a.by_task task) same ∙ done.there in
     let value : length ≡ length_taken s.seed task drawn asked = g.value ∙ ap (λ k. length_taken k task drawn asked) ended.seed in
@@ -295,7 +295,7 @@ Silent-acts kinds s m n t processor task now length action c next is ended drive
     let accounts =
     same-accounts _ _ _ _ by_task by_processor ∙ sym (of_task_at (λ _. next) task (accounts_of n.roster) c there)
     ∙ ap (of_task (λ _. next) task) (same ∙ counted)
-    ∙ ap (λ (k : TaskProgress). of_task (λ _. k) task (charged processor now (accounts_of s.roster))) becomes in
+    ∙ ap (λ (k : TaskProgress). of_task (λ _. k) task (accounts_charged processor now (accounts_of s.roster))) becomes in
     record {
       deeds = Acts processor task now action (aim_of kinds c action) ∷ [];
       after = drawn_with task drawn asked;
@@ -323,10 +323,10 @@ Silent-acts kinds s m n t processor task now length action c next is ended drive
 -- a task is there, with its stream
 pub Silent-joins : (kinds : List TaskKind) (s t : Simulation) (kind home : ℕ)
     → StaysAgreed s.roster t.roster → t.roster.periods ≡ s.roster.periods → t.seed ≡ s.seed → t.driver ≡ s.driver
-    → t.firsts ≡ s.firsts → t.roster.by_task.items ≡ s.roster.by_task.items ++ fresh kind home (start_of kinds kind) ∷ []
+    → t.firsts ≡ s.firsts → t.roster.by_task.items ≡ s.roster.by_task.items ++ fresh_task kind home (kind_start kinds kind) ∷ []
     → t.roster.by_processor.items ≡ s.roster.by_processor.items
     → t.streams.items ≡ s.streams.items ++ stream_of_task s.seed (length s.streams.items) ∷ []
-    → IsOfKind kinds (length s.roster.by_task.items) kind
+    → IsTaskOfKind kinds (length s.roster.by_task.items) kind
     → Silent kinds (IsJoin kind home) s t
 Silent-joins kinds s t kind home agrees periods seed driver kept by_task by_processor streams of drawn had firsts = record {
   deeds = Joins kind home ∷ [];
@@ -351,7 +351,7 @@ Silent-joins kinds s t kind home agrees periods seed driver kept by_task by_proc
 -- the first task of the next kind is kept
 pub Silent-begins : (kinds : List TaskKind) (s t : Simulation) (number : ℕ)
     → length s.firsts.items ≡ number → t.roster ≡ s.roster → t.seed ≡ s.seed → t.streams ≡ s.streams → t.driver ≡ s.driver
-    → t.firsts.items ≡ s.firsts.items ++ first_of kinds number ∷ []
+    → t.firsts.items ≡ s.firsts.items ++ first_task_of kinds number ∷ []
     → Silent kinds (AreJust []) s t
 Silent-begins kinds s t number long roster seed streams driver pushed drawn had firsts = record {
   deeds = [];
@@ -361,7 +361,7 @@ Silent-begins kinds s t number long roster seed streams driver pushed drawn had 
   streams = ap (λ v. v.items) streams ∙ had ∙ ap (λ n. streams_after n 0 drawn) (sym seed);
   firsts = λ n first there.
       firsts-pushed kinds s.firsts.items number long firsts n first (ap (λ (l : List ℕ). slice_get l n) (sym pushed) ∙ there);
-  begun = omega (arith, ap (λ (l : List ℕ). length l) pushed, length-append s.firsts.items (first_of kinds number ∷ []));
+  begun = omega (arith, ap (λ (l : List ℕ). length l) pushed, length-append s.firsts.items (first_task_of kinds number ∷ []));
   agrees = λ h. subst IsAgreed (sym roster) h;
   lives = (refl, driver, ap (λ r. record { accounts = accounts_of r; drawn = drawn }) roster);
   are = refl;
@@ -370,7 +370,7 @@ Silent-begins kinds s t number long roster seed streams driver pushed drawn had 
 -- one deed of which nothing is reported and for which no length is drawn, and then what befalls
 pub Befell-first : {S : Type 0} (takes : S → ℕ → TraceEvent → S → Type 0) (A B : List Deed → Type 0)
     (x y : S) (s t u : Simulation) (deed : Deed)
-    → Stays s t → ((kinds : List TaskKind) (drawn : List ℕ) →
+    → SimulationStays s t → ((kinds : List TaskKind) (drawn : List ℕ) →
     Lives kinds s.seed s.roster.periods s.driver (book_of s drawn) (deed ∷ []) [] t.driver (book_of t drawn))
     → ((xs : List Deed) → A xs → B (deed ∷ xs)) → Befell takes A x t y u
     → Befell takes B x s y u
@@ -393,13 +393,13 @@ Befell-first takes A B x y s t u deed stays lives first befell kinds =
     u (Lived-silent takes kinds one x s t silent) (befell kinds)
 
 -- in one simulation nothing changes
-pub Stays-here : (s : Simulation) → Stays s s
+pub Stays-here : (s : Simulation) → SimulationStays s s
 Stays-here s = record { agrees = λ h. h; periods = refl; seed = refl; streams = refl; firsts = refl }
 
 -- a clock beats, and then what befalls
 pub Befell-beats : {S : Type 0} (takes : S → ℕ → TraceEvent → S → Type 0) (A B : List Deed → Type 0) (x y : S)
     (s t u : Simulation) (processor now : ℕ)
-    → TicksAt (accounts_of s.roster) processor now → Stays s t → t.driver ≡ s.driver
+    → TicksAt (accounts_of s.roster) processor now → SimulationStays s t → t.driver ≡ s.driver
     → accounts_of t.roster ≡ beaten processor now s.roster.periods.tick (accounts_of s.roster)
     → ((xs : List Deed) → A xs → B (Beats processor now ∷ xs)) → Befell takes A x t y u
     → Befell takes B x s y u
@@ -411,7 +411,7 @@ Befell-beats takes A B x y s t u processor now ticks stays driver accounts first
 -- a processor looks for a task to pull, and then what befalls
 pub Befell-looks : {S : Type 0} (takes : S → ℕ → TraceEvent → S → Type 0) (A B : List Deed → Type 0) (x y : S)
     (s t u : Simulation) (processor now : ℕ) (source : Option ℕ)
-    → LooksAt (accounts_of s.roster) processor now → IsSource s.roster.by_processor.items processor source → Stays s t
+    → LooksAt (accounts_of s.roster) processor now → IsSource s.roster.by_processor.items processor source → SimulationStays s t
     → t.driver ≡ s.driver → accounts_of t.roster ≡ looked processor now s.roster.periods.balance (accounts_of s.roster)
     → ((xs : List Deed) → A xs → B (Looks processor now source ∷ xs)) → Befell takes A x t y u
     → Befell takes B x s y u
@@ -423,7 +423,7 @@ Befell-looks takes A B x y s t u processor now source looks from stays driver ac
 -- an event happens
 pub Lived-event : {S : Type 0} (takes : S → ℕ → TraceEvent → S → Type 0) (A : List Deed → Type 0) (x y : S)
     (s t : Simulation) (event : Event) (reply : Reply)
-    → A (Happens event reply ∷ []) → IsDue event (accounts_of s.roster) → Stays s t → Did takes x s.driver event reply y t.driver
+    → A (Happens event reply ∷ []) → MayCome event (accounts_of s.roster) → SimulationStays s t → Did takes x s.driver event reply y t.driver
     → accounts_of t.roster ≡ after_event s.roster.periods event reply (accounts_of s.roster)
     → Befell takes A x s y t
 Lived-event takes A x y s t event reply are due stays did accounts kinds drawn had firsts = record {
@@ -454,8 +454,8 @@ Lived-event takes A x y s t event reply are due stays did accounts kinds drawn h
 -- an event of which the accounts know nothing
 pub Lived-drove : {S : Type 0} (takes : S → ℕ → TraceEvent → S → Type 0) (A : List Deed → Type 0)
     (x y : S) (s t : Simulation) (event : Event)
-    → ((reply : Reply) → A (Happens event reply ∷ [])) → IsDue event (accounts_of s.roster)
-    → Stays s t → ((reply : Reply) (a : Accounts) → after_event s.roster.periods event reply a ≡ a)
+    → ((reply : Reply) → A (Happens event reply ∷ [])) → MayCome event (accounts_of s.roster)
+    → SimulationStays s t → ((reply : Reply) (a : Accounts) → after_event s.roster.periods event reply a ≡ a)
     → Drove takes x s.driver (event ∷ []) y t.driver → accounts_of t.roster ≡ accounts_of s.roster
     → Befell takes A x s y t
 Lived-drove takes A x y s t event are due stays quiet drove accounts kinds drawn had firsts =
@@ -492,9 +492,9 @@ Lived-drove takes A x y s t event are due stays quiet drove accounts kinds drawn
 -- a task is woken, and the processor on which it was placed takes it in
 pub Lived-wakes : {S : Type 0} (takes : S → ℕ → TraceEvent → S → Type 0) (x y z : S) (s t : Simulation)
     (m : Driver) (from task to now : ℕ) (reply : Reply)
-    → IsWoken (accounts_of s.roster) from task → Stays s t
-    → Gets takes x y (λ reported. Places s.driver from task now to reported m) → Did takes y m (Drain to now) reply z t.driver
-    → accounts_of t.roster ≡ after_event s.roster.periods (Drain to now) reply (of_task woken task (accounts_of s.roster))
+    → IsWoken (accounts_of s.roster) from task → SimulationStays s t
+    → Gets takes x y (λ reported. PlacesWoken s.driver from task now to reported m) → Did takes y m (Drain to now) reply z t.driver
+    → accounts_of t.roster ≡ after_event s.roster.periods (Drain to now) reply (of_task progress_woken task (accounts_of s.roster))
     → Befell takes (AreWake from task now) x s z t
 Lived-wakes takes x y z s t m from task to now reply due stays woke did accounts kinds drawn had firsts =
     let h = woke.holds in

@@ -6,7 +6,7 @@ use Rattle.bq_parts.specs.declared.reply.Reply.{Reply}
 use Rattle.bq_trace.specs.TraceEvents.{TraceEvent, Reported, Gets}
 use Rattle.bq_trace.proofs.TakingLemmas.{TakesAll-append}
 use Rattle.bq_simulate.specs.declared.driver.Driver.{Driver}
-use Rattle.bq_simulate.specs.Drives.{Did, DrivesEvent, Drives, Drove, Places, placed_at}
+use Rattle.bq_simulate.specs.Drives.{Did, DrivesEvent, Drives, Drove, PlacesWoken, placed_at}
 
 -- events one after another, and then others
 pub Drives-append : (d m e : Driver) (xs ys : List Event) (reported more : Reported)
@@ -48,7 +48,7 @@ Drove-join takes a b c d m e xs ys first second = record {
 pub Places-of : {S : Type 0} (takes : S → ℕ → TraceEvent → S → Type 0) (a b c : S) (d m e : Driver)
     (from task now to : ℕ) (begun placed : Reply)
     → Did takes a d (BeginWake from task) begun b m → placed_at placed ≡ Some to → Did takes b m (EndWake from now) placed c e
-    → Gets takes a c (λ reported. Places d from task now to reported e)
+    → Gets takes a c (λ reported. PlacesWoken d from task now to reported e)
 Places-of takes a b c d m e from task now to begun placed first place second = record {
   reported = first.reported ++ second.reported;
   taken = TakesAll-append takes a b c first.reported second.reported first.taken second.taken;
@@ -67,7 +67,7 @@ Places-of takes a b c d m e from task now to begun placed first place second = r
 
 -- a wake is two events
 pub Drove-places : {S : Type 0} (takes : S → ℕ → TraceEvent → S → Type 0) (a b : S) (d e : Driver) (from task now to : ℕ)
-    → Gets takes a b (λ reported. Places d from task now to reported e)
+    → Gets takes a b (λ reported. PlacesWoken d from task now to reported e)
     → Drove takes a d (BeginWake from task ∷ EndWake from now ∷ []) b e
 Drove-places takes a b d e from task now to gets =
     let h = gets.holds in

@@ -14,10 +14,10 @@ use Rattle.bq_workload.specs.declared.processor_state.ProcessorState.{ProcessorS
 use Rattle.bq_workload.specs.declared.roster.Roster.{Roster}
 use Rattle.bq_workload.specs.declared.workload.TaskKind.{TaskKind}
 use Rattle.bq_workload.specs.declared.workload.Workload.{Workload}
-use Rattle.bq_workload.specs.Accounts.{Accounts, IsDone, accounts_of, changed_at, charged, is_same}
-use Rattle.bq_workload.specs.Dues.{end_of, until}
+use Rattle.bq_workload.specs.Accounts.{Accounts, IsPhaseDone, accounts_of, changed_at, accounts_charged, is_same}
+use Rattle.bq_workload.specs.Dues.{phase_end, until}
 use Rattle.bq_workload.specs.Lengths.{is_length}
-use Rattle.bq_workload.specs.Next.{HasHome, IsNext, StaysAgreed, comes_at, ends_at}
+use Rattle.bq_workload.specs.Next.{HasHome, IsNextDue, StaysAgreed, comes_at, phase_ends_at}
 use Rattle.bq_workload.specs.Soundness.{first_flaw, is_action}
 use Rattle.bq_workload.specs.Streams.{stream_of_task}
 use Rattle.bq_workload.specs.Strays.{IsStrayEnd, IsStrayProgress, NoneIsDone}
@@ -25,10 +25,10 @@ use Rattle.bq_workload.specs.TaskProgress.{run_for}
 use Rattle.bq_workload.proofs.AgreeLemmas.{changed_at-here, some_or_none}
 use Rattle.bq_workload.proofs.AgreedLemmas.{charged-is, end-of}
 use Rattle.bq_simulate.specs.declared.simulation.Simulation.{Simulation}
-use Rattle.bq_simulate.specs.Actions.{acted, action_at, actions_of, asked_by, next_action}
+use Rattle.bq_simulate.specs.Actions.{acted, action_at, action_count, asked_by, next_action}
 use Rattle.bq_simulate.specs.Agreement.{AgreesWith, IsOnTime, ProcessorIsOnTime, RunsOnTime}
 use Rattle.bq_simulate.specs.Kept.{StandsAtAction}
-use Rattle.bq_simulate.specs.Order.{GoesWell, IsStrayAction}
+use Rattle.bq_simulate.specs.Order.{SimulationGoesWell, IsStrayAction}
 use Rattle.bq_simulate.specs.Simulations.{streams_after}
 use Rattle.bq_simulate.proofs.AccountLemmas.{charged_there}
 use Rattle.bq_simulate.proofs.MeetAgreeLemmas.{advanced_home, agrees_charged, woken_one_home, world_of}
@@ -55,20 +55,20 @@ pub record EndsNow (now processor : ℕ) (a : Accounts) : Type 0 where
 ends_now : (end now processor : ℕ) (a : Accounts) → end < 2 ^ 48 → IsOnTime now a → comes_at end a (End processor) ≡ Some now
     → EndsNow now processor a
 ends_now end now processor a early h comes = elim (some_or_none (slice_get a.by_processor processor)) [
-  | inl none ↦ absurd (none-some now (sym (ap (λ (o : Option ProcessorState). option_and_then (ends_at end a.by_task) o) none) ∙ comes))
+  | inl none ↦ absurd (none-some now (sym (ap (λ (o : Option ProcessorState). option_and_then (phase_ends_at end a.by_task) o) none) ∙ comes))
   | inr (l, at) ↦
       let p : ProcessorIsOnTime now a.by_task l = h.processors processor l at in
-      let ends : ends_at end a.by_task l ≡ Some now =
-      sym (ap (λ (o : Option ProcessorState). option_and_then (ends_at end a.by_task) o) at) ∙ comes in
+      let ends : phase_ends_at end a.by_task l ≡ Some now =
+      sym (ap (λ (o : Option ProcessorState). option_and_then (phase_ends_at end a.by_task) o) at) ∙ comes in
       elim (some_or_none l.run) [
         | inl none ↦
             absurd (none-some now (sym (ap (λ (o : Option ℕ).
-            option_and_then (λ task. option_and_then (λ (c : TaskProgress). until end (end_of l.since c)) (slice_get a.by_task task)) o)
+            option_and_then (λ task. option_and_then (λ (c : TaskProgress). until end (phase_end l.since c)) (slice_get a.by_task task)) o)
             none)
             ∙ ends))
         | inr (task, runs) ↦
             let r : RunsOnTime now a.by_task l task = p.runs task runs in
-            let u = until_is end (end_of l.since r.progress) now (sym (end-of end processor task a l r.progress at runs r.there) ∙ comes) in
+            let u = until_is end (phase_end l.since r.progress) now (sym (end-of end processor task a l r.progress at runs r.there) ∙ comes) in
             record {
               state = l;
               at = at;
@@ -82,11 +82,11 @@ ends_now end now processor a early h comes = elim (some_or_none (slice_get a.by_
 ]
 
 -- some task is done where the end of a phase comes at an instant at which nothing is past
-one_is_done : (now processor : ℕ) (a : Accounts) → EndsNow now processor a → NoneIsDone processor (charged processor now a) → ⊥
+one_is_done : (now processor : ℕ) (a : Accounts) → EndsNow now processor a → NoneIsDone processor (accounts_charged processor now a) → ⊥
 one_is_done now processor a e none =
     let l : ProcessorState = e.state in
     let f : TaskProgress → TaskProgress = run_for (now - l.since) in
-    let counts : (charged processor now a).by_task ≡ changed_at f a.by_task e.task =
+    let counts : (accounts_charged processor now a).by_task ≡ changed_at f a.by_task e.task =
     ap (λ (x : Accounts). x.by_task) (charged-is processor now l a e.at)
     ∙ ap (λ (o : Option ℕ). option_map_or (λ task. changed_at f a.by_task task) o a.by_task) e.runs in
     none e.task (f e.progress) (record {
@@ -99,7 +99,7 @@ one_is_done now processor a e none =
 
 -- no end of a phase goes astray that comes next while a simulation goes well
 pub no_stray_end : (w : Workload) (now processor : ℕ) (s : Simulation)
-    → GoesWell w now s → IsNext w.machine.duration (accounts_of s.roster) (End processor) now
+    → SimulationGoesWell w now s → IsNextDue w.machine.duration (accounts_of s.roster) (End processor) now
     → IsStrayEnd processor now (accounts_of s.roster)
     → ⊥
 no_stray_end w now processor s h next astray =
@@ -127,14 +127,14 @@ pub record HasEnded (w : Workload) (processor task : ℕ) (c : TaskProgress) (s 
 
 -- each task whose phase has ended while a simulation goes well stands at an action, has a stream, and was last there
 pub has_ended : (w : Workload) (now processor task : ℕ) (c : TaskProgress) (s : Simulation) (r : Roster)
-    → GoesWell w now s → StaysAgreed s.roster r → accounts_of r ≡ charged processor now (accounts_of s.roster)
-    → IsDone (accounts_of r) processor task c
+    → SimulationGoesWell w now s → StaysAgreed s.roster r → accounts_of r ≡ accounts_charged processor now (accounts_of s.roster)
+    → IsPhaseDone (accounts_of r) processor task c
     → HasEnded w processor task c s
 has_ended w now processor task c s r h agrees counted done =
     let kinds : List TaskKind = w.tasks.items in
     let was : Accounts = accounts_of s.roster in
-    let a : Accounts = charged processor now was in
-    let at : IsDone a processor task c = subst (λ (x : Accounts). IsDone x processor task c) counted done in
+    let a : Accounts = accounts_charged processor now was in
+    let at : IsPhaseDone a processor task c = subst (λ (x : Accounts). IsPhaseDone x processor task c) counted done in
     let stand : AllStand kinds a.by_task =
     charged_keeps (λ x. AllStand kinds x.by_task) (standing_of_places kinds) processor now was h.kept.standing.tasks in
     let world : AgreesWith (world_of s.driver) a = agrees_charged (world_of s.driver) was processor now h.kept.agrees in
@@ -202,15 +202,15 @@ no_stray_action w sound task c action stands is (inr (number, wakes, none)) =
 pub acted_home : (action : Option Action) (kinds : List TaskKind) (length now : ℕ) (c : TaskProgress)
     → (acted kinds action length now c).home ≡ c.home
 acted_home None kinds length now c = refl
-acted_home (Some (Run asked)) kinds length now c = advanced_home (actions_of kinds c) c
-acted_home (Some (Sleep asked)) kinds length now c = advanced_home (actions_of kinds c) c
-acted_home (Some Wait) kinds length now c = advanced_home (actions_of kinds c) c
+acted_home (Some (Run asked)) kinds length now c = advanced_home (action_count kinds c) c
+acted_home (Some (Sleep asked)) kinds length now c = advanced_home (action_count kinds c) c
+acted_home (Some Wait) kinds length now c = advanced_home (action_count kinds c) c
 acted_home (Some (Wake kind)) kinds length now c = woken_one_home kinds kind c
 
 -- a task whose phase has ended takes up its next action
 pub no_stray_progress : (w : Workload) (action : Option Action) (processor task length now : ℕ) (c new : TaskProgress)
     (s : Simulation) (a : Accounts)
-    → HasEnded w processor task c s → IsDone a processor task c → new ≡ acted w.tasks.items action length now c
+    → HasEnded w processor task c s → IsPhaseDone a processor task c → new ≡ acted w.tasks.items action length now c
     → IsStrayProgress processor task new a
     → ⊥
 no_stray_progress w action processor task length now c new s a e done is (inl still) =

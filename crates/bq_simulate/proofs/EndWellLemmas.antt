@@ -21,10 +21,10 @@ use Rattle.bq_workload.specs.TaskProgress.{keeps_phase}
 use Rattle.bq_simulate.specs.declared.driver.Driver.{Driver}
 use Rattle.bq_simulate.specs.declared.simulation.Simulation.{Simulation}
 use Rattle.bq_simulate.specs.Agreement.{IsOnTime}
-use Rattle.bq_simulate.specs.AgreementLaws.{Agree}
+use Rattle.bq_simulate.specs.AgreementLaws.{BookAgrees}
 use Rattle.bq_simulate.specs.Chronicles.{Book, Deed, Lives, after_answer, is_busy}
 use Rattle.bq_simulate.specs.Drives.{DrivesEvent, runs_now}
-use Rattle.bq_simulate.specs.Order.{GoesWell, HasGoneWell}
+use Rattle.bq_simulate.specs.Order.{SimulationGoesWell, HasGoneWell}
 use Rattle.bq_simulate.specs.Simulations.{Lived, periods_of, with_seed}
 use Rattle.bq_simulate.specs.Steps.{AreJust, last_ticks}
 use Rattle.bq_simulate.proofs.KeptLemmas.{AreBy, by_kept}
@@ -39,7 +39,7 @@ use Rattle.bq_simulate.proofs.WellLemmas.{KeepAll, goes-well}
 
 -- world and accounts agree, and nothing is past
 abbrev Fits : ℕ → Driver → Book → Type 0
-Fits now d b = Agree d b × IsOnTime now b.accounts
+Fits now d b = BookAgrees d b × IsOnTime now b.accounts
 
 -- a tick keeps that
 tick_fits : (periods : Periods) (d e : Driver) (b : Book) (processor now : ℕ) (reply : Reply) (reported : Reported)
@@ -101,15 +101,15 @@ ticks_keep w seed now processors sound d e b c deeds reported are leads h =
 -- a simulation goes on well by ticks of some processors
 pub ticked-well : {S : Type 0} (takes : S → ℕ → TraceEvent → S → Type 0) (x y : S) (w : Workload) (now : ℕ)
     (processors : List ℕ) (a : Accounts) (s t : Simulation)
-    → Lived takes w.tasks.items (AreJust (last_ticks now processors a)) x s y t → GoesWell w now s
-    → GoesWell w now t
+    → Lived takes w.tasks.items (AreJust (last_ticks now processors a)) x s y t → SimulationGoesWell w now s
+    → SimulationGoesWell w now t
 ticked-well takes x y w now processors a s t lived h =
     goes-well takes (AreJust (last_ticks now processors a)) x y w now s t
     (ticks_keep w s.seed now (filter (is_busy a) processors) h.sound) lived h
 
 -- once nothing comes any more it has come to its end
 pub ended-well : (w : Workload) (s : Simulation) → NothingComes s.roster.periods.end (accounts_of s.roster) → HasGoneWell w s
-    → GoesWell w w.machine.duration s
+    → SimulationGoesWell w w.machine.duration s
 ended-well w s none gone =
     let h = gone.well in
     let k = h.kept in

@@ -15,7 +15,7 @@ use Rattle.bq_verify.specs.Accepted.{Accepted}
 use Rattle.bq_simulate.specs.Chronicles.{Book, Deed, Happens, events_of}
 use Rattle.bq_simulate.specs.Replays.{AreOfImages, IsFromImages, IsLoadedFromImage}
 use Rattle.bq_simulate.specs.Simulations.{IsSimulation, Proceeds}
-use Rattle.bq_simulate.specs.Steps.{AreAdmitted, AreAllAdmitted, AreInstalled, AreJust, AreWake, Follow, Meet, Step, deeds_of, pulls_of}
+use Rattle.bq_simulate.specs.Steps.{AreAdmitted, AreAllAdmitted, AreInstalled, AreJust, AreWake, Follow, Meet, MetDue, deeds_of, pulls_of}
 use Rattle.bq_simulate.specs.Texts.{ByHook}
 
 -- each policy that the deeds install is that of the image at its hook
@@ -99,7 +99,7 @@ meets images (due.Tick processor) now deeds (more, is, rest) = same images is (j
 meets images (due.Pull processor) now deeds (source, more, is, rest) =
     same images is (just images (pulls_of processor now source) more (pulls images processor now source) rest)
 
-all_met : (images : ByHook) (steps : List Step) → InstallsImages images (deeds_of steps)
+all_met : (images : ByHook) (steps : List MetDue) → InstallsImages images (deeds_of steps)
 all_met images [] = tt
 all_met images (step ∷ steps) =
     joined images step.deeds (deeds_of steps) (meets images step.due step.at step.deeds step.meet) (all_met images steps)

@@ -12,7 +12,7 @@ use Rattle.bq_parts.specs.declared.reply.Reply.{Reply}
 use Rattle.bq_parts.specs.declared.reply.Reply.TheVariants.{Drawn}
 use Rattle.bq_parts.specs.Choices.{by_programs}
 use Rattle.bq_disc.specs.Counts.{saturating_sum}
-use Rattle.bq_parts.specs.Processors.{Processor, opening}
+use Rattle.bq_parts.specs.Processors.{Processor, new_processor}
 use Rattle.bq_parts.specs.Steps.{WorldStep}
 use Rattle.bq_parts.specs.World.{World, count_in, opening_world, processor_at, with_processor}
 use Rattle.bq_verify.specs.Accepted.{Accepted}
@@ -26,7 +26,7 @@ use Rattle.bq_simulate.proofs.MirrorLemmas.{at_set_else}
 abbrev generation_at : World → ℕ → Hook → ℕ
 generation_at w processor hook = (at_hook hook (processor_at w processor).hooks).generation
 
-nothing_stands : (hook : Hook) → (at_hook hook opening.hooks).generation ≡ 0
+nothing_stands : (hook : Hook) → (at_hook hook new_processor.hooks).generation ≡ 0
 nothing_stands Place = refl
 nothing_stands Preempt = refl
 nothing_stands Pull = refl
@@ -34,7 +34,7 @@ nothing_stands Pull = refl
 opened : (count : ℕ) → WereDrawn (opening_world count)
 opened count processor hook = omega (
   arith,
-  ap (λ (p : Processor). (at_hook hook p.hooks).generation) (same_everywhere opening count processor),
+  ap (λ (p : Processor). (at_hook hook p.hooks).generation) (same_everywhere new_processor count processor),
   nothing_stands hook,
 )
 
@@ -87,11 +87,11 @@ installed d w v calls r processor generation hook policy newer h step =
     (attached_low w.drawn hook other p.hooks new newer.drawn (h processor)) in
     let were : WereDrawn (with_processor w processor q) =
     at_set_else (λ n (x : Processor). (other : Hook) → (at_hook other x.hooks).generation ≤ w.drawn) w.processors
-    processor q opening low here (λ n apart. h n) in
+    processor q new_processor low here (λ n apart. h n) in
     let left : (n : ℕ) (other : Hook) → processor + 1 ≤ n
     → generation_at (with_processor w processor q) n other < generation =
     at_set_else (λ n (x : Processor). (other : Hook) → processor + 1 ≤ n → (at_hook other x.hooks).generation < generation)
-    w.processors processor q opening low (λ other late. absurd (omega (arith, late)))
+    w.processors processor q new_processor low (λ other late. absurd (omega (arith, late)))
     (λ n apart other late. newer.newer n other (omega (arith, late))) in (
       ap (λ (x : World). x.drawn) k.3,
       subst (λ (x : World). WereDrawn x) (sym k.3) were,

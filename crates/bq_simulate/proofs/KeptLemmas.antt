@@ -20,16 +20,16 @@ use Rattle.bq_workload.specs.declared.progress.TaskProgress.{TaskProgress}
 use Rattle.bq_workload.specs.declared.roster.Periods.{Periods}
 use Rattle.bq_workload.specs.declared.workload.TaskKind.{TaskKind}
 use Rattle.bq_workload.specs.declared.workload.Workload.{Workload}
-use Rattle.bq_workload.specs.Accounts.{Accounts, charged}
-use Rattle.bq_workload.specs.Next.{IsNext}
+use Rattle.bq_workload.specs.Accounts.{Accounts, accounts_charged}
+use Rattle.bq_workload.specs.Next.{IsNextDue}
 use Rattle.bq_workload.specs.Soundness.{first_flaw}
 use Rattle.bq_simulate.specs.declared.driver.Driver.{Driver}
 use Rattle.bq_simulate.specs.Chronicles.{Acts, Beats, Book, Deed, Happens, Joins, Lives, Looks, Misses, Reaches, Rings, after_act, after_answer, after_beat, after_look}
-use Rattle.bq_simulate.specs.Drives.{Rises, Starts, reading_of}
+use Rattle.bq_simulate.specs.Drives.{Rises, Starts, reading_of_event}
 use Rattle.bq_simulate.specs.Kept.{IsKept, StandAtActions}
-use Rattle.bq_simulate.specs.KeptLaws.{AllIsKept, BeginningsAreKept, Leads}
+use Rattle.bq_simulate.specs.KeptLaws.{AllIsKept, BeginningsAreKept, DeedsLead}
 use Rattle.bq_simulate.specs.Simulations.{opening_book, periods_of}
-use Rattle.bq_simulate.specs.Steps.{AreInOrder, AreJust, AreWake, Follow, Meet, Opens, Step, Wakes, deeds_of, pulls_of}
+use Rattle.bq_simulate.specs.Steps.{AreInOrder, AreJust, AreWake, Follow, Meet, Opens, MetDue, WakesTask, deeds_of, pulls_of}
 use Rattle.bq_simulate.proofs.AccountLemmas.{changed_at-length}
 use Rattle.bq_simulate.proofs.MeetAgreeLemmas.{meetings_agree, step_of, world_of}
 use Rattle.bq_simulate.proofs.MeetTimeLemmas.{meetings_are_on_time}
@@ -49,7 +49,7 @@ IsReadBy now (Some reading) = reading ≤ now
 -- deeds of which none is a task that joins, with readings that are no later than an instant
 abbrev pub AreBy : ℕ → List Deed → Type 0
 AreBy now [] = Unit {0}
-AreBy now (Happens event reply ∷ deeds) = IsReadBy now (reading_of event) × AreBy now deeds
+AreBy now (Happens event reply ∷ deeds) = IsReadBy now (reading_of_event event) × AreBy now deeds
 AreBy now (Joins kind home ∷ deeds) = ⊥
 AreBy now (Acts processor task at action aim ∷ deeds) = AreBy now deeds
 AreBy now (Rings task at ∷ deeds) = AreBy now deeds
@@ -58,7 +58,7 @@ AreBy now (Misses task ∷ deeds) = AreBy now deeds
 AreBy now (Beats processor at ∷ deeds) = AreBy now deeds
 AreBy now (Looks processor at source ∷ deeds) = AreBy now deeds
 
-one_by : (now : ℕ) (event : Event) (deeds : List Deed) → IsReadBy now (reading_of event) → AreJust (event ∷ []) deeds → AreBy now deeds
+one_by : (now : ℕ) (event : Event) (deeds : List Deed) → IsReadBy now (reading_of_event event) → AreJust (event ∷ []) deeds → AreBy now deeds
 one_by now event deeds read (reply, more, is, none) = subst (λ l. AreBy now l) (sym is) (read, subst (λ l. AreBy now l) (sym none) tt)
 
 none_by : (now : ℕ) (deeds : List Deed) → deeds ≡ [] → AreBy now deeds
@@ -69,7 +69,7 @@ wake_by now from task deeds (begun, placed, drained, to, at, is) =
     let same : now ≤ now = omega arith in
     subst (λ l. AreBy now l) (sym is) (tt, (same, (same, tt)))
 
-wakes_by : (now task processor : ℕ) (deeds : List Deed) → Wakes task processor now deeds → AreBy now deeds
+wakes_by : (now task processor : ℕ) (deeds : List Deed) → WakesTask task processor now deeds → AreBy now deeds
 wakes_by now task processor deeds (inl is) = subst (λ l. AreBy now l) (sym is) tt
 wakes_by now task processor deeds (inr (more, is, wake)) = subst (λ l. AreBy now l) (sym is) (wake_by now processor task more wake)
 
@@ -101,7 +101,7 @@ rises_by now last next (Some reading) read rises low = omega (arith, rises.2, re
 act_count : (kinds : List TaskKind) (seed processor task now : ℕ) (c : TaskProgress) (b : Book)
     → length (after_act kinds seed processor task now c b).accounts.by_task ≡ length b.accounts.by_task
 act_count kinds seed processor task now c b =
-    changed_at-length _ (charged processor now b.accounts).by_task task
+    changed_at-length _ (accounts_charged processor now b.accounts).by_task task
     ∙ charged_keeps (λ (x : Accounts). length x.by_task ≡ length b.accounts.by_task)
     (count_of_places (length b.accounts.by_task)) processor now b.accounts refl
 
@@ -119,7 +119,7 @@ by_kept kinds seed periods d e b c now (Happens event reply ∷ deeds) reported 
     (due, mid, first, rest, does, lives, whole) low =
     let later =
     by_kept kinds seed periods mid e (after_answer periods event reply b) c now deeds rest are.1 lives
-    (rises_by now d.now mid.now (reading_of event) are.0 does.rises low) in
+    (rises_by now d.now mid.now (reading_of_event event) are.0 does.rises low) in
     let step = step_of d event reply first mid does in (
       later.0,
       later.1 ∙ event_keeps (λ (x : Accounts). length x.by_task ≡ length b.accounts.by_task)
@@ -151,7 +151,7 @@ none_stands w = record { tasks = λ task c at. absurd (none-some c at); streams 
 opened : (policies : List Accepted) (w : Workload) (d e : Driver) (b : Book) (deeds : List Deed) (first reported : Reported)
     → first_flaw w ≡ None → Starts w.machine.rule w.machine.size first d
     → Opens policies (processors_in w.machine.size) w.tasks.items deeds
-    → Leads w d (opening_book w.machine) deeds reported e b
+    → DeedsLead w d (opening_book w.machine) deeds reported e b
     → IsKept w.tasks.items 0 e b
 opened policies w d e b deeds first reported sound starts opens leads =
     let o = opened_open policies w d e b deeds first reported starts opens leads in
@@ -165,7 +165,7 @@ opened policies w d e b deeds first reported sound starts opens leads =
     }
 
 comes : (w : Workload) (d : Driver) (b : Book) (due : Due) (now time : ℕ)
-    → first_flaw w ≡ None → IsKept w.tasks.items now d b → IsNext w.machine.duration b.accounts due time
+    → first_flaw w ≡ None → IsKept w.tasks.items now d b → IsNextDue w.machine.duration b.accounts due time
     → (now ≤ time) × (time ≤ w.machine.duration) × IsKept w.tasks.items time d b
 comes w d b due now time sound h next =
     let m = nothing_is_missed w.machine.duration now time b.accounts due (sound_times w sound).duration h.on_time next in (
@@ -175,7 +175,7 @@ comes w d b due now time sound h next =
     )
 
 met : (w : Workload) (d e : Driver) (b c : Book) (due : Due) (now : ℕ) (deeds : List Deed) (reported : Reported)
-    → first_flaw w ≡ None → now ≤ w.machine.duration → Meet due now deeds → Leads w d b deeds reported e c
+    → first_flaw w ≡ None → now ≤ w.machine.duration → Meet due now deeds → DeedsLead w d b deeds reported e c
     → IsKept w.tasks.items now d b
     → IsKept w.tasks.items now e c
 met w d e b c due now deeds reported sound until meet leads h =
@@ -200,9 +200,9 @@ pub all_is_kept : AllIsKept
 all_is_kept = record { opened = opened; comes = comes; met = met }
 
 -- along all that is met
-steps_kept : (w : Workload) (d e : Driver) (b c : Book) (steps : List Step) (reported : Reported) (now : ℕ)
+steps_kept : (w : Workload) (d e : Driver) (b c : Book) (steps : List MetDue) (reported : Reported) (now : ℕ)
     → first_flaw w ≡ None → AreInOrder w.tasks.items w.machine.seed (periods_of w.machine) b steps
-    → Leads w d b (deeds_of steps) reported e c → now ≤ w.machine.duration → IsKept w.tasks.items now d b
+    → DeedsLead w d b (deeds_of steps) reported e c → now ≤ w.machine.duration → IsKept w.tasks.items now d b
     → (last : ℕ) × (last ≤ w.machine.duration) × IsKept w.tasks.items last e c
 steps_kept w d e b c [] reported now sound order leads low h = (
   now,

@@ -6,15 +6,15 @@ use Rattle.std.proofs.lemmas.List.Sums.{sum_by-append, sum_by-take-drop}
 use Rattle.std.proofs.lemmas.Option.{get_or_from_slice_get, slice_get_within, none-some, same_Some}
 use Rattle.bq_workload.specs.declared.workload.TaskKind.{TaskKind}
 use Rattle.bq_workload.specs.Kinds.{tasks_in}
-use Rattle.bq_simulate.specs.Actions.{IsOfKind, first_of}
+use Rattle.bq_simulate.specs.Actions.{IsTaskOfKind, first_task_of}
 
 -- the tasks of the next kind follow those of this one
 pub first-more : (kinds : List TaskKind) (number : ℕ) (kind : TaskKind)
-    → slice_get kinds number ≡ Some kind → first_of kinds (number + 1) ≡ first_of kinds number + kind.count
+    → slice_get kinds number ≡ Some kind → first_task_of kinds (number + 1) ≡ first_task_of kinds number + kind.count
 first-more kinds number kind there =
     let count : TaskKind → ℕ = λ k. k.count in
-    let first = first_of kinds number in
-    let last : first_of kinds (number + 1) ≡ first + sum_by count (get_or kinds number kind ∷ []) =
+    let first = first_task_of kinds number in
+    let last : first_task_of kinds (number + 1) ≡ first + sum_by count (get_or kinds number kind ∷ []) =
     ap (sum_by count) (take_more kinds number kind (slice_get_within kinds number kind there))
     ∙ sum_by-append count (take number kinds) (get_or kinds number kind ∷ []) in
     let is : first + sum_by count (get_or kinds number kind ∷ []) ≡ first + sum_by count (kind ∷ []) =
@@ -24,14 +24,14 @@ first-more kinds number kind there =
 
 -- the tasks of a kind are among all tasks
 pub kind-within : (kinds : List TaskKind) (number : ℕ) (kind : TaskKind)
-    → slice_get kinds number ≡ Some kind → first_of kinds number + kind.count ≤ tasks_in kinds
+    → slice_get kinds number ≡ Some kind → first_task_of kinds number + kind.count ≤ tasks_in kinds
 kind-within kinds number kind there =
     omega (arith, first-more kinds number kind there, sum_by-take-drop (λ (k : TaskKind). k.count) kinds (number + 1))
 
 -- the tasks of a kind, one after another
 pub nth-of-kind : (kinds : List TaskKind) (kind : TaskKind) (task number before : ℕ)
-    → slice_get kinds number ≡ Some kind → task ≡ first_of kinds number + before → before < kind.count
-    → IsOfKind kinds task number
+    → slice_get kinds number ≡ Some kind → task ≡ first_task_of kinds number + before → before < kind.count
+    → IsTaskOfKind kinds task number
 nth-of-kind kinds kind task number before there at low =
     record { kind = kind; there = there; from = omega (arith, at); below = omega (arith, at, low) }
 
@@ -50,11 +50,11 @@ in_longer (m ∷ ns) last n (suc place) e = one (in_longer ns last n place e)
 
 -- with the first task of the next kind, each is still that of its kind
 pub firsts-pushed : (kinds : List TaskKind) (firsts : List ℕ) (number : ℕ)
-    → length firsts ≡ number → ((place first : ℕ) → slice_get firsts place ≡ Some first → first ≡ first_of kinds place)
-    → (place first : ℕ) → slice_get (firsts ++ first_of kinds number ∷ []) place ≡ Some first
-    → first ≡ first_of kinds place
-firsts-pushed kinds firsts number long had place first there = one (in_longer firsts (first_of kinds number) first place there)
+    → length firsts ≡ number → ((place first : ℕ) → slice_get firsts place ≡ Some first → first ≡ first_task_of kinds place)
+    → (place first : ℕ) → slice_get (firsts ++ first_task_of kinds number ∷ []) place ≡ Some first
+    → first ≡ first_task_of kinds place
+firsts-pushed kinds firsts number long had place first there = one (in_longer firsts (first_task_of kinds number) first place there)
   where
-    one : (slice_get firsts place ≡ Some first) ⊎ ((place ≡ length firsts) × (first_of kinds number ≡ first)) → first ≡ first_of kinds place
+    one : (slice_get firsts place ≡ Some first) ⊎ ((place ≡ length firsts) × (first_task_of kinds number ≡ first)) → first ≡ first_task_of kinds place
     one (inl before) = had place first before
-    one (inr last) = sym last.1 ∙ ap (first_of kinds) (sym (last.0 ∙ long))
+    one (inr last) = sym last.1 ∙ ap (first_task_of kinds) (sym (last.0 ∙ long))

@@ -12,12 +12,12 @@ use Rattle.bq_workload.specs.declared.progress.TaskState.{TaskState}
 use Rattle.bq_workload.specs.declared.progress.TaskState.TheVariants.{Asleep, Waiting, Runnable, Over}
 use Rattle.bq_workload.specs.declared.roster.Periods.{Periods}
 use Rattle.bq_workload.specs.declared.workload.TaskKind.{TaskKind}
-use Rattle.bq_workload.specs.Accounts.{Accounts, changed_at, charged, idled, is_same, occupied, of_processor, of_task, passed, switched, taken_over}
+use Rattle.bq_workload.specs.Accounts.{Accounts, changed_at, accounts_charged, idled, is_same, occupied, of_processor, of_task, accounts_passed, accounts_switched, taken_over}
 use Rattle.bq_workload.specs.Dues.{next_multiple}
 use Rattle.bq_workload.specs.TaskProgress.{lengthened, migrates_to, moved_to, run_for}
 use Rattle.bq_workload.proofs.AgreeLemmas.{changed_at-here, changed_at-others, some_or_none}
 use Rattle.bq_workload.proofs.AgreedLemmas.{both, charged-is, counted, since_now}
-use Rattle.bq_simulate.specs.AtOnce.{in_all, left_at, left_in, left_of_processor, left_of_task, steps_ahead, uncounted, uncounted_at}
+use Rattle.bq_simulate.specs.AtOnce.{in_all, steps_left_at, left_in, left_of_processor, left_of_task, steps_ahead, uncounted, uncounted_at}
 use Rattle.bq_simulate.proofs.AccountLemmas.{changed_at-length, charged_there, unchanged}
 use Rattle.bq_simulate.proofs.InAllLemmas.{in_all-less, in_all-no_more, sum-changed, sum-no_more}
 
@@ -67,7 +67,7 @@ one-changed F f cs task h n x y new old = elim (cases_eq n task) [
 pub task-left : (kinds : List TaskKind) (now : ℕ) (f : TaskProgress → TaskProgress) (task : ℕ) (a : Accounts)
     → ((c : TaskProgress) → slice_get a.by_task task ≡ Some c →
     left_of_task kinds now a.by_processor task (f c) ≤ left_of_task kinds now a.by_processor task c)
-    → left_at kinds now (of_task f task a) ≤ left_at kinds now a
+    → steps_left_at kinds now (of_task f task a) ≤ steps_left_at kinds now a
 task-left kinds now f task a h =
     let F = left_of_task kinds now a.by_processor in
     omega (
@@ -81,7 +81,7 @@ pub task-takes : (kinds : List TaskKind) (now : ℕ) (f : TaskProgress → TaskP
     (a : Accounts) (c : TaskProgress)
     → slice_get a.by_task task ≡ Some c
     → left_of_task kinds now a.by_processor task (f c) + d ≤ left_of_task kinds now a.by_processor task c
-    → left_at kinds now (of_task f task a) + d ≤ left_at kinds now a
+    → steps_left_at kinds now (of_task f task a) + d ≤ steps_left_at kinds now a
 task-takes kinds now f task d a c at less =
     let F = left_of_task kinds now a.by_processor in
     let cs = a.by_task in
@@ -113,7 +113,7 @@ uncounted-no_more kinds now cs ls ms h =
 pub processor-left : (kinds : List TaskKind) (now : ℕ) (f : ProcessorState → ProcessorState) (processor : ℕ) (a : Accounts)
     (l : ProcessorState)
     → slice_get a.by_processor processor ≡ Some l → ((task : ℕ) → uncounted_at now task (f l) ≤ uncounted_at now task l)
-    → left_at kinds now (of_processor f processor a) + left_of_processor now l ≤ left_at kinds now a + left_of_processor now (f l)
+    → steps_left_at kinds now (of_processor f processor a) + left_of_processor now l ≤ steps_left_at kinds now a + left_of_processor now (f l)
 processor-left kinds now f processor a l at h =
     let ls = a.by_processor in
     let less : (task : ℕ) → uncounted now (changed_at f ls processor) task ≤ uncounted now ls task = λ task.
@@ -128,13 +128,13 @@ processor-left kinds now f processor a l at h =
 
 -- how many tasks a processor has changes nothing of it
 pub sized-left : (kinds : List TaskKind) (now : ℕ) (g : ℕ → ℕ) (processor : ℕ) (a : Accounts)
-    → left_at kinds now (of_processor (λ l. record l { size = g l.size }) processor a) ≤ left_at kinds now a
+    → steps_left_at kinds now (of_processor (λ l. record l { size = g l.size }) processor a) ≤ steps_left_at kinds now a
 sized-left kinds now g processor a =
     let f : ProcessorState → ProcessorState = λ l. record l { size = g l.size } in
     elim (some_or_none (slice_get a.by_processor processor)) [
       | inl none ↦
-          let is : left_at kinds now (of_processor f processor a) ≡ left_at kinds now a =
-          ap (λ (ls : List ProcessorState). left_at kinds now (both a.by_task ls))
+          let is : steps_left_at kinds now (of_processor f processor a) ≡ steps_left_at kinds now a =
+          ap (λ (ls : List ProcessorState). steps_left_at kinds now (both a.by_task ls))
           (unchanged f a.by_processor processor none) in
           omega (arith, is)
       | inr (l, at) ↦ omega (arith, processor-left kinds now f processor a l at (λ task. omega arith))
@@ -142,7 +142,7 @@ sized-left kinds now g processor a =
 
 -- a task that goes from one queue to another changes nothing of what is left
 pub passed-left : (kinds : List TaskKind) (now from to : ℕ) (task : Option ℕ) (a : Accounts)
-    → left_at kinds now (option_map_or (λ _. passed from to a) task a) ≤ left_at kinds now a
+    → steps_left_at kinds now (option_map_or (λ _. accounts_passed from to a) task a) ≤ steps_left_at kinds now a
 passed-left kinds now from to None a = omega arith
 passed-left kinds now from to (Some id) a = omega (
   arith,
@@ -165,7 +165,7 @@ just-counted false now m = omega arith
 -- it has got what it had not been counted for, and lacks as much as before
 pub charged-left : (kinds : List TaskKind) (now processor : ℕ) (a : Accounts) (l : ProcessorState)
     → slice_get a.by_processor processor ≡ Some l
-    → left_at kinds now (charged processor now a) ≤ left_at kinds now a
+    → steps_left_at kinds now (accounts_charged processor now a) ≤ steps_left_at kinds now a
 charged-left kinds now processor a l at =
     let cs = a.by_task in
     let ls = a.by_processor in
@@ -210,7 +210,7 @@ charged-left kinds now processor a l at =
                 (task-no_more kinds now ls ms task y y.due (y.got + ran) y.home y.has_run (λ d. omega (arith, d, its))))
           ]))
     ] in
-    subst (λ (x : Accounts). left_at kinds now x ≤ left_at kinds now a) (sym (charged-is processor now l a at)) (omega (arith, tasks, same))
+    subst (λ (x : Accounts). steps_left_at kinds now x ≤ steps_left_at kinds now a) (sym (charged-is processor now l a at)) (omega (arith, tasks, same))
 
 -- Another task runs
 
@@ -221,7 +221,7 @@ at-most-one false = omega arith
 
 idled-left : (kinds : List TaskKind) (now processor : ℕ) (a : Accounts) (l : ProcessorState)
     → slice_get a.by_processor processor ≡ Some l
-    → left_at kinds now (of_processor (idled now) processor a) + left_of_processor now l ≤ left_at kinds now a + 1
+    → steps_left_at kinds now (of_processor (idled now) processor a) + left_of_processor now l ≤ steps_left_at kinds now a + 1
 idled-left kinds now processor a l at =
     omega (
       arith,
@@ -249,7 +249,7 @@ begun-left tick task now l some =
     ]
 
 moved-left : (kinds : List TaskKind) (now processor cost task : ℕ) (a : Accounts)
-    → left_at kinds now (of_task (moved_to processor cost) task a) ≤ left_at kinds now a
+    → steps_left_at kinds now (of_task (moved_to processor cost) task a) ≤ steps_left_at kinds now a
 moved-left kinds now processor cost task a =
     task-left kinds now (moved_to processor cost) task a (λ c at.
     let b : Bool = migrates_to processor c && nat_le c.got c.due in
@@ -260,7 +260,7 @@ moved-left kinds now processor cost task a =
 
 taken-left : (kinds : List TaskKind) (periods : Periods) (now processor task : ℕ) (a : Accounts) (l : ProcessorState)
     → 1 ≤ periods.tick → slice_get a.by_processor processor ≡ Some l
-    → left_at kinds now (taken_over processor (Some task) now periods a) ≤ left_at kinds now a
+    → steps_left_at kinds now (taken_over processor (Some task) now periods a) ≤ steps_left_at kinds now a
 taken-left kinds periods now processor task a l some at =
     omega (
       arith,
@@ -273,59 +273,59 @@ taken-left kinds periods now processor task a l some at =
 -- no more is left, unless the processor falls idle and looks for a task then
 abbrev pub IsSwitchedLeft : List TaskKind → ℕ → Accounts → ProcessorState → Accounts → Type 0
 IsSwitchedLeft kinds now a l b =
-    (left_at kinds now b ≤ left_at kinds now a) ⊎ (left_at kinds now b + left_of_processor now l ≤ left_at kinds now a + 1)
+    (steps_left_at kinds now b ≤ steps_left_at kinds now a) ⊎ (steps_left_at kinds now b + left_of_processor now l ≤ steps_left_at kinds now a + 1)
 
 over-left : (run : Option ℕ) (kinds : List TaskKind) (periods : Periods) (now processor : ℕ) (a : Accounts)
     (l : ProcessorState)
     → 1 ≤ periods.tick → slice_get a.by_processor processor ≡ Some l
-    → IsSwitchedLeft kinds now a l (taken_over processor run now periods (charged processor now a))
+    → IsSwitchedLeft kinds now a l (taken_over processor run now periods (accounts_charged processor now a))
 over-left None kinds periods now processor a l some at =
     inr (omega (
       arith,
       charged-left kinds now processor a l at,
-      idled-left kinds now processor (charged processor now a) (record l { since = now })
+      idled-left kinds now processor (accounts_charged processor now a) (record l { since = now })
           (charged_there processor now a l at),
     ))
 over-left (Some task) kinds periods now processor a l some at =
     inl (omega (
       arith,
       charged-left kinds now processor a l at,
-      taken-left kinds periods now processor task (charged processor now a) (record l { since = now }) some
+      taken-left kinds periods now processor task (accounts_charged processor now a) (record l { since = now }) some
           (charged_there processor now a l at),
     ))
 
 switched-form : (periods : Periods) (now processor : ℕ) (run : Option ℕ) (a : Accounts) (l : ProcessorState)
     → slice_get a.by_processor processor ≡ Some l
-    → switched processor run now periods a
-    ≡ (if is_same l.run run then a else taken_over processor run now periods (charged processor now a))
+    → accounts_switched processor run now periods a
+    ≡ (if is_same l.run run then a else taken_over processor run now periods (accounts_charged processor now a))
 switched-form periods now processor run a l at =
     ap (λ (o : Option ProcessorState).
     option_map_or
-    (λ (x : ProcessorState). if is_same x.run run then a else taken_over processor run now periods (charged processor now a))
+    (λ (x : ProcessorState). if is_same x.run run then a else taken_over processor run now periods (accounts_charged processor now a))
     o a) at
 
 -- no more is left once another task runs, as an answer says, or none, unless the processor falls idle and looks for a task then
 pub switched-left : (kinds : List TaskKind) (periods : Periods) (now processor : ℕ) (run : Option ℕ) (a : Accounts)
     (l : ProcessorState)
     → 1 ≤ periods.tick → slice_get a.by_processor processor ≡ Some l
-    → IsSwitchedLeft kinds now a l (switched processor run now periods a)
+    → IsSwitchedLeft kinds now a l (accounts_switched processor run now periods a)
 switched-left kinds periods now processor run a l some at =
-    let over : Accounts = taken_over processor run now periods (charged processor now a) in
+    let over : Accounts = taken_over processor run now periods (accounts_charged processor now a) in
     subst (λ (x : Accounts). IsSwitchedLeft kinds now a l x) (sym (switched-form periods now processor run a l at))
     (elim (is_same l.run run) as (λ b. IsSwitchedLeft kinds now a l (if b then a else over))
     [ true ↦ inl (omega arith) | false ↦ over-left run kinds periods now processor a l some at ])
 
 -- at most one step more is left once another task runs, or none
 pub switched-one : (kinds : List TaskKind) (periods : Periods) (now processor : ℕ) (run : Option ℕ) (a : Accounts)
-    → 1 ≤ periods.tick → left_at kinds now (switched processor run now periods a) ≤ left_at kinds now a + 1
+    → 1 ≤ periods.tick → steps_left_at kinds now (accounts_switched processor run now periods a) ≤ steps_left_at kinds now a + 1
 switched-one kinds periods now processor run a some = elim (some_or_none (slice_get a.by_processor processor)) [
   | inl none ↦
-      let is : switched processor run now periods a ≡ a =
+      let is : accounts_switched processor run now periods a ≡ a =
       ap (λ (o : Option ProcessorState).
       option_map_or
-      (λ (x : ProcessorState). if is_same x.run run then a else taken_over processor run now periods (charged processor now a)) o a)
+      (λ (x : ProcessorState). if is_same x.run run then a else taken_over processor run now periods (accounts_charged processor now a)) o a)
       none in
-      omega (arith, ap (left_at kinds now) is)
+      omega (arith, ap (steps_left_at kinds now) is)
   | inr (l, at) ↦ elim (switched-left kinds periods now processor run a l some at) [ inl h ↦ omega (arith, h) | inr h ↦ omega (arith, h) ]
 ]
 
@@ -333,21 +333,21 @@ switched-one kinds periods now processor run a some = elim (some_or_none (slice_
 pub switched-kept : (kinds : List TaskKind) (periods : Periods) (now processor : ℕ) (run : Option ℕ) (a : Accounts)
     (l : ProcessorState)
     → 1 ≤ periods.tick → slice_get a.by_processor processor ≡ Some l → (run ≡ None → l.run ≡ None)
-    → left_at kinds now (switched processor run now periods a) ≤ left_at kinds now a
+    → steps_left_at kinds now (accounts_switched processor run now periods a) ≤ steps_left_at kinds now a
 switched-kept kinds periods now processor None a l some at h =
-    let is : switched processor None now periods a ≡ a =
+    let is : accounts_switched processor None now periods a ≡ a =
     switched-form periods now processor None a l at
-    ∙ ap (λ (o : Option ℕ). if is_same o None then a else taken_over processor None now periods (charged processor now a)) (h refl) in
-    omega (arith, ap (left_at kinds now) is)
+    ∙ ap (λ (o : Option ℕ). if is_same o None then a else taken_over processor None now periods (accounts_charged processor now a)) (h refl) in
+    omega (arith, ap (steps_left_at kinds now) is)
 switched-kept kinds periods now processor (Some task) a l some at h =
-    let over : Accounts = taken_over processor (Some task) now periods (charged processor now a) in
-    let less : left_at kinds now over ≤ left_at kinds now a = omega (
+    let over : Accounts = taken_over processor (Some task) now periods (accounts_charged processor now a) in
+    let less : steps_left_at kinds now over ≤ steps_left_at kinds now a = omega (
       arith,
       charged-left kinds now processor a l at,
-      taken-left kinds periods now processor task (charged processor now a) (record l { since = now }) some
+      taken-left kinds periods now processor task (accounts_charged processor now a) (record l { since = now }) some
           (charged_there processor now a l at),
     ) in
-    subst (λ (x : Accounts). left_at kinds now x ≤ left_at kinds now a)
+    subst (λ (x : Accounts). steps_left_at kinds now x ≤ steps_left_at kinds now a)
     (sym (switched-form periods now processor (Some task) a l at))
     (elim (is_same l.run (Some task))
-    as (λ b. left_at kinds now (if b then a else over) ≤ left_at kinds now a) [ true ↦ omega arith | false ↦ less ])
+    as (λ b. steps_left_at kinds now (if b then a else over) ≤ steps_left_at kinds now a) [ true ↦ omega arith | false ↦ less ])

@@ -11,11 +11,11 @@ use Rattle.bq_parts.specs.declared.event.Event.TheVariants.{BeginWake, Block, Dr
 use Rattle.bq_parts.specs.declared.reply.Reply.{Reply}
 use Rattle.bq_parts.specs.declared.refusal.Refusal.TheVariants as no
 use Rattle.bq_parts.specs.Choices.{by_programs}
-use Rattle.bq_parts.specs.Processors.{Processor, count_of}
+use Rattle.bq_parts.specs.Processors.{Processor, count_of_id}
 use Rattle.bq_parts.specs.Refusals.{is_away}
 use Rattle.bq_parts.specs.StandsOnce.{IsOrderly}
 use Rattle.bq_parts.specs.Steps.{WorldStep}
-use Rattle.bq_parts.specs.World.{World, processor_at, entry, count_in}
+use Rattle.bq_parts.specs.World.{World, processor_at, entry_of_id, count_in}
 use Rattle.bq_parts.proofs.CountLemmas.{one_self}
 use Rattle.bq_parts.proofs.OnceLemmas.{count_of-held_by, held_le}
 use Rattle.bq_parts.proofs.RefusalLemmas.{accepted, first_refusal_passed, not_refused_is_there}
@@ -30,18 +30,18 @@ use Rattle.bq_workload.specs.declared.progress.TaskState.TheVariants.{Asleep, Wa
 use Rattle.bq_workload.specs.declared.processor_state.ProcessorState.{ProcessorState}
 use Rattle.bq_workload.specs.declared.roster.Periods.{Periods}
 use Rattle.bq_workload.specs.declared.workload.TaskKind.{TaskKind}
-use Rattle.bq_workload.specs.Accounts.{Accounts, charged, charged_by, of_processor, of_task}
+use Rattle.bq_workload.specs.Accounts.{Accounts, accounts_charged, runner_charged, of_processor, of_task}
 use Rattle.bq_workload.specs.Dues.{next_multiple, size_at}
-use Rattle.bq_workload.specs.Kinds.{count_of as count_of_kind}
+use Rattle.bq_workload.specs.Kinds.{kind_count as count_of_kind}
 use Rattle.bq_workload.specs.TaskProgress.{advanced}
 use Rattle.bq_workload.proofs.AgreeLemmas.{some_or_none}
 use Rattle.bq_simulate.specs.declared.driver.Driver.{Driver}
-use Rattle.bq_simulate.specs.Actions.{acted, actions_of, advanced_in, asked_by, next_action, woken_one_in}
-use Rattle.bq_simulate.specs.Agreement.{AgreesBut, AgreesWith, StandsAs, can_run, run_at, state_at}
-use Rattle.bq_simulate.specs.AgreementLaws.{Agree, MeetingsAgree}
-use Rattle.bq_simulate.specs.Chronicles.{Book, Deed, Happens, IsFrom, Lives, after_act, after_answer, after_beat, after_look, length_taken}
+use Rattle.bq_simulate.specs.Actions.{acted, action_count, advanced_in, asked_by, next_action, woken_one_in}
+use Rattle.bq_simulate.specs.Agreement.{AgreesBut, AgreesWith, StandsAs, can_run, runner_at, state_at}
+use Rattle.bq_simulate.specs.AgreementLaws.{BookAgrees, MeetingsAgree}
+use Rattle.bq_simulate.specs.Chronicles.{Book, Deed, Happens, IsWokenFrom, Lives, after_act, after_answer, after_beat, after_look, length_taken}
 use Rattle.bq_simulate.specs.Drives.{DrivesEvent, placed_at}
-use Rattle.bq_simulate.specs.Steps.{AreJust, AreWake, Follow, Meet, Wakes, pulls_of}
+use Rattle.bq_simulate.specs.Steps.{AreJust, AreWake, Follow, Meet, WakesTask, pulls_of}
 use Rattle.bq_simulate.proofs.AccountLemmas.{changed_at-length, read_changed, read_kept, reads_charged, state_others}
 use Rattle.bq_simulate.proofs.MirrorLemmas.{homes_charged, homes_task, tasks_kept}
 use Rattle.bq_simulate.proofs.TakenLemmas.{blocks_are_taken, pulls_are_taken, ticks_are_taken}
@@ -52,9 +52,9 @@ abbrev pub world_of : Driver → World
 world_of d = d.machine.world
 
 -- a task that runs is away from the lobby
-pub current_counted : (o : Option Task) (xs : List Task) (task : ℕ) → id_of o ≡ Some task → 1 ≤ count_of task (present o xs)
+pub current_counted : (o : Option Task) (xs : List Task) (task : ℕ) → id_of o ≡ Some task → 1 ≤ count_of_id task (present o xs)
 current_counted None xs task h = cc
-current_counted (Some t) xs task h = subst (λ n. 1 ≤ count_of n (present (Some t) xs)) (same_Some t.id task h) (omega (arith, one_self t))
+current_counted (Some t) xs task h = subst (λ n. 1 ≤ count_of_id n (present (Some t) xs)) (same_Some t.id task h) (omega (arith, one_self t))
 
 counted_true : (b : Bool) → 1 ≤ as_number b → b ≡ true
 counted_true true h = refl
@@ -62,10 +62,10 @@ counted_true false h = absurd (omega arith)
 
 -- the entry of a task that runs says that it is away
 pub runs_away : (w : World) (processor task : ℕ) → IsOrderly w → id_of (processor_at w processor).running.current ≡ Some task
-    → is_away (entry w task) ≡ true
+    → is_away (entry_of_id w task) ≡ true
 runs_away w processor task o runs =
     let p : Processor = processor_at w processor in
-    counted_true (is_away (entry w task))
+    counted_true (is_away (entry_of_id w task))
     (omega (
       arith,
       o.once.away task,
@@ -96,19 +96,19 @@ agrees_processor f run size w a processor h =
     }
 
 -- the time of a processor is counted
-pub agrees_charged : (w : World) (a : Accounts) (processor now : ℕ) → AgreesWith w a → AgreesWith w (charged processor now a)
+pub agrees_charged : (w : World) (a : Accounts) (processor now : ℕ) → AgreesWith w a → AgreesWith w (accounts_charged processor now a)
 agrees_charged w a processor now h =
     let m = h.mirrors.processors in
     elim (some_or_none (slice_get a.by_processor processor)) [
       | inl none ↦
           subst (λ (x : Accounts). AgreesWith w x)
           (sym (ap (λ (o : Option ProcessorState).
-          option_map_or (λ (l : ProcessorState). of_processor (λ x. record x { since = now }) processor (charged_by l now a))
+          option_map_or (λ (l : ProcessorState). of_processor (λ x. record x { since = now }) processor (runner_charged l now a))
           o a) none)) h
       | inr (l, at) ↦
-          let b : Accounts = charged processor now a in
+          let b : Accounts = accounts_charged processor now a in
           let reads = reads_charged processor now a l at in
-          let run : l.run ≡ run_at a.by_processor processor =
+          let run : l.run ≡ runner_at a.by_processor processor =
           sym (ap (λ (o : Option ProcessorState). option_map_or (λ (x : ProcessorState). x.run) o None) at) in
           let size : l.size ≡ size_at a.by_processor processor =
           sym (ap (λ (o : Option ProcessorState). option_map_or (λ (x : ProcessorState). x.size) o 0) at) in
@@ -121,7 +121,7 @@ agrees_charged w a processor now h =
               processors = record {
                 many = reads.many ∙ m.many;
                 runs = λ k. elim (cases_eq k processor) [
-                  | inl same ↦ ap (run_at b.by_processor) same ∙ reads.run_here ∙ run ∙ ap (run_at a.by_processor) (sym same) ∙ m.runs k
+                  | inl same ↦ ap (runner_at b.by_processor) same ∙ reads.run_here ∙ run ∙ ap (runner_at a.by_processor) (sym same) ∙ m.runs k
                   | inr apart ↦ reads.runs k apart ∙ m.runs k
                 ];
                 sizes = λ k. elim (cases_eq k processor) [
@@ -169,7 +169,7 @@ agrees_further w a task c new at state home h =
 -- a task that runs goes to sleep: the accounts say so already
 pub agrees_but_it : (w : World) (a : Accounts) (task processor : ℕ) (c new : TaskProgress)
     → slice_get a.by_task task ≡ Some c → can_run new.task_state ≡ false → new.home ≡ c.home
-    → run_at a.by_processor processor ≡ Some task → AgreesWith w a
+    → runner_at a.by_processor processor ≡ Some task → AgreesWith w a
     → AgreesBut task w (of_task (λ _. new) task a)
 agrees_but_it w a task processor c new at sleeps home runs h =
     let b : Accounts = of_task (λ _. new) task a in
@@ -179,7 +179,7 @@ agrees_but_it w a task processor c new at sleeps home runs h =
       entries = h.entries;
       settled = h.settled;
       mirrors = record {
-        others = λ k apart. subst (λ s. StandsAs s (entry w k)) (sym (state_others (λ _. new) task k a apart)) (h.mirrors.tasks k);
+        others = λ k apart. subst (λ s. StandsAs s (entry_of_id w k)) (sym (state_others (λ _. new) task k a apart)) (h.mirrors.tasks k);
         sleeps = ap (λ (o : Option TaskState). option_map_or can_run o true) (state_given a task c new at) ∙ sleeps;
         away = runs_away w processor task h.orderly (sym (m.runs processor) ∙ runs);
         processors = record { many = m.many; runs = m.runs; sizes = m.sizes };
@@ -203,8 +203,8 @@ step_of d event reply reported e does = does.happens.moves.step.step
 
 -- a tick
 pub tick_agrees : (periods : Periods) (d e : Driver) (b : Book) (processor now : ℕ) (reply : Reply) (reported : Reported)
-    → DrivesEvent d (Tick processor now) reply reported e → Agree d b
-    → Agree e (after_answer periods (Tick processor now) reply b)
+    → DrivesEvent d (Tick processor now) reply reported e → BookAgrees d b
+    → BookAgrees e (after_answer periods (Tick processor now) reply b)
 tick_agrees periods d e b processor now reply reported does h =
     let w : World = world_of d in
     let step = step_of d (Tick processor now) reply reported e does in
@@ -216,8 +216,8 @@ tick_agrees periods d e b processor now reply reported does h =
 pub block_agrees : (periods : Periods) (d e : Driver) (b : Book) (processor task now : ℕ) (reply : Reply)
     (reported : Reported)
     → DrivesEvent d (Block processor now) reply reported e → AgreesBut task (world_of d) b.accounts
-    → run_at b.accounts.by_processor processor ≡ Some task
-    → Agree e (after_answer periods (Block processor now) reply b)
+    → runner_at b.accounts.by_processor processor ≡ Some task
+    → BookAgrees e (after_answer periods (Block processor now) reply b)
 block_agrees periods d e b processor task now reply reported does h runs =
     let w : World = world_of d in
     let step = step_of d (Block processor now) reply reported e does in
@@ -227,8 +227,8 @@ block_agrees periods d e b processor task now reply reported does h runs =
 
 -- a pull of one processor from another
 pub pull_agrees : (periods : Periods) (d e : Driver) (b : Book) (processor from now : ℕ) (reply : Reply) (reported : Reported)
-    → DrivesEvent d (Pull processor from now) reply reported e → Agree d b
-    → Agree e (after_answer periods (Pull processor from now) reply b)
+    → DrivesEvent d (Pull processor from now) reply reported e → BookAgrees d b
+    → BookAgrees e (after_answer periods (Pull processor from now) reply b)
 pull_agrees periods d e b processor from now reply reported does h =
     let w : World = world_of d in
     let step = step_of d (Pull processor from now) reply reported e does in
@@ -239,7 +239,7 @@ pull_agrees periods d e b processor from now reply reported does h =
     does.happens.moves.step.calls reply (world_of e) step
 
 -- a task that may be woken sleeps
-pub sleeps_if_woken : (a : Accounts) (s : TaskState) (home from : ℕ) → IsFrom a s home from → can_run s ≡ false
+pub sleeps_if_woken : (a : Accounts) (s : TaskState) (home from : ℕ) → IsWokenFrom a s home from → can_run s ≡ false
 sleeps_if_woken a Asleep home from h = refl
 sleeps_if_woken a Waiting home from h = refl
 sleeps_if_woken a Runnable home from h = absurd h
@@ -256,8 +256,8 @@ wake_agrees : (kinds : List TaskKind) (seed : ℕ) (periods : Periods) (d e : Dr
     → Lives kinds seed periods d b
     (Happens (BeginWake from task) begun ∷ Happens (EndWake from now) placed ∷ Happens (Drain to now) drained ∷ []) reported e
     c
-    → Agree d b
-    → Agree e c
+    → BookAgrees d b
+    → BookAgrees e c
 wake_agrees kinds seed periods d e b c from task now to begun placed drained reported at (
   woken,
   one,
@@ -270,7 +270,7 @@ wake_agrees kinds seed periods d e b c from task now to begun placed drained rep
     let w : World = world_of d in
     let r = discipline_of d.machine.rule in
     let P : Driver → Type 0 =
-    λ x. Agree x (after_answer periods (Drain to now) drained (after_answer periods (BeginWake from task) begun b)) in
+    λ x. BookAgrees x (after_answer periods (Drain to now) drained (after_answer periods (BeginWake from task) begun b)) in
     let step = step_of d (BeginWake from task) begun first one begins in
     let low = (not_refused_is_there (count_in w) from _ (accepted w (BeginWake from task) step.0).0).0 in
     let begin =
@@ -287,12 +287,12 @@ wake_agrees kinds seed periods d e b c from task now to begun placed drained rep
     subst (λ x. WorldStep (by_programs x) (world_of two) (Drain to now) drains.happens.moves.step.calls (Ok drained) (world_of three))
     rule3 (step_of two (Drain to now) drained third three drains) in
     let done : P three = (drain.leaves drains.happens.moves.step.calls drained (world_of three) step3).1 in
-    subst (λ x. Agree e x) (sym kept) (subst P (sym is) done)
+    subst (λ x. BookAgrees e x) (sym kept) (subst P (sym is) done)
 
 -- a wake as it is met
 wake_met : (kinds : List TaskKind) (seed : ℕ) (periods : Periods) (d e : Driver) (b c : Book) (from task now : ℕ)
     (deeds : List Deed) (reported : Reported)
-    → AreWake from task now deeds → Lives kinds seed periods d b deeds reported e c → Agree d b → Agree e c
+    → AreWake from task now deeds → Lives kinds seed periods d b deeds reported e c → BookAgrees d b → BookAgrees e c
 wake_met kinds seed periods d e b c from task now deeds reported (begun, placed, drained, to, at, is) lives h =
     wake_agrees kinds seed periods d e b c from task now to begun placed drained reported at
     (subst (λ l. Lives kinds seed periods d b l reported e c) is lives) h
@@ -322,32 +322,32 @@ pub woken_one_state : (kinds : List TaskKind) (kind : ℕ) (c : TaskProgress) �
 woken_one_state kinds kind c =
     elim (nat_lt (c.woken + 1) (count_of_kind kinds kind))
     as (λ b. (if b then record c { woken = c.woken + 1 } else advanced_in kinds c).task_state ≡ c.task_state)
-    [ true ↦ refl | false ↦ advanced_state (actions_of kinds c) c ]
+    [ true ↦ refl | false ↦ advanced_state (action_count kinds c) c ]
 
 -- a task whose wake has woken one more was last where it was
 pub woken_one_home : (kinds : List TaskKind) (kind : ℕ) (c : TaskProgress) → (woken_one_in kinds kind c).home ≡ c.home
 woken_one_home kinds kind c =
     elim (nat_lt (c.woken + 1) (count_of_kind kinds kind))
     as (λ b. (if b then record c { woken = c.woken + 1 } else advanced_in kinds c).home ≡ c.home)
-    [ true ↦ refl | false ↦ advanced_home (actions_of kinds c) c ]
+    [ true ↦ refl | false ↦ advanced_home (action_count kinds c) c ]
 
 -- a block, and nothing beside it
 block_one : (kinds : List TaskKind) (seed : ℕ) (periods : Periods) (d e : Driver) (b c : Book) (processor task now : ℕ)
     (reply : Reply) (reported : Reported)
     → Lives kinds seed periods d b (Happens (Block processor now) reply ∷ []) reported e c
-    → AgreesBut task (world_of d) b.accounts → run_at b.accounts.by_processor processor ≡ Some task
-    → Agree e c
+    → AgreesBut task (world_of d) b.accounts → runner_at b.accounts.by_processor processor ≡ Some task
+    → BookAgrees e c
 block_one kinds seed periods d e b c processor task now reply reported
     (due, mid, first, rest, does, (nothing, same, kept), whole) h runs =
-    subst (λ x. Agree e x) (sym kept)
-    (subst (λ x. Agree x (after_answer periods (Block processor now) reply b)) (sym same)
+    subst (λ x. BookAgrees e x) (sym kept)
+    (subst (λ x. BookAgrees x (after_answer periods (Block processor now) reply b)) (sym same)
     (block_agrees periods d mid b processor task now reply first does h runs))
 
 block_met : (kinds : List TaskKind) (seed : ℕ) (periods : Periods) (d e : Driver) (b c : Book) (processor task now : ℕ)
     (deeds : List Deed) (reported : Reported)
     → AreJust (Block processor now ∷ []) deeds → Lives kinds seed periods d b deeds reported e c
-    → AgreesBut task (world_of d) b.accounts → run_at b.accounts.by_processor processor ≡ Some task
-    → Agree e c
+    → AgreesBut task (world_of d) b.accounts → runner_at b.accounts.by_processor processor ≡ Some task
+    → BookAgrees e c
 block_met kinds seed periods d e b c processor task now deeds reported (reply, more, is, none) lives h runs =
     let whole : deeds ≡ Happens (Block processor now) reply ∷ [] = is ∙ ap (λ l. Happens (Block processor now) reply ∷ l) none in
     block_one kinds seed periods d e b c processor task now reply reported
@@ -357,23 +357,23 @@ block_met kinds seed periods d e b c processor task now deeds reported (reply, m
 abbrev pub KeepsAgreement : Event → Type 0
 KeepsAgreement event =
     (periods : Periods) (d e : Driver) (b : Book) (reply : Reply) (reported : Reported) →
-    DrivesEvent d event reply reported e → Agree d b → Agree e (after_answer periods event reply b)
+    DrivesEvent d event reply reported e → BookAgrees d b → BookAgrees e (after_answer periods event reply b)
 
 -- such an event, and nothing beside it
 pub one_event : (event : Event) → KeepsAgreement event
     → (kinds : List TaskKind) (seed : ℕ) (periods : Periods) (d e : Driver) (b c : Book) (reply : Reply) (reported : Reported)
-    → Lives kinds seed periods d b (Happens event reply ∷ []) reported e c → Agree d b
-    → Agree e c
+    → Lives kinds seed periods d b (Happens event reply ∷ []) reported e c → BookAgrees d b
+    → BookAgrees e c
 one_event event keeps kinds seed periods d e b c reply reported
     (due, mid, first, rest, does, (nothing, same, kept), whole) h =
-    subst (λ x. Agree e x) (sym kept)
-    (subst (λ x. Agree x (after_answer periods event reply b)) (sym same) (keeps periods d mid b reply first does h))
+    subst (λ x. BookAgrees e x) (sym kept)
+    (subst (λ x. BookAgrees x (after_answer periods event reply b)) (sym same) (keeps periods d mid b reply first does h))
 
 -- a single event, as it is met
 pub event_met : (event : Event) → KeepsAgreement event
     → (kinds : List TaskKind) (seed : ℕ) (periods : Periods) (d e : Driver) (b c : Book) (deeds : List Deed) (reported : Reported)
-    → AreJust (event ∷ []) deeds → Lives kinds seed periods d b deeds reported e c → Agree d b
-    → Agree e c
+    → AreJust (event ∷ []) deeds → Lives kinds seed periods d b deeds reported e c → BookAgrees d b
+    → BookAgrees e c
 event_met event keeps kinds seed periods d e b c deeds reported (reply, more, is, none) lives h =
     let whole : deeds ≡ Happens event reply ∷ [] = is ∙ ap (λ l. Happens event reply ∷ l) none in
     one_event event keeps kinds seed periods d e b c reply reported (subst (λ l. Lives kinds seed periods d b l reported e c) whole lives) h
@@ -381,16 +381,16 @@ event_met event keeps kinds seed periods d e b c deeds reported (reply, more, is
 -- nothing happens
 pub nothing_met : (kinds : List TaskKind) (seed : ℕ) (periods : Periods) (d e : Driver) (b c : Book)
     (deeds : List Deed) (reported : Reported)
-    → deeds ≡ [] → Lives kinds seed periods d b deeds reported e c → Agree d b → Agree e c
+    → deeds ≡ [] → Lives kinds seed periods d b deeds reported e c → BookAgrees d b → BookAgrees e c
 nothing_met kinds seed periods d e b c deeds reported none lives h =
     let (nothing, same, kept) = subst (λ l. Lives kinds seed periods d b l reported e c) none lives in
-    subst (λ x. Agree e x) (sym kept) (subst (λ x. Agree x b) (sym same) h)
+    subst (λ x. BookAgrees e x) (sym kept) (subst (λ x. BookAgrees x b) (sym same) h)
 
 -- the wake of another task
 wakes_met : (kinds : List TaskKind) (seed : ℕ) (periods : Periods) (d e : Driver) (b c : Book) (processor task now : ℕ)
     (deeds : List Deed) (reported : Reported)
-    → Wakes task processor now deeds → Lives kinds seed periods d b deeds reported e c → Agree d b
-    → Agree e c
+    → WakesTask task processor now deeds → Lives kinds seed periods d b deeds reported e c → BookAgrees d b
+    → BookAgrees e c
 wakes_met kinds seed periods d e b c processor task now deeds reported (inl is) lives h =
     let (k, there, waits, rest) = subst (λ l. Lives kinds seed periods d b l reported e c) is lives in
     nothing_met kinds seed periods d e b c [] reported refl rest h
@@ -402,33 +402,33 @@ wakes_met kinds seed periods d e b c processor task now deeds reported (inr (mor
 follow_met : (action : Option Action) (aim : Option ℕ) (kinds : List TaskKind) (seed : ℕ) (periods : Periods) (d e : Driver)
     (a : Accounts) (b f : Book) (processor task length now : ℕ) (c : TaskProgress) (deeds : List Deed) (reported : Reported)
     → Follow action aim processor now deeds → b.accounts ≡ of_task (λ _. acted kinds action length now c) task a
-    → slice_get a.by_task task ≡ Some c → run_at a.by_processor processor ≡ Some task → AgreesWith (world_of d) a
+    → slice_get a.by_task task ≡ Some c → runner_at a.by_processor processor ≡ Some task → AgreesWith (world_of d) a
     → Lives kinds seed periods d b deeds reported e f
-    → Agree e f
+    → BookAgrees e f
 follow_met None aim kinds seed periods d e a b f processor task length now c deeds reported follow is at runs h lives =
     let new : TaskProgress = acted kinds None length now c in
     block_met kinds seed periods d e b f processor task now deeds reported follow lives
     (subst (λ x. AgreesBut task (world_of d) x) (sym is) (agrees_but_it (world_of d) a task processor c new at refl refl runs h))
-    (ap (λ (x : Accounts). run_at x.by_processor processor) is ∙ runs)
+    (ap (λ (x : Accounts). runner_at x.by_processor processor) is ∙ runs)
 follow_met (Some (Run asked)) aim kinds seed periods d e a b f processor task length now c deeds reported follow
     is at runs h lives =
     let new : TaskProgress = acted kinds (Some (Run asked)) length now c in
     nothing_met kinds seed periods d e b f deeds reported follow lives
     (subst (λ x. AgreesWith (world_of d) x) (sym is)
-    (agrees_further (world_of d) a task c new at (advanced_state (actions_of kinds c) c) (advanced_home (actions_of kinds c) c) h))
+    (agrees_further (world_of d) a task c new at (advanced_state (action_count kinds c) c) (advanced_home (action_count kinds c) c) h))
 follow_met (Some (Sleep asked)) aim kinds seed periods d e a b f processor task length now c deeds reported follow
     is at runs h lives =
     let new : TaskProgress = acted kinds (Some (Sleep asked)) length now c in
     block_met kinds seed periods d e b f processor task now deeds reported follow lives
     (subst (λ x. AgreesBut task (world_of d) x) (sym is)
-    (agrees_but_it (world_of d) a task processor c new at refl (advanced_home (actions_of kinds c) c) runs h))
-    (ap (λ (x : Accounts). run_at x.by_processor processor) is ∙ runs)
+    (agrees_but_it (world_of d) a task processor c new at refl (advanced_home (action_count kinds c) c) runs h))
+    (ap (λ (x : Accounts). runner_at x.by_processor processor) is ∙ runs)
 follow_met (Some Wait) aim kinds seed periods d e a b f processor task length now c deeds reported follow is at runs h lives =
     let new : TaskProgress = acted kinds (Some Wait) length now c in
     block_met kinds seed periods d e b f processor task now deeds reported follow lives
     (subst (λ x. AgreesBut task (world_of d) x) (sym is)
-    (agrees_but_it (world_of d) a task processor c new at refl (advanced_home (actions_of kinds c) c) runs h))
-    (ap (λ (x : Accounts). run_at x.by_processor processor) is ∙ runs)
+    (agrees_but_it (world_of d) a task processor c new at refl (advanced_home (action_count kinds c) c) runs h))
+    (ap (λ (x : Accounts). runner_at x.by_processor processor) is ∙ runs)
 follow_met (Some (Wake kind)) None kinds seed periods d e a b f processor task length now c deeds reported follow
     is at runs h lives = absurd follow
 follow_met (Some (Wake kind)) (Some other) kinds seed periods d e a b f processor task length now c
@@ -441,11 +441,11 @@ follow_met (Some (Wake kind)) (Some other) kinds seed periods d e a b f processo
 -- the end of a phase
 end_met : (kinds : List TaskKind) (seed : ℕ) (periods : Periods) (d e : Driver) (b c : Book) (processor now : ℕ)
     (deeds : List Deed) (reported : Reported)
-    → Meet (due.End processor) now deeds → Lives kinds seed periods d b deeds reported e c → Agree d b
-    → Agree e c
+    → Meet (due.End processor) now deeds → Lives kinds seed periods d b deeds reported e c → BookAgrees d b
+    → BookAgrees e c
 end_met kinds seed periods d e b c processor now deeds reported (task, action, aim, more, is, follow) lives h =
     let (k, done, its, to, rest) = subst (λ l. Lives kinds seed periods d b l reported e c) is lives in
-    let a : Accounts = charged processor now b.accounts in
+    let a : Accounts = accounts_charged processor now b.accounts in
     let next : Option Action = next_action kinds k in
     follow_met next aim kinds seed periods d e a (after_act kinds seed processor task now k b)
     c processor task (length_taken seed task b.drawn (asked_by next)) now k more reported
@@ -456,8 +456,8 @@ end_met kinds seed periods d e b c processor now deeds reported (task, action, a
 -- a look for a task
 look_met : (source : Option ℕ) (kinds : List TaskKind) (seed : ℕ) (periods : Periods) (d e : Driver) (b c : Book)
     (processor now : ℕ) (deeds : List Deed) (reported : Reported)
-    → AreJust (pulls_of processor now source) deeds → Lives kinds seed periods d b deeds reported e c → Agree d b
-    → Agree e c
+    → AreJust (pulls_of processor now source) deeds → Lives kinds seed periods d b deeds reported e c → BookAgrees d b
+    → BookAgrees e c
 look_met None kinds seed periods d e b c processor now deeds reported none lives h =
     nothing_met kinds seed periods d e b c deeds reported none lives h
 look_met (Some from) kinds seed periods d e b c processor now deeds reported just lives h =

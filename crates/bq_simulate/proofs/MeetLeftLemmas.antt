@@ -31,24 +31,24 @@ use Rattle.bq_workload.specs.declared.progress.TaskState.TheVariants.{Asleep, Wa
 use Rattle.bq_workload.specs.declared.roster.Periods.{Periods}
 use Rattle.bq_workload.specs.declared.workload.TaskKind.{TaskKind}
 use Rattle.bq_workload.specs.declared.workload.Workload.{Workload}
-use Rattle.bq_workload.specs.Accounts.{Accounts, charged, charged_by, grown, is_same, of_processor, of_task, passed, shrunk, switched, taken_over}
+use Rattle.bq_workload.specs.Accounts.{Accounts, accounts_charged, runner_charged, grown, is_same, of_processor, of_task, accounts_passed, shrunk, accounts_switched, taken_over}
 use Rattle.bq_workload.specs.Dues.{next_multiple, until}
 use Rattle.bq_workload.specs.Lengths.{takes_time}
-use Rattle.bq_workload.specs.Next.{IsNext, comes_at}
+use Rattle.bq_workload.specs.Next.{IsNextDue, comes_at}
 use Rattle.bq_workload.specs.Soundness.{first_flaw}
-use Rattle.bq_workload.specs.TaskProgress.{woken}
+use Rattle.bq_workload.specs.TaskProgress.{progress_woken}
 use Rattle.bq_workload.proofs.AgreeLemmas.{changed_at-here, some_or_none}
 use Rattle.bq_simulate.specs.declared.driver.Driver.{Driver}
 use Rattle.bq_simulate.specs.Actions.{acted, asked_by, next_action}
-use Rattle.bq_simulate.specs.Agreement.{AgreesWith, can_run, run_at}
-use Rattle.bq_simulate.specs.AgreementLaws.{Agree, RunsAlone}
-use Rattle.bq_simulate.specs.AtOnce.{actions_in, left_at, left_in, left_of_processor, left_of_task, steps_ahead, uncounted, uncounted_at}
+use Rattle.bq_simulate.specs.Agreement.{AgreesWith, can_run, runner_at}
+use Rattle.bq_simulate.specs.AgreementLaws.{BookAgrees, RunsAlone}
+use Rattle.bq_simulate.specs.AtOnce.{kind_actions, steps_left_at, left_in, left_of_processor, left_of_task, steps_ahead, uncounted, uncounted_at}
 use Rattle.bq_simulate.specs.Chronicles.{Book, Deed, Happens, Lives, after_act, after_beat, after_look, length_taken}
 use Rattle.bq_simulate.specs.Drives.{count_entered, runs_now, task_pulled}
 use Rattle.bq_simulate.specs.Kept.{IsKept, StandsAtAction}
-use Rattle.bq_simulate.specs.KeptLaws.{Leads}
+use Rattle.bq_simulate.specs.KeptLaws.{DeedsLead}
 use Rattle.bq_simulate.specs.Simulations.{periods_of}
-use Rattle.bq_simulate.specs.Steps.{AreJust, AreWake, Follow, Meet, Wakes, pulls_of}
+use Rattle.bq_simulate.specs.Steps.{AreJust, AreWake, Follow, Meet, WakesTask, pulls_of}
 use Rattle.bq_simulate.proofs.AccountLemmas.{charged_there, read_kept, same_run}
 use Rattle.bq_simulate.proofs.ActLeftLemmas.{act-takes, at-most, stands-at}
 use Rattle.bq_simulate.proofs.InAllLemmas.{sum-most}
@@ -64,10 +64,10 @@ use Rattle.bq_simulate.proofs.TimeKeptLemmas.{run_of, tasks_run_alone}
 nothing-left : (kinds : List TaskKind) (seed : ℕ) (periods : Periods) (d e : Driver) (b c : Book) (now : ℕ)
     (deeds : List Deed) (reported : Reported)
     → deeds ≡ [] → Lives kinds seed periods d b deeds reported e c
-    → left_at kinds now c.accounts ≤ left_at kinds now b.accounts
+    → steps_left_at kinds now c.accounts ≤ steps_left_at kinds now b.accounts
 nothing-left kinds seed periods d e b c now deeds reported none lives =
     let (nothing, same, kept) = subst (λ l. Lives kinds seed periods d b l reported e c) none lives in
-    omega (arith, ap (λ (x : Book). left_at kinds now x.accounts) kept)
+    omega (arith, ap (λ (x : Book). steps_left_at kinds now x.accounts) kept)
 
 -- Ticks
 
@@ -82,7 +82,7 @@ tests-false b m n is = ap (λ x. if x then m else n) is
 tick-takes : (kinds : List TaskKind) (seed : ℕ) (periods : Periods) (d e : Driver) (b c : Book) (processor now : ℕ)
     (deeds : List Deed) (reported : Reported)
     → 1 ≤ periods.tick → Meet (due.Tick processor) now deeds → Lives kinds seed periods d b deeds reported e c
-    → left_at kinds now c.accounts + 1 ≤ left_at kinds now b.accounts
+    → steps_left_at kinds now c.accounts + 1 ≤ steps_left_at kinds now b.accounts
 tick-takes kinds seed periods d e b c processor now deeds reported some (more, is, (reply, rest, just, none)) lives =
     let whole : more ≡ Happens (Tick processor now) reply ∷ [] = just ∙ ap (λ l. Happens (Tick processor now) reply ∷ l) none in
     let (ticks, after) = subst (λ l. Lives kinds seed periods d b l reported e c) is lives in
@@ -99,8 +99,8 @@ tick-takes kinds seed periods d e b c processor now deeds reported some (more, i
     tests-false (next_multiple periods.tick now == now) 2 looks
     (ne_eqb (next_multiple periods.tick now) now (λ x. omega (arith, x, multiple-past periods.tick now some))) in
     let beat = processor-left kinds now f processor b.accounts l ticks.at (λ task. omega arith) in
-    let its : left_at kinds now c.accounts ≡ left_at kinds now (switched processor (runs_now reply) now periods a) =
-    ap (λ (x : Book). left_at kinds now x.accounts) kept in
+    let its : steps_left_at kinds now c.accounts ≡ steps_left_at kinds now (accounts_switched processor (runs_now reply) now periods a) =
+    ap (λ (x : Book). steps_left_at kinds now x.accounts) kept in
     elim (switched-left kinds periods now processor (runs_now reply) a (f l) some
     (changed_at-here f b.accounts.by_processor processor l ticks.at)) [
       | inl less ↦ omega (arith, less, its, before, next, beat, at-most-one (is_same l.look (Some now)))
@@ -135,30 +135,30 @@ pull-keeps d w v processor from now calls r step none =
 pulled-left : (source : Option ℕ) (kinds : List TaskKind) (seed : ℕ) (periods : Periods) (d e : Driver) (b c : Book)
     (processor now : ℕ) (deeds : List Deed) (reported : Reported)
     → 1 ≤ periods.tick → AreJust (pulls_of processor now source) deeds → Lives kinds seed periods d b deeds reported e c
-    → ((k : ℕ) → run_at b.accounts.by_processor k ≡ id_of (processor_at (world_of d) k).running.current)
-    → left_at kinds now c.accounts ≤ left_at kinds now b.accounts
+    → ((k : ℕ) → runner_at b.accounts.by_processor k ≡ id_of (processor_at (world_of d) k).running.current)
+    → steps_left_at kinds now c.accounts ≤ steps_left_at kinds now b.accounts
 pulled-left None kinds seed periods d e b c processor now deeds reported some none lives runs =
     nothing-left kinds seed periods d e b c now deeds reported none lives
 pulled-left (Some from) kinds seed periods d e b c processor now deeds reported some (reply, more, is, none) lives runs =
     let whole : deeds ≡ Happens (Pull processor from now) reply ∷ [] = is ∙ ap (λ l. Happens (Pull processor from now) reply ∷ l) none in
     let (due, mid, first, rest, does, (nothing, same, kept), all) = subst (λ l. Lives kinds seed periods d b l reported e c) whole lives in
-    let a : Accounts = option_map_or (λ _. passed from processor b.accounts) (task_pulled reply) b.accounts in
+    let a : Accounts = option_map_or (λ _. accounts_passed from processor b.accounts) (task_pulled reply) b.accounts in
     let run : Option ℕ = runs_now reply in
-    let its : left_at kinds now c.accounts ≡ left_at kinds now (switched processor run now periods a) =
-    ap (λ (x : Book). left_at kinds now x.accounts) kept in
+    let its : steps_left_at kinds now c.accounts ≡ steps_left_at kinds now (accounts_switched processor run now periods a) =
+    ap (λ (x : Book). steps_left_at kinds now x.accounts) kept in
     let less = passed-left kinds now from processor (task_pulled reply) b.accounts in
-    let idle : run ≡ None → run_at b.accounts.by_processor processor ≡ None = λ stops.
+    let idle : run ≡ None → runner_at b.accounts.by_processor processor ≡ None = λ stops.
     runs processor
     ∙ pull-keeps (discipline_of d.machine.rule) (world_of d) (world_of mid) processor from now does.happens.moves.step.calls
     reply (step_of d (Pull processor from now) reply first mid does) stops in
     elim (some_or_none (slice_get a.by_processor processor)) [
       | inl gone ↦
-          let still : switched processor run now periods a ≡ a =
+          let still : accounts_switched processor run now periods a ≡ a =
           ap (λ (o : Option ProcessorState).
           option_map_or
-          (λ (x : ProcessorState). if is_same x.run run then a else taken_over processor run now periods (charged processor now a)) o a)
+          (λ (x : ProcessorState). if is_same x.run run then a else taken_over processor run now periods (accounts_charged processor now a)) o a)
           gone in
-          omega (arith, its, less, ap (left_at kinds now) still)
+          omega (arith, its, less, ap (steps_left_at kinds now) still)
       | inr (l, at) ↦ omega (
         arith,
         its,
@@ -169,7 +169,7 @@ pulled-left (Some from) kinds seed periods d e b c processor now deeds reported 
     ]
   where
     passed-run : (from processor : ℕ) (task : Option ℕ) (a : Accounts)
-        → run_at (option_map_or (λ _. passed from processor a) task a).by_processor processor ≡ run_at a.by_processor processor
+        → runner_at (option_map_or (λ _. accounts_passed from processor a) task a).by_processor processor ≡ runner_at a.by_processor processor
     passed-run from processor None a = refl
     passed-run from processor (Some id) a =
         read_kept (λ l. record l { size = l.size + 1 }) (λ (l : ProcessorState). l.run) None (λ l. refl)
@@ -178,7 +178,7 @@ pulled-left (Some from) kinds seed periods d e b c processor now deeds reported 
 
 -- a processor that looks next does not tick at that instant: the tick would come before
 no-tick : (end processor now : ℕ) (a : Accounts) (l : ProcessorState)
-    → IsNext end a (due.Pull processor) now → slice_get a.by_processor processor ≡ Some l → l.look ≡ Some now
+    → IsNextDue end a (due.Pull processor) now → slice_get a.by_processor processor ≡ Some l → l.look ≡ Some now
     → is_same l.tick (Some now) ≡ false
 no-tick end processor now a l next at look = elim (cases_Bool (is_same l.tick (Some now))) [
   | inl ticks ↦
@@ -196,9 +196,9 @@ no-tick end processor now a l next at look = elim (cases_Bool (is_same l.tick (S
 
 look-takes : (kinds : List TaskKind) (seed : ℕ) (periods : Periods) (d e : Driver) (b c : Book) (processor now end : ℕ)
     (deeds : List Deed) (reported : Reported)
-    → 1 ≤ periods.tick → 1 ≤ periods.balance → IsNext end b.accounts (due.Pull processor) now
-    → Meet (due.Pull processor) now deeds → Lives kinds seed periods d b deeds reported e c → Agree d b
-    → left_at kinds now c.accounts + 1 ≤ left_at kinds now b.accounts
+    → 1 ≤ periods.tick → 1 ≤ periods.balance → IsNextDue end b.accounts (due.Pull processor) now
+    → Meet (due.Pull processor) now deeds → Lives kinds seed periods d b deeds reported e c → BookAgrees d b
+    → steps_left_at kinds now c.accounts + 1 ≤ steps_left_at kinds now b.accounts
 look-takes kinds seed periods d e b c processor now end deeds reported some balance next (source, more, is, just) lives h =
     let (looks, from, after) = subst (λ l. Lives kinds seed periods d b l reported e c) is lives in
     let f : ProcessorState → ProcessorState = λ l. record l { look = Some (next_multiple periods.balance now) } in
@@ -224,8 +224,8 @@ wake-left : (kinds : List TaskKind) (seed : ℕ) (periods : Periods) (d e : Driv
     (k : TaskProgress) (deeds : List Deed) (reported : Reported)
     → 1 ≤ periods.tick → AreWake from task now deeds
     → Lives kinds seed periods d b deeds reported e c → slice_get b.accounts.by_task task ≡ Some k
-    → left_of_task kinds now b.accounts.by_processor task (woken k) + taken ≤ left_of_task kinds now b.accounts.by_processor task k
-    → left_at kinds now c.accounts + taken ≤ left_at kinds now b.accounts + 1
+    → left_of_task kinds now b.accounts.by_processor task (progress_woken k) + taken ≤ left_of_task kinds now b.accounts.by_processor task k
+    → steps_left_at kinds now c.accounts + taken ≤ steps_left_at kinds now b.accounts + 1
 wake-left kinds seed periods d e b c from task now taken k deeds reported some
     (begun, placed, drained, to, at, is) lives there less =
     let (
@@ -237,27 +237,27 @@ wake-left kinds seed periods d e b c from task now taken k deeds reported some
       (due, two, second, more, ends, (too, three, third, last, drains, (none, same, kept), whole3), whole2),
       whole,
     ) = subst (λ l. Lives kinds seed periods d b l reported e c) is lives in
-    let a : Accounts = of_task woken task b.accounts in
+    let a : Accounts = of_task progress_woken task b.accounts in
     let mid : Accounts = grown to (count_entered drained) a in
-    let its : left_at kinds now c.accounts ≡ left_at kinds now (switched to (runs_now drained) now periods mid) =
-    ap (λ (x : Book). left_at kinds now x.accounts) kept in
+    let its : steps_left_at kinds now c.accounts ≡ steps_left_at kinds now (accounts_switched to (runs_now drained) now periods mid) =
+    ap (λ (x : Book). steps_left_at kinds now x.accounts) kept in
     omega (
       arith,
       its,
-      task-takes kinds now woken task taken b.accounts k there less,
+      task-takes kinds now progress_woken task taken b.accounts k there less,
       sized-left kinds now (λ n. n + count_entered drained) to a,
       switched-one kinds periods now to (runs_now drained) mid some,
     )
 
 -- a task that is woken has no more left than its steps
 woken-most : (kinds : List TaskKind) (now : ℕ) (ls : List ProcessorState) (task : ℕ) (k : TaskProgress)
-    → left_of_task kinds now ls task (woken k) ≤ steps_ahead kinds k * 2
+    → left_of_task kinds now ls task (progress_woken k) ≤ steps_ahead kinds k * 2
 woken-most kinds now ls task k = at-most Runnable (k.timer == now) (nat_le 0 (0 + uncounted now ls task)) (steps_ahead kinds k) refl
 
 ring-takes : (kinds : List TaskKind) (seed : ℕ) (periods : Periods) (d e : Driver) (b c : Book) (task now : ℕ)
     (deeds : List Deed) (reported : Reported)
     → 1 ≤ periods.tick → Meet (due.Wake task) now deeds → Lives kinds seed periods d b deeds reported e c
-    → left_at kinds now c.accounts + 1 ≤ left_at kinds now b.accounts
+    → steps_left_at kinds now c.accounts + 1 ≤ steps_left_at kinds now b.accounts
 ring-takes kinds seed periods d e b c task now deeds reported some (home, more, is, wake) lives =
     let (k, there, asleep, timer, rest) = subst (λ l. Lives kinds seed periods d b l reported e c) is lives in
     let ls = b.accounts.by_processor in
@@ -273,8 +273,8 @@ ring-takes kinds seed periods d e b c task now deeds reported some (home, more, 
 
 wakes-left : (kinds : List TaskKind) (seed : ℕ) (periods : Periods) (d e : Driver) (b c : Book) (processor task now : ℕ)
     (deeds : List Deed) (reported : Reported)
-    → 1 ≤ periods.tick → Wakes task processor now deeds → Lives kinds seed periods d b deeds reported e c
-    → left_at kinds now c.accounts ≤ left_at kinds now b.accounts + 1
+    → 1 ≤ periods.tick → WakesTask task processor now deeds → Lives kinds seed periods d b deeds reported e c
+    → steps_left_at kinds now c.accounts ≤ steps_left_at kinds now b.accounts + 1
 wakes-left kinds seed periods d e b c processor task now deeds reported some (inl is) lives =
     let (k, there, waits, rest) = subst (λ l. Lives kinds seed periods d b l reported e c) is lives in
     omega (arith, nothing-left kinds seed periods d e b c now [] reported refl rest)
@@ -295,13 +295,13 @@ wakes-left kinds seed periods d e b c processor task now deeds reported some (in
 block-left : (kinds : List TaskKind) (seed : ℕ) (periods : Periods) (d e : Driver) (b c : Book) (processor now : ℕ)
     (deeds : List Deed) (reported : Reported)
     → 1 ≤ periods.tick → AreJust (Block processor now ∷ []) deeds → Lives kinds seed periods d b deeds reported e c
-    → left_at kinds now c.accounts ≤ left_at kinds now b.accounts + 1
+    → steps_left_at kinds now c.accounts ≤ steps_left_at kinds now b.accounts + 1
 block-left kinds seed periods d e b c processor now deeds reported some (reply, more, is, none) lives =
     let whole : deeds ≡ Happens (Block processor now) reply ∷ [] = is ∙ ap (λ l. Happens (Block processor now) reply ∷ l) none in
     let (due, mid, first, rest, does, (nothing, same, kept), all) = subst (λ l. Lives kinds seed periods d b l reported e c) whole lives in
-    let its : left_at kinds now c.accounts
-    ≡ left_at kinds now (switched processor (runs_now reply) now periods (shrunk processor b.accounts)) =
-    ap (λ (x : Book). left_at kinds now x.accounts) kept in
+    let its : steps_left_at kinds now c.accounts
+    ≡ steps_left_at kinds now (accounts_switched processor (runs_now reply) now periods (shrunk processor b.accounts)) =
+    ap (λ (x : Book). steps_left_at kinds now x.accounts) kept in
     omega (
       arith,
       its,
@@ -312,7 +312,7 @@ block-left kinds seed periods d e b c processor now deeds reported some (reply, 
 follow-left : (action : Option Action) (aim : Option ℕ) (kinds : List TaskKind) (seed : ℕ) (periods : Periods) (d e : Driver)
     (b c : Book) (processor now : ℕ) (deeds : List Deed) (reported : Reported)
     → 1 ≤ periods.tick → Follow action aim processor now deeds → Lives kinds seed periods d b deeds reported e c
-    → left_at kinds now c.accounts ≤ left_at kinds now b.accounts + 1
+    → steps_left_at kinds now c.accounts ≤ steps_left_at kinds now b.accounts + 1
 follow-left None aim kinds seed periods d e b c processor now deeds reported some follow lives =
     block-left kinds seed periods d e b c processor now deeds reported some follow lives
 follow-left (Some (Run asked)) aim kinds seed periods d e b c processor now deeds reported some follow lives =
@@ -355,19 +355,19 @@ none-uncounted now processor task a l at runs since alone =
     )
 
 end-takes : (w : Workload) (d e : Driver) (b c : Book) (processor now : ℕ) (deeds : List Deed) (reported : Reported)
-    → first_flaw w ≡ None → now < 2 ^ 48 → Meet (due.End processor) now deeds → Leads w d b deeds reported e c
+    → first_flaw w ≡ None → now < 2 ^ 48 → Meet (due.End processor) now deeds → DeedsLead w d b deeds reported e c
     → IsKept w.tasks.items now d b
-    → left_at w.tasks.items now c.accounts + 1 ≤ left_at w.tasks.items now b.accounts
+    → steps_left_at w.tasks.items now c.accounts + 1 ≤ steps_left_at w.tasks.items now b.accounts
 end-takes w d e b c processor now deeds reported sound early (task, action, aim, more, is, follow) lives h =
     let kinds = w.tasks.items in
     let seed = w.machine.seed in
     let periods = periods_of w.machine in
     let (k, done, its, to, rest) = subst (λ l. Lives kinds seed periods d b l reported e c) is lives in
     let was : Accounts = b.accounts in
-    let a : Accounts = charged processor now was in
+    let a : Accounts = accounts_charged processor now was in
     let next : Option Action = next_action kinds k in
     let agrees : AgreesWith (world_of d) a = agrees_charged (world_of d) was processor now h.agrees in
-    let runs : run_at a.by_processor processor ≡ Some task = run_of a processor done.processor_state done.at ∙ done.runs in
+    let runs : runner_at a.by_processor processor ≡ Some task = run_of a processor done.processor_state done.at ∙ done.runs in
     let can : k.task_state ≡ Runnable =
     runs-can k.task_state (λ sleeps. sleeper_rests (world_of d) a task k agrees done.there sleeps processor runs) in
     let stand : AllStand kinds a.by_task =
@@ -375,13 +375,13 @@ end-takes w d e b c processor now deeds reported sound early (task, action, aim,
     let stands : StandsAtAction kinds task k = stand task k done.there in
     let of = stands.of_kind in
     let good : IsSoundKind (length kinds) of.kind = sound_kind w k.kind of.kind sound of.there in
-    let actions : actions_in kinds k.kind ≡ of.kind.actions.items =
+    let actions : kind_actions kinds k.kind ≡ of.kind.actions.items =
     ap (λ (o : Option TaskKind). option_map_or (λ (x : TaskKind). x.actions.items) o []) of.there in
     elim (some_or_none (slice_get was.by_processor processor)) [
       | inl none ↦
           let same : a ≡ was =
           ap (λ (o : Option ProcessorState).
-          option_map_or (λ (l : ProcessorState). of_processor (λ x. record x { since = now }) processor (charged_by l now was)) o was)
+          option_map_or (λ (l : ProcessorState). of_processor (λ x. record x { since = now }) processor (runner_charged l now was)) o was)
           none in
           absurd
           (none-some done.processor_state (sym none ∙ ap (λ (x : Accounts). slice_get x.by_processor processor) (sym same) ∙ done.at))
@@ -407,9 +407,9 @@ end-takes w d e b c processor now deeds reported sound early (task, action, aim,
 
 -- each thing that is the next takes a step of those that are left, where all is kept
 pub meet-takes : (w : Workload) (d e : Driver) (b c : Book) (next : Due) (now : ℕ) (deeds : List Deed) (reported : Reported)
-    → first_flaw w ≡ None → now ≤ w.machine.duration → IsNext w.machine.duration b.accounts next now → Meet next now deeds
-    → Leads w d b deeds reported e c → IsKept w.tasks.items now d b
-    → left_at w.tasks.items now c.accounts + 1 ≤ left_at w.tasks.items now b.accounts
+    → first_flaw w ≡ None → now ≤ w.machine.duration → IsNextDue w.machine.duration b.accounts next now → Meet next now deeds
+    → DeedsLead w d b deeds reported e c → IsKept w.tasks.items now d b
+    → steps_left_at w.tasks.items now c.accounts + 1 ≤ steps_left_at w.tasks.items now b.accounts
 meet-takes w d e b c (due.End processor) now deeds reported sound until is meet leads h =
     end-takes w d e b c processor now deeds reported sound (omega (arith, until, (sound_times w sound).duration)) meet leads h
 meet-takes w d e b c (due.Wake task) now deeds reported sound until is meet leads h =

@@ -5,7 +5,7 @@ use Rattle.std.specs.Option.{option_map_or}
 use Rattle.std.proofs.lemmas.Bool.{cases_eq, true≢false}
 use Rattle.std.proofs.lemmas.Option.{none-some, same_Some}
 use Rattle.bq_parts.specs.declared.event.Event.TheVariants.{Block, Pull, Tick}
-use Rattle.bq_parts.specs.World.{World, entry}
+use Rattle.bq_parts.specs.World.{World, entry_of_id}
 use Rattle.bq_trace.specs.TraceEvents.{Reported}
 use Rattle.bq_workload.specs.declared.action.Action.{Action}
 use Rattle.bq_workload.specs.declared.action.Action.TheVariants.{Run, Sleep, Wait, Wake}
@@ -15,17 +15,17 @@ use Rattle.bq_workload.specs.declared.progress.TaskState.TheVariants.{Asleep}
 use Rattle.bq_workload.specs.declared.processor_state.ProcessorState.{ProcessorState}
 use Rattle.bq_workload.specs.declared.roster.Periods.{Periods}
 use Rattle.bq_workload.specs.declared.workload.TaskKind.{TaskKind}
-use Rattle.bq_workload.specs.Accounts.{Accounts, IsDone, changed_at, charged, charged_by, grown, is_same, of_processor, of_task, passed, shrunk, switched, taken_over}
+use Rattle.bq_workload.specs.Accounts.{Accounts, IsPhaseDone, changed_at, accounts_charged, runner_charged, grown, is_same, of_processor, of_task, accounts_passed, shrunk, accounts_switched, taken_over}
 use Rattle.bq_workload.specs.Dues.{next_multiple}
-use Rattle.bq_workload.specs.TaskProgress.{woken}
+use Rattle.bq_workload.specs.TaskProgress.{progress_woken}
 use Rattle.bq_workload.proofs.AgreeLemmas.{changed_at-here, changed_at-others, some_or_none}
 use Rattle.bq_simulate.specs.declared.driver.Driver.{Driver}
-use Rattle.bq_simulate.specs.Actions.{acted, actions_of, asked_by, next_action}
-use Rattle.bq_simulate.specs.Agreement.{AgreesWith, IsOnTime, ProcessorIsOnTime, RunsOnTime, StandsAs, can_run, run_at}
-use Rattle.bq_simulate.specs.AgreementLaws.{Agree, MeetingsAreOnTime, RunsAlone}
+use Rattle.bq_simulate.specs.Actions.{acted, action_count, asked_by, next_action}
+use Rattle.bq_simulate.specs.Agreement.{AgreesWith, IsOnTime, ProcessorIsOnTime, RunsOnTime, StandsAs, can_run, runner_at}
+use Rattle.bq_simulate.specs.AgreementLaws.{BookAgrees, MeetingsAreOnTime, RunsAlone}
 use Rattle.bq_simulate.specs.Chronicles.{Book, Deed, Happens, Lives, after_act, after_beat, after_look, is_busy, length_taken}
 use Rattle.bq_simulate.specs.Drives.{count_entered, runs_now, task_pulled}
-use Rattle.bq_simulate.specs.Steps.{AreJust, AreWake, Follow, Meet, Wakes, pulls_of}
+use Rattle.bq_simulate.specs.Steps.{AreJust, AreWake, Follow, Meet, WakesTask, pulls_of}
 use Rattle.bq_simulate.proofs.AccountLemmas.{charged_there, read_kept}
 use Rattle.bq_simulate.proofs.MeetAgreeLemmas.{advanced_state, agrees_charged, agrees_further, agrees_processor, meetings_agree, runs_away, sleeps_if_woken, woken_one_home, woken_one_state, world_of}
 use Rattle.bq_simulate.proofs.TimeKeptLemmas.{beaten_kept, carried, charged_on_time, looked_kept, processors_changed, run_of, switched_kept, tasks_changed, tasks_run_alone}
@@ -36,13 +36,13 @@ same_accounts now a b is h = subst (λ (x : Accounts). IsOnTime now x) (sym is) 
 
 -- where there is such a processor another task runs, as an answer says
 switched_any : (periods : Periods) (now processor : ℕ) (run : Option ℕ) (v : World) (a : Accounts)
-    → 1 ≤ periods.tick → RunsAlone a processor → AgreesWith v (switched processor run now periods a) → IsOnTime now a
-    → IsOnTime now (switched processor run now periods a)
+    → 1 ≤ periods.tick → RunsAlone a processor → AgreesWith v (accounts_switched processor run now periods a) → IsOnTime now a
+    → IsOnTime now (accounts_switched processor run now periods a)
 switched_any periods now processor run v a some alone agrees h =
-    let over : Accounts = taken_over processor run now periods (charged processor now a) in
+    let over : Accounts = taken_over processor run now periods (accounts_charged processor now a) in
     elim (some_or_none (slice_get a.by_processor processor)) [
       | inl none ↦
-          same_accounts now a (switched processor run now periods a)
+          same_accounts now a (accounts_switched processor run now periods a)
           (ap (λ (o : Option ProcessorState). option_map_or (λ (l : ProcessorState). if is_same l.run run then a else over) o a) none) h
       | inr (l, at) ↦ switched_kept periods now processor run v a l some at alone agrees h
     ]
@@ -73,7 +73,7 @@ pub sized_alone : (at processor : ℕ) (g : ℕ → ℕ) (a : Accounts)
     → RunsAlone a processor → RunsAlone (of_processor (λ l. record l { size = g l.size }) at a) processor
 sized_alone at processor g a alone other task here there =
     let f : ProcessorState → ProcessorState = λ l. record l { size = g l.size } in
-    let kept : (k : ℕ) → run_at (of_processor f at a).by_processor k ≡ run_at a.by_processor k =
+    let kept : (k : ℕ) → runner_at (of_processor f at a).by_processor k ≡ runner_at a.by_processor k =
     λ k. read_kept f (λ (l : ProcessorState). l.run) None (λ l. refl) a.by_processor at k in
     alone other task (sym (kept processor) ∙ here) (sym (kept other) ∙ there)
 
@@ -81,26 +81,26 @@ sized_alone at processor g a alone other task here there =
 
 tick_time : (kinds : List TaskKind) (seed : ℕ) (periods : Periods) (d e : Driver) (b c : Book) (processor now : ℕ)
     (deeds : List Deed) (reported : Reported)
-    → 1 ≤ periods.tick → AreJust (Tick processor now ∷ []) deeds → Lives kinds seed periods d b deeds reported e c → Agree d b
-    → Agree e c → (is_busy b.accounts processor ≡ true → IsOnTime now b.accounts)
+    → 1 ≤ periods.tick → AreJust (Tick processor now ∷ []) deeds → Lives kinds seed periods d b deeds reported e c → BookAgrees d b
+    → BookAgrees e c → (is_busy b.accounts processor ≡ true → IsOnTime now b.accounts)
     → IsOnTime now c.accounts
 tick_time kinds seed periods d e b c processor now deeds reported some (reply, more, is, none) lives h after time =
     let whole : deeds ≡ Happens (Tick processor now) reply ∷ [] = is ∙ ap (λ l. Happens (Tick processor now) reply ∷ l) none in
     let (busy, mid, first, rest, does, (nothing, same, kept), all) = subst (λ l. Lives kinds seed periods d b l reported e c) whole lives in
     let a : Accounts = b.accounts in
-    let its : c.accounts ≡ switched processor (runs_now reply) now periods a = ap (λ (x : Book). x.accounts) kept in
-    same_accounts now (switched processor (runs_now reply) now periods a) c.accounts its
+    let its : c.accounts ≡ accounts_switched processor (runs_now reply) now periods a = ap (λ (x : Book). x.accounts) kept in
+    same_accounts now (accounts_switched processor (runs_now reply) now periods a) c.accounts its
     (switched_any periods now processor (runs_now reply) (world_of e) a some (tasks_run_alone (world_of d) a processor h)
     (subst (λ (x : Accounts). AgreesWith (world_of e) x) its after) (time busy))
 
 passed_on_time : (now processor from : ℕ) (task : Option ℕ) (a : Accounts)
-    → IsOnTime now a → IsOnTime now (option_map_or (λ _. passed from processor a) task a)
+    → IsOnTime now a → IsOnTime now (option_map_or (λ _. accounts_passed from processor a) task a)
 passed_on_time now processor from None a h = h
 passed_on_time now processor from (Some id) a h =
     sized_on_time now processor (λ n. n + 1) (shrunk from a) (sized_on_time now from (λ n. n - 1) a h)
 
 passed_alone : (processor from : ℕ) (task : Option ℕ) (a : Accounts)
-    → RunsAlone a processor → RunsAlone (option_map_or (λ _. passed from processor a) task a) processor
+    → RunsAlone a processor → RunsAlone (option_map_or (λ _. accounts_passed from processor a) task a) processor
 passed_alone processor from None a alone = alone
 passed_alone processor from (Some id) a alone =
     sized_alone processor processor (λ n. n + 1) (shrunk from a) (sized_alone from processor (λ n. n - 1) a alone)
@@ -116,7 +116,7 @@ nothing_time kinds seed periods d e b c now deeds reported none lives h =
 look_time : (source : Option ℕ) (kinds : List TaskKind) (seed : ℕ) (periods : Periods) (d e : Driver) (b c : Book)
     (processor now : ℕ) (deeds : List Deed) (reported : Reported)
     → 1 ≤ periods.tick → AreJust (pulls_of processor now source) deeds → Lives kinds seed periods d b deeds reported e c
-    → Agree d b → Agree e c → IsOnTime now b.accounts
+    → BookAgrees d b → BookAgrees e c → IsOnTime now b.accounts
     → IsOnTime now c.accounts
 look_time None kinds seed periods d e b c processor now deeds reported some none lives h after time =
     nothing_time kinds seed periods d e b c now deeds reported none lives time
@@ -124,9 +124,9 @@ look_time (Some from) kinds seed periods d e b c processor now deeds reported so
     lives h after time =
     let whole : deeds ≡ Happens (Pull processor from now) reply ∷ [] = is ∙ ap (λ l. Happens (Pull processor from now) reply ∷ l) none in
     let (due, mid, first, rest, does, (nothing, same, kept), all) = subst (λ l. Lives kinds seed periods d b l reported e c) whole lives in
-    let a : Accounts = option_map_or (λ _. passed from processor b.accounts) (task_pulled reply) b.accounts in
-    let its : c.accounts ≡ switched processor (runs_now reply) now periods a = ap (λ (x : Book). x.accounts) kept in
-    same_accounts now (switched processor (runs_now reply) now periods a) c.accounts its
+    let a : Accounts = option_map_or (λ _. accounts_passed from processor b.accounts) (task_pulled reply) b.accounts in
+    let its : c.accounts ≡ accounts_switched processor (runs_now reply) now periods a = ap (λ (x : Book). x.accounts) kept in
+    same_accounts now (accounts_switched processor (runs_now reply) now periods a) c.accounts its
     (switched_any periods now processor (runs_now reply) (world_of e) a some
     (passed_alone processor from (task_pulled reply) b.accounts (tasks_run_alone (world_of d) b.accounts processor h))
     (subst (λ (x : Accounts). AgreesWith (world_of e) x) its after)
@@ -137,28 +137,28 @@ look_time (Some from) kinds seed periods d e b c processor now deeds reported so
 -- a task that sleeps runs nowhere
 pub sleeper_rests : (w : World) (a : Accounts) (task : ℕ) (c : TaskProgress)
     → AgreesWith w a → slice_get a.by_task task ≡ Some c → can_run c.task_state ≡ false
-    → (k : ℕ) → run_at a.by_processor k ≢ Some task
+    → (k : ℕ) → runner_at a.by_processor k ≢ Some task
 sleeper_rests w a task c h at sleeps k runs =
-    let stands : StandsAs (Some c.task_state) (entry w task) =
-    subst (λ o. StandsAs o (entry w task))
+    let stands : StandsAs (Some c.task_state) (entry_of_id w task) =
+    subst (λ o. StandsAs o (entry_of_id w task))
     (ap (λ (o : Option TaskProgress). option_map_or (λ (x : TaskProgress). Some x.task_state) o None) at)
     (h.mirrors.tasks task) in
     true≢false (sym (runs_away w k task h.orderly (sym (h.mirrors.processors.runs k) ∙ runs)) ∙ stands.1 ∙ sleeps)
 
 -- a task that is woken, and ran nowhere, has no phase that is past
-pub woken_on_time : (now task : ℕ) (a : Accounts) → ((k : ℕ) → run_at a.by_processor k ≢ Some task) → IsOnTime now a
-    → IsOnTime now (of_task woken task a)
+pub woken_on_time : (now task : ℕ) (a : Accounts) → ((k : ℕ) → runner_at a.by_processor k ≢ Some task) → IsOnTime now a
+    → IsOnTime now (of_task progress_woken task a)
 woken_on_time now task a rests h = record {
-  tasks = tasks_changed now woken a.by_task task (λ c at. record { phase = omega arith; timer = λ asleep. cc }) h.tasks;
-  processors = λ k l at. carried now a.by_task (changed_at woken a.by_task task) l
-      (λ other runs. changed_at-others woken a.by_task task other (λ e. rests k (run_of a k l at ∙ runs ∙ ap (λ (i : ℕ). Some i) e)))
+  tasks = tasks_changed now progress_woken a.by_task task (λ c at. record { phase = omega arith; timer = λ asleep. cc }) h.tasks;
+  processors = λ k l at. carried now a.by_task (changed_at progress_woken a.by_task task) l
+      (λ other runs. changed_at-others progress_woken a.by_task task other (λ e. rests k (run_of a k l at ∙ runs ∙ ap (λ (i : ℕ). Some i) e)))
       (h.processors k l at);
 }
 
 wake_time : (kinds : List TaskKind) (seed : ℕ) (periods : Periods) (d e : Driver) (b c : Book) (from task now : ℕ)
     (deeds : List Deed) (reported : Reported)
     → 1 ≤ periods.tick → AreWake from task now deeds → Lives kinds seed periods d b deeds reported e c
-    → Agree d b → Agree e c → IsOnTime now b.accounts
+    → BookAgrees d b → BookAgrees e c → IsOnTime now b.accounts
     → IsOnTime now c.accounts
 wake_time kinds seed periods d e b c from task now deeds reported some (begun, placed, drained, to, at, is)
     lives h after time =
@@ -172,21 +172,21 @@ wake_time kinds seed periods d e b c from task now deeds reported some (begun, p
       whole,
     ) = subst (λ l. Lives kinds seed periods d b l reported e c) is lives in
     let sleeps = sleeps_if_woken b.accounts woke.progress.task_state woke.progress.home from woke.place in
-    let a : Accounts = of_task woken task b.accounts in
+    let a : Accounts = of_task progress_woken task b.accounts in
     let mid : Accounts = grown to (count_entered drained) a in
-    let its : c.accounts ≡ switched to (runs_now drained) now periods mid = ap (λ (x : Book). x.accounts) kept in
+    let its : c.accounts ≡ accounts_switched to (runs_now drained) now periods mid = ap (λ (x : Book). x.accounts) kept in
     let awake : IsOnTime now a =
     woken_on_time now task b.accounts (sleeper_rests (world_of d) b.accounts task woke.progress h woke.there sleeps) time in
     let alone : RunsAlone a to = λ other k here there. tasks_run_alone (world_of d) b.accounts to h other k here there in
-    same_accounts now (switched to (runs_now drained) now periods mid) c.accounts its
+    same_accounts now (accounts_switched to (runs_now drained) now periods mid) c.accounts its
     (switched_any periods now to (runs_now drained) (world_of e) mid some
     (sized_alone to to (λ n. n + count_entered drained) a alone) (subst (λ (x : Accounts). AgreesWith (world_of e) x) its after)
     (sized_on_time now to (λ n. n + count_entered drained) a awake))
 
 wakes_time : (kinds : List TaskKind) (seed : ℕ) (periods : Periods) (d e : Driver) (b c : Book) (processor task now : ℕ)
     (deeds : List Deed) (reported : Reported)
-    → 1 ≤ periods.tick → Wakes task processor now deeds → Lives kinds seed periods d b deeds reported e c
-    → Agree d b → Agree e c → IsOnTime now b.accounts
+    → 1 ≤ periods.tick → WakesTask task processor now deeds → Lives kinds seed periods d b deeds reported e c
+    → BookAgrees d b → BookAgrees e c → IsOnTime now b.accounts
     → IsOnTime now c.accounts
 wakes_time kinds seed periods d e b c processor task now deeds reported some (inl is) lives h after time =
     let (k, there, waits, rest) = subst (λ l. Lives kinds seed periods d b l reported e c) is lives in
@@ -210,7 +210,7 @@ acted_timer : (action : Option Action) (kinds : List TaskKind) (length now : ℕ
     → now < 2 ^ 48 → (c.task_state ≡ Asleep → ⊥) → (acted kinds action length now c).task_state ≡ Asleep
     → now ≤ (acted kinds action length now c).timer
 acted_timer None kinds length now c early runs asleep = cc
-acted_timer (Some (Run asked)) kinds length now c early runs asleep = absurd (runs (sym (advanced_state (actions_of kinds c) c) ∙ asleep))
+acted_timer (Some (Run asked)) kinds length now c early runs asleep = absurd (runs (sym (advanced_state (action_count kinds c) c) ∙ asleep))
 acted_timer (Some (Sleep asked)) kinds length now c early runs asleep = omega arith
 acted_timer (Some Wait) kinds length now c early runs asleep = cc
 acted_timer (Some (Wake kind)) kinds length now c early runs asleep = absurd (runs (sym (woken_one_state kinds kind c) ∙ asleep))
@@ -257,14 +257,14 @@ given_on_time now processor task a c new l at runs since there got timer alone h
 block_time : (kinds : List TaskKind) (seed : ℕ) (periods : Periods) (d e : Driver) (b c : Book) (processor now : ℕ)
     (deeds : List Deed) (reported : Reported)
     → 1 ≤ periods.tick → AreJust (Block processor now ∷ []) deeds → Lives kinds seed periods d b deeds reported e c
-    → RunsAlone b.accounts processor → Agree e c → IsOnTime now b.accounts
+    → RunsAlone b.accounts processor → BookAgrees e c → IsOnTime now b.accounts
     → IsOnTime now c.accounts
 block_time kinds seed periods d e b c processor now deeds reported some (reply, more, is, none) lives alone after time =
     let whole : deeds ≡ Happens (Block processor now) reply ∷ [] = is ∙ ap (λ l. Happens (Block processor now) reply ∷ l) none in
     let (due, mid, first, rest, does, (nothing, same, kept), all) = subst (λ l. Lives kinds seed periods d b l reported e c) whole lives in
     let a : Accounts = shrunk processor b.accounts in
-    let its : c.accounts ≡ switched processor (runs_now reply) now periods a = ap (λ (x : Book). x.accounts) kept in
-    same_accounts now (switched processor (runs_now reply) now periods a) c.accounts its
+    let its : c.accounts ≡ accounts_switched processor (runs_now reply) now periods a = ap (λ (x : Book). x.accounts) kept in
+    same_accounts now (accounts_switched processor (runs_now reply) now periods a) c.accounts its
     (switched_any periods now processor (runs_now reply) (world_of e) a some
     (sized_alone processor processor (λ n. n - 1) b.accounts alone) (subst (λ (x : Accounts). AgreesWith (world_of e) x) its after)
     (sized_on_time now processor (λ n. n - 1) b.accounts time))
@@ -273,7 +273,7 @@ follow_time : (action : Option Action) (aim : Option ℕ) (kinds : List TaskKind
     (a : Accounts) (b f : Book) (processor task length now : ℕ) (c : TaskProgress) (deeds : List Deed) (reported : Reported)
     → 1 ≤ periods.tick → Follow action aim processor now deeds
     → b.accounts ≡ of_task (λ _. acted kinds action length now c) task a → slice_get a.by_task task ≡ Some c
-    → AgreesWith (world_of d) a → Lives kinds seed periods d b deeds reported e f → Agree e f → IsOnTime now b.accounts
+    → AgreesWith (world_of d) a → Lives kinds seed periods d b deeds reported e f → BookAgrees e f → IsOnTime now b.accounts
     → IsOnTime now f.accounts
 follow_time None aim kinds seed periods d e a b f processor task length now c deeds reported some follow is at
     h lives after time =
@@ -301,18 +301,18 @@ follow_time (Some (Wake kind)) (Some other) kinds seed periods d e a b f process
 -- a task whose phase has ended takes up what it does next
 pub taken_up_on_time : (action : Option Action) (kinds : List TaskKind) (w : World) (was : Accounts)
     (processor task length now : ℕ) (c : TaskProgress)
-    → now < 2 ^ 48 → AgreesWith w was → IsDone (charged processor now was) processor task c → IsOnTime now was
-    → IsOnTime now (of_task (λ _. acted kinds action length now c) task (charged processor now was))
+    → now < 2 ^ 48 → AgreesWith w was → IsPhaseDone (accounts_charged processor now was) processor task c → IsOnTime now was
+    → IsOnTime now (of_task (λ _. acted kinds action length now c) task (accounts_charged processor now was))
 taken_up_on_time action kinds w was processor task length now c early h done time =
-    let a : Accounts = charged processor now was in
+    let a : Accounts = accounts_charged processor now was in
     let agrees : AgreesWith w a = agrees_charged w was processor now h in
-    let runs : run_at a.by_processor processor ≡ Some task = run_of a processor done.processor_state done.at ∙ done.runs in
+    let runs : runner_at a.by_processor processor ≡ Some task = run_of a processor done.processor_state done.at ∙ done.runs in
     let awake : c.task_state ≡ Asleep → ⊥ = λ asleep. sleeper_rests w a task c agrees done.there (ap can_run asleep) processor runs in
     elim (some_or_none (slice_get was.by_processor processor)) [
       | inl none ↦
           let same : a ≡ was =
           ap (λ (o : Option ProcessorState).
-          option_map_or (λ (l : ProcessorState). of_processor (λ x. record x { since = now }) processor (charged_by l now was)) o was)
+          option_map_or (λ (l : ProcessorState). of_processor (λ x. record x { since = now }) processor (runner_charged l now was)) o was)
           none in
           absurd
           (none-some done.processor_state (sym none ∙ ap (λ (x : Accounts). slice_get x.by_processor processor) (sym same) ∙ done.at))
@@ -329,12 +329,12 @@ taken_up_on_time action kinds w was processor task length now c early h done tim
 end_time : (kinds : List TaskKind) (seed : ℕ) (periods : Periods) (d e : Driver) (b c : Book) (processor now : ℕ)
     (deeds : List Deed) (reported : Reported)
     → 1 ≤ periods.tick → now < 2 ^ 48 → Meet (due.End processor) now deeds → Lives kinds seed periods d b deeds reported e c
-    → Agree d b → Agree e c → IsOnTime now b.accounts
+    → BookAgrees d b → BookAgrees e c → IsOnTime now b.accounts
     → IsOnTime now c.accounts
 end_time kinds seed periods d e b c processor now deeds reported some early (task, action, aim, more, is, follow)
     lives h after time =
     let (k, done, its, to, rest) = subst (λ l. Lives kinds seed periods d b l reported e c) is lives in
-    let a : Accounts = charged processor now b.accounts in
+    let a : Accounts = accounts_charged processor now b.accounts in
     let next : Option Action = next_action kinds k in
     let long : ℕ = length_taken seed task b.drawn (asked_by next) in
     let given = taken_up_on_time next kinds (world_of d) b.accounts processor task long now k early h done time in
@@ -348,12 +348,12 @@ meetings_are_on_time kinds seed periods d e b c (due.End processor) now deeds re
     end_time kinds seed periods d e b c processor now deeds reported tick early meet lives h
     (meetings_agree kinds seed periods d e b c (due.End processor) now deeds reported meet lives h) time
 meetings_are_on_time kinds seed periods d e b c (due.Wake task) now deeds reported tick balance early meet lives h time =
-    let after : Agree e c = meetings_agree kinds seed periods d e b c (due.Wake task) now deeds reported meet lives h in
+    let after : BookAgrees e c = meetings_agree kinds seed periods d e b c (due.Wake task) now deeds reported meet lives h in
     let (home, more, is, wake) = meet in
     let (k, there, asleep, timer, rest) = subst (λ l. Lives kinds seed periods d b l reported e c) is lives in
     wake_time kinds seed periods d e b c home task now more reported tick wake rest h after time
 meetings_are_on_time kinds seed periods d e b c (due.Tick processor) now deeds reported tick balance early meet lives h time =
-    let after : Agree e c = meetings_agree kinds seed periods d e b c (due.Tick processor) now deeds reported meet lives h in
+    let after : BookAgrees e c = meetings_agree kinds seed periods d e b c (due.Tick processor) now deeds reported meet lives h in
     let (more, is, just) = meet in
     let (ticks, rest) = subst (λ l. Lives kinds seed periods d b l reported e c) is lives in
     let f : ProcessorState → ProcessorState = λ l. record l { tick = Some (next_multiple periods.tick now) } in
@@ -362,7 +362,7 @@ meetings_are_on_time kinds seed periods d e b c (due.Tick processor) now deeds r
     beaten_kept now processor periods.tick b.accounts tick
     (sym (read_kept f (λ (l : ProcessorState). is_some l.run) false (λ l. refl) b.accounts.by_processor processor processor) ∙ busy) time)
 meetings_are_on_time kinds seed periods d e b c (due.Pull processor) now deeds reported tick balance early meet lives h time =
-    let after : Agree e c = meetings_agree kinds seed periods d e b c (due.Pull processor) now deeds reported meet lives h in
+    let after : BookAgrees e c = meetings_agree kinds seed periods d e b c (due.Pull processor) now deeds reported meet lives h in
     let (source, more, is, just) = meet in
     let (looks, from, rest) = subst (λ l. Lives kinds seed periods d b l reported e c) is lives in
     look_time source kinds seed periods d e (after_look periods processor now b) c processor now more reported tick just rest

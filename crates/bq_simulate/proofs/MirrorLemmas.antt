@@ -12,8 +12,8 @@ use Rattle.bq_disc.specs.OneProcessor.{Running, present_at, charge, decided}
 use Rattle.bq_parts.specs.declared.event.Event.{Event}
 use Rattle.bq_parts.specs.declared.reply.Reply.{Reply}
 use Rattle.bq_parts.specs.declared.refusal.Refusal.TheVariants as no
-use Rattle.bq_parts.specs.Processors.{Processor, opening, size_of}
-use Rattle.bq_parts.specs.World.{World, processor_at, entry, count_in, with_processor}
+use Rattle.bq_parts.specs.Processors.{Processor, new_processor, size_of}
+use Rattle.bq_parts.specs.World.{World, processor_at, entry_of_id, count_in, with_processor}
 use Rattle.bq_parts.specs.Choices.{PolicySemantics}
 use Rattle.bq_parts.specs.Refusals.{first_refusal, no_processor}
 use Rattle.bq_parts.specs.StandsOnce.{IsOrderly}
@@ -25,11 +25,11 @@ use Rattle.bq_core.proofs.SizeLemmas.{step_count}
 use Rattle.bq_workload.specs.declared.progress.TaskProgress.{TaskProgress}
 use Rattle.bq_workload.specs.declared.processor_state.ProcessorState.{ProcessorState}
 use Rattle.bq_workload.specs.declared.roster.Periods.{Periods}
-use Rattle.bq_workload.specs.Accounts.{Accounts, charged, charged_by, is_same, occupied, of_processor, of_task, switched, taken_over}
+use Rattle.bq_workload.specs.Accounts.{Accounts, accounts_charged, runner_charged, is_same, occupied, of_processor, of_task, accounts_switched, taken_over}
 use Rattle.bq_workload.specs.TaskProgress.{moved_to, run_for}
 use Rattle.bq_workload.specs.Dues.{size_at}
 use Rattle.bq_workload.proofs.AgreedLemmas.{stood_before_change}
-use Rattle.bq_simulate.specs.Agreement.{AgreesWith, HaveProcessors, IsSettled, Mirrors, RunsAs, StandsAs, run_at, state_at}
+use Rattle.bq_simulate.specs.Agreement.{AgreesWith, HaveProcessors, IsSettled, Mirrors, RunsAs, StandsAs, runner_at, state_at}
 use Rattle.bq_simulate.proofs.AccountLemmas.{Reads}
 
 -- a fact of each place of a list, after one place was written, where it may have been false
@@ -86,23 +86,23 @@ pub runs_written : (w : World) (a b : Accounts) (processor : ℕ) (q : Processor
 runs_written w a b processor q run size h low reads runs sizes = record {
   many = reads.many ∙ h.many ∙ sym (length-set w.processors processor q);
   runs =
-      at_set_else (λ n (p : Processor). run_at b.by_processor n ≡ id_of p.running.current) w.processors processor q opening
+      at_set_else (λ n (p : Processor). runner_at b.by_processor n ≡ id_of p.running.current) w.processors processor q new_processor
       low (reads.run_here ∙ runs) (λ other apart. reads.runs other apart ∙ h.runs other);
   sizes =
-      at_set_else (λ n (p : Processor). size_at b.by_processor n ≡ size_of p) w.processors processor q opening low
+      at_set_else (λ n (p : Processor). size_at b.by_processor n ≡ size_of p) w.processors processor q new_processor low
       (reads.size_here ∙ sizes) (λ other apart. reads.sizes other apart ∙ h.sizes other);
 }
 
 -- tasks are in the states that they were in
 pub tasks_kept : (w : World) (a b : Accounts) → ((task : ℕ) → state_at b.by_task task ≡ state_at a.by_task task)
-    → ((task : ℕ) → StandsAs (state_at a.by_task task) (entry w task))
-    → (task : ℕ) → StandsAs (state_at b.by_task task) (entry w task)
-tasks_kept w a b same h task = subst (λ s. StandsAs s (entry w task)) (sym (same task)) (h task)
+    → ((task : ℕ) → StandsAs (state_at a.by_task task) (entry_of_id w task))
+    → (task : ℕ) → StandsAs (state_at b.by_task task) (entry_of_id w task)
+tasks_kept w a b same h task = subst (λ s. StandsAs s (entry_of_id w task)) (sym (same task)) (h task)
 
 -- a hand that is empty stays so
 pub settled_written : (w : World) (processor : ℕ) (q : Processor) → IsSettled w → q.hand ≡ None → IsSettled (with_processor w processor q)
 settled_written w processor q h empty = record {
-  hands = at_set (λ n (p : Processor). p.hand ≡ None) w.processors processor q opening empty h.hands;
+  hands = at_set (λ n (p : Processor). p.hand ≡ None) w.processors processor q new_processor empty h.hands;
   inboxes = h.inboxes;
 }
 
@@ -120,17 +120,17 @@ homes_task count task f a kept h k c at =
     ]
 
 homes_charged_by : (count : ℕ) (l : ProcessorState) (now : ℕ) (a : Accounts)
-    → HaveProcessors count a → HaveProcessors count (charged_by l now a)
+    → HaveProcessors count a → HaveProcessors count (runner_charged l now a)
 homes_charged_by count l now a h =
-    elim l.run as (λ (o : Option ℕ). HaveProcessors count (charged_by (record l { run = o }) now a))
+    elim l.run as (λ (o : Option ℕ). HaveProcessors count (runner_charged (record l { run = o }) now a))
     [ None ↦ h | Some task ↦ homes_task count task (run_for (now - l.since)) a (λ c low. low) h ]
 
 -- the time of a processor is counted
-pub homes_charged : (count processor now : ℕ) (a : Accounts) → HaveProcessors count a → HaveProcessors count (charged processor now a)
+pub homes_charged : (count processor now : ℕ) (a : Accounts) → HaveProcessors count a → HaveProcessors count (accounts_charged processor now a)
 homes_charged count processor now a h =
     let f : ProcessorState → ProcessorState = λ x. record x { since = now } in
     elim (slice_get a.by_processor processor) as (λ (o : Option ProcessorState).
-    HaveProcessors count (option_map_or (λ (l : ProcessorState). of_processor f processor (charged_by l now a)) o a))
+    HaveProcessors count (option_map_or (λ (l : ProcessorState). of_processor f processor (runner_charged l now a)) o a))
     [ None ↦ h | Some l ↦ homes_charged_by count l now a h ]
 
 homes_taken_over : (count processor : ℕ) (run : Option ℕ) (now : ℕ) (periods : Periods) (a : Accounts)
@@ -144,11 +144,11 @@ homes_taken_over count processor (Some task) now periods a low h =
 -- who runs there from now on is at home there
 pub homes_switched : (count processor : ℕ) (run : Option ℕ) (now : ℕ) (periods : Periods) (a : Accounts)
     → processor < count → HaveProcessors count a
-    → HaveProcessors count (switched processor run now periods a)
+    → HaveProcessors count (accounts_switched processor run now periods a)
 homes_switched count processor run now periods a low h =
-    let over : Accounts = taken_over processor run now periods (charged processor now a) in
+    let over : Accounts = taken_over processor run now periods (accounts_charged processor now a) in
     let taken : HaveProcessors count over =
-    homes_taken_over count processor run now periods (charged processor now a) low (homes_charged count processor now a h) in
+    homes_taken_over count processor run now periods (accounts_charged processor now a) low (homes_charged count processor now a h) in
     elim (slice_get a.by_processor processor) as (λ (o : Option ProcessorState).
     HaveProcessors count (option_map_or (λ (l : ProcessorState). if is_same l.run run then a else over) o a)) [
       | None ↦ h

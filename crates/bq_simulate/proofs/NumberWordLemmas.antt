@@ -8,9 +8,9 @@ use Rattle.std.specs.Fmt.{signed_decimal}
 use Rattle.std.specs.Str.Parse.{digits_value, AllDigits}
 use Rattle.std.proofs.lemmas.Bool.Decides.{nat_tests}
 use Rattle.std.proofs.lemmas.Fmt.{decimal_is_IsNumeral, length-decimal-le}
-use Rattle.bq_words.specs.Numbers.{number_of}
+use Rattle.bq_words.specs.Numbers.{number_in_base}
 use Rattle.bq_words.proofs.NumberLemmas.{below-Some}
-use Rattle.bq_words.specs.Quantities.{decimal_of, processor_of, task_of, mask_of, nice_of}
+use Rattle.bq_words.specs.Quantities.{decimal_of, processor_in_word, task_in_word, mask_in_word, nice_in_word}
 use Rattle.bq_simulate.proofs.PlainWordLemmas.{is_plain, IsPlain}
 
 -- a digit is a plain byte
@@ -36,7 +36,7 @@ short_decimal n h = length-decimal-le 20 n (lit< tt) (omega (arith)) h
 
 if_all : (ds : List ℕ) (n : ℕ) → 0 < length ds → list_all (λ c. ltb (digit_value c) 10) ds ≡ true
     → digits_value 10 ds ≡ n → n < 2 ^ 64
-    → number_of 10 ds ≡ Some n
+    → number_in_base 10 ds ≡ Some n
 if_all ds n some all value fits =
     let long : ltb 0 (length ds) ≡ true = grind (arith, nat_tests) in
     let small : ltb (digits_value 10 ds) (2 ^ 64) ≡ true = grind (arith, nat_tests) in
@@ -49,11 +49,11 @@ decimal_of-decimal n h =
     if_all (decimal n) n numeral.0.0 (digits_pass (decimal n) numeral.0.1) numeral.1 h
 
 -- the number of a processor is read back from its digits
-pub processor_of-decimal : (n : ℕ) → n < 2 ^ 8 → processor_of (decimal n) ≡ Some n
+pub processor_of-decimal : (n : ℕ) → n < 2 ^ 8 → processor_in_word (decimal n) ≡ Some n
 processor_of-decimal n h = below-Some (2 ^ 8) n _ (decimal_of-decimal n (omega arith)) h
 
 -- the number of a task is read back from its digits
-pub task_of-decimal : (n : ℕ) → n < 2 ^ 16 → task_of (decimal n) ≡ Some n
+pub task_of-decimal : (n : ℕ) → n < 2 ^ 16 → task_in_word (decimal n) ≡ Some n
 task_of-decimal n h = below-Some (2 ^ 16) n _ (decimal_of-decimal n (omega arith)) h
 
 -- a text of digits does not begin with 0x
@@ -73,7 +73,7 @@ no_hex_mark (c ∷ d ∷ ds) h =
     two false b e = refl
 
 -- a mask is read back from its digits
-pub mask_of-decimal : (n : ℕ) → n < 2 ^ 64 → mask_of (decimal n) ≡ Some n
+pub mask_of-decimal : (n : ℕ) → n < 2 ^ 64 → mask_in_word (decimal n) ≡ Some n
 mask_of-decimal n h = rw (no_hex_mark (decimal n) (decimal_is_IsNumeral n h).0.1) (decimal_of-decimal n h)
 
 -- digits do not begin with a minus
@@ -84,7 +84,7 @@ no_minus (c ∷ ds) h =
     rw other refl
 
 -- a nice value is read back from its sign and digits
-pub nice_of-signed : (z : ℤ) → FitsSigned w8 z → nice_of (signed_decimal z) ≡ Some z
+pub nice_of-signed : (z : ℤ) → FitsSigned w8 z → nice_in_word (signed_decimal z) ≡ Some z
 nice_of-signed (pos n) h =
     rw (no_minus (decimal n) (decimal_is_IsNumeral n (omega arith)).0.1)
     (ap (option_map (λ n. pos n)) (below-Some 128 n _ (decimal_of-decimal n (omega arith)) (omega arith)))

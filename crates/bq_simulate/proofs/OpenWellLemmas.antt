@@ -16,12 +16,12 @@ use Rattle.bq_workload.specs.Kinds.{tasks_in}
 use Rattle.bq_workload.specs.Soundness.{first_flaw}
 use Rattle.bq_simulate.specs.declared.driver.Driver.{Driver}
 use Rattle.bq_simulate.specs.declared.simulation.Simulation.{Simulation}
-use Rattle.bq_simulate.specs.Actions.{first_of}
+use Rattle.bq_simulate.specs.Actions.{first_task_of}
 use Rattle.bq_simulate.specs.Chronicles.{Book, Deed, Happens, Lives}
 use Rattle.bq_simulate.specs.Drives.{Starts}
 use Rattle.bq_simulate.specs.Kept.{HasAllFirsts, StandAtActions, WereDrawn}
-use Rattle.bq_simulate.specs.KeptLaws.{Leads}
-use Rattle.bq_simulate.specs.Order.{GoesWell, IsOpening, OpensWell, StartsWell}
+use Rattle.bq_simulate.specs.KeptLaws.{DeedsLead}
+use Rattle.bq_simulate.specs.Order.{SimulationGoesWell, IsOpening, OpensWell, StartsWell}
 use Rattle.bq_simulate.specs.Simulations.{Befell, Lived, LivedFrom, Silent, book_of, opening_book, periods_of, streams_after, with_seed}
 use Rattle.bq_simulate.specs.Steps.{AreAdmitted, AreInstalled, AreJust, all_processors, installs_of}
 use Rattle.bq_simulate.proofs.DeedLemmas.{Lived-silent}
@@ -38,7 +38,7 @@ use Rattle.bq_simulate.proofs.WholeLemmas.{IsNew, firsts-none}
 abbrev pub Opening : Workload → ℕ → ℕ → ℕ → (List Deed → Type 0) → Type 0
 Opening w seed from to Are =
     (d e : Driver) (b c : Book) (deeds : List Deed) (reported : Reported) → Are deeds →
-    Leads (with_seed w seed) d b deeds reported e c → IsOpening (processors_in w.machine.size) from d b →
+    DeedsLead (with_seed w seed) d b deeds reported e c → IsOpening (processors_in w.machine.size) from d b →
     IsOpening (processors_in w.machine.size) to e c
 
 -- by those it opens well, where the tasks are counted
@@ -51,7 +51,7 @@ opens-well takes Are x y w from to s t keep counted lived h =
     let g = lived h.drawn h.streams h.firsts in
     let was = book_of s h.drawn in
     let is = book_of t g.after in
-    let leads : Leads (with_seed w s.seed) s.driver was g.deeds g.reports.reported t.driver is =
+    let leads : DeedsLead (with_seed w s.seed) s.driver was g.deeds g.reports.reported t.driver is =
     subst (λ (p : Periods). Lives kinds s.seed p s.driver was g.deeds g.reports.reported t.driver is)
     h.periods g.reports.holds in
     record {
@@ -138,7 +138,7 @@ tasks-open w seed number kind task count d e b c deeds reported are leads h =
 
 -- a task of a kind is one of 1,024 at most
 pub few_before : (w : Workload) (number : ℕ) (kind : TaskKind) (task count : ℕ)
-    → first_flaw w ≡ None → slice_get w.tasks.items number ≡ Some kind → task ≡ first_of w.tasks.items number + count
+    → first_flaw w ≡ None → slice_get w.tasks.items number ≡ Some kind → task ≡ first_task_of w.tasks.items number + count
     → count < kind.count
     → task < 1024
 few_before w number kind task count sound there is before =
@@ -154,7 +154,7 @@ pub streams-there : (w : Workload) (tasks : ℕ) (s : Simulation) → OpensWell 
 streams-there w tasks s h = ap length h.streams ∙ streams_many s.seed 0 h.drawn ∙ h.standing.streams ∙ h.opening.tasks_there
 
 -- once all tasks are there it has opened, and goes well from instant 0
-pub opened-well : (w : Workload) (s : Simulation) → HasAllFirsts w.tasks.items s → OpensWell w (tasks_in w.tasks.items) s → GoesWell w 0 s
+pub opened-well : (w : Workload) (s : Simulation) → HasAllFirsts w.tasks.items s → OpensWell w (tasks_in w.tasks.items) s → SimulationGoesWell w 0 s
 opened-well w s all h =
     let o = h.opening in
     record {

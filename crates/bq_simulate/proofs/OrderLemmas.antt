@@ -7,10 +7,10 @@ use Rattle.bq_workload.specs.declared.due.Due.{Due}
 use Rattle.bq_workload.specs.declared.roster.Periods.{Periods}
 use Rattle.bq_workload.specs.declared.workload.TaskKind.{TaskKind}
 use Rattle.bq_workload.specs.Accounts.{accounts_of}
-use Rattle.bq_workload.specs.Next.{IsAgreed, IsNext}
+use Rattle.bq_workload.specs.Next.{IsAgreed, IsNextDue}
 use Rattle.bq_simulate.specs.declared.driver.Driver.{Driver}
 use Rattle.bq_simulate.specs.declared.simulation.Simulation.{Simulation}
-use Rattle.bq_simulate.specs.Chronicles.{Acts, Beats, Book, Deed, Happens, Joins, Lives, Looks, Misses, Reaches, Rings, after_act, after_answer, after_beat, after_deeds, after_look, joined}
+use Rattle.bq_simulate.specs.Chronicles.{Acts, Beats, Book, Deed, Happens, Joins, Lives, Looks, Misses, Reaches, Rings, after_act, after_answer, after_beat, after_deeds, after_look, task_added}
 use Rattle.bq_simulate.specs.Simulations.{GoesByDeeds, Lived, LivedFrom, book_of}
 use Rattle.bq_simulate.specs.Steps.{AreAllMet, Meet}
 use Rattle.bq_simulate.proofs.DeedLemmas.{GoesByDeeds-join}
@@ -24,7 +24,7 @@ kept-by kinds seed periods d e a b [] reported h = h.2
 kept-by kinds seed periods d e a b (Happens event reply ∷ xs) reported (due, mid, first, rest, does, lives, whole) =
     kept-by kinds seed periods mid e (after_answer periods event reply a) b xs rest lives
 kept-by kinds seed periods d e a b (Joins kind home ∷ xs) reported (of, lives) =
-    kept-by kinds seed periods d e (joined kinds kind home a) b xs reported lives
+    kept-by kinds seed periods d e (task_added kinds kind home a) b xs reported lives
 kept-by kinds seed periods d e a b (Acts at task now action aim ∷ xs) reported (c, done, is, to, lives) =
     let after : Option TaskProgress → Book = λ o. option_map_or (λ (k : TaskProgress). after_act kinds seed at task now k a) o a in
     kept-by kinds seed periods d e (after_act kinds seed at task now c a) b xs reported lives
@@ -51,7 +51,7 @@ book-after takes kinds A x y s t drawn goes =
 -- the next thing by the event queue is met, which agrees with the accounts
 pub met-more : {S : Type 0} (takes : S → ℕ → TraceEvent → S → Type 0) (kinds : List TaskKind) (count last now : ℕ)
     (due : Due) (x y z : S) (s t u : Simulation)
-    → last ≤ now → (IsAgreed t.roster → IsNext t.roster.periods.end (accounts_of t.roster) due now)
+    → last ≤ now → (IsAgreed t.roster → IsNextDue t.roster.periods.end (accounts_of t.roster) due now)
     → LivedFrom takes kinds (AreAllMet kinds s.seed s.roster.periods count last) x s y t
     → Lived takes kinds (Meet due now) y t z u
     → LivedFrom takes kinds (AreAllMet kinds s.seed s.roster.periods (count + 1) now) x s z u
@@ -60,11 +60,11 @@ met-more takes kinds count last now due x y z s t u later next lived meet drawn 
     let start = book_of s drawn in
     let one = lived drawn had firsts agreed in
     let two = meet one.after one.streams one.firsts in
-    let is : IsNext t.roster.periods.end (accounts_of t.roster) due now = next (one.agrees agreed) in
-    let here : IsNext periods.end (after_deeds kinds s.seed periods start one.deeds).accounts due now =
-    subst (λ (b : Book). IsNext periods.end b.accounts due now)
+    let is : IsNextDue t.roster.periods.end (accounts_of t.roster) due now = next (one.agrees agreed) in
+    let here : IsNextDue periods.end (after_deeds kinds s.seed periods start one.deeds).accounts due now =
+    subst (λ (b : Book). IsNextDue periods.end b.accounts due now)
     (book-after takes kinds (AreAllMet kinds s.seed periods count last start) x y s t drawn one)
-    (subst (λ (p : Periods). IsNext p.end (accounts_of t.roster) due now) one.periods is) in
+    (subst (λ (p : Periods). IsNextDue p.end (accounts_of t.roster) due now) one.periods is) in
     GoesByDeeds-join takes kinds (AreAllMet kinds s.seed periods count last start) (Meet due now)
     (AreAllMet kinds s.seed periods (count + 1) now start) x y z s t u drawn one two
     (AreMet-more kinds s.seed periods start due count last now one.deeds two.deeds later one.are here two.are)

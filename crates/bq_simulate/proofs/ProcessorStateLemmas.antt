@@ -9,7 +9,7 @@ use Rattle.bq_parts.specs.declared.event.Event.{Event}
 use Rattle.bq_parts.specs.declared.event.Event.TheVariants.{Tick}
 use Rattle.bq_workload.specs.declared.processor_state.ProcessorState.{ProcessorState}
 use Rattle.bq_workload.specs.declared.roster.Periods.{Periods}
-use Rattle.bq_workload.specs.Accounts.{Accounts, charged, charged_by, idled, is_same, occupied, of_processor, switched, taken_over}
+use Rattle.bq_workload.specs.Accounts.{Accounts, accounts_charged, runner_charged, idled, is_same, occupied, of_processor, accounts_switched, taken_over}
 use Rattle.bq_workload.proofs.AgreeLemmas.{changed_at-others}
 use Rattle.bq_simulate.specs.Chronicles.{is_busy}
 use Rattle.bq_simulate.specs.Steps.{all_processors, last_ticks}
@@ -20,22 +20,22 @@ processor_state_at k a = slice_get a.by_processor k
 
 -- the time that a task has run is no processor's
 charged_by-by_processor : (processor_state : ProcessorState) (now : ℕ) (a : Accounts)
-    → (charged_by processor_state now a).by_processor ≡ a.by_processor
+    → (runner_charged processor_state now a).by_processor ≡ a.by_processor
 charged_by-by_processor processor_state now a =
-    elim processor_state.run as (λ (o : Option ℕ). (charged_by (record processor_state { run = o }) now a).by_processor ≡ a.by_processor)
+    elim processor_state.run as (λ (o : Option ℕ). (runner_charged (record processor_state { run = o }) now a).by_processor ≡ a.by_processor)
     [ None ↦ refl | Some task ↦ refl ]
 
 charged-others : (processor now k : ℕ) (a : Accounts) → k ≢ processor
-    → processor_state_at k (charged processor now a) ≡ processor_state_at k a
+    → processor_state_at k (accounts_charged processor now a) ≡ processor_state_at k a
 charged-others processor now k a h =
     let f : ProcessorState → ProcessorState = λ l. record l { since = now } in
     elim (slice_get a.by_processor processor) as (λ (o : Option ProcessorState).
     processor_state_at k
-    (option_map_or (λ (processor_state : ProcessorState). of_processor f processor (charged_by processor_state now a)) o a)
+    (option_map_or (λ (processor_state : ProcessorState). of_processor f processor (runner_charged processor_state now a)) o a)
     ≡ processor_state_at k a) [
       | None ↦ refl
       | Some processor_state ↦
-          changed_at-others f (charged_by processor_state now a).by_processor processor k h
+          changed_at-others f (runner_charged processor_state now a).by_processor processor k h
           ∙ ap (λ (l : List ProcessorState). slice_get l k) (charged_by-by_processor processor_state now a)
     ]
 
@@ -46,11 +46,11 @@ taken_over-others processor (Some task) now periods k a h = changed_at-others (o
 
 -- where another task runs, only the processor changes at which it runs
 pub switched-others : (processor : ℕ) (run : Option ℕ) (now : ℕ) (periods : Periods) (k : ℕ) (a : Accounts)
-    → k ≢ processor → processor_state_at k (switched processor run now periods a) ≡ processor_state_at k a
+    → k ≢ processor → processor_state_at k (accounts_switched processor run now periods a) ≡ processor_state_at k a
 switched-others processor run now periods k a h =
-    let over = taken_over processor run now periods (charged processor now a) in
+    let over = taken_over processor run now periods (accounts_charged processor now a) in
     let same : processor_state_at k over ≡ processor_state_at k a =
-    taken_over-others processor run now periods k (charged processor now a) h ∙ charged-others processor now k a h in
+    taken_over-others processor run now periods k (accounts_charged processor now a) h ∙ charged-others processor now k a h in
     elim (slice_get a.by_processor processor) as (λ (o : Option ProcessorState).
     processor_state_at k (option_map_or (λ (processor_state : ProcessorState). if is_same processor_state.run run then a else over) o a)
     ≡ processor_state_at k a) [

@@ -21,13 +21,13 @@ use Rattle.bq_words.proofs.SizeLemmas.{processors_in-few}
 use Rattle.bq_lines.specs.Keywords.{keyword_word}
 use Rattle.bq_lines.specs.declared.keyword.Keyword.{Keyword}
 use Rattle.bq_lines.specs.declared.keyword.Keyword.TheVariants as keywords
-use Rattle.bq_lines.specs.Lines.{reading_of, reading_of_words, reading_of_command, installing as reads_install}
-use Rattle.bq_words.specs.Quantities.{size_of}
+use Rattle.bq_lines.specs.Lines.{reading_of, reading_of_words, reading_of_command, install_or_load as reads_install}
+use Rattle.bq_words.specs.Quantities.{size_in_word}
 use Rattle.bq_lines.specs.declared.command.Command.{Command}
 use Rattle.bq_lines.specs.declared.command.Command.TheVariants.{Does, Machine}
 use Rattle.bq_lines.specs.declared.command.LineReading.TheVariants.{Asks}
 use Rattle.bq_simulate.specs.Spelling.{HasFittingNumbers, event_words, image_word, spaced_words}
-use Rattle.bq_simulate.specs.Laws.{CanStandInLine, asked, installing}
+use Rattle.bq_simulate.specs.Laws.{CanStandInLine, event_command, install_asked}
 use Rattle.bq_simulate.proofs.HexWordLemmas.{plain_hex, hex_not_none}
 use Rattle.bq_simulate.proofs.NumberWordLemmas.{plain_decimal, plain_signed, short_decimal, short_signed, decimal_of-decimal, processor_of-decimal, task_of-decimal, mask_of-decimal, nice_of-signed}
 use Rattle.bq_simulate.proofs.PlainWordLemmas.{IsPlain, is_plain, room, words-spaced, allowed-spaced, length-spaced}
@@ -151,7 +151,7 @@ of_four f a b c d x y z w ea eb ec ed = rw (ea, eb, ec, ed) refl
 -- an install that brings an image, or `none`
 reads_image : (image : Option (List ℕ)) (c generation : ℕ) (hook : Hook)
     → CanStandInLine image
-    → reads_install (c, generation, hook, image_word image) ≡ installing image c hook generation
+    → reads_install (c, generation, hook, image_word image) ≡ install_asked image c hook generation
 reads_image None c generation hook can = refl
 reads_image (Some bytes) c generation hook can = rw (hex_not_none bytes can.each) refl
 
@@ -163,7 +163,7 @@ of_install a b d word c generation hook command ea eb ed is = rw (ea, eb, ed) (a
 
 -- the words of an event ask for it
 pub words_read : (image : Option (List ℕ)) (event : Event) → CanStandInLine image → HasFittingNumbers event
-    → reading_of_words (event_words image event) ≡ Asks (asked image event)
+    → reading_of_words (event_words image event) ≡ Asks (event_command image event)
 words_read image (Admit task nice mask slice) can h =
     of_four (λ t n m s. Does (Admit t n m s)) _ _ _ _ task nice mask slice (task_of-decimal task h.0)
     (nice_of-signed nice h.1) (mask_of-decimal mask h.2) (decimal_of-decimal slice h.3)
@@ -222,7 +222,7 @@ size_of-number Sixteen = refl
 size_of-number ThirtyTwo = refl
 size_of-number SixtyFour = refl
 
-size_of-decimal : (size : ProcessorCount) → size_of (decimal (processors_in size)) ≡ Some size
+size_of-decimal : (size : ProcessorCount) → size_in_word (decimal (processors_in size)) ≡ Some size
 size_of-decimal size =
     let small = processors_in-few size in
     ap (option_and_then size_numbered) (processor_of-decimal (processors_in size) (omega arith)) ∙ size_of-number size

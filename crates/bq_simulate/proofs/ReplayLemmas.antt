@@ -22,7 +22,7 @@ use Rattle.bq_load.specs.Answers.{Loads}
 use Rattle.bq_load.specs.Layout.{Header, IsFramed, header_bytes}
 use Rattle.bq_load.proofs.JudgingLemmas.{header_fits, length-header_bytes}
 use Rattle.bq_simulate.specs.Spelling.{HasFittingNumbers, asking_line, machine_line}
-use Rattle.bq_simulate.specs.Laws.{CanStandInLine, IsWholeLine, asked}
+use Rattle.bq_simulate.specs.Laws.{CanStandInLine, IsWholeLine, event_command}
 use Rattle.bq_simulate.proofs.LineLawLemmas.{are_lines, events_are_read, machines_are_read}
 use Rattle.bq_trace.specs.Bare.{bare}
 use Rattle.bq_streams.specs.Counts.{one_more}
@@ -30,7 +30,7 @@ use Rattle.bq_trace.specs.Machines.{Driven, opening_machine}
 use Rattle.bq_trace.specs.Feeding.{with_feeds}
 use Rattle.bq_trace.specs.TraceEvents.{Reported, texts}
 use Rattle.bq_trace.specs.Reporting.{Happens}
-use Rattle.bq_trace.specs.Trace.{AnswersAtPhase as AnswersIn, AnswersLine, AnswersAll, start}
+use Rattle.bq_trace.specs.Trace.{AnswersAtPhase as AnswersIn, AnswersLine, AnswersAll, opening_progress}
 use Rattle.bq_trace.specs.declared.progress.Phase.{Phase}
 use Rattle.bq_trace.specs.declared.progress.Phase.TheVariants.{Waiting, Running}
 use Rattle.bq_trace.specs.declared.progress.Progress.{Progress}
@@ -124,12 +124,12 @@ brought_stands images (Pull c from now) h = tt
 -- an image is loaded again
 loads_again : (line : List ℕ) (image : Option (List ℕ)) (m k : Driven) (n number c generation : ℕ) (hook : Hook)
     (policy : Accepted) (answer : Result Reply Refusal) (reported : Reported)
-    → reading_of line ≡ reads.Asks (asked image (Install c hook generation (Some policy))) → IsLoadedFromImage image policy
+    → reading_of line ≡ reads.Asks (event_command image (Install c hook generation (Some policy))) → IsLoadedFromImage image policy
     → Happens m number (Install c hook generation (Some policy)) answer reported k
     → AnswersLine (after (Running m) n) line (texts reported) (after (Running k) (one_more n))
 loads_again line image m k n number c generation hook policy answer reported is of h =
     line_reads line (texts reported) (reads.Asks (asks.Load c hook generation (encode_lower of.bytes))) (Running m)
-    (Running k) n (is ∙ ap (λ i. reads.Asks (asked i (Install c hook generation (Some policy)))) of.there) (
+    (Running k) n (is ∙ ap (λ i. reads.Asks (event_command i (Install c hook generation (Some policy)))) of.there) (
       k,
       inr (
           inr (of.bytes, policy, answer, decode_of-encode_lower of.bytes of.each, of.loads, happens_text m k number _ answer reported h)),
@@ -139,14 +139,14 @@ loads_again line image m k n number c generation hook policy answer reported is 
 
 -- the line of each event that happens does it again
 again : (images : ByHook) (m k : Driven) (n number : ℕ) (event : Event) (answer : Result Reply Refusal) (reported : Reported)
-    → reading_of (asking_line (brought images event) event) ≡ reads.Asks (asked (brought images event) event)
+    → reading_of (asking_line (brought images event) event) ≡ reads.Asks (event_command (brought images event) event)
     → IsFromImages images event → Happens m number event answer reported k
     → AnswersLine (after (Running m) n) (asking_line (brought images event) event) (texts reported) (after (Running k) (one_more n))
 again images m k n number (Admit task nice mask slice) answer reported is of h = as_it_is _ m k n number _ answer reported is h
 again images m k n number (Retire task) answer reported is of h = as_it_is _ m k n number _ answer reported is h
 again images m k n number Draw answer reported is of h = as_it_is _ m k n number _ answer reported is h
 again images m k n number (Install c hook generation None) answer reported is of h =
-    as_it_is _ m k n number _ answer reported (is ∙ ap (λ i. reads.Asks (asked i (Install c hook generation None))) of) h
+    as_it_is _ m k n number _ answer reported (is ∙ ap (λ i. reads.Asks (event_command i (Install c hook generation None))) of) h
 again images m k n number (Install c hook generation (Some policy)) answer reported is of h =
     loads_again _ (images hook) m k n number c generation hook policy answer reported is of h
 again images m k n number (BeginWake c task) answer reported is of h = as_it_is _ m k n number _ answer reported is h
@@ -279,10 +279,10 @@ texts_are_replayed images comments rule size d e events first more skipped start
       trace = record {
         final = after (Running e.machine) rest.last;
         chain =
-            subst (λ ls. AnswersAll start ls (texts (first ++ more)) (after (Running e.machine) rest.last))
+            subst (λ ls. AnswersAll opening_progress ls (texts (first ++ more)) (after (Running e.machine) rest.last))
             (sym (lines_whole (comments ++ reported_lines images (first ++ more))
             (comments_whole comments (reported_lines images (first ++ more)) skipped asks)))
-            (AnswersAll-append start (after Waiting n) (after (Running e.machine) rest.last) comments
+            (AnswersAll-append opening_progress (after Waiting n) (after (Running e.machine) rest.last) comments
             (reported_lines images (first ++ more)) [] (texts (first ++ more)) before chain);
         is_clean = refl;
       };

@@ -14,7 +14,7 @@ use Rattle.bq_parts.specs.declared.reply.Reply.{Reply}
 use Rattle.bq_parts.specs.declared.reply.Reply.TheVariants.{Drawn}
 use Rattle.bq_parts.specs.declared.refusal.Refusal.TheVariants as no
 use Rattle.bq_parts.specs.Choices.{by_programs}
-use Rattle.bq_parts.specs.Processors.{Processor, opening as opening_processor, size_of}
+use Rattle.bq_parts.specs.Processors.{Processor, new_processor as opening_processor, size_of}
 use Rattle.bq_parts.specs.Refusals.{is_absent}
 use Rattle.bq_parts.specs.Steps.{WorldStep}
 use Rattle.bq_parts.specs.World.{World, count_in, opening_world}
@@ -29,20 +29,20 @@ use Rattle.bq_workload.specs.declared.processor_state.ProcessorState.{ProcessorS
 use Rattle.bq_workload.specs.declared.roster.Periods.{Periods}
 use Rattle.bq_workload.specs.declared.workload.TaskKind.{TaskKind}
 use Rattle.bq_workload.specs.declared.workload.Workload.{Workload}
-use Rattle.bq_workload.specs.Accounts.{Accounts, at_rest, first_look, opening}
+use Rattle.bq_workload.specs.Accounts.{Accounts, processor_at_rest, first_look, opening_accounts}
 use Rattle.bq_workload.specs.declared.progress.TaskProgress.{TaskProgress}
 use Rattle.bq_workload.specs.Kinds.{tasks_in}
 use Rattle.bq_workload.specs.Soundness.{IsFirstAllowed}
-use Rattle.bq_workload.specs.TaskProgress.{fresh}
+use Rattle.bq_workload.specs.TaskProgress.{fresh_task}
 use Rattle.bq_simulate.specs.declared.driver.Driver.{Driver}
-use Rattle.bq_simulate.specs.Actions.{start_of}
+use Rattle.bq_simulate.specs.Actions.{kind_start}
 use Rattle.bq_simulate.specs.Agreement.{AgreesWith, IsOnTime, ProcessorIsOnTime, RunsOnTime, TaskIsOnTime}
-use Rattle.bq_simulate.specs.AgreementLaws.{Agree, SimulationsAgree, with_task}
-use Rattle.bq_simulate.specs.Chronicles.{Acts, Beats, Book, Deed, Happens, Joins, Lives, Looks, Misses, Reaches, Rings, after_act, after_answer, after_beat, after_look, joined}
+use Rattle.bq_simulate.specs.AgreementLaws.{BookAgrees, SimulationsAgree, accounts_with_task}
+use Rattle.bq_simulate.specs.Chronicles.{Acts, Beats, Book, Deed, Happens, Joins, Lives, Looks, Misses, Reaches, Rings, after_act, after_answer, after_beat, after_look, task_added}
 use Rattle.bq_simulate.specs.Drives.{DrivesEvent, Starts}
 use Rattle.bq_simulate.specs.Order.{IsOpening}
 use Rattle.bq_simulate.specs.Simulations.{IsSimulation, Proceeds, opening_book, periods_of}
-use Rattle.bq_simulate.specs.Steps.{AreAdmitted, AreAllAdmitted, AreInstalled, AreJust, Opens, Step, all_processors, deeds_of}
+use Rattle.bq_simulate.specs.Steps.{AreAdmitted, AreAllAdmitted, AreInstalled, AreJust, Opens, MetDue, all_processors, deeds_of}
 use Rattle.bq_simulate.proofs.AccountLemmas.{read}
 use Rattle.bq_simulate.proofs.AdmissionTakenLemmas.{admit_kept, appended, appended_others}
 use Rattle.bq_simulate.proofs.MeetAgreeLemmas.{meetings_agree, step_of, tick_agrees, world_of}
@@ -76,7 +76,7 @@ part kinds seed periods d e b c (Happens event reply ∷ xs) ys reported (due, m
       two = s.two;
     }
 part kinds seed periods d e b c (Joins kind home ∷ xs) ys reported (of, lives) =
-    let s = part kinds seed periods d e (joined kinds kind home b) c xs ys reported lives in
+    let s = part kinds seed periods d e (task_added kinds kind home b) c xs ys reported lives in
     record { mid = s.mid; book = s.book; first = s.first; more = s.more; one = (of, s.one); two = s.two }
 part kinds seed periods d e b c (Acts at task now action aim ∷ xs) ys reported (k, done, is, to, lives) =
     let s = part kinds seed periods d e (after_act kinds seed at task now k b) c xs ys reported lives in
@@ -178,7 +178,7 @@ installed_opens kinds seed periods d e b c processors tasks (policy ∷ policies
     installed_opens kinds seed periods s.mid e s.book c processors tasks policies more s.more others s.two one
 
 -- one more task has got nothing yet
-joined_on_time : (a : Accounts) (c : TaskProgress) → c.got ≡ 0 → IsOnTime 0 a → IsOnTime 0 (with_task c a)
+joined_on_time : (a : Accounts) (c : TaskProgress) → c.got ≡ 0 → IsOnTime 0 a → IsOnTime 0 (accounts_with_task c a)
 joined_on_time a c none h =
     let cs : List TaskProgress = a.by_task in
     let ds : List TaskProgress = cs ++ c ∷ [] in
@@ -217,8 +217,8 @@ admission_opens kinds seed periods d e b c processors number task home kind repl
     leb-false 1024 (length a.by_task)
     (first_refusal_passed (nat_le 1024 (length a.by_task)) no.NoTask _ (accepted w (event (length a.by_task)) step.0).0).0 in
     let low : home < count_in w = subst (λ n. home < n) (sym h.processors_there) allowed.within in
-    let new = fresh number home (start_of kinds number) in
-    let after : Book = joined kinds number home (after_answer periods (event task) reply b) in
+    let new = fresh_task number home (kind_start kinds number) in
+    let after : Book = task_added kinds number home (after_answer periods (event task) reply b) in
     let done : IsOpening processors (task + 1) mid after = record {
       agree = admit_kept r w (world_of mid) a new kind does.happens.moves.step.calls reply h.agree few refl low step;
       on_time = joined_on_time a new refl h.on_time;
@@ -272,10 +272,10 @@ all_admitted_open all seed periods d e b c processors number task (kind ∷ kind
     (all_admitted_open all seed periods s.mid e s.book c processors (number + 1) (task + kind.count) kinds more s.more rest s.two one)
 
 -- all that is met
-met_agree : (kinds : List TaskKind) (seed : ℕ) (periods : Periods) (d e : Driver) (b c : Book) (steps : List Step)
+met_agree : (kinds : List TaskKind) (seed : ℕ) (periods : Periods) (d e : Driver) (b c : Book) (steps : List MetDue)
     (reported : Reported)
-    → Lives kinds seed periods d b (deeds_of steps) reported e c → Agree d b → Agree e c
-met_agree kinds seed periods d e b c [] reported lives h = none_kept Agree kinds seed periods d e b c [] reported refl lives h
+    → Lives kinds seed periods d b (deeds_of steps) reported e c → BookAgrees d b → BookAgrees e c
+met_agree kinds seed periods d e b c [] reported lives h = none_kept BookAgrees kinds seed periods d e b c [] reported refl lives h
 met_agree kinds seed periods d e b c (step ∷ steps) reported lives h =
     let s = part kinds seed periods d e b c step.deeds (deeds_of steps) reported lives in
     met_agree kinds seed periods s.mid e s.book c steps s.more s.two
@@ -289,9 +289,9 @@ read_same v d x is zero k = refl
 read_same v d x is (suc n) zero = is
 read_same v d x is (suc n) (suc k) = read_same v d x is n k
 
-opening_agrees : (n balance : ℕ) → AgreesWith (opening_world n) (opening n balance)
+opening_agrees : (n balance : ℕ) → AgreesWith (opening_world n) (opening_accounts n balance)
 opening_agrees n balance =
-    let x : ProcessorState = at_rest (first_look n balance) in
+    let x : ProcessorState = processor_at_rest (first_look n balance) in
     record {
       orderly = opening_is_orderly n;
       entries = length-replicate 1024 Absent;
@@ -319,9 +319,9 @@ replicated (suc n) zero x y at = same_Some x y at
 replicated (suc n) (suc k) x y at = replicated n k x y at
 
 -- nothing of the opening is past
-opening_on_time : (n balance : ℕ) → IsOnTime 0 (opening n balance)
+opening_on_time : (n balance : ℕ) → IsOnTime 0 (opening_accounts n balance)
 opening_on_time n balance =
-    let x : ProcessorState = at_rest (first_look n balance) in
+    let x : ProcessorState = processor_at_rest (first_look n balance) in
     let rests : ProcessorIsOnTime 0 [] x = record {
       since = omega arith;
       looks = λ time is. omega arith;
@@ -377,7 +377,7 @@ proceeds_agree : (policies : List Accepted) (w : Workload) (d e : Driver) (b : B
     → Proceeds policies (processors_in w.machine.size) w.tasks.items w.machine.seed (periods_of w.machine) most end
     (opening_book w.machine) deeds
     → Lives w.tasks.items w.machine.seed (periods_of w.machine) d (opening_book w.machine) deeds reported e b
-    → Agree e b
+    → BookAgrees e b
 proceeds_agree policies w d e b most end deeds first reported starts p lives =
     let kinds = w.tasks.items in
     let seed = w.machine.seed in
@@ -392,7 +392,7 @@ proceeds_agree policies w d e b most end deeds first reported starts p lives =
     (subst (λ l. Lives kinds seed periods s.mid s.book l s.more e b) m.whole s.two) opened.agree
 
 whole_agrees : (policies : List Accepted) (w : Workload) (reported : Reported) (s : IsSimulation policies w reported)
-    → Agree s.closing s.book
+    → BookAgrees s.closing s.book
 whole_agrees policies w reported s =
     let kinds = w.tasks.items in
     let seed = w.machine.seed in
@@ -402,9 +402,9 @@ whole_agrees policies w reported s =
     let p =
     part kinds seed periods s.opening s.closing start s.book x.until x.last s.more
     (subst (λ l. Lives kinds seed periods s.opening start l s.more s.closing s.book) x.whole s.lives) in
-    let until : Agree p.mid p.book =
+    let until : BookAgrees p.mid p.book =
     proceeds_agree policies w s.opening p.mid p.book _ _ x.until s.first p.first s.starts x.proceeds p.one in
-    just_kept Agree (λ processor. Tick processor w.machine.duration)
+    just_kept BookAgrees (λ processor. Tick processor w.machine.duration)
     (λ processor q y z k reply some does agree. tick_agrees q y z k processor w.machine.duration reply some does agree) kinds
     seed periods p.mid s.closing p.book s.book _ x.last p.more x.ticks p.two until
 

@@ -13,7 +13,7 @@ use Rattle.bq_workload.specs.declared.sound.Unsound.{Unsound}
 use Rattle.bq_workload.specs.declared.sound.Unsound.TheVariants as flaw
 use Rattle.bq_workload.specs.declared.workload.TaskKind.{TaskKind}
 use Rattle.bq_workload.specs.declared.workload.Workload.{Workload}
-use Rattle.bq_workload.specs.Kinds.{count_of, tasks_in}
+use Rattle.bq_workload.specs.Kinds.{kind_count, tasks_in}
 use Rattle.bq_workload.specs.Lengths.{is_long, longest, takes_time}
 use Rattle.bq_workload.specs.Soundness.{allows_one, first_flaw, flaws_of_actions, flaws_of_count, flaws_of_doing, flaws_of_kind, flaws_of_kinds, flaws_of_machine, has_name, has_numbers, has_times, is_action, unless}
 use Rattle.bq_simulate.proofs.AdmissionTakenLemmas.{numbers_of}
@@ -129,10 +129,10 @@ admissible_kind w number kind sound at =
     (parts_sound (flaws_of_machine w.machine) kinds all.0).1 at
 
 -- each kind of a workload that can be followed has tasks
-pub sound_count : (w : Workload) (number : ℕ) → first_flaw w ≡ None → number < length w.tasks.items → 1 ≤ count_of w.tasks.items number
+pub sound_count : (w : Workload) (number : ℕ) → first_flaw w ≡ None → number < length w.tasks.items → 1 ≤ kind_count w.tasks.items number
 sound_count w number sound low = one w.tasks.items refl
   where
-    one : (kinds : List TaskKind) → w.tasks.items ≡ kinds → 1 ≤ count_of w.tasks.items number
+    one : (kinds : List TaskKind) → w.tasks.items ≡ kinds → 1 ≤ kind_count w.tasks.items number
     one [] e = absurd (omega (arith, low, ap (λ (l : List TaskKind). length l) e))
     one (x ∷ xs) e =
         let kind : TaskKind = get_or w.tasks.items number x in

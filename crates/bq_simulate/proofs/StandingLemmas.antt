@@ -15,13 +15,13 @@ use Rattle.bq_workload.specs.declared.processor_state.ProcessorState.{ProcessorS
 use Rattle.bq_workload.specs.declared.roster.Periods.{Periods}
 use Rattle.bq_workload.specs.declared.workload.TaskKind.{TaskKind}
 use Rattle.bq_workload.specs.declared.workload.Workload.{Workload}
-use Rattle.bq_workload.specs.Accounts.{Accounts, changed_at, charged, charged_by, grown, idled, is_same, occupied, of_processor, of_task, passed, shrunk, switched, taken_over}
-use Rattle.bq_workload.specs.Kinds.{count_of}
+use Rattle.bq_workload.specs.Accounts.{Accounts, changed_at, accounts_charged, runner_charged, grown, idled, is_same, occupied, of_processor, of_task, accounts_passed, shrunk, accounts_switched, taken_over}
+use Rattle.bq_workload.specs.Kinds.{kind_count}
 use Rattle.bq_workload.specs.Soundness.{first_flaw}
-use Rattle.bq_workload.specs.TaskProgress.{fresh, moved_to, run_for, woken}
+use Rattle.bq_workload.specs.TaskProgress.{fresh_task, moved_to, run_for, progress_woken}
 use Rattle.bq_workload.proofs.AgreeLemmas.{changed_at-here, changed_at-others, some_or_none}
-use Rattle.bq_simulate.specs.Actions.{IsOfKind, acted, action_at, actions_of, advanced_in, asked_by, next_action, start_of, woken_one_in}
-use Rattle.bq_simulate.specs.Chronicles.{Acts, Beats, Book, Happens, Joins, Looks, Misses, Reaches, Rings, after_act, after_answer, after_beat, after_event, after_look, drawn_with, joined, length_taken}
+use Rattle.bq_simulate.specs.Actions.{IsTaskOfKind, acted, action_at, action_count, advanced_in, asked_by, next_action, kind_start, woken_one_in}
+use Rattle.bq_simulate.specs.Chronicles.{Acts, Beats, Book, Happens, Joins, Looks, Misses, Reaches, Rings, after_act, after_answer, after_beat, after_event, after_look, drawn_with, task_added, length_taken}
 use Rattle.bq_simulate.specs.Drives.{count_entered, runs_now, task_pulled}
 use Rattle.bq_simulate.specs.Kept.{StandAtActions, StandsAtAction}
 use Rattle.bq_simulate.specs.KeptLaws.{StandingIsKept}
@@ -45,20 +45,20 @@ pub record IsOfPlaces (P : Accounts → Type 0) : Type 0 where
   pub tasks : (f : TaskProgress → TaskProgress) → ((c : TaskProgress) → SamePlace c (f c)) → (task : ℕ) (a : Accounts) → P a
       → P (of_task f task a)
 
-charged_by_keeps : (P : Accounts → Type 0) → IsOfPlaces P → (l : ProcessorState) (now : ℕ) (a : Accounts) → P a → P (charged_by l now a)
+charged_by_keeps : (P : Accounts → Type 0) → IsOfPlaces P → (l : ProcessorState) (now : ℕ) (a : Accounts) → P a → P (runner_charged l now a)
 charged_by_keeps P of l now a h =
-    elim l.run as (λ (o : Option ℕ). P (charged_by (record l { run = o }) now a)) [
+    elim l.run as (λ (o : Option ℕ). P (runner_charged (record l { run = o }) now a)) [
       | None ↦ h
       | Some task ↦ of.tasks (run_for (now - l.since)) (λ c. record { kind = refl; action = refl; woken = refl; loops = refl }) task a h
     ]
 
 -- the time of a processor is counted
-pub charged_keeps : (P : Accounts → Type 0) → IsOfPlaces P → (processor now : ℕ) (a : Accounts) → P a → P (charged processor now a)
+pub charged_keeps : (P : Accounts → Type 0) → IsOfPlaces P → (processor now : ℕ) (a : Accounts) → P a → P (accounts_charged processor now a)
 charged_keeps P of processor now a h =
     elim (slice_get a.by_processor processor) as (λ (o : Option ProcessorState).
-    P (option_map_or (λ (l : ProcessorState). of_processor (λ x. record x { since = now }) processor (charged_by l now a)) o a)) [
+    P (option_map_or (λ (l : ProcessorState). of_processor (λ x. record x { since = now }) processor (runner_charged l now a)) o a)) [
       | None ↦ h
-      | Some l ↦ of.processors (λ x. record x { since = now }) processor (charged_by l now a) (charged_by_keeps P of l now a h)
+      | Some l ↦ of.processors (λ x. record x { since = now }) processor (runner_charged l now a) (charged_by_keeps P of l now a h)
     ]
 
 taken_over_keeps : (P : Accounts → Type 0) → IsOfPlaces P
@@ -76,15 +76,15 @@ either_keeps P false a over h k = k
 
 switched_keeps : (P : Accounts → Type 0) → IsOfPlaces P
     → (processor : ℕ) (run : Option ℕ) (now : ℕ) (periods : Periods) (a : Accounts) → P a
-    → P (switched processor run now periods a)
+    → P (accounts_switched processor run now periods a)
 switched_keeps P of processor run now periods a h =
-    let over : Accounts = taken_over processor run now periods (charged processor now a) in
+    let over : Accounts = taken_over processor run now periods (accounts_charged processor now a) in
     elim (slice_get a.by_processor processor)
     as (λ (o : Option ProcessorState). P (option_map_or (λ (l : ProcessorState). if is_same l.run run then a else over) o a)) [
       | None ↦ h
       | Some l ↦
           either_keeps P (is_same l.run run) a over h
-          (taken_over_keeps P of processor run now periods (charged processor now a) (charged_keeps P of processor now a h))
+          (taken_over_keeps P of processor run now periods (accounts_charged processor now a) (charged_keeps P of processor now a h))
     ]
 
 shrunk_keeps : (P : Accounts → Type 0) → IsOfPlaces P → (processor : ℕ) (a : Accounts) → P a → P (shrunk processor a)
@@ -94,7 +94,7 @@ grown_keeps : (P : Accounts → Type 0) → IsOfPlaces P → (processor count : 
 grown_keeps P of processor count a h = of.processors (λ l. record l { size = l.size + count }) processor a h
 
 passed_keeps : (P : Accounts → Type 0) → IsOfPlaces P → (from to : ℕ) (task : Option ℕ) (a : Accounts) → P a
-    → P (option_map_or (λ _. passed from to a) task a)
+    → P (option_map_or (λ _. accounts_passed from to a) task a)
 passed_keeps P of from to None a h = h
 passed_keeps P of from to (Some task) a h = grown_keeps P of to 1 (shrunk from a) (shrunk_keeps P of from a h)
 
@@ -107,7 +107,7 @@ event_keeps P of periods (Retire task) reply a h = h
 event_keeps P of periods Draw reply a h = h
 event_keeps P of periods (Install processor hook generation policy) reply a h = h
 event_keeps P of periods (BeginWake processor task) reply a h =
-    of.tasks woken (λ c. record { kind = refl; action = refl; woken = refl; loops = refl }) task a h
+    of.tasks progress_woken (λ c. record { kind = refl; action = refl; woken = refl; loops = refl }) task a h
 event_keeps P of periods (EndWake processor now) reply a h = h
 event_keeps P of periods (Drain processor now) reply a h =
     switched_keeps P of processor (runs_now reply) now periods (grown processor (count_entered reply) a)
@@ -116,7 +116,7 @@ event_keeps P of periods (Tick processor now) reply a h = switched_keeps P of pr
 event_keeps P of periods (Block processor now) reply a h =
     switched_keeps P of processor (runs_now reply) now periods (shrunk processor a) (shrunk_keeps P of processor a h)
 event_keeps P of periods (Pull processor from now) reply a h =
-    switched_keeps P of processor (runs_now reply) now periods (option_map_or (λ _. passed from processor a) (task_pulled reply) a)
+    switched_keeps P of processor (runs_now reply) now periods (option_map_or (λ _. accounts_passed from processor a) (task_pulled reply) a)
     (passed_keeps P of from processor (task_pulled reply) a h)
 
 -- How tasks stand
@@ -129,12 +129,12 @@ AllStand kinds cs = (task : ℕ) (c : TaskProgress) → slice_get cs task ≡ So
 stands_still : (kinds : List TaskKind) (task : ℕ) (c e : TaskProgress)
     → SamePlace c e → StandsAtAction kinds task c → StandsAtAction kinds task e
 stands_still kinds task c e same h = record {
-  of_kind = subst (λ n. IsOfKind kinds task n) (sym same.kind) h.of_kind;
+  of_kind = subst (λ n. IsTaskOfKind kinds task n) (sym same.kind) h.of_kind;
   action =
-      subst (λ n. n < actions_of kinds e) (sym same.action)
+      subst (λ n. n < action_count kinds e) (sym same.action)
       (subst (λ n. c.action < option_map_or (λ (kind : TaskKind). length kind.actions.items) (slice_get kinds n) 0)
       (sym same.kind) h.action);
-  woken = λ number next. subst (λ n. n < count_of kinds number) (sym same.woken) (h.woken number (sym (next_of same) ∙ next));
+  woken = λ number next. subst (λ n. n < kind_count kinds number) (sym same.woken) (h.woken number (sym (next_of same) ∙ next));
 }
   where
     at : Option TaskKind → ℕ → ℕ → Option Action
@@ -188,7 +188,7 @@ else_of false o action h = h
 -- an action that wakes others wakes the tasks of a kind that has some
 wake_counts : (w : Workload) → first_flaw w ≡ None → (c : TaskProgress) (number : ℕ)
     → next_action w.tasks.items c ≡ Some (Wake number)
-    → 0 < count_of w.tasks.items number
+    → 0 < kind_count w.tasks.items number
 wake_counts w sound c number next = elim (some_or_none (slice_get w.tasks.items c.kind)) [
   | inl none ↦
       absurd (none-some (Wake number) (sym (ap (λ (o : Option TaskKind). option_and_then (λ kind. action_at kind c) o) none) ∙ next))
@@ -202,7 +202,7 @@ wake_counts w sound c number next = elim (some_or_none (slice_get w.tasks.items 
 
 -- it comes to the next action, or to the first again
 advanced_by_test : (w : Workload) → first_flaw w ≡ None → (task : ℕ) (c : TaskProgress) (b : Bool)
-    → nat_le (actions_of w.tasks.items c) (c.action + 1) ≡ b → StandsAtAction w.tasks.items task c
+    → nat_le (action_count w.tasks.items c) (c.action + 1) ≡ b → StandsAtAction w.tasks.items task c
     → StandsAtAction w.tasks.items task
     (if b
     then record c { action = 0; woken = 0; loops = min (c.loops + 1) 18446744073709551615 }
@@ -214,29 +214,29 @@ advanced_by_test w sound task c false test h =
     let e : TaskProgress = record c { action = c.action + 1; woken = 0 } in
     record {
       of_kind = h.of_kind;
-      action = leb-false (actions_of w.tasks.items c) (c.action + 1) test;
+      action = leb-false (action_count w.tasks.items c) (c.action + 1) test;
       woken = λ number next. wake_counts w sound e number next;
     }
 
 advanced_stands : (w : Workload) → first_flaw w ≡ None → (task : ℕ) (c : TaskProgress) → StandsAtAction w.tasks.items task c
     → StandsAtAction w.tasks.items task (advanced_in w.tasks.items c)
-advanced_stands w sound task c h = advanced_by_test w sound task c (nat_le (actions_of w.tasks.items c) (c.action + 1)) refl h
+advanced_stands w sound task c h = advanced_by_test w sound task c (nat_le (action_count w.tasks.items c) (c.action + 1)) refl h
 
 kind_woken : (m n : ℕ) → Wake m ≡ Wake n → m ≡ n
 kind_woken m n h = cc
 
 -- its wake has come to one more
 woken_by_test : (w : Workload) → first_flaw w ≡ None → (task kind : ℕ) (c : TaskProgress) (b : Bool)
-    → nat_lt (c.woken + 1) (count_of w.tasks.items kind) ≡ b → next_action w.tasks.items c ≡ Some (Wake kind)
+    → nat_lt (c.woken + 1) (kind_count w.tasks.items kind) ≡ b → next_action w.tasks.items c ≡ Some (Wake kind)
     → StandsAtAction w.tasks.items task c
     → StandsAtAction w.tasks.items task (if b then record c { woken = c.woken + 1 } else advanced_in w.tasks.items c)
 woken_by_test w sound task kind c true test is h = record {
   of_kind = h.of_kind;
   action = h.action;
   woken = λ number next.
-      subst (λ n. c.woken + 1 < count_of w.tasks.items n)
+      subst (λ n. c.woken + 1 < kind_count w.tasks.items n)
       (kind_woken kind number (same_Some (Wake kind) (Wake number) (sym is ∙ next)))
-      (ltb-true (c.woken + 1) (count_of w.tasks.items kind) test);
+      (ltb-true (c.woken + 1) (kind_count w.tasks.items kind) test);
 }
 woken_by_test w sound task kind c false test is h = advanced_stands w sound task c h
 
@@ -259,7 +259,7 @@ acted_stands w sound (Some Wait) task length now c is h =
 acted_stands w sound (Some (Wake kind)) task length now c is h =
     stands_still w.tasks.items task (woken_one_in w.tasks.items kind c)
     (acted w.tasks.items (Some (Wake kind)) length now c) (record { kind = refl; action = refl; woken = refl; loops = refl })
-    (woken_by_test w sound task kind c (nat_lt (c.woken + 1) (count_of w.tasks.items kind)) refl is h)
+    (woken_by_test w sound task kind c (nat_lt (c.woken + 1) (kind_count w.tasks.items kind)) refl is h)
 
 -- Deeds
 
@@ -269,11 +269,11 @@ drawn_length task drawn None = refl
 drawn_length task drawn (Some asked) = changed_at-length suc drawn task
 
 act_stands : (w : Workload) → first_flaw w ≡ None → (processor task now : ℕ) (c : TaskProgress) (b : Book)
-    → slice_get (charged processor now b.accounts).by_task task ≡ Some c → StandAtActions w.tasks.items b
+    → slice_get (accounts_charged processor now b.accounts).by_task task ≡ Some c → StandAtActions w.tasks.items b
     → StandAtActions w.tasks.items (after_act w.tasks.items w.machine.seed processor task now c b)
 act_stands w sound processor task now c b there h =
     let kinds = w.tasks.items in
-    let a : Accounts = charged processor now b.accounts in
+    let a : Accounts = accounts_charged processor now b.accounts in
     let next : Option Action = next_action kinds c in
     let new : TaskProgress = acted kinds next (length_taken w.machine.seed task b.drawn (asked_by next)) now c in
     let stand : AllStand kinds a.by_task =
@@ -289,13 +289,13 @@ act_stands w sound processor task now c b there h =
     }
 
 join_stands : (w : Workload) → first_flaw w ≡ None → (kind home : ℕ) (b : Book)
-    → IsOfKind w.tasks.items (length b.accounts.by_task) kind → StandAtActions w.tasks.items b
-    → StandAtActions w.tasks.items (joined w.tasks.items kind home b)
+    → IsTaskOfKind w.tasks.items (length b.accounts.by_task) kind → StandAtActions w.tasks.items b
+    → StandAtActions w.tasks.items (task_added w.tasks.items kind home b)
 join_stands w sound kind home b of h =
     let kinds = w.tasks.items in
     let cs : List TaskProgress = b.accounts.by_task in
-    let new : TaskProgress = fresh kind home (start_of kinds kind) in
-    let some : 1 ≤ actions_of kinds new =
+    let new : TaskProgress = fresh_task kind home (kind_start kinds kind) in
+    let some : 1 ≤ action_count kinds new =
     subst (λ (o : Option TaskKind). 1 ≤ option_map_or (λ (k : TaskKind). length k.actions.items) o 0) (sym of.there)
     (sound_kind w kind of.kind sound of.there).actions in
     let stands : StandsAtAction kinds (length cs) new =
@@ -327,7 +327,7 @@ standing_is_kept w d e b c (Happens event reply ∷ deeds) reported sound (due, 
     standing_is_kept w mid e (after_answer (periods_of w.machine) event reply b) c deeds rest sound lives
     (event_stands w.tasks.items (periods_of w.machine) event reply b h)
 standing_is_kept w d e b c (Joins kind home ∷ deeds) reported sound (of, lives) h =
-    standing_is_kept w d e (joined w.tasks.items kind home b) c deeds reported sound lives
+    standing_is_kept w d e (task_added w.tasks.items kind home b) c deeds reported sound lives
     (join_stands w sound kind home b of h)
 standing_is_kept w d e b c (Acts at task now action aim ∷ deeds) reported sound (k, done, is, to, lives) h =
     standing_is_kept w d e (after_act w.tasks.items w.machine.seed at task now k b) c deeds reported sound lives

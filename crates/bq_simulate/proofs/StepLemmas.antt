@@ -5,9 +5,9 @@ use Rattle.bq_workload.specs.declared.due.Due.{Due}
 use Rattle.bq_parts.specs.declared.event.Event.{Event}
 use Rattle.bq_workload.specs.declared.roster.Periods.{Periods}
 use Rattle.bq_workload.specs.declared.workload.TaskKind.{TaskKind}
-use Rattle.bq_workload.specs.Next.{IsNext}
+use Rattle.bq_workload.specs.Next.{IsNextDue}
 use Rattle.bq_simulate.specs.Chronicles.{Book, Deed, after_deed, after_deeds}
-use Rattle.bq_simulate.specs.Steps.{AreAllMet, AreInOrder, AreJust, AreMet, Meet, Rise, Step, deeds_of}
+use Rattle.bq_simulate.specs.Steps.{AreAllMet, AreInOrder, AreJust, AreMet, Meet, Rise, MetDue, deeds_of}
 
 -- some events, and then others
 pub AreJust-join : (xs ys : List Event) (ds es : List Deed) → AreJust xs ds → AreJust ys es → AreJust (xs ++ ys) (ds ++ es)
@@ -16,13 +16,13 @@ AreJust-join (x ∷ xs) ys ds es (reply, more, is, rest) k =
     (reply, more ++ es, ap (λ (l : List Deed). l ++ es) is, AreJust-join xs ys more es rest k)
 
 -- instants that never fall, and one more
-Rise-more : (first last : ℕ) (steps : List Step) (step : Step)
+Rise-more : (first last : ℕ) (steps : List MetDue) (step : MetDue)
     → Rise first steps last → last ≤ step.at → Rise first (steps ++ step ∷ []) step.at
 Rise-more first last [] step h k = (omega (arith, h, k), omega arith)
 Rise-more first last (s ∷ steps) step h k = (h.0, Rise-more s.at last steps step h.1 k)
 
 -- until a later instant they never fall either
-pub Rise-later : (first last later : ℕ) (steps : List Step) → Rise first steps last → last ≤ later → Rise first steps later
+pub Rise-later : (first last later : ℕ) (steps : List MetDue) → Rise first steps last → last ≤ later → Rise first steps later
 Rise-later first last later [] h k = omega (arith, h, k)
 Rise-later first last later (s ∷ steps) h k = (h.0, Rise-later s.at last later steps h.1 k)
 
@@ -37,9 +37,9 @@ after-append kinds seed periods b [] ys = refl
 after-append kinds seed periods b (x ∷ xs) ys = after-append kinds seed periods (after_deed kinds seed periods x b) xs ys
 
 -- in order, and one thing more that is the next
-order-more : (kinds : List TaskKind) (seed : ℕ) (periods : Periods) (b : Book) (steps : List Step) (step : Step)
+order-more : (kinds : List TaskKind) (seed : ℕ) (periods : Periods) (b : Book) (steps : List MetDue) (step : MetDue)
     → AreInOrder kinds seed periods b steps
-    → IsNext periods.end (after_deeds kinds seed periods b (deeds_of steps)).accounts step.due step.at
+    → IsNextDue periods.end (after_deeds kinds seed periods b (deeds_of steps)).accounts step.due step.at
     → AreInOrder kinds seed periods b (steps ++ step ∷ [])
 order-more kinds seed periods b [] step h next = (next, tt)
 order-more kinds seed periods b (s ∷ steps) step h next =
@@ -48,19 +48,19 @@ order-more kinds seed periods b (s ∷ steps) step h next =
     after-append kinds seed periods b s.deeds (deeds_of steps) in (
       h.0,
       order-more kinds seed periods (after_deeds kinds seed periods b s.deeds) steps step h.1
-          (subst (λ (x : Book). IsNext periods.end x.accounts step.due step.at) later next),
+          (subst (λ (x : Book). IsNextDue periods.end x.accounts step.due step.at) later next),
     )
 
 -- one thing more comes due, the next
 pub AreMet-more : (kinds : List TaskKind) (seed : ℕ) (periods : Periods) (b : Book) (due : Due)
     (count last now : ℕ) (ds es : List Deed)
     → last ≤ now → AreAllMet kinds seed periods count last b ds
-    → IsNext periods.end (after_deeds kinds seed periods b ds).accounts due now → Meet due now es
+    → IsNextDue periods.end (after_deeds kinds seed periods b ds).accounts due now → Meet due now es
     → AreAllMet kinds seed periods (count + 1) now b (ds ++ es)
 AreMet-more kinds seed periods b due count last now ds es later (met, all) next meet =
-    let step : Step = record { due = due; at = now; deeds = es; meet = meet } in
+    let step : MetDue = record { due = due; at = now; deeds = es; meet = meet } in
     let added : deeds_of (met.steps ++ step ∷ []) ≡ deeds_of met.steps ++ es =
-    flat_map-append (λ (s : Step). s.deeds) met.steps (step ∷ []) ∙ ap (λ l. deeds_of met.steps ++ l) (append-nil es) in
+    flat_map-append (λ (s : MetDue). s.deeds) met.steps (step ∷ []) ∙ ap (λ l. deeds_of met.steps ++ l) (append-nil es) in
     let longer : length (met.steps ++ step ∷ []) ≡ count + 1 = omega (arith, all, length-append met.steps (step ∷ [])) in (
       record {
         steps = met.steps ++ step ∷ [];
@@ -69,7 +69,7 @@ AreMet-more kinds seed periods b due count last now ds es later (met, all) next 
         few = omega (arith, longer);
         order =
             order-more kinds seed periods b met.steps step met.order
-            (subst (λ (l : List Deed). IsNext periods.end (after_deeds kinds seed periods b l).accounts due now) met.whole next);
+            (subst (λ (l : List Deed). IsNextDue periods.end (after_deeds kinds seed periods b l).accounts due now) met.whole next);
       },
       longer,
     )

@@ -11,7 +11,7 @@ use Rattle.bq_workload.specs.declared.action.Action.{Action}
 use Rattle.bq_workload.specs.declared.action.Action.TheVariants.{Run, Sleep, Wait, Wake}
 use Rattle.bq_workload.specs.declared.workload.TaskKind.{TaskKind}
 use Rattle.bq_workload.specs.Bounds.{steps_for}
-use Rattle.bq_workload.specs.Kinds.{count_of}
+use Rattle.bq_workload.specs.Kinds.{kind_count}
 use Rattle.bq_workload.specs.Lengths.{takes_time}
 use Rattle.bq_simulate.specs.AtOnce.{steps_until}
 
@@ -41,7 +41,7 @@ steps-first kinds woken [] more h = absurd (false≢true h)
 steps-first kinds woken (Run asked ∷ actions) more h = refl
 steps-first kinds woken (Sleep asked ∷ actions) more h = refl
 steps-first kinds woken (Wait ∷ actions) more h = ap (λ n. 1 + n) (steps-first kinds 0 actions more h)
-steps-first kinds woken (Wake kind ∷ actions) more h = ap (λ n. (count_of kinds kind - woken) + n) (steps-first kinds 0 actions more h)
+steps-first kinds woken (Wake kind ∷ actions) more h = ap (λ n. (kind_count kinds kind - woken) + n) (steps-first kinds 0 actions more h)
 
 -- where none takes time all of them count
 steps-past : (kinds : List TaskKind) (woken : ℕ) (actions more : List Action)

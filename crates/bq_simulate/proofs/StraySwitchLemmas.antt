@@ -10,11 +10,11 @@ use Rattle.bq_parts.specs.World.{World, count_in}
 use Rattle.bq_workload.specs.declared.progress.TaskProgress.{TaskProgress}
 use Rattle.bq_workload.specs.declared.processor_state.ProcessorState.{ProcessorState}
 use Rattle.bq_workload.specs.declared.roster.Periods.{Periods}
-use Rattle.bq_workload.specs.Accounts.{Accounts, charged, is_same, of_processor, switched, taken_over}
-use Rattle.bq_workload.specs.Next.{Rests, runs_at}
+use Rattle.bq_workload.specs.Accounts.{Accounts, accounts_charged, is_same, of_processor, accounts_switched, taken_over}
+use Rattle.bq_workload.specs.Next.{TaskRests, runs_at}
 use Rattle.bq_workload.specs.Strays.{HasNoNext, IsStrayCharge, IsStrayProcessor, IsStrayRun, IsStraySwitch, IsStrayTakeover}
 use Rattle.bq_workload.proofs.AgreeLemmas.{changed_at-here, changed_at-others, some_or_none}
-use Rattle.bq_simulate.specs.Agreement.{AgreesWith, IsOnTime, ProcessorIsOnTime, RunsOnTime, run_at}
+use Rattle.bq_simulate.specs.Agreement.{AgreesWith, IsOnTime, ProcessorIsOnTime, RunsOnTime, runner_at}
 use Rattle.bq_simulate.specs.AgreementLaws.{RunsAlone}
 use Rattle.bq_simulate.proofs.AccountLemmas.{Reads, charged_there, reads_charged, reads_switched, same_run}
 use Rattle.bq_simulate.proofs.MeetTimeLemmas.{sized_alone, sized_on_time}
@@ -89,7 +89,7 @@ no_stray_charge processor now a l at time (inr astray) =
     no_stray_run astray.task now a astray.processor_state p.since (p.runs astray.task astray.runs) astray.astray
 
 -- what runs at a processor
-runs_there : (ls : List ProcessorState) (processor task : ℕ) → runs_at ls processor task ≡ true → run_at ls processor ≡ Some task
+runs_there : (ls : List ProcessorState) (processor task : ℕ) → runs_at ls processor task ≡ true → runner_at ls processor ≡ Some task
 runs_there ls processor task runs =
     let test : Option ProcessorState → Bool = λ o. option_map_or (λ (l : ProcessorState). is_same l.run (Some task)) o false in
     let read : Option ProcessorState → Option ℕ = λ o. option_map_or (λ (l : ProcessorState). l.run) o None in
@@ -99,7 +99,7 @@ runs_there ls processor task runs =
     ]
 
 -- a processor at which another task runs, or none
-pub runs_elsewhere : (ls : List ProcessorState) (processor task : ℕ) → run_at ls processor ≢ Some task → runs_at ls processor task ≡ false
+pub runs_elsewhere : (ls : List ProcessorState) (processor task : ℕ) → runner_at ls processor ≢ Some task → runs_at ls processor task ≡ false
 runs_elsewhere ls processor task apart = by_test (runs_at ls processor task) refl
   where
     by_test : (t : Bool) → runs_at ls processor task ≡ t → runs_at ls processor task ≡ false
@@ -109,12 +109,12 @@ runs_elsewhere ls processor task apart = by_test (runs_at ls processor task) ref
 -- a task that is to run at a processor, which runs another or none, rests until then
 starter_rests : (periods : Periods) (v : World) (processor task now : ℕ) (a : Accounts) (l : ProcessorState)
     → slice_get a.by_processor processor ≡ Some l → is_same l.run (Some task) ≡ false
-    → AgreesWith v (switched processor (Some task) now periods a)
-    → Rests (charged processor now a) task
+    → AgreesWith v (accounts_switched processor (Some task) now periods a)
+    → TaskRests (accounts_charged processor now a) task
 starter_rests periods v processor task now a l at other agrees =
-    let mid : Accounts = charged processor now a in
+    let mid : Accounts = accounts_charged processor now a in
     let over : Accounts = taken_over processor (Some task) now periods mid in
-    let b : Accounts = switched processor (Some task) now periods a in
+    let b : Accounts = accounts_switched processor (Some task) now periods a in
     let is : b ≡ over =
     ap (λ (o : Option ProcessorState). option_map_or (λ (x : ProcessorState). if is_same x.run (Some task) then a else over) o a) at
     ∙ ap (λ t. if t then a else over) other in
@@ -128,9 +128,9 @@ starter_rests periods v processor task now a l at other agrees =
     ) in
     let t = task_there mid.by_task task low in
     let home : ℕ = t.0.home in
-    let nowhere : run_at mid.by_processor home ≢ Some task = λ runs. elim (cases_eq home processor) [
+    let nowhere : runner_at mid.by_processor home ≢ Some task = λ runs. elim (cases_eq home processor) [
       | inl same ↦
-          let here : l.run ≡ Some task = sym before.run_here ∙ ap (run_at mid.by_processor) (sym same) ∙ runs in
+          let here : l.run ≡ Some task = sym before.run_here ∙ ap (runner_at mid.by_processor) (sym same) ∙ runs in
           true≢false (sym (ap (λ o. is_same o (Some task)) here ∙ eq-eqb task task refl) ∙ other)
       | inr apart ↦
           apart
@@ -140,15 +140,15 @@ starter_rests periods v processor task now a l at other agrees =
 
 -- a processor that is one of 64
 no_stray_processor : (periods : Periods) (processor now : ℕ) (a : Accounts)
-    → CanSwitch periods processor now a → IsStrayProcessor processor (charged processor now a) → ⊥
+    → CanSwitch periods processor now a → IsStrayProcessor processor (accounts_charged processor now a) → ⊥
 no_stray_processor periods processor now a h (inl none) =
     none-some (record h.state { since = now }) (sym none ∙ charged_there processor now a h.state h.at)
 no_stray_processor periods processor now a h (inr high) = omega (arith, high, h.low)
 
 no_stray_takeover : (run : Option ℕ) (periods : Periods) (v : World) (processor now : ℕ) (a : Accounts) (l : ProcessorState)
     → slice_get a.by_processor processor ≡ Some l → is_same l.run run ≡ false
-    → CanSwitch periods processor now a → AgreesWith v (switched processor run now periods a)
-    → IsStrayTakeover periods processor run now (charged processor now a)
+    → CanSwitch periods processor now a → AgreesWith v (accounts_switched processor run now periods a)
+    → IsStrayTakeover periods processor run now (accounts_charged processor now a)
     → ⊥
 no_stray_takeover None periods v processor now a l at other h agrees astray = no_stray_processor periods processor now a h astray
 no_stray_takeover (Some task) periods v processor now a l at other h agrees (inl moves) =
@@ -161,7 +161,7 @@ no_stray_takeover (Some task) periods v processor now a l at other h agrees (inr
 
 -- no switch goes astray after which the accounts agree with a world
 pub no_stray_switch : (periods : Periods) (v : World) (processor : ℕ) (run : Option ℕ) (now : ℕ) (a : Accounts)
-    → CanSwitch periods processor now a → AgreesWith v (switched processor run now periods a)
+    → CanSwitch periods processor now a → AgreesWith v (accounts_switched processor run now periods a)
     → IsStraySwitch periods processor run now a
     → ⊥
 no_stray_switch periods v processor run now a h agrees (inl none) = none-some h.state (sym none ∙ h.at)

@@ -7,9 +7,9 @@ use Rattle.bq_workload.specs.declared.action.Length.{Length}
 use Rattle.bq_workload.specs.Streams.{stream_of_task, after_draw, after_draws}
 use Rattle.bq_workload.specs.Accounts.{changed_at}
 use Rattle.bq_simulate.specs.declared.simulation.Simulation.{Simulation}
-use Rattle.bq_simulate.specs.Actions.{length_of, next_length}
+use Rattle.bq_simulate.specs.Actions.{length_of_draw, next_length}
 use Rattle.bq_simulate.specs.Chronicles.{draws_of, drawn_with, length_taken}
-use Rattle.bq_simulate.specs.Simulations.{Draws, DrawsFor, HasDrawn, streams_after}
+use Rattle.bq_simulate.specs.Simulations.{DrawsLength, DrawsFor, HasDrawn, streams_after}
 
 -- one draw more
 after_more : (n : ℕ) (g : Lcg) → after_draw (after_draws n g) ≡ after_draws (suc n) g
@@ -72,7 +72,7 @@ pub record Gave (task : ℕ) (asked : Option Length) (s : Simulation) (drawn : L
   pub firsts : t.firsts ≡ s.firsts
 
 drew : (task : ℕ) (asked : Length) (s : Simulation) (length : ℕ) (t : Simulation)
-    → Draws task asked s length t → (drawn : List ℕ) → HasDrawn s drawn
+    → DrawsLength task asked s length t → (drawn : List ℕ) → HasDrawn s drawn
     → Gave task (Some asked) s drawn length t
 drew task asked s length t d drawn had =
     let h = stream-at s.seed 0 task drawn d.stream (ap (λ (l : List Lcg). slice_get l task) (sym had) ∙ d.there) in
@@ -85,7 +85,7 @@ drew task asked s length t d drawn had =
     ap after_draw is ∙ after_more h.draws (stream_of_task s.seed task)
     ∙ ap (λ k. after_draws (suc h.draws) (stream_of_task s.seed k)) (omega arith) in
     record {
-      value = d.value ∙ ap (next_length asked) is ∙ ap (λ n. length_of s.seed task n asked) (sym count);
+      value = d.value ∙ ap (next_length asked) is ∙ ap (λ n. length_of_draw s.seed task n asked) (sym count);
       streams =
           d.next ∙ ap (λ (l : List Lcg). slice_set l task (after_draw d.stream)) had
           ∙ ap (λ g. slice_set (streams_after s.seed 0 drawn) task g) further

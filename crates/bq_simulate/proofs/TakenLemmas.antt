@@ -22,11 +22,11 @@ use Rattle.bq_parts.specs.declared.lobby_entry.LobbyEntry.TheVariants.{Absent, S
 use Rattle.bq_parts.specs.declared.reply.Reply.{Reply}
 use Rattle.bq_parts.specs.declared.refusal.Refusal.TheVariants as no
 use Rattle.bq_parts.specs.Processors.{Processor, HasEachOnce, size_of}
-use Rattle.bq_parts.specs.World.{World, processor_at, entry, count_in, with_lobby, with_processor}
+use Rattle.bq_parts.specs.World.{World, processor_at, entry_of_id, count_in, with_lobby, with_processor}
 use Rattle.bq_disc.specs.Counts.{saturating_sum}
 use Rattle.bq_parts.specs.Choices.{SettledChoice, decided_by, own_pull, by_programs}
 use Rattle.bq_parts.specs.Moves.{after_leaving, as_it_leaves, taken_from, without_task}
-use Rattle.bq_parts.specs.Refusals.{either, generation_refusal, is_away, same_hook}
+use Rattle.bq_parts.specs.Refusals.{either_refusal, generation_refusal, is_away, same_hook}
 use Rattle.bq_parts.specs.Shares.{after_time, remarked}
 use Rattle.bq_parts.specs.StandsOnce.{IsOrderly}
 use Rattle.bq_parts.specs.Steps.{WorldStep}
@@ -38,9 +38,9 @@ use Rattle.bq_core.proofs.MoveLemmas.{tally-after_leaving, tally-pulled, tally-w
 use Rattle.bq_workload.specs.declared.progress.TaskState.{TaskState}
 use Rattle.bq_workload.specs.declared.processor_state.ProcessorState.{ProcessorState}
 use Rattle.bq_workload.specs.declared.roster.Periods.{Periods}
-use Rattle.bq_workload.specs.Accounts.{Accounts, grown, left_by, passed, shrunk, switched}
+use Rattle.bq_workload.specs.Accounts.{Accounts, grown, left_by, accounts_passed, shrunk, accounts_switched}
 use Rattle.bq_workload.proofs.AgreeLemmas.{changed_at-here, changed_at-others}
-use Rattle.bq_simulate.specs.Agreement.{AgreesBut, AgreesWith, HaveProcessors, RunsAs, StandsAs, can_run, run_at, state_at}
+use Rattle.bq_simulate.specs.Agreement.{AgreesBut, AgreesWith, HaveProcessors, RunsAs, StandsAs, can_run, runner_at, state_at}
 use Rattle.bq_simulate.specs.AgreementLaws.{BlocksAreTaken, DrawsAreTaken, InstallsAreTaken, PullsAreTaken, TicksAreTaken}
 use Rattle.bq_simulate.specs.Drives.{runs_now, task_pulled}
 use Rattle.bq_simulate.proofs.AccountLemmas.{Reads, reads_grown, reads_join, reads_same, reads_shrunk, reads_switched}
@@ -51,14 +51,14 @@ use Rattle.bq_simulate.proofs.MirrorLemmas.{agree_after, at_set_else, each, home
 tick_kept : (d : Discipline) (periods : Periods) (w v : World) (a : Accounts) (processor now : ℕ)
     (calls : List CounterCall) (r : Reply)
     → AgreesWith w a → processor < count_in w → WorldStep (by_programs d) w (Tick processor now) calls (Ok r) v
-    → AgreesWith v (switched processor (runs_now r) now periods a)
+    → AgreesWith v (accounts_switched processor (runs_now r) now periods a)
 tick_kept d periods w v a processor now calls r h low step =
     let k = step.1 in
     let p : Processor = processor_at w processor in
     let q : Processor = k.0 in
     let c : Processor = after_time d now p in
     let settled : SettledChoice = k.1.0 in
-    let b : Accounts = switched processor (runs_now r) now periods a in
+    let b : Accounts = accounts_switched processor (runs_now r) now periods a in
     let is : q ≡ decided_by (by_programs d) c settled = k.1.1.1 in
     let size : size_of q ≡ size_of p = ap size_of is ∙ size_decided d p.running now (settled.choice == 1) in
     let l = state_there w a processor h.mirrors.processors low in
@@ -75,7 +75,7 @@ tick_kept d periods w v a processor now calls r h low step =
 -- a tick is taken
 pub ticks_are_taken : TicksAreTaken
 ticks_are_taken d periods w a processor now h low = record {
-  taken = ap (λ o. either o None) (there (count_in w) processor low);
+  taken = ap (λ o. either_refusal o None) (there (count_in w) processor low);
   leaves = λ calls r v step. tick_kept d periods w v a processor now calls r h low step;
 }
 
@@ -99,13 +99,13 @@ sleeping_stands None t h = cc
 sleeping_stands (Some task_state) t h = (refl, sym h)
 
 -- an entry that is away is one of the lobby's
-away_there : (w : World) (task : ℕ) → is_away (entry w task) ≡ true → task < length w.lobby
+away_there : (w : World) (task : ℕ) → is_away (entry_of_id w task) ≡ true → task < length w.lobby
 away_there w task h = elim (cases_lt task (length w.lobby))
     [ inl l ↦ l | inr g ↦ absurd (true≢false (sym h ∙ ap is_away (get_or_past w.lobby task Absent g))) ]
 
 block_kept : (d : Discipline) (periods : Periods) (w v : World) (a : Accounts) (processor task now : ℕ)
     (calls : List CounterCall) (r : Reply)
-    → AgreesBut task w a → processor < count_in w → run_at a.by_processor processor ≡ Some task
+    → AgreesBut task w a → processor < count_in w → runner_at a.by_processor processor ≡ Some task
     → WorldStep (by_programs d) w (Block processor now) calls (Ok r) v
     → AgreesWith v (left_by processor (runs_now r) now periods a)
 block_kept d periods w v a processor task now calls r h low runs step =
@@ -153,7 +153,7 @@ block_kept d periods w v a processor task now calls r h low runs step =
       tasks =
           at_set_else (λ n (s : LobbyEntry). StandsAs (state_at b.by_task n) s) w.lobby task
           (Sleeping gone) Absent (away_there w task m.away) (sleeping_stands (state_at b.by_task task) gone sleeps)
-          (λ other apart. subst (λ s. StandsAs s (entry w other)) (sym (reads.states other)) (m.others other apart));
+          (λ other apart. subst (λ s. StandsAs s (entry_of_id w other)) (sym (reads.states other)) (m.others other apart));
       processors = record { many = runs_as.many; runs = runs_as.runs; sizes = runs_as.sizes };
     }) (homes_switched (count_in w) processor run now periods (shrunk processor a) low h.homes)
 
@@ -162,7 +162,7 @@ pub blocks_are_taken : BlocksAreTaken
 blocks_are_taken d periods w a processor task now h low runs = record {
   taken =
       let current = (processor_at w processor).running.current in
-      ap (λ o. either o (cond (is_none current) (Some no.Idle) None)) (there (count_in w) processor low)
+      ap (λ o. either_refusal o (cond (is_none current) (Some no.Idle) None)) (there (count_in w) processor low)
       ∙ ap (λ b. cond b (Some no.Idle) None) (not_idle current task (sym (h.mirrors.processors.runs processor) ∙ runs));
   leaves = λ calls r v step. block_kept d periods w v a processor task now calls r h low runs step;
 }
@@ -199,12 +199,12 @@ pulled_by_case : (task : Option ℕ) (periods : Periods) (w : World) (a : Accoun
     → size_of other + moved ≡ size_of (processor_at w from) → size_of here ≡ size_of (processor_at w processor) + moved
     → id_of other.running.current ≡ id_of (processor_at w from).running.current → run ≡ id_of here.running.current
     → Pulled (with_processor (with_processor w from other) processor here) a
-    (switched processor run now periods (option_map_or (λ _. passed from processor a) task a))
+    (accounts_switched processor run now periods (option_map_or (λ _. accounts_passed from processor a) task a))
 pulled_by_case None periods w a processor from now moved run here other h low low' apart is gone come stays runs =
     let mid : World = with_processor w from other in
     let l = state_there w a processor h low in
     let k = state_there w a from h low' in
-    let b : Accounts = switched processor run now periods a in
+    let b : Accounts = accounts_switched processor run now periods a in
     let one : RunsAs mid a =
     runs_written w a a from other k.0.run k.0.size h low' (reads_same from a k.0 k.1)
     (run_there w a from k.0 h k.1 ∙ sym stays) (omega (arith, size_there w a from k.0 h k.1, is, gone)) in
@@ -222,7 +222,7 @@ pulled_by_case (Some id) periods w a processor from now moved run here other h l
     let f : ProcessorState → ProcessorState = λ y. record y { size = y.size - 1 } in
     let less : Accounts = shrunk from a in
     let more : Accounts = grown processor 1 less in
-    let b : Accounts = switched processor run now periods more in
+    let b : Accounts = accounts_switched processor run now periods more in
     let was : slice_get less.by_processor processor ≡ Some l.0 = changed_at-others f a.by_processor from processor apart ∙ l.1 in
     let next : ProcessorState = record l.0 { size = l.0.size + 1 } in
     let at : slice_get more.by_processor processor ≡ Some next =
@@ -242,7 +242,7 @@ pulled_by_case (Some id) periods w a processor from now moved run here other h l
     }
 
 homes_passed : (count processor from : ℕ) (task : Option ℕ) (a : Accounts)
-    → HaveProcessors count a → HaveProcessors count (option_map_or (λ _. passed from processor a) task a)
+    → HaveProcessors count a → HaveProcessors count (option_map_or (λ _. accounts_passed from processor a) task a)
 homes_passed count processor from None a h = h
 homes_passed count processor from (Some id) a h = h
 
@@ -294,7 +294,7 @@ pull_kept : (d : Discipline) (periods : Periods) (w v : World) (a : Accounts) (p
     (calls : List CounterCall) (r : Reply)
     → AgreesWith w a → processor < count_in w → from < count_in w → processor ≢ from
     → WorldStep (by_programs d) w (Pull processor from now) calls (Ok r) v
-    → AgreesWith v (switched processor (runs_now r) now periods (option_map_or (λ task. passed from processor a) (task_pulled r) a))
+    → AgreesWith v (accounts_switched processor (runs_now r) now periods (option_map_or (λ task. accounts_passed from processor a) (task_pulled r) a))
 pull_kept d periods w v a processor from now calls r h low low' apart step =
     let k = step.1 in
     let p : Processor = after_time d now (processor_at w processor) in
@@ -323,7 +323,7 @@ pull_kept d periods w v a processor from now calls r h low low' apart step =
     ap (λ (y : Processor). id_of y.running.current) x.there ∙ ap id_of (current_stays source.running task) in
     let form : World = with_processor (with_processor w from other) processor q in
     let is : v ≡ form = k.3 ∙ ap (λ ps. record w { processors = ps }) (set_comm w.processors processor from q other apart) in
-    let b : Accounts = switched processor (runs_now r) now periods (option_map_or (λ _. passed from processor a) (task_pulled r) a) in
+    let b : Accounts = accounts_switched processor (runs_now r) now periods (option_map_or (λ _. accounts_passed from processor a) (task_pulled r) a) in
     let pulled : Pulled form a b =
     pulled_by_case (task_pulled r) periods w a processor from now moved (runs_now r) q other h.mirrors.processors low low'
     apart t.0 t.1 come stays (ap runs_now x.replies) in
@@ -334,7 +334,7 @@ pull_kept d periods w v a processor from now calls r h low low' apart step =
     agree_after (by_programs d) w form v (Pull processor from now) calls r b h.orderly step is h.entries second
     (record { tasks = tasks_kept w a b pulled.states h.mirrors.tasks; processors = pulled.processors })
     (homes_switched (count_in w) processor (runs_now r) now periods
-    (option_map_or (λ _. passed from processor a) (task_pulled r) a) low
+    (option_map_or (λ _. accounts_passed from processor a) (task_pulled r) a) low
     (homes_passed (count_in w) processor from (task_pulled r) a h.homes))
 
 -- a pull is taken

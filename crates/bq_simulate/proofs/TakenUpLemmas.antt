@@ -11,16 +11,16 @@ use Rattle.bq_workload.specs.declared.processor_state.ProcessorState.{ProcessorS
 use Rattle.bq_workload.specs.declared.roster.Periods.{Periods}
 use Rattle.bq_workload.specs.declared.workload.TaskKind.{TaskKind}
 use Rattle.bq_workload.specs.declared.workload.Workload.{Workload}
-use Rattle.bq_workload.specs.Accounts.{Accounts, IsDone, accounts_of, charged, of_task}
-use Rattle.bq_workload.specs.Kinds.{count_of}
+use Rattle.bq_workload.specs.Accounts.{Accounts, IsPhaseDone, accounts_of, accounts_charged, of_task}
+use Rattle.bq_workload.specs.Kinds.{kind_count}
 use Rattle.bq_simulate.specs.declared.driver.Driver.{Driver}
 use Rattle.bq_simulate.specs.declared.simulation.Simulation.{Simulation}
-use Rattle.bq_simulate.specs.Actions.{acted, aim_of, aimed, asked_by, first_of, next_action}
-use Rattle.bq_simulate.specs.Agreement.{AgreesBut, AgreesWith, IsOnTime, can_run, run_at}
+use Rattle.bq_simulate.specs.Actions.{acted, aim_of, wake_target, asked_by, first_task_of, next_action}
+use Rattle.bq_simulate.specs.Agreement.{AgreesBut, AgreesWith, IsOnTime, can_run, runner_at}
 use Rattle.bq_simulate.specs.Chronicles.{Book, Lives, is_busy, length_taken}
 use Rattle.bq_simulate.specs.Kept.{IsKept}
-use Rattle.bq_simulate.specs.KeptLaws.{Leads}
-use Rattle.bq_simulate.specs.Order.{CanFollow, FallsAsleep, GoesWell}
+use Rattle.bq_simulate.specs.KeptLaws.{DeedsLead}
+use Rattle.bq_simulate.specs.Order.{CanFollow, FallsAsleep, SimulationGoesWell}
 use Rattle.bq_simulate.specs.Simulations.{GoesUnreported, Same, book_of, with_seed}
 use Rattle.bq_simulate.specs.Steps.{IsAct}
 use Rattle.bq_simulate.proofs.AccountLemmas.{changed_at-length}
@@ -37,12 +37,12 @@ pub record TakesUp (kinds : List TaskKind) (now processor task : ℕ) (action : 
     (s t : Simulation) : Type 0 where
   pub progress : TaskProgress
   pub lasts : ℕ
-  pub done : IsDone (charged processor now (accounts_of s.roster)) processor task progress
+  pub done : IsPhaseDone (accounts_charged processor now (accounts_of s.roster)) processor task progress
   pub is : action ≡ next_action kinds progress
-  pub aims : aim ≡ aimed kinds progress
+  pub aims : aim ≡ wake_target kinds progress
   pub driver : t.driver ≡ s.driver
   pub accounts : accounts_of t.roster
-      ≡ of_task (λ _. acted kinds action lasts now progress) task (charged processor now (accounts_of s.roster))
+      ≡ of_task (λ _. acted kinds action lasts now progress) task (accounts_charged processor now (accounts_of s.roster))
 
 takes_up : (kinds : List TaskKind) (now processor task : ℕ) (action : Option Action) (aim : Option ℕ)
     (s t : Simulation) (drawn : List ℕ)
@@ -52,7 +52,7 @@ takes_up kinds now processor task action aim s t drawn h =
     let (c, done, is, to, (none, same, kept)) =
     subst (λ l. Lives kinds s.seed s.roster.periods s.driver (book_of s drawn) l [] t.driver (book_of t h.after)) h.are
     h.lives in
-    let a : Accounts = charged processor now (accounts_of s.roster) in
+    let a : Accounts = accounts_charged processor now (accounts_of s.roster) in
     let long : ℕ = length_taken s.seed task drawn (asked_by (next_action kinds c)) in
     record {
       progress = c;
@@ -66,22 +66,22 @@ takes_up kinds now processor task action aim s t drawn h =
 
 -- what is read of the accounts and the machine then
 pub record StandsThen (kinds : List TaskKind) (now processor task : ℕ) (s t : Simulation) : Type 0 where
-  pub counted : AgreesWith (world_of s.driver) (charged processor now (accounts_of s.roster))
-  pub runs : run_at (charged processor now (accounts_of s.roster)).by_processor processor ≡ Some task
-  pub runs_then : run_at t.roster.by_processor.items processor ≡ Some task
+  pub counted : AgreesWith (world_of s.driver) (accounts_charged processor now (accounts_of s.roster))
+  pub runs : runner_at (accounts_charged processor now (accounts_of s.roster)).by_processor processor ≡ Some task
+  pub runs_then : runner_at t.roster.by_processor.items processor ≡ Some task
   pub on_time : IsOnTime now (accounts_of t.roster)
 
 stands_then : (w : Workload) (now processor task : ℕ) (action : Option Action) (aim : Option ℕ) (s t : Simulation)
-    → GoesWell w now s → TakesUp w.tasks.items now processor task action aim s t
+    → SimulationGoesWell w now s → TakesUp w.tasks.items now processor task action aim s t
     → StandsThen w.tasks.items now processor task s t
 stands_then w now processor task action aim s t h u =
     let was : Accounts = accounts_of s.roster in
-    let a : Accounts = charged processor now was in
-    let runs : run_at a.by_processor processor ≡ Some task = run_of a processor u.done.processor_state u.done.at ∙ u.done.runs in
+    let a : Accounts = accounts_charged processor now was in
+    let runs : runner_at a.by_processor processor ≡ Some task = run_of a processor u.done.processor_state u.done.at ∙ u.done.runs in
     record {
       counted = agrees_charged (world_of s.driver) was processor now h.kept.agrees;
       runs = runs;
-      runs_then = ap (λ (x : Accounts). run_at x.by_processor processor) u.accounts ∙ runs;
+      runs_then = ap (λ (x : Accounts). runner_at x.by_processor processor) u.accounts ∙ runs;
       on_time =
           subst (λ (x : Accounts). IsOnTime now x) (sym u.accounts)
           (taken_up_on_time action w.tasks.items (world_of s.driver) was processor task u.lasts now u.progress
@@ -91,13 +91,13 @@ stands_then w now processor task action aim s t h u =
 -- where it cannot run any more it falls asleep
 falls_asleep : (w : Workload) (now processor task : ℕ) (action : Option Action) (aim : Option ℕ) (s t : Simulation)
     → ((length : ℕ) (c : TaskProgress) → can_run (acted w.tasks.items action length now c).task_state ≡ false)
-    → (h : GoesWell w now s) → GoesUnreported w.tasks.items (IsAct processor task now action aim) s h.drawn t
+    → (h : SimulationGoesWell w now s) → GoesUnreported w.tasks.items (IsAct processor task now action aim) s h.drawn t
     → FallsAsleep w now processor t
 falls_asleep w now processor task action aim s t sleeps h g =
     let kinds : List TaskKind = w.tasks.items in
     let u = takes_up kinds now processor task action aim s t h.drawn g in
     let then = stands_then w now processor task action aim s t h u in
-    let a : Accounts = charged processor now (accounts_of s.roster) in
+    let a : Accounts = accounts_charged processor now (accounts_of s.roster) in
     let c : TaskProgress = u.progress in
     let but =
     agrees_but_it (world_of s.driver) a task processor c (acted kinds action u.lasts now c) u.done.there (sleeps u.lasts c)
@@ -119,20 +119,20 @@ falls_asleep w now processor task action aim s t sleeps h g =
 
 -- where it wakes others all goes well
 wakes_well : (w : Workload) (now processor task kind : ℕ) (aim : Option ℕ) (s t : Simulation)
-    → (h : GoesWell w now s) → GoesUnreported w.tasks.items (IsAct processor task now (Some (Wake kind)) aim) s h.drawn t
-    → GoesWell w now t
+    → (h : SimulationGoesWell w now s) → GoesUnreported w.tasks.items (IsAct processor task now (Some (Wake kind)) aim) s h.drawn t
+    → SimulationGoesWell w now t
 wakes_well w now processor task kind aim s t h g =
     let kinds : List TaskKind = w.tasks.items in
     let u = takes_up kinds now processor task (Some (Wake kind)) aim s t h.drawn g in
     let then = stands_then w now processor task (Some (Wake kind)) aim s t h u in
     let was : Accounts = accounts_of s.roster in
-    let a : Accounts = charged processor now was in
+    let a : Accounts = accounts_charged processor now was in
     let c : TaskProgress = u.progress in
     let new : TaskProgress = acted kinds (Some (Wake kind)) u.lasts now c in
     let further =
     agrees_further (world_of s.driver) a task c new u.done.there (woken_one_state kinds kind c)
     (woken_one_home kinds kind c) then.counted in
-    let leads : Leads (with_seed w s.seed) s.driver (book_of s h.drawn) g.deeds [] t.driver (book_of t g.after) =
+    let leads : DeedsLead (with_seed w s.seed) s.driver (book_of s h.drawn) g.deeds [] t.driver (book_of t g.after) =
     subst (λ (p : Periods). Lives kinds s.seed p s.driver (book_of s h.drawn) g.deeds [] t.driver (book_of t g.after)) h.periods g.lives in
     record {
       sound = h.sound;
@@ -169,22 +169,22 @@ still_busy kinds now processor task action aim s t u =
 
 -- a task whose action is a wake leaves one to wake next
 wakes_one : (w : Workload) (now processor task kind : ℕ) (before : TaskProgress) (s t : Simulation)
-    → GoesWell w now s → TakesUp w.tasks.items now processor task (Some (Wake kind)) (aim_of w.tasks.items before (Some (Wake kind))) s t
-    → before.woken < count_of w.tasks.items kind
+    → SimulationGoesWell w now s → TakesUp w.tasks.items now processor task (Some (Wake kind)) (aim_of w.tasks.items before (Some (Wake kind))) s t
+    → before.woken < kind_count w.tasks.items kind
 wakes_one w now processor task kind before s t h u =
     let kinds : List TaskKind = w.tasks.items in
     let c : TaskProgress = u.progress in
-    let stand : AllStand kinds (charged processor now (accounts_of s.roster)).by_task =
+    let stand : AllStand kinds (accounts_charged processor now (accounts_of s.roster)).by_task =
     charged_keeps (λ x. AllStand kinds x.by_task) (standing_of_places kinds) processor now
     (accounts_of s.roster) h.kept.standing.tasks in
-    let aims : first_of kinds kind + before.woken ≡ first_of kinds kind + c.woken =
-    same_Some (first_of kinds kind + before.woken) (first_of kinds kind + c.woken)
+    let aims : first_task_of kinds kind + before.woken ≡ first_task_of kinds kind + c.woken =
+    same_Some (first_task_of kinds kind + before.woken) (first_task_of kinds kind + c.woken)
     (u.aims ∙ ap (aim_of kinds c) (sym u.is)) in
     omega (arith, aims, (stand task c u.done.there).woken kind (sym u.is))
 
 -- what a task has taken up can follow
 pub can_follow : (action : Option Action) (w : Workload) (before : TaskProgress) (now processor task : ℕ) (s t : Simulation)
-    → (h : GoesWell w now s)
+    → (h : SimulationGoesWell w now s)
     → GoesUnreported w.tasks.items (IsAct processor task now action (aim_of w.tasks.items before action)) s h.drawn t
     → CanFollow w action before processor now t
 can_follow None w before now processor task s t h g = falls_asleep w now processor task None None s t (λ length c. refl) h g
@@ -202,7 +202,7 @@ can_follow (Some (Wake kind)) w before now processor task s t h g =
 
 -- Where nothing is done but to count
 
-well_same : (w : Workload) (now : ℕ) (s t : Simulation) → Same s t → GoesWell w now s → GoesWell w now t
+well_same : (w : Workload) (now : ℕ) (s t : Simulation) → Same s t → SimulationGoesWell w now s → SimulationGoesWell w now t
 well_same w now s t same h =
     let kinds : List TaskKind = w.tasks.items in
     record {
@@ -229,7 +229,7 @@ asleep_same w now processor s t same h = record {
   read = subst (λ (d : Driver). d.now ≤ now) (sym same.driver) h.read;
   on_time = subst (λ (a : Accounts). IsOnTime now a) (sym same.accounts) h.on_time;
   task = h.task;
-  runs = ap (λ (a : Accounts). run_at a.by_processor processor) same.accounts ∙ h.runs;
+  runs = ap (λ (a : Accounts). runner_at a.by_processor processor) same.accounts ∙ h.runs;
   agrees =
       subst (λ (d : Driver). AgreesBut h.task (world_of d) (accounts_of t.roster)) (sym same.driver)
       (subst (λ (a : Accounts). AgreesBut h.task (world_of s.driver) a) (sym same.accounts) h.agrees);

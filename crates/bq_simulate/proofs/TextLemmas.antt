@@ -5,12 +5,12 @@ use Rattle.std.proofs.lemmas.Grind.{flat_map-append}
 use Rattle.std.proofs.lemmas.Str.{IsUtf8-from_is_utf8, is_utf8-from_IsUtf8}
 use Rattle.bq_trace.specs.Feeding.{with_feeds}
 use Rattle.bq_trace.specs.TraceEvents.{TraceEvent, Reported, TakesAll, Skipped}
-use Rattle.bq_simulate.specs.Texts.{ByHook, Writes, WritesAll, image_at, traced_lines, reported_lines}
+use Rattle.bq_simulate.specs.Texts.{ByHook, WritesEvent, WritesAll, image_at, traced_lines, reported_lines}
 use Rattle.bq_simulate.specs.declared.trace_writer.TraceWriter.{TraceWriter}
 
 -- a line of UTF-8 is written
 pub writes_line : (images : ByHook) (old new line : List ℕ) → IsUtf8 line → new ≡ old ++ (line ++ 10 ∷ [])
-    → Writes images old (Skipped line) new
+    → WritesEvent images old (Skipped line) new
 writes_line images old new line utf8 is = record {
   text =
       is ∙ ap (λ l. old ++ l) (sym (append-nil (line ++ 10 ∷ [])))
@@ -26,7 +26,7 @@ no_utf8 line other = cases (is_utf8 line) refl
     cases false e = refl
 
 -- no line is written but one of UTF-8
-pub writes_none : (images : ByHook) (old line : List ℕ) → (IsUtf8 line → ⊥) → Writes images old (Skipped line) old
+pub writes_none : (images : ByHook) (old line : List ℕ) → (IsUtf8 line → ⊥) → WritesEvent images old (Skipped line) old
 writes_none images old line other = record {
   text = sym (append-nil old) ∙ ap (λ b. old ++ with_feeds (cond b (line ∷ []) [])) (sym (no_utf8 line other));
   fits = tt;
@@ -34,7 +34,7 @@ writes_none images old line other = record {
 
 -- the lines of events one after another
 pub writes_more : (images : ByHook) (old mid new : List ℕ) (n : ℕ) (x : TraceEvent) (more : Reported)
-    → Writes images old x mid → WritesAll images mid more new → WritesAll images old ((n, x) ∷ more) new
+    → WritesEvent images old x mid → WritesAll images mid more new → WritesAll images old ((n, x) ∷ more) new
 writes_more images old mid new n x more h k = record {
   text =
       k.text ∙ ap (λ l. l ++ with_feeds (reported_lines images more)) h.text
@@ -45,7 +45,7 @@ writes_more images old mid new n x more h k = record {
 
 -- what the text takes of one event
 abbrev pub Takes : TraceWriter → ℕ → TraceEvent → TraceWriter → Type 0
-Takes old n traced new = (new.images ≡ old.images) × Writes (image_at old.images) (string_bytes old.text) traced (string_bytes new.text)
+Takes old n traced new = (new.images ≡ old.images) × WritesEvent (image_at old.images) (string_bytes old.text) traced (string_bytes new.text)
 
 -- the text that takes events has grown by its lines, and its images are the same
 pub writes_all : (old new : TraceWriter) (reported : Reported) → TakesAll Takes old reported new

@@ -8,7 +8,7 @@ use Rattle.std.proofs.Math.Nat.{add-mul}
 use Rattle.std.proofs.lemmas.Nat.{div-add-mod', mod_below}
 use Rattle.bq_parts.specs.Processors.{Processor}
 use Rattle.bq_parts.specs.Refusals.{is_away}
-use Rattle.bq_parts.specs.World.{World, processor_at, entry}
+use Rattle.bq_parts.specs.World.{World, processor_at, entry_of_id}
 use Rattle.bq_parts.specs.declared.lobby_entry.LobbyEntry.{LobbyEntry}
 use Rattle.bq_parts.specs.declared.lobby_entry.LobbyEntry.TheVariants.{Absent, Sleeping, Away}
 use Rattle.bq_parts.proofs.OnceLemmas.{count_of-held_by, held_two, standing_once}
@@ -16,12 +16,12 @@ use Rattle.bq_workload.specs.declared.progress.TaskProgress.{TaskProgress}
 use Rattle.bq_workload.specs.declared.progress.TaskState.{TaskState}
 use Rattle.bq_workload.specs.declared.processor_state.ProcessorState.{ProcessorState}
 use Rattle.bq_workload.specs.declared.roster.Periods.{Periods}
-use Rattle.bq_workload.specs.Accounts.{Accounts, beaten, changed_at, charged, charged_by, idled, is_same, looked, occupied, of_processor, switched, taken_over}
+use Rattle.bq_workload.specs.Accounts.{Accounts, beaten, changed_at, accounts_charged, runner_charged, idled, is_same, looked, occupied, of_processor, accounts_switched, taken_over}
 use Rattle.bq_workload.specs.Dues.{next_multiple}
-use Rattle.bq_workload.specs.TaskProgress.{fresh, lengthened, migrates_to, moved_to, run_for}
+use Rattle.bq_workload.specs.TaskProgress.{fresh_task, lengthened, migrates_to, moved_to, run_for}
 use Rattle.bq_workload.proofs.AgreeLemmas.{changed_at-here, changed_at-others, some_or_none}
 use Rattle.bq_workload.proofs.AgreedLemmas.{both, charged-is, counted, since_now, stood_before_change}
-use Rattle.bq_simulate.specs.Agreement.{AgreesWith, IsOnTime, ProcessorIsOnTime, RunsOnTime, StandsAs, TaskIsOnTime, run_at, state_at}
+use Rattle.bq_simulate.specs.Agreement.{AgreesWith, IsOnTime, ProcessorIsOnTime, RunsOnTime, StandsAs, TaskIsOnTime, runner_at, state_at}
 use Rattle.bq_simulate.specs.AgreementLaws.{RunsAlone, StaysOnTime, TasksRunAlone}
 use Rattle.bq_simulate.specs.Chronicles.{is_busy}
 use Rattle.bq_simulate.proofs.AccountLemmas.{Reads, changed_at-length, reads_charged, reads_switched}
@@ -55,10 +55,10 @@ away_is_task (Some x) s h away = refl
 
 -- a task that runs is one of the accounts
 pub runner_low : (w : World) (a : Accounts) (processor task : ℕ)
-    → AgreesWith w a → run_at a.by_processor processor ≡ Some task → task < length a.by_task
+    → AgreesWith w a → runner_at a.by_processor processor ≡ Some task → task < length a.by_task
 runner_low w a processor task h runs =
     let away = runs_away w processor task h.orderly (sym (h.mirrors.processors.runs processor) ∙ runs) in
-    let some = away_is_task (state_at a.by_task task) (entry w task) (h.mirrors.tasks task) away in
+    let some = away_is_task (state_at a.by_task task) (entry_of_id w task) (h.mirrors.tasks task) away in
     elim (some_or_none (slice_get a.by_task task)) [
       | inl none ↦
           absurd (let no : is_some (state_at a.by_task task) ≡ false =
@@ -69,7 +69,7 @@ runner_low w a processor task h runs =
 
 -- one of some tasks, or none
 pub task_there : (cs : List TaskProgress) (task : ℕ) → task < length cs → (c : TaskProgress) × (slice_get cs task ≡ Some c)
-task_there cs task low = let none : TaskProgress = fresh 0 0 0 in (get_or cs task none, slice_get-get_or cs task none low)
+task_there cs task low = let none : TaskProgress = fresh_task 0 0 0 in (get_or cs task none, slice_get-get_or cs task none low)
 
 -- the next multiple is not past
 multiple_later : (between now : ℕ) → 1 ≤ between → now ≤ next_multiple between now
@@ -132,7 +132,7 @@ processors_changed now cs ds ls f n others here h k l at = elim (cases_eq k n) [
 
 -- what runs at a processor
 pub run_of : (a : Accounts) (processor : ℕ) (l : ProcessorState)
-    → slice_get a.by_processor processor ≡ Some l → run_at a.by_processor processor ≡ l.run
+    → slice_get a.by_processor processor ≡ Some l → runner_at a.by_processor processor ≡ l.run
 run_of a processor l at = ap (λ (o : Option ProcessorState). option_map_or (λ (x : ProcessorState). x.run) o None) at
 
 -- The time of a processor is counted
@@ -140,7 +140,7 @@ run_of a processor l at = ap (λ (o : Option ProcessorState). option_map_or (λ 
 -- it is counted until now, and nothing is past
 pub charged_on_time : (now processor : ℕ) (a : Accounts) (l : ProcessorState)
     → slice_get a.by_processor processor ≡ Some l → RunsAlone a processor → IsOnTime now a
-    → IsOnTime now (charged processor now a)
+    → IsOnTime now (accounts_charged processor now a)
 charged_on_time now processor a l at alone h =
     let ls = a.by_processor in
     let cs = a.by_task in
@@ -226,7 +226,7 @@ next_tick_later periods now cs l some p = elim (some_or_none l.run) [
 
 taken_over_on_time : (periods : Periods) (now processor : ℕ) (run : Option ℕ) (a : Accounts)
     → 1 ≤ periods.tick → ((task : ℕ) → run ≡ Some task → task < length a.by_task)
-    → ((task k : ℕ) → run ≡ Some task → k ≢ processor → run_at a.by_processor k ≢ Some task) → IsOnTime now a
+    → ((task k : ℕ) → run ≡ Some task → k ≢ processor → runner_at a.by_processor k ≢ Some task) → IsOnTime now a
     → IsOnTime now (taken_over processor run now periods a)
 taken_over_on_time periods now processor None a some low apart h = record {
   tasks = h.tasks;
@@ -272,14 +272,14 @@ taken_over_on_time periods now processor (Some task) a some low apart h =
     }
 
 -- where the time of a processor is counted there are as many tasks
-pub charged_tasks : (processor now : ℕ) (a : Accounts) → length (charged processor now a).by_task ≡ length a.by_task
+pub charged_tasks : (processor now : ℕ) (a : Accounts) → length (accounts_charged processor now a).by_task ≡ length a.by_task
 charged_tasks processor now a =
-    let by : (l : ProcessorState) → length (charged_by l now a).by_task ≡ length a.by_task = λ l.
-    elim l.run as (λ (o : Option ℕ). length (charged_by (record l { run = o }) now a).by_task ≡ length a.by_task)
+    let by : (l : ProcessorState) → length (runner_charged l now a).by_task ≡ length a.by_task = λ l.
+    elim l.run as (λ (o : Option ℕ). length (runner_charged (record l { run = o }) now a).by_task ≡ length a.by_task)
     [ None ↦ refl | Some task ↦ changed_at-length (run_for (now - l.since)) a.by_task task ] in
     elim (slice_get a.by_processor processor) as (λ (o : Option ProcessorState).
     length
-    (option_map_or (λ (l : ProcessorState). of_processor (λ x. record x { since = now }) processor (charged_by l now a)) o a).by_task
+    (option_map_or (λ (l : ProcessorState). of_processor (λ x. record x { since = now }) processor (runner_charged l now a)) o a).by_task
     ≡ length a.by_task) [ None ↦ refl | Some l ↦ by l ]
 
 -- where another task runs there are as many tasks
@@ -291,12 +291,12 @@ taken_over_tasks processor (Some task) now periods a = changed_at-length (moved_
 switched_by_test : (b : Bool) (periods : Periods) (now processor : ℕ) (run : Option ℕ) (v : World) (a : Accounts)
     (l : ProcessorState)
     → 1 ≤ periods.tick → slice_get a.by_processor processor ≡ Some l → RunsAlone a processor
-    → (let over = taken_over processor run now periods (charged processor now a) in
+    → (let over = taken_over processor run now periods (accounts_charged processor now a) in
     AgreesWith v (if b then a else over) → Reads processor run l.size a (if b then a else over) →
     IsOnTime now a → IsOnTime now (if b then a else over))
 switched_by_test true periods now processor run v a l some at alone agrees reads h = h
 switched_by_test false periods now processor run v a l some at alone agrees reads h =
-    let mid : Accounts = charged processor now a in
+    let mid : Accounts = accounts_charged processor now a in
     let over : Accounts = taken_over processor run now periods mid in
     let counted_reads = reads_charged processor now a l at in
     let whole : AgreesWith v over = agrees in
@@ -311,12 +311,12 @@ switched_by_test false periods now processor run v a l some at alone agrees read
 -- time is kept where another task runs, as an answer says
 pub switched_kept : (periods : Periods) (now processor : ℕ) (run : Option ℕ) (v : World) (a : Accounts) (l : ProcessorState)
     → 1 ≤ periods.tick → slice_get a.by_processor processor ≡ Some l → RunsAlone a processor
-    → AgreesWith v (switched processor run now periods a) → IsOnTime now a
-    → IsOnTime now (switched processor run now periods a)
+    → AgreesWith v (accounts_switched processor run now periods a) → IsOnTime now a
+    → IsOnTime now (accounts_switched processor run now periods a)
 switched_kept periods now processor run v a l some at alone agrees h =
-    let over : Accounts = taken_over processor run now periods (charged processor now a) in
+    let over : Accounts = taken_over processor run now periods (accounts_charged processor now a) in
     let form : Accounts = if is_same l.run run then a else over in
-    let is : switched processor run now periods a ≡ form =
+    let is : accounts_switched processor run now periods a ≡ form =
     ap (λ (o : Option ProcessorState). option_map_or (λ (x : ProcessorState). if is_same x.run run then a else over) o a)
     at in
     subst (λ (x : Accounts). IsOnTime now x) (sym is)

@@ -10,8 +10,8 @@ use Rattle.bq_workload.specs.declared.progress.TaskState.{TaskState}
 use Rattle.bq_workload.specs.declared.progress.TaskState.TheVariants.{Asleep, Waiting, Runnable, Over}
 use Rattle.bq_workload.specs.declared.processor_state.ProcessorState.{ProcessorState}
 use Rattle.bq_workload.specs.Accounts.{Accounts}
-use Rattle.bq_workload.specs.Dues.{end_of, until}
-use Rattle.bq_workload.specs.Next.{IsNext, NothingComes, comes_at, ends_at, rings_at}
+use Rattle.bq_workload.specs.Dues.{phase_end, until}
+use Rattle.bq_workload.specs.Next.{IsNextDue, NothingComes, comes_at, phase_ends_at, rings_at}
 use Rattle.bq_workload.proofs.AgreeLemmas.{some_or_none}
 use Rattle.bq_workload.proofs.AgreedLemmas.{end-of, look-of, look_at, tick-of, tick_at}
 use Rattle.bq_simulate.specs.Agreement.{IsOnTime, ProcessorIsOnTime, RunsOnTime}
@@ -36,7 +36,7 @@ until_some end x low early =
 
 -- what comes next is no later than another thing that is to come
 next_first : (end time x : ℕ) (a : Accounts) (due other : Due)
-    → IsNext end a due time → time ≤ end → end < 2 ^ 48 → comes_at end a other ≡ until end x → time ≤ x
+    → IsNextDue end a due time → time ≤ end → end < 2 ^ 48 → comes_at end a other ≡ until end x → time ≤ x
 next_first end time x a due other next low early is = elim (cases_lt x time) [
   | inl before ↦ absurd (next.first other x (is ∙ until_some end x (omega arith) (omega arith)) (inl before))
   | inr later ↦ later
@@ -66,22 +66,22 @@ end_comes : (end now time processor : ℕ) (a : Accounts) → end < 2 ^ 48 → I
     → comes_at end a (End processor) ≡ Some time
     → Comes now time end
 end_comes end now time processor a early h comes = elim (some_or_none (slice_get a.by_processor processor)) [
-  | inl none ↦ absurd (none-some time (sym (ap (λ (o : Option ProcessorState). option_and_then (ends_at end a.by_task) o) none) ∙ comes))
+  | inl none ↦ absurd (none-some time (sym (ap (λ (o : Option ProcessorState). option_and_then (phase_ends_at end a.by_task) o) none) ∙ comes))
   | inr (l, at) ↦
       let p : ProcessorIsOnTime now a.by_task l = h.processors processor l at in
-      let ends : ends_at end a.by_task l ≡ Some time =
-      sym (ap (λ (o : Option ProcessorState). option_and_then (ends_at end a.by_task) o) at) ∙ comes in
+      let ends : phase_ends_at end a.by_task l ≡ Some time =
+      sym (ap (λ (o : Option ProcessorState). option_and_then (phase_ends_at end a.by_task) o) at) ∙ comes in
       elim (some_or_none l.run) [
         | inl none ↦
             absurd (none-some time (sym (ap
             (λ (o : Option ℕ).
-            option_and_then (λ task. option_and_then (λ (c : TaskProgress). until end (end_of l.since c)) (slice_get a.by_task task)) o)
+            option_and_then (λ task. option_and_then (λ (c : TaskProgress). until end (phase_end l.since c)) (slice_get a.by_task task)) o)
             none)
             ∙ ends))
         | inr (task, runs) ↦
             let r : RunsOnTime now a.by_task l task = p.runs task runs in
             let u =
-            until_is end (end_of l.since r.progress) time
+            until_is end (phase_end l.since r.progress) time
             (sym (end-of end processor task a l r.progress at runs r.there) ∙ comes) in
             record { later = omega (arith, u.0, u.1, r.phase, p.since, early); until = u.1 }
       ]
@@ -153,8 +153,8 @@ on_time_later end now time a later first h =
                 first (Pull processor) x (look-of end processor a l at ∙ ap (λ (o : Option ℕ). option_and_then (until end) o) is);
             runs = λ task runs.
                 let r : RunsOnTime now a.by_task l task = p.runs task runs in
-                let ends : time ≤ end_of l.since r.progress =
-                first (End processor) (end_of l.since r.progress)
+                let ends : time ≤ phase_end l.since r.progress =
+                first (End processor) (phase_end l.since r.progress)
                 (end-of end processor task a l r.progress at runs r.there) in
                 record {
                   progress = r.progress;

@@ -17,10 +17,10 @@ use Rattle.bq_parts.specs.declared.event.Event.TheVariants.{BeginWake, Drain, En
 use Rattle.bq_parts.specs.declared.lobby_entry.LobbyEntry.{LobbyEntry}
 use Rattle.bq_parts.specs.declared.lobby_entry.LobbyEntry.TheVariants.{Absent, Away}
 use Rattle.bq_parts.specs.declared.reply.Reply.{Reply}
-use Rattle.bq_parts.specs.Processors.{Processor, opening, size_of}
-use Rattle.bq_parts.specs.World.{World, processor_at, inbox, entry, count_in, with_inbox, with_lobby, with_processor}
+use Rattle.bq_parts.specs.Processors.{Processor, new_processor, size_of}
+use Rattle.bq_parts.specs.World.{World, processor_at, inbox, entry_of_id, count_in, with_inbox, with_lobby, with_processor}
 use Rattle.bq_parts.specs.Choices.{SettledChoice, decided_by, place_bytes, by_programs}
-use Rattle.bq_parts.specs.Refusals.{either, is_absent}
+use Rattle.bq_parts.specs.Refusals.{either_refusal, is_absent}
 use Rattle.bq_parts.specs.Shares.{after_time}
 use Rattle.bq_parts.specs.StandsOnce.{IsOrderly}
 use Rattle.bq_parts.specs.Steps.{WorldStep}
@@ -32,8 +32,8 @@ use Rattle.bq_core.proofs.SizeLemmas.{step_count}
 use Rattle.bq_workload.specs.declared.progress.TaskProgress.{TaskProgress}
 use Rattle.bq_workload.specs.declared.processor_state.ProcessorState.{ProcessorState}
 use Rattle.bq_workload.specs.declared.roster.Periods.{Periods}
-use Rattle.bq_workload.specs.Accounts.{Accounts, entered_by, grown, of_task}
-use Rattle.bq_workload.specs.TaskProgress.{woken}
+use Rattle.bq_workload.specs.Accounts.{Accounts, accounts_entered, grown, of_task}
+use Rattle.bq_workload.specs.TaskProgress.{progress_woken}
 use Rattle.bq_workload.proofs.AgreeLemmas.{changed_at-here}
 use Rattle.bq_simulate.specs.Agreement.{AgreesWith, HaveProcessors, Mirrors, StandsAs, state_at}
 use Rattle.bq_simulate.specs.AgreementLaws.{IsTaken, IsTakenIn, WakesAreTaken}
@@ -67,15 +67,15 @@ pub record IsPlacedAt (to : ℕ) (w : World) (a : Accounts) : Type 0 where
   pub homes : HaveProcessors (count_in w) a
 
 -- a task that is not absent has an entry
-pub present_there : (w : World) (task : ℕ) → is_absent (entry w task) ≡ false → task < length w.lobby
+pub present_there : (w : World) (task : ℕ) → is_absent (entry_of_id w task) ≡ false → task < length w.lobby
 present_there w task h = elim (cases_lt task (length w.lobby))
     [ inl l ↦ l | inr g ↦ absurd (true≢false (sym (ap is_absent (get_or_past w.lobby task Absent g)) ∙ h)) ]
 
 -- a task that sleeps is in the lobby
 pub sleeper_stands : (w : World) (a : Accounts) (task : ℕ) (c : TaskProgress)
-    → AgreesWith w a → slice_get a.by_task task ≡ Some c → StandsAs (Some c.task_state) (entry w task)
+    → AgreesWith w a → slice_get a.by_task task ≡ Some c → StandsAs (Some c.task_state) (entry_of_id w task)
 sleeper_stands w a task c h at =
-    subst (λ o. StandsAs o (entry w task))
+    subst (λ o. StandsAs o (entry_of_id w task))
     (ap (λ (o : Option TaskProgress). option_map_or (λ (x : TaskProgress). Some x.task_state) o None) at)
     (h.mirrors.tasks task)
 
@@ -83,12 +83,12 @@ begin_kept : (d : Discipline) (w v : World) (a : Accounts) (from task : ℕ) (c 
     (calls : List CounterCall) (r : Reply)
     → AgreesWith w a → from < count_in w → slice_get a.by_task task ≡ Some c → task < length w.lobby
     → WorldStep (by_programs d) w (BeginWake from task) calls (Ok r) v
-    → IsBegun from v (of_task woken task a)
+    → IsBegun from v (of_task progress_woken task a)
 begin_kept d w v a from task c calls r h low at small step =
     let k = step.1 in
     let q : Processor = k.0 in
     let x = k.2 in
-    let b : Accounts = of_task woken task a in
+    let b : Accounts = of_task progress_woken task a in
     let m = h.mirrors.processors in
     let l = state_there w a from m low in
     let form : World = with_lobby (with_processor w from q) (slice_set w.lobby task Away) in
@@ -101,7 +101,7 @@ begin_kept d w v a from task c calls r h low at small step =
       tasks =
           at_set_else (λ n (s : LobbyEntry). StandsAs (state_at b.by_task n) s) w.lobby task Away Absent small
           (subst (λ o. StandsAs o Away) (sym (state_woken task a c at)) (refl, refl))
-          (λ other apart. subst (λ o. StandsAs o (entry w other)) (sym (state_others woken task other a apart)) (h.mirrors.tasks other));
+          (λ other apart. subst (λ o. StandsAs o (entry_of_id w other)) (sym (state_others progress_woken task other a apart)) (h.mirrors.tasks other));
       processors = record { many = runs_as.many; runs = runs_as.runs; sizes = runs_as.sizes };
     } in
     let count : count_in v ≡ count_in w = step_count (by_programs d) w (BeginWake from task) calls (Ok r) v step in
@@ -113,14 +113,14 @@ begin_kept d w v a from task c calls r h low at small step =
       carried = carried;
       holds =
           ap (λ (y : World). (processor_at y from).hand) is
-          ∙ ap (λ (p : Processor). p.hand) (get_or-set_same w.processors from q opening low)
+          ∙ ap (λ (p : Processor). p.hand) (get_or-set_same w.processors from q new_processor low)
           ∙ ap (λ (p : Processor). p.hand) x.in_hand;
       hands = λ other apart.
           ap (λ (y : World). (processor_at y other).hand) is
-          ∙ ap (λ (p : Processor). p.hand) (get_or-set_other w.processors from other q opening apart) ∙ h.settled.hands other;
+          ∙ ap (λ (p : Processor). p.hand) (get_or-set_other w.processors from other q new_processor apart) ∙ h.settled.hands other;
       inboxes = λ processor. ap (λ (y : World). inbox y processor) is ∙ h.settled.inboxes processor;
       mirrors = subst (λ y. Mirrors y b) (sym is) mirrors;
-      homes = subst (λ n. HaveProcessors n b) (sym count) (homes_task (count_in w) task woken a (λ y was. was) h.homes);
+      homes = subst (λ n. HaveProcessors n b) (sym count) (homes_task (count_in w) task progress_woken a (λ y was. was) h.homes);
     }
 
 end_kept : (d : Discipline) (w v : World) (a : Accounts) (from to now : ℕ) (calls : List CounterCall) (r : Reply)
@@ -162,7 +162,7 @@ end_kept d w v a from to now calls r h at step =
     record { tasks = h.mirrors.tasks; processors = record { many = runs_as.many; runs = runs_as.runs; sizes = runs_as.sizes } } in
     let count : count_in v ≡ count_in w = step_count (by_programs d) w (EndWake from now) calls (Ok r) v step in
     let hands : (processor : ℕ) → (processor_at form processor).hand ≡ None =
-    at_set_else (λ n (z : Processor). z.hand ≡ None) w.processors from q opening h.low
+    at_set_else (λ n (z : Processor). z.hand ≡ None) w.processors from q new_processor h.low
     (ap (λ (z : Processor). z.hand) x.here) h.hands in
     let even : to < length w.inboxes = omega (arith, fits, h.orderly.an_inbox_each) in
     record {
@@ -181,7 +181,7 @@ end_kept d w v a from to now calls r h at step =
 drain_kept : (d : Discipline) (periods : Periods) (w v : World) (a : Accounts) (to now : ℕ)
     (calls : List CounterCall) (r : Reply)
     → IsPlacedAt to w a → WorldStep (by_programs d) w (Drain to now) calls (Ok r) v
-    → (count_entered r ≡ 1) × AgreesWith v (entered_by to (count_entered r) (runs_now r) now periods a)
+    → (count_entered r ≡ 1) × AgreesWith v (accounts_entered to (count_entered r) (runs_now r) now periods a)
 drain_kept d periods w v a to now calls r h step =
     let k = step.1 in
     let q : Processor = k.0 in
@@ -197,7 +197,7 @@ drain_kept d periods w v a to now calls r h step =
     let counted : count_entered r ≡ length tasks = ap count_entered k.1.3 in
     let more : ProcessorState = record l.0 { size = l.0.size + count_entered r } in
     let mid : Accounts = grown to (count_entered r) a in
-    let b : Accounts = entered_by to (count_entered r) run now periods a in
+    let b : Accounts = accounts_entered to (count_entered r) run now periods a in
     let at : slice_get mid.by_processor to ≡ Some more =
     changed_at-here (λ (y : ProcessorState). record y { size = y.size + count_entered r }) a.by_processor to l.0 l.1 in
     let reads : Reads to run more.size a b =
@@ -223,7 +223,7 @@ drain_kept d periods w v a to now calls r h step =
       agree_after (by_programs d) w form v (Drain to now) calls r b h.orderly step k.2 h.entries
           (record {
             hands =
-                at_set (λ n (z : Processor). z.hand ≡ None) w.processors to q opening
+                at_set (λ n (z : Processor). z.hand ≡ None) w.processors to q new_processor
                 (ap (λ (z : Processor). z.hand) is ∙ h.hands to) h.hands;
             inboxes = at_set_else (λ n (ts : List Task). ts ≡ []) w.inboxes to [] [] low' refl h.inboxes;
           }) (record {
@@ -239,9 +239,9 @@ not_empty o c h = ap is_none h
 taken_in : (d : Discipline) (periods : Periods) (w : World) (a : Accounts) (to now : ℕ)
     → IsPlacedAt to w a
     → IsTaken d w (Drain to now)
-    (λ drained v. (count_entered drained ≡ 1) × AgreesWith v (entered_by to (count_entered drained) (runs_now drained) now periods a))
+    (λ drained v. (count_entered drained ≡ 1) × AgreesWith v (accounts_entered to (count_entered drained) (runs_now drained) now periods a))
 taken_in d periods w a to now h = record {
-  taken = ap (λ o. either o None) (there (count_in w) to h.low);
+  taken = ap (λ o. either_refusal o None) (there (count_in w) to h.low);
   leaves = λ calls r v step. drain_kept d periods w v a to now calls r h step;
 }
 
@@ -268,5 +268,5 @@ wakes_are_taken d periods w a from task now c h low at sleeps =
             h.settled.hands from,
           ) refl;
       leaves = λ calls r v step.
-          ended d periods v (of_task woken task a) from now (begin_kept d w v a from task c calls r h low at small step);
+          ended d periods v (of_task progress_woken task a) from now (begin_kept d w v a from task c calls r h low at small step);
     }

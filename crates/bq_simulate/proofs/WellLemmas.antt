@@ -15,7 +15,7 @@ use Rattle.bq_workload.specs.declared.workload.TaskKind.{TaskKind}
 use Rattle.bq_workload.specs.declared.workload.Workload.{Workload}
 use Rattle.bq_workload.specs.Accounts.{accounts_of}
 use Rattle.bq_workload.specs.Bounds.{steps_at_once}
-use Rattle.bq_workload.specs.Next.{IsNext}
+use Rattle.bq_workload.specs.Next.{IsNextDue}
 use Rattle.bq_simulate.specs.declared.driver.Driver.{Driver}
 use Rattle.bq_simulate.specs.declared.fault.SimulateFault.{SimulateFault}
 use Rattle.bq_simulate.specs.declared.fault.SimulateFault.TheVariants as why
@@ -23,8 +23,8 @@ use Rattle.bq_simulate.specs.declared.simulation.Simulation.{Simulation}
 use Rattle.bq_simulate.specs.Chronicles.{Book, Deed, Lives, events_of}
 use Rattle.bq_simulate.specs.Drives.{Drives}
 use Rattle.bq_simulate.specs.Kept.{IsKept}
-use Rattle.bq_simulate.specs.KeptLaws.{Leads}
-use Rattle.bq_simulate.specs.Order.{EndsEarly, GoesWell}
+use Rattle.bq_simulate.specs.KeptLaws.{DeedsLead}
+use Rattle.bq_simulate.specs.Order.{EndsEarly, SimulationGoesWell}
 use Rattle.bq_simulate.specs.Simulations.{Lived, book_of, with_seed}
 use Rattle.bq_simulate.specs.Steps.{Meet}
 use Rattle.bq_simulate.proofs.DeedLemmas.{drives-of-lives}
@@ -50,10 +50,10 @@ processors_kept kinds seed periods d e b c deeds reported lives =
 
 -- what comes next comes until the end, and nothing is past then
 pub comes-well : (w : Workload) (last now : ℕ) (due : Due) (s : Simulation)
-    → GoesWell w last s → IsNext s.roster.periods.end (accounts_of s.roster) due now
-    → (last ≤ now) × (now ≤ w.machine.duration) × GoesWell w now s
+    → SimulationGoesWell w last s → IsNextDue s.roster.periods.end (accounts_of s.roster) due now
+    → (last ≤ now) × (now ≤ w.machine.duration) × SimulationGoesWell w now s
 comes-well w last now due s h next =
-    let is = subst (λ (p : Periods). IsNext p.end (accounts_of s.roster) due now) h.periods next in
+    let is = subst (λ (p : Periods). IsNextDue p.end (accounts_of s.roster) due now) h.periods next in
     let c = all_is_kept.comes w s.driver (book_of s h.drawn) due last now h.sound h.kept is in (
       c.0,
       c.1,
@@ -74,12 +74,12 @@ comes-well w last now due s h next =
 abbrev pub KeepAll : Workload → ℕ → ℕ → (List Deed → Type 0) → Type 0
 KeepAll w seed now Are =
     (d e : Driver) (b c : Book) (deeds : List Deed) (reported : Reported) → Are deeds →
-    Leads (with_seed w seed) d b deeds reported e c → IsKept w.tasks.items now d b → IsKept w.tasks.items now e c
+    DeedsLead (with_seed w seed) d b deeds reported e c → IsKept w.tasks.items now d b → IsKept w.tasks.items now e c
 
 -- by those it goes on well
 pub goes-well : {S : Type 0} (takes : S → ℕ → TraceEvent → S → Type 0) (Are : List Deed → Type 0) (x y : S)
     (w : Workload) (now : ℕ) (s t : Simulation)
-    → KeepAll w s.seed now Are → Lived takes w.tasks.items Are x s y t → GoesWell w now s → GoesWell w now t
+    → KeepAll w s.seed now Are → Lived takes w.tasks.items Are x s y t → SimulationGoesWell w now s → SimulationGoesWell w now t
 goes-well takes Are x y w now s t keep lived h =
     let g = lived h.drawn h.streams h.firsts in
     let leads =
@@ -104,7 +104,7 @@ goes-well takes Are x y w now s t keep lived h =
 -- a simulation goes on well by what is done when something comes due
 pub met-well : {S : Type 0} (takes : S → ℕ → TraceEvent → S → Type 0) (x y : S) (w : Workload)
     (due : Due) (now : ℕ) (s t : Simulation)
-    → Lived takes w.tasks.items (Meet due now) x s y t → GoesWell w now s → GoesWell w now t
+    → Lived takes w.tasks.items (Meet due now) x s y t → SimulationGoesWell w now s → SimulationGoesWell w now t
 met-well takes x y w due now s t lived h =
     goes-well takes (Meet due now) x y w now s t
     (λ d e b c deeds reported meet leads kept.

@@ -14,7 +14,7 @@ use Rattle.bq_simulate.specs.declared.simulation.Simulation.{Simulation}
 use Rattle.bq_simulate.specs.Agreement.{IsOnTime, ProcessorIsOnTime}
 use Rattle.bq_simulate.specs.Chronicles.{is_busy}
 use Rattle.bq_simulate.specs.Kept.{IsKept}
-use Rattle.bq_simulate.specs.Order.{GoesWell}
+use Rattle.bq_simulate.specs.Order.{SimulationGoesWell}
 use Rattle.bq_simulate.proofs.MeetAgreeLemmas.{agrees_processor, world_of}
 use Rattle.bq_simulate.proofs.ProcessorStateLemmas.{busy_at}
 use Rattle.bq_simulate.proofs.SoundKindLemmas.{sound_times}
@@ -24,9 +24,9 @@ use Rattle.bq_simulate.proofs.WellStepLemmas.{well_looks, well_there, well_ticks
 -- a simulation of which only a processor's times change goes well as before, where nothing is past
 well_timed : (f : ProcessorState → ProcessorState) → ((l : ProcessorState) → (f l).run ≡ l.run)
     → ((l : ProcessorState) → (f l).size ≡ l.size) → (w : Workload) (now : ℕ) (s : Simulation) (r : Roster) (processor : ℕ)
-    → GoesWell w now s → r.periods ≡ s.roster.periods → accounts_of r ≡ of_processor f processor (accounts_of s.roster)
+    → SimulationGoesWell w now s → r.periods ≡ s.roster.periods → accounts_of r ≡ of_processor f processor (accounts_of s.roster)
     → StaysAgreed s.roster r → IsOnTime now (of_processor f processor (accounts_of s.roster))
-    → GoesWell w now (record s { roster = r })
+    → SimulationGoesWell w now (record s { roster = r })
 well_timed f run size w now s r processor h periods is agrees time =
     let b : Accounts = of_processor f processor (accounts_of s.roster) in
     let k = h.kept in
@@ -52,7 +52,7 @@ well_timed f run size w now s r processor h periods is agrees time =
 
 -- a processor of the accounts is one of 64
 low_there : (w : Workload) (now : ℕ) (s : Simulation) (processor : ℕ) (l : ProcessorState)
-    → GoesWell w now s → slice_get s.roster.by_processor.items processor ≡ Some l → processor < 64
+    → SimulationGoesWell w now s → slice_get s.roster.by_processor.items processor ≡ Some l → processor < 64
 low_there w now s processor l h at =
     omega (arith, well_there w now s processor h (slice_get_within s.roster.by_processor.items processor l at), h.kept.few)
 
@@ -60,7 +60,7 @@ low_there w now s processor l h at =
 
 -- a processor that ticks now runs something
 pub ticks_busy : (w : Workload) (now : ℕ) (s : Simulation) (processor : ℕ)
-    → GoesWell w now s → TicksAt (accounts_of s.roster) processor now
+    → SimulationGoesWell w now s → TicksAt (accounts_of s.roster) processor now
     → is_busy (accounts_of s.roster) processor ≡ true
 ticks_busy w now s processor h ticks =
     let l : ProcessorState = ticks.processor_state in
@@ -72,7 +72,7 @@ ticks_busy w now s processor h ticks =
 
 -- its clock beats
 pub beats : (w : Workload) (now : ℕ) (s : Simulation) (processor : ℕ)
-    → GoesWell w now s → TicksAt (accounts_of s.roster) processor now
+    → SimulationGoesWell w now s → TicksAt (accounts_of s.roster) processor now
     → IsStrayBeat processor now s.roster.periods.tick (accounts_of s.roster)
     → ⊥
 beats w now s processor h ticks (inl never) = never ticks
@@ -81,9 +81,9 @@ beats w now s processor h ticks (inr (inr late)) = well_ticks w now s h late
 
 -- after a clock has beaten the simulation goes well
 pub well_beaten : (w : Workload) (now : ℕ) (s : Simulation) (r : Roster) (processor : ℕ)
-    → GoesWell w now s → TicksAt (accounts_of s.roster) processor now → r.periods ≡ s.roster.periods
+    → SimulationGoesWell w now s → TicksAt (accounts_of s.roster) processor now → r.periods ≡ s.roster.periods
     → accounts_of r ≡ beaten processor now s.roster.periods.tick (accounts_of s.roster) → StaysAgreed s.roster r
-    → GoesWell w now (record s { roster = r })
+    → SimulationGoesWell w now (record s { roster = r })
 well_beaten w now s r processor h ticks periods is agrees =
     let tick : ℕ = s.roster.periods.tick in
     let some : 1 ≤ tick = omega (arith, ap (λ p. p.tick) h.periods, (sound_times w h.sound).tick) in
@@ -93,7 +93,7 @@ well_beaten w now s r processor h ticks periods is agrees =
 
 -- what runs there ran before
 pub beaten_runs : (w : Workload) (now : ℕ) (s : Simulation) (r : Roster) (processor : ℕ)
-    → GoesWell w now s → TicksAt (accounts_of s.roster) processor now
+    → SimulationGoesWell w now s → TicksAt (accounts_of s.roster) processor now
     → accounts_of r ≡ beaten processor now s.roster.periods.tick (accounts_of s.roster)
     → (l : ProcessorState) × (slice_get r.by_processor.items processor ≡ Some l) × (l.run ≢ None)
 beaten_runs w now s r processor h ticks is =
@@ -110,7 +110,7 @@ beaten_runs w now s r processor h ticks is =
 
 -- a processor that is to look does so
 pub looks : (w : Workload) (now : ℕ) (s : Simulation) (processor : ℕ)
-    → GoesWell w now s → LooksAt (accounts_of s.roster) processor now
+    → SimulationGoesWell w now s → LooksAt (accounts_of s.roster) processor now
     → IsStrayLook processor now s.roster.periods.balance (accounts_of s.roster)
     → ⊥
 looks w now s processor h looks_then (inl never) = never looks_then
@@ -120,9 +120,9 @@ looks w now s processor h looks_then (inr (inr late)) = well_looks w now s h lat
 
 -- after a processor has looked the simulation goes well
 pub well_looked : (w : Workload) (now : ℕ) (s : Simulation) (r : Roster) (processor : ℕ)
-    → GoesWell w now s → r.periods ≡ s.roster.periods
+    → SimulationGoesWell w now s → r.periods ≡ s.roster.periods
     → accounts_of r ≡ looked processor now s.roster.periods.balance (accounts_of s.roster) → StaysAgreed s.roster r
-    → GoesWell w now (record s { roster = r })
+    → SimulationGoesWell w now (record s { roster = r })
 well_looked w now s r processor h periods is agrees =
     let balance : ℕ = s.roster.periods.balance in
     let some : 1 ≤ balance = omega (arith, ap (λ p. p.balance) h.periods, (sound_times w h.sound).balance) in

@@ -19,9 +19,9 @@ use Rattle.bq_workload.specs.declared.progress.TaskState.TheVariants.{Asleep, Wa
 use Rattle.bq_workload.specs.declared.processor_state.ProcessorState.{ProcessorState}
 use Rattle.bq_workload.specs.declared.roster.Periods.{Periods}
 use Rattle.bq_workload.specs.declared.workload.Workload.{Workload}
-use Rattle.bq_workload.specs.Accounts.{Accounts, accounts_of, entered_by, grown, of_task, passed, shrunk}
+use Rattle.bq_workload.specs.Accounts.{Accounts, accounts_of, accounts_entered, grown, of_task, accounts_passed, shrunk}
 use Rattle.bq_workload.specs.Dues.{size_at}
-use Rattle.bq_workload.specs.TaskProgress.{woken as woken_now}
+use Rattle.bq_workload.specs.TaskProgress.{progress_woken as woken_now}
 use Rattle.bq_workload.specs.Strays.{HasNoNext, IsStrayEntry, IsStrayGrowth, IsStrayPass, IsStraySwitch, IsStrayWake}
 use Rattle.bq_workload.proofs.AgreeLemmas.{changed_at-others, some_or_none}
 use Rattle.bq_simulate.specs.declared.drive_fault.DriveFault.{DriveFault}
@@ -29,10 +29,10 @@ use Rattle.bq_simulate.specs.declared.drive_fault.DriveFault.TheVariants.{OutOfM
 use Rattle.bq_simulate.specs.declared.driver.Driver.{Driver}
 use Rattle.bq_simulate.specs.declared.simulation.Simulation.{Simulation}
 use Rattle.bq_simulate.specs.Agreement.{AgreesWith, can_run}
-use Rattle.bq_simulate.specs.AgreementLaws.{FailsForMemory, IsReady}
-use Rattle.bq_simulate.specs.Chronicles.{IsFrom, IsWoken, is_busy}
-use Rattle.bq_simulate.specs.Drives.{DrivesEvent, IsWakeFault, Places, count_entered, runs_now, task_pulled}
-use Rattle.bq_simulate.specs.Order.{GoesWell}
+use Rattle.bq_simulate.specs.AgreementLaws.{FailsForMemory, IsDriverReady}
+use Rattle.bq_simulate.specs.Chronicles.{IsWokenFrom, IsWoken, is_busy}
+use Rattle.bq_simulate.specs.Drives.{DrivesEvent, IsWakeFault, PlacesWoken, count_entered, runs_now, task_pulled}
+use Rattle.bq_simulate.specs.Order.{SimulationGoesWell}
 use Rattle.bq_simulate.specs.Simulations.{book_of}
 use Rattle.bq_simulate.proofs.CallLemmas.{calls_fail_for_memory}
 use Rattle.bq_simulate.proofs.MeetAgreeLemmas.{pull_agrees, same_rule, sleeps_if_woken, step_of, tick_agrees, world_of}
@@ -44,22 +44,22 @@ use Rattle.bq_simulate.proofs.TakenLemmas.{pulled_from_some}
 use Rattle.bq_simulate.proofs.WakeTakenLemmas.{present_there, sleeper_stands, wakes_are_taken}
 
 -- an instant of a simulation that goes well can be read
-pub well_early : (w : Workload) (now : ℕ) (s : Simulation) → GoesWell w now s → now < 2 ^ 48
+pub well_early : (w : Workload) (now : ℕ) (s : Simulation) → SimulationGoesWell w now s → now < 2 ^ 48
 well_early w now s h = omega (arith, h.until, (sound_times w h.sound).duration)
 
 -- the machine of a simulation that goes well can be given the instant
-pub well_ready : (w : Workload) (now : ℕ) (s : Simulation) → GoesWell w now s → IsReady s.driver (accounts_of s.roster) now
+pub well_ready : (w : Workload) (now : ℕ) (s : Simulation) → SimulationGoesWell w now s → IsDriverReady s.driver (accounts_of s.roster) now
 well_ready w now s h = record { agrees = h.kept.agrees; reading = (h.kept.read, well_early w now s h) }
 
 -- in a simulation that goes well the next tick is counted
-pub well_ticks : (w : Workload) (now : ℕ) (s : Simulation) → GoesWell w now s → HasNoNext s.roster.periods.tick now → ⊥
+pub well_ticks : (w : Workload) (now : ℕ) (s : Simulation) → SimulationGoesWell w now s → HasNoNext s.roster.periods.tick now → ⊥
 well_ticks w now s h late =
     let times = sound_times w h.sound in
     next_counted w.machine.tick now times.tick times.tick_counted (well_early w now s h)
     (subst (λ (p : Periods). HasNoNext p.tick now) h.periods late)
 
 -- in a simulation that goes well the next look is counted
-pub well_looks : (w : Workload) (now : ℕ) (s : Simulation) → GoesWell w now s → HasNoNext s.roster.periods.balance now → ⊥
+pub well_looks : (w : Workload) (now : ℕ) (s : Simulation) → SimulationGoesWell w now s → HasNoNext s.roster.periods.balance now → ⊥
 well_looks w now s h late =
     let times = sound_times w h.sound in
     next_counted w.machine.balance now times.balance times.balance_counted (well_early w now s h)
@@ -67,13 +67,13 @@ well_looks w now s h late =
 
 -- a processor of the accounts is one of the machine
 pub well_there : (w : Workload) (now : ℕ) (s : Simulation) (processor : ℕ)
-    → GoesWell w now s → processor < length s.roster.by_processor.items
+    → SimulationGoesWell w now s → processor < length s.roster.by_processor.items
     → processor < count_in (world_of s.driver)
 well_there w now s processor h low = omega (arith, low, h.kept.agrees.mirrors.processors.many)
 
 -- in a simulation that goes well another task may begin to run at a processor
 pub well_can_switch : (w : Workload) (now : ℕ) (s : Simulation) (processor : ℕ)
-    → GoesWell w now s → processor < count_in (world_of s.driver)
+    → SimulationGoesWell w now s → processor < count_in (world_of s.driver)
     → CanSwitch s.roster.periods processor now (accounts_of s.roster)
 well_can_switch w now s processor h low =
     can_switch s.roster.periods (world_of s.driver) (accounts_of s.roster) processor now h.kept.agrees
@@ -92,7 +92,7 @@ busy_there a processor busy = elim (some_or_none (slice_get a.by_processor proce
 
 -- the tick of a processor that runs something fails only if memory is wanted
 pub tick_fails : (w : Workload) (now : ℕ) (s : Simulation) (processor : ℕ)
-    → GoesWell w now s → is_busy (accounts_of s.roster) processor ≡ true
+    → SimulationGoesWell w now s → is_busy (accounts_of s.roster) processor ≡ true
     → FailsForMemory s.driver (Tick processor now)
 tick_fails w now s processor h busy =
     calls_fail_for_memory.ticks s.driver (accounts_of s.roster) processor now (well_ready w now s h)
@@ -101,7 +101,7 @@ tick_fails w now s processor h busy =
 -- after its tick a processor runs what it is to run
 pub tick_switches : (w : Workload) (now : ℕ) (s : Simulation) (e : Driver) (processor : ℕ) (run : Option ℕ) (reply : Reply)
     (reported : Reported)
-    → GoesWell w now s → is_busy (accounts_of s.roster) processor ≡ true
+    → SimulationGoesWell w now s → is_busy (accounts_of s.roster) processor ≡ true
     → runs_now reply ≡ run → DrivesEvent s.driver (Tick processor now) reply reported e
     → IsStraySwitch s.roster.periods processor run now (accounts_of s.roster)
     → ⊥
@@ -117,7 +117,7 @@ tick_switches w now s e processor run reply reported h busy runs does astray =
 -- what a processor is given, and who has run there, is as it may be where a task was pulled, or none
 passed_switches : (task : Option ℕ) (periods : Periods) (processor from now : ℕ) (a : Accounts)
     → CanSwitch periods processor now a
-    → CanSwitch periods processor now (option_map_or (λ _. passed from processor a) task a)
+    → CanSwitch periods processor now (option_map_or (λ _. accounts_passed from processor a) task a)
 passed_switches None periods processor from now a h = h
 passed_switches (Some id) periods processor from now a h =
     can_switch_sized periods processor now processor (λ n. n + 1) (shrunk from a)
@@ -134,7 +134,7 @@ takes_one w a processor h low (inr high) = omega (arith, high, few_there w a pro
 
 -- a pull of one processor from another fails only if memory is wanted
 pub pull_fails : (w : Workload) (now : ℕ) (s : Simulation) (processor from : ℕ)
-    → GoesWell w now s → processor < length s.roster.by_processor.items
+    → SimulationGoesWell w now s → processor < length s.roster.by_processor.items
     → from < length s.roster.by_processor.items → processor ≢ from
     → FailsForMemory s.driver (Pull processor from now)
 pull_fails w now s processor from h low low' apart =
@@ -144,7 +144,7 @@ pull_fails w now s processor from h low low' apart =
 -- the task that a pull took leaves one queue and enters the other
 pub pull_passes : (w : Workload) (now : ℕ) (s : Simulation) (e : Driver) (processor from : ℕ) (task : Option ℕ)
     (reply : Reply) (reported : Reported)
-    → GoesWell w now s → processor < length s.roster.by_processor.items → processor ≢ from
+    → SimulationGoesWell w now s → processor < length s.roster.by_processor.items → processor ≢ from
     → task_pulled reply ≡ task → DrivesEvent s.driver (Pull processor from now) reply reported e → task ≢ None
     → IsStrayPass from processor (accounts_of s.roster)
     → ⊥
@@ -171,15 +171,15 @@ pull_passes w now s e processor from task reply reported h low apart takes does 
 -- after a pull the processor runs what it is to run
 pub pull_switches : (w : Workload) (now : ℕ) (s : Simulation) (e : Driver) (processor from : ℕ) (task run : Option ℕ)
     (reply : Reply) (reported : Reported)
-    → GoesWell w now s → processor < length s.roster.by_processor.items → runs_now reply ≡ run → task_pulled reply ≡ task
+    → SimulationGoesWell w now s → processor < length s.roster.by_processor.items → runs_now reply ≡ run → task_pulled reply ≡ task
     → DrivesEvent s.driver (Pull processor from now) reply reported e
     → IsStraySwitch s.roster.periods processor run now
-    (option_map_or (λ _. passed from processor (accounts_of s.roster)) task (accounts_of s.roster))
+    (option_map_or (λ _. accounts_passed from processor (accounts_of s.roster)) task (accounts_of s.roster))
     → ⊥
 pull_switches w now s e processor from task run reply reported h low runs takes does astray =
     let a : Accounts = accounts_of s.roster in
     let periods : Periods = s.roster.periods in
-    let after : Option ℕ → Accounts = λ o. option_map_or (λ _. passed from processor a) o a in
+    let after : Option ℕ → Accounts = λ o. option_map_or (λ _. accounts_passed from processor a) o a in
     let mine : IsStraySwitch periods processor (runs_now reply) now (after (task_pulled reply)) =
     subst (λ o. IsStraySwitch periods processor o now (after (task_pulled reply))) (sym runs)
     (subst (λ o. IsStraySwitch periods processor run now (after o)) (sym takes) astray) in
@@ -192,7 +192,7 @@ pull_switches w now s e processor from task run reply reported h low runs takes 
 
 -- a task that may be woken is woken from one of the processors
 from_there : (w : World) (a : Accounts) (state : TaskState) (home from : ℕ)
-    → AgreesWith w a → home < count_in w → IsFrom a state home from → from < count_in w
+    → AgreesWith w a → home < count_in w → IsWokenFrom a state home from → from < count_in w
 from_there w a Asleep home from h low same = omega (arith, same, low)
 from_there w a Waiting home from h low busy = omega (arith, busy_there a from busy, h.mirrors.processors.many)
 from_there w a Runnable home from h low none = absurd none
@@ -207,7 +207,7 @@ woken_sleeps a from task woken = sleeps_if_woken a woken.progress.task_state wok
 
 -- it rests, and has a number that a timer may have
 pub wake_rests : (w : Workload) (now : ℕ) (s : Simulation) (from task : ℕ)
-    → GoesWell w now s → IsWoken (accounts_of s.roster) from task → IsStrayWake task (accounts_of s.roster)
+    → SimulationGoesWell w now s → IsWoken (accounts_of s.roster) from task → IsStrayWake task (accounts_of s.roster)
     → ⊥
 wake_rests w now s from task h woken (inl moves) =
     let a : Accounts = accounts_of s.roster in
@@ -224,7 +224,7 @@ wake_rests w now s from task h woken (inr high) =
 
 -- its wake fails only if memory is wanted
 pub wake_fails : (w : Workload) (now : ℕ) (s : Simulation) (from task : ℕ) (why : DriveFault)
-    → GoesWell w now s → IsWoken (accounts_of s.roster) from task → IsWakeFault s.driver from task now why
+    → SimulationGoesWell w now s → IsWoken (accounts_of s.roster) from task → IsWakeFault s.driver from task now why
     → why ≡ OutOfMemory
 wake_fails w now s from task why h woken fails =
     let a : Accounts = accounts_of s.roster in
@@ -233,7 +233,7 @@ wake_fails w now s from task why h woken fails =
 
 -- the drain at the processor where a task was placed fails only if memory is wanted
 pub drain_fails : (w : Workload) (now : ℕ) (s : Simulation) (e : Driver) (from task to : ℕ) (reported : Reported)
-    → GoesWell w now s → IsWoken (accounts_of s.roster) from task → Places s.driver from task now to reported e
+    → SimulationGoesWell w now s → IsWoken (accounts_of s.roster) from task → PlacesWoken s.driver from task now to reported e
     → FailsForMemory e (Drain to now)
 drain_fails w now s e from task to reported h woken places =
     let a : Accounts = accounts_of s.roster in
@@ -244,10 +244,10 @@ drain_fails w now s e from task to reported h woken places =
 pub record IsIn (periods : Periods) (d e : Driver) (a : Accounts) (to now : ℕ) (reply : Reply) : Type 0 where
   pub low : to < count_in (world_of d)
   pub one : count_entered reply ≡ 1
-  pub agrees : AgreesWith (world_of e) (entered_by to (count_entered reply) (runs_now reply) now periods a)
+  pub agrees : AgreesWith (world_of e) (accounts_entered to (count_entered reply) (runs_now reply) now periods a)
 
 is_in : (periods : Periods) (d mid e : Driver) (a : Accounts) (from task to now : ℕ) (first more : Reported) (reply : Reply)
-    → AgreesWith (world_of d) a → (woken : IsWoken a from task) → Places d from task now to first mid
+    → AgreesWith (world_of d) a → (woken : IsWoken a from task) → PlacesWoken d from task now to first mid
     → DrivesEvent mid (Drain to now) reply more e
     → IsIn periods d e (of_task woken_now task a) to now reply
 is_in periods d mid e a from task to now first more reply h woken places drains =
@@ -281,7 +281,7 @@ is_in periods d mid e a from task to now first more reply h woken places drains 
 -- the processor on which a task was placed runs what it is to run
 pub wake_enters : (w : Workload) (now : ℕ) (s : Simulation) (mid e : Driver) (from task to count : ℕ) (run : Option ℕ)
     (first more : Reported) (reply : Reply) (periods : Periods) (b : Accounts)
-    → GoesWell w now s → IsWoken (accounts_of s.roster) from task → Places s.driver from task now to first mid
+    → SimulationGoesWell w now s → IsWoken (accounts_of s.roster) from task → PlacesWoken s.driver from task now to first mid
     → DrivesEvent mid (Drain to now) reply more e → runs_now reply ≡ run → count_entered reply ≡ count
     → periods ≡ s.roster.periods → b ≡ of_task woken_now task (accounts_of s.roster) → IsStrayEntry periods to count run now b
     → ⊥

@@ -15,7 +15,7 @@ use Rattle.bq_simulate.specs.declared.simulation.Simulation.{Simulation}
 use Rattle.bq_workload.specs.Bounds.{most_steps, steps_at_once}
 use Rattle.bq_simulate.specs.Chronicles.{Book, Deed, Lives, after_deeds}
 use Rattle.bq_workload.specs.Next.{IsAgreed, NothingComes}
-use Rattle.bq_simulate.specs.Simulations.{Begins, GoesByDeeds, HasFirsts, IsFollowed, IsSimulation, IsTooLong, Lived, LivedFrom, Proceeds, ProceedsBy, ProceedsIn, ProceedsOut, Runs, RunsOut, RunsToEndOrEnough, book_of, opening_book, periods_of}
+use Rattle.bq_simulate.specs.Simulations.{SimulationBegins, GoesByDeeds, HasFirsts, IsFollowed, IsSimulation, IsTooLong, Lived, LivedFrom, Proceeds, ProceedsBy, ProceedsIn, ProceedsOut, Runs, ComesToBound, RunsToEndOrEnough, book_of, opening_book, periods_of}
 use Rattle.bq_simulate.specs.Steps.{AreAllAdmitted, AreAllMet, AreInstalled, AreMet, Opens}
 use Rattle.bq_simulate.proofs.DeedLemmas.{GoesByDeeds-join, GoesByDeeds-weaker, Lives-append, drives-of-lives}
 use Rattle.bq_simulate.proofs.OrderLemmas.{book-after}
@@ -160,7 +160,7 @@ abbrev beginning : {S : Type 0} (takes : S → ℕ → TraceEvent → S → Type
     (w : Workload) (d : Driver) (s t : Simulation)
     → (first : Gets takes a b (λ reported. Starts w.machine.rule w.machine.size reported d)) → (begun : Begun takes Are w d b s c t)
     → ProceedsIn policies w w.machine.seed (periods_of w.machine) (opening_book w.machine) begun.goes.deeds
-    → Begins policies w (first.reported ++ begun.goes.reports.reported)
+    → SimulationBegins policies w (first.reported ++ begun.goes.reports.reported)
 beginning takes a b c Are policies w d s t first begun proceeds =
     let kinds = w.tasks.items in
     let machine = w.machine in
@@ -186,9 +186,9 @@ begins-of : {S : Type 0} (takes : S → ℕ → TraceEvent → S → Type 0) (a 
     (w : Workload) (d : Driver) (s t : Simulation)
     → Gets takes a b (λ reported. Starts w.machine.rule w.machine.size reported d)
     → Begun takes (ProceedsIn policies w) w d b s c t
-    → Gets takes a c (Begins policies w)
+    → Gets takes a c (SimulationBegins policies w)
 begins-of takes a b c policies w d s t first begun =
-    reported-begun takes a b c (ProceedsIn policies w) w d s t (Begins policies w) first begun
+    reported-begun takes a b c (ProceedsIn policies w) w d s t (SimulationBegins policies w) first begun
     (beginning takes a b c (ProceedsIn policies w) policies w d s t first begun begun.are)
 
 all-of-64-bits : (duration at_once : ℕ) → 2 ^ 64 ≤ (duration + 1) * at_once → min ((duration + 1) * at_once) (2 ^ 64 - 1) ≡ 2 ^ 64 - 1
@@ -198,7 +198,7 @@ all-of-64-bits duration at_once large = omega (arith, large)
 pub too-long-of : {S : Type 0} (takes : S → ℕ → TraceEvent → S → Type 0) (a b c : S) (policies : List Accepted)
     (w : Workload) (d : Driver) (s t : Simulation)
     → Gets takes a b (λ reported. Starts w.machine.rule w.machine.size reported d) → IsNew w d s
-    → 2 ^ 64 ≤ (w.machine.duration + 1) * steps_at_once w → RunsOut takes policies w b s c t
+    → 2 ^ 64 ≤ (w.machine.duration + 1) * steps_at_once w → ComesToBound takes policies w b s c t
     → Gets takes a c (IsTooLong policies w)
 too-long-of takes a b c policies w d s t first new large runs =
     let begun = begun takes b c (ProceedsOut policies w) w d s t new runs in

@@ -12,8 +12,8 @@ use Rattle.bq_workload.specs.Accounts.{is_same}
 use Rattle.bq_workload.specs.declared.progress.TaskProgress.{TaskProgress}
 use Rattle.bq_workload.specs.declared.progress.TaskState.{TaskState}
 use Rattle.bq_workload.specs.declared.progress.TaskState.TheVariants.{Asleep, Waiting, Over}
-use Rattle.bq_workload.specs.TaskProgress.{advanced, begun}
-use Rattle.bq_workload.specs.Kinds.{count_of}
+use Rattle.bq_workload.specs.TaskProgress.{advanced, phase_begun}
+use Rattle.bq_workload.specs.Kinds.{kind_count}
 use Rattle.bq_simulate.specs.declared.acting.Doing.{Doing}
 
 -- the action that a task does next; none if it has done all of them as often as it is to
@@ -25,12 +25,12 @@ abbrev pub next_action : List TaskKind → TaskProgress → Option Action
 next_action kinds c = option_and_then (λ kind. action_at kind c) (slice_get kinds c.kind)
 
 -- how many actions it goes through
-abbrev pub actions_of : List TaskKind → TaskProgress → ℕ
-actions_of kinds c = option_map_or (λ (kind : TaskKind). length kind.actions.items) (slice_get kinds c.kind) 0
+abbrev pub action_count : List TaskKind → TaskProgress → ℕ
+action_count kinds c = option_map_or (λ (kind : TaskKind). length kind.actions.items) (slice_get kinds c.kind) 0
 
 -- when the timers of a kind first wake its tasks
-abbrev pub start_of : List TaskKind → ℕ → ℕ
-start_of kinds number = option_map_or (λ (kind : TaskKind). kind.start) (slice_get kinds number) 0
+abbrev pub kind_start : List TaskKind → ℕ → ℕ
+kind_start kinds number = option_map_or (λ (kind : TaskKind). kind.start) (slice_get kinds number) 0
 
 -- running and sleeping take a length
 abbrev pub asked_by : Option Action → Option Length
@@ -43,20 +43,20 @@ abbrev pub next_length : Length → Lcg → ℕ
 next_length asked g = length_drawn asked (first_word g) (second_word g)
 
 -- the length of a task, after this many others, for what is asked for
-abbrev pub length_of : ℕ → ℕ → ℕ → Length → ℕ
-length_of seed task others asked = next_length asked (after_draws others (stream_of_task seed task))
+abbrev pub length_of_draw : ℕ → ℕ → ℕ → Length → ℕ
+length_of_draw seed task others asked = next_length asked (after_draws others (stream_of_task seed task))
 
 -- a task has done its action, and comes to the next
 abbrev pub advanced_in : List TaskKind → TaskProgress → TaskProgress
-advanced_in kinds c = advanced (actions_of kinds c) c
+advanced_in kinds c = advanced (action_count kinds c) c
 
 -- one more task of the kind has been woken; after the last one the waker goes on to its next action
 abbrev pub woken_one_in : List TaskKind → ℕ → TaskProgress → TaskProgress
-woken_one_in kinds kind c = if nat_lt (c.woken + 1) (count_of kinds kind) then record c { woken = c.woken + 1 } else advanced_in kinds c
+woken_one_in kinds kind c = if nat_lt (c.woken + 1) (kind_count kinds kind) then record c { woken = c.woken + 1 } else advanced_in kinds c
 
 -- a task has no phase, and sleeps
 abbrev pub resting : TaskState → TaskProgress → TaskProgress
-resting task_state c = record (begun 0 c) { task_state = task_state }
+resting task_state c = record (phase_begun 0 c) { task_state = task_state }
 
 -- a task sleeps until its timer wakes it after this length, as far as 64 bits count
 abbrev pub asleep_for : ℕ → ℕ → TaskProgress → TaskProgress
@@ -66,31 +66,31 @@ asleep_for length now c = record (resting Asleep c) { timer = min (now + length)
 -- a phase afterwards
 abbrev pub acted : List TaskKind → Option Action → ℕ → ℕ → TaskProgress → TaskProgress
 acted kinds None length now c = resting Over c
-acted kinds (Some (Run asked)) length now c = begun length (advanced_in kinds c)
+acted kinds (Some (Run asked)) length now c = phase_begun length (advanced_in kinds c)
 acted kinds (Some (Sleep asked)) length now c = asleep_for length now (advanced_in kinds c)
 acted kinds (Some Wait) length now c = resting Waiting (advanced_in kinds c)
-acted kinds (Some (Wake kind)) length now c = begun 0 (woken_one_in kinds kind c)
+acted kinds (Some (Wake kind)) length now c = phase_begun 0 (woken_one_in kinds kind c)
 
 -- how many tasks have kinds before this one
-abbrev pub first_of : List TaskKind → ℕ → ℕ
-first_of kinds number = sum_by (λ (kind : TaskKind). kind.count) (take number kinds)
+abbrev pub first_task_of : List TaskKind → ℕ → ℕ
+first_task_of kinds number = sum_by (λ (kind : TaskKind). kind.count) (take number kinds)
 
 -- the task to which a wake comes next, if the action is a wake: the first of its kind, and then one after another
 abbrev pub aim_of : List TaskKind → TaskProgress → Option Action → Option ℕ
-aim_of kinds c (Some (Wake kind)) = Some (first_of kinds kind + c.woken)
+aim_of kinds c (Some (Wake kind)) = Some (first_task_of kinds kind + c.woken)
 aim_of kinds c action = None
 
 -- the task to which the wake of a task comes next, if its next action is a wake
-abbrev pub aimed : List TaskKind → TaskProgress → Option ℕ
-aimed kinds c = aim_of kinds c (next_action kinds c)
+abbrev pub wake_target : List TaskKind → TaskProgress → Option ℕ
+wake_target kinds c = aim_of kinds c (next_action kinds c)
 
 -- the task to which the wake comes of one that does this
 abbrev pub aim_in : List TaskKind → Doing → Option ℕ
 aim_in kinds doing = aim_of kinds doing.before doing.action
 
 -- a task is of the kind with this number: its tasks follow the tasks of the kinds before it
-pub record IsOfKind (kinds : List TaskKind) (task number : ℕ) : Type 0 where
+pub record IsTaskOfKind (kinds : List TaskKind) (task number : ℕ) : Type 0 where
   pub kind : TaskKind
   pub there : slice_get kinds number ≡ Some kind
-  pub from : first_of kinds number ≤ task
-  pub below : task < first_of kinds number + kind.count
+  pub from : first_task_of kinds number ≤ task
+  pub below : task < first_task_of kinds number + kind.count

@@ -12,7 +12,7 @@ use Rattle.bq_parts.specs.declared.reply.Reply.TheVariants.{Admitted, Retired, D
 use Rattle.bq_parts.specs.Processors.{size_of}
 use Rattle.bq_parts.specs.Refusals.{is_absent, is_away}
 use Rattle.bq_parts.specs.StandsOnce.{IsOrderly}
-use Rattle.bq_parts.specs.World.{World, processor_at, inbox, entry, count_in}
+use Rattle.bq_parts.specs.World.{World, processor_at, inbox, entry_of_id, count_in}
 use Rattle.bq_workload.specs.declared.processor_state.ProcessorState.{ProcessorState}
 use Rattle.bq_workload.specs.declared.progress.TaskProgress.{TaskProgress}
 use Rattle.bq_workload.specs.declared.progress.TaskState.{TaskState}
@@ -25,8 +25,8 @@ abbrev pub state_at : List TaskProgress → ℕ → Option TaskState
 state_at by_task task = option_map_or (λ (c : TaskProgress). Some c.task_state) (slice_get by_task task) None
 
 -- the task that runs at a processor by the accounts
-abbrev pub run_at : List ProcessorState → ℕ → Option ℕ
-run_at by_processor processor = option_map_or (λ (l : ProcessorState). l.run) (slice_get by_processor processor) None
+abbrev pub runner_at : List ProcessorState → ℕ → Option ℕ
+runner_at by_processor processor = option_map_or (λ (l : ProcessorState). l.run) (slice_get by_processor processor) None
 
 -- a task that can run is away from the lobby; one that is asleep, that waits or that is over is not
 abbrev pub can_run : TaskState → Bool
@@ -45,20 +45,20 @@ pub record RunsAs (w : World) (a : Accounts) : Type 0 where
   -- there are as many
   pub many : length a.by_processor ≡ count_in w
   -- at each processor both have the same task running, or none
-  pub runs : (processor : ℕ) → run_at a.by_processor processor ≡ id_of (processor_at w processor).running.current
+  pub runs : (processor : ℕ) → runner_at a.by_processor processor ≡ id_of (processor_at w processor).running.current
   -- at each processor both count as many tasks that run or wait in the queue
   pub sizes : (processor : ℕ) → size_at a.by_processor processor ≡ size_of (processor_at w processor)
 
 -- The accounts mirror a world: the lobby's entry of each task fits its state, and each processor runs what the accounts say.
 pub record Mirrors (w : World) (a : Accounts) : Type 0 where
-  pub tasks : (task : ℕ) → StandsAs (state_at a.by_task task) (entry w task)
+  pub tasks : (task : ℕ) → StandsAs (state_at a.by_task task) (entry_of_id w task)
   pub processors : RunsAs w a
 
 -- The accounts mirror a world except for one task, which goes to sleep: its state says so already, and it is still away.
 pub record MirrorsBut (task : ℕ) (w : World) (a : Accounts) : Type 0 where
-  pub others : (other : ℕ) → other ≢ task → StandsAs (state_at a.by_task other) (entry w other)
+  pub others : (other : ℕ) → other ≢ task → StandsAs (state_at a.by_task other) (entry_of_id w other)
   pub sleeps : option_map_or can_run (state_at a.by_task task) true ≡ false
-  pub away : is_away (entry w task) ≡ true
+  pub away : is_away (entry_of_id w task) ≡ true
   pub processors : RunsAs w a
 
 -- no task is on its way: hands and inboxes are empty

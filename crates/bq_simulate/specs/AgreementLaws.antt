@@ -17,18 +17,18 @@ use Rattle.bq_workload.specs.declared.roster.Periods.{Periods}
 use Rattle.bq_workload.specs.declared.workload.TaskKind.{TaskKind}
 use Rattle.bq_workload.specs.declared.workload.Workload.{Workload}
 use Rattle.bq_workload.specs.declared.processor_state.ProcessorState.{ProcessorState}
-use Rattle.bq_workload.specs.Accounts.{Accounts, beaten, looked, switched}
-use Rattle.bq_workload.specs.Next.{IsNext}
-use Rattle.bq_workload.specs.TaskProgress.{fresh}
+use Rattle.bq_workload.specs.Accounts.{Accounts, beaten, looked, accounts_switched}
+use Rattle.bq_workload.specs.Next.{IsNextDue}
+use Rattle.bq_workload.specs.TaskProgress.{fresh_task}
 use Rattle.bq_verify.specs.Accepted.{Accepted}
-use Rattle.bq_simulate.specs.Agreement.{AgreesBut, AgreesWith, IsAnswerTo, IsOnTime, IsReadable, can_run, run_at}
+use Rattle.bq_simulate.specs.Agreement.{AgreesBut, AgreesWith, IsAnswerTo, IsOnTime, IsReadable, can_run, runner_at}
 use Rattle.bq_trace.specs.TraceEvents.{Reported}
 use Rattle.bq_simulate.specs.declared.drive_fault.DriveFault.{DriveFault}
 use Rattle.bq_simulate.specs.declared.drive_fault.DriveFault.TheVariants.{OutOfMemory}
 use Rattle.bq_simulate.specs.declared.driver.Driver.{Driver}
 use Rattle.bq_simulate.specs.Chronicles.{Book, Deed, Lives, after_event, is_busy}
-use Rattle.bq_simulate.specs.Drives.{IsDriveFault, IsWakeFault, Places, count_entered, placed_at, reading_of}
-use Rattle.bq_simulate.specs.Simulations.{Begins, IsSimulation}
+use Rattle.bq_simulate.specs.Drives.{IsDriveFault, IsWakeFault, PlacesWoken, count_entered, placed_at, reading_of_event}
+use Rattle.bq_simulate.specs.Simulations.{SimulationBegins, IsSimulation}
 use Rattle.bq_simulate.specs.Steps.{IsAdmissible, Meet}
 
 -- an event is not refused; and in each way to do it, its answer and the world that it leaves have this property
@@ -49,7 +49,7 @@ TicksAreTaken =
 abbrev pub BlocksAreTaken : Type 0
 BlocksAreTaken =
     (d : Discipline) (periods : Periods) (w : World) (a : Accounts) (processor task now : ℕ) → AgreesBut task w a → processor < count_in w →
-    run_at a.by_processor processor ≡ Some task → EventKeepsAgreement d periods w a (Block processor now)
+    runner_at a.by_processor processor ≡ Some task → EventKeepsAgreement d periods w a (Block processor now)
 
 -- A pull of one processor from another is taken.
 abbrev pub PullsAreTaken : Type 0
@@ -69,14 +69,14 @@ InstallsAreTaken =
     EventKeepsAgreement d periods w a (Install processor policy.hook generation (Some policy))
 
 -- one task more
-abbrev pub with_task : TaskProgress → Accounts → Accounts
-with_task c a = record a { by_task = a.by_task ++ c ∷ [] }
+abbrev pub accounts_with_task : TaskProgress → Accounts → Accounts
+accounts_with_task c a = record a { by_task = a.by_task ++ c ∷ [] }
 
 -- The next task of a kind whose numbers are in their ranges is admitted, and is there: its home is the first processor that it may use.
 abbrev pub AdmissionsAreTaken : Type 0
 AdmissionsAreTaken =
     (d : Discipline) (w : World) (a : Accounts) (number home : ℕ) (kind : TaskKind) → AgreesWith w a → IsAdmissible (count_in w) (length a.by_task) home kind →
-    IsTaken d w (Admit (length a.by_task) kind.nice kind.mask kind.slice) (λ r v. AgreesWith v (with_task (fresh number home kind.start) a))
+    IsTaken d w (Admit (length a.by_task) kind.nice kind.mask kind.slice) (λ r v. AgreesWith v (accounts_with_task (fresh_task number home kind.start) a))
 
 -- the processor on which a task was placed takes in exactly that task
 abbrev pub IsTakenIn : Discipline → Periods → Accounts → ℕ → Reply → World → Type 0
@@ -91,31 +91,31 @@ WakesAreTaken =
     IsTaken d w (BeginWake from task) (λ begun v. IsTaken d v (EndWake from now) (IsTakenIn d periods (after_event periods (BeginWake from task) begun a) now))
 
 -- the machine's world and what is kept of it agree
-abbrev pub Agree : Driver → Book → Type 0
-Agree d b = AgreesWith d.machine.world b.accounts
+abbrev pub BookAgrees : Driver → Book → Type 0
+BookAgrees d b = AgreesWith d.machine.world b.accounts
 
 -- The accounts agree after each thing that is met, if they agreed before.
 abbrev pub MeetingsAgree : Type 0
 MeetingsAgree =
     (kinds : List TaskKind) (seed : ℕ) (periods : Periods) (d e : Driver) (b c : Book) (due : Due) (now : ℕ) (deeds : List Deed) (reported : Reported) →
-    Meet due now deeds → Lives kinds seed periods d b deeds reported e c → Agree d b → Agree e c
+    Meet due now deeds → Lives kinds seed periods d b deeds reported e c → BookAgrees d b → BookAgrees e c
 
 -- So the accounts agree at the end of each simulation, and wherever one has been followed to.
 pub record SimulationsAgree : Type 0 where
-  pub whole : (policies : List Accepted) (w : Workload) (reported : Reported) (s : IsSimulation policies w reported) → Agree s.closing s.book
-  pub begun : (policies : List Accepted) (w : Workload) (reported : Reported) (s : Begins policies w reported) → Agree s.closing s.book
+  pub whole : (policies : List Accepted) (w : Workload) (reported : Reported) (s : IsSimulation policies w reported) → BookAgrees s.closing s.book
+  pub begun : (policies : List Accepted) (w : Workload) (reported : Reported) (s : SimulationBegins policies w reported) → BookAgrees s.closing s.book
 
 -- An event whose reading can be given, and which is not refused, fails only if memory runs out.
 abbrev pub OnlyMemoryIsWanted : Type 0
 OnlyMemoryIsWanted =
-    (d : Driver) (event : Event) (why : DriveFault) → IsReadable d.now (reading_of event) → refusal d.machine.world event ≡ None → IsDriveFault d event why → why ≡ OutOfMemory
+    (d : Driver) (event : Event) (why : DriveFault) → IsReadable d.now (reading_of_event event) → refusal d.machine.world event ≡ None → IsDriveFault d event why → why ≡ OutOfMemory
 
 -- an event of a driver fails only if memory runs out
 abbrev pub FailsForMemory : Driver → Event → Type 0
 FailsForMemory d event = (why : DriveFault) → IsDriveFault d event why → why ≡ OutOfMemory
 
 -- accounts agree with a driver's world, and its clocks can be given this instant
-pub record IsReady (d : Driver) (a : Accounts) (now : ℕ) : Type 0 where
+pub record IsDriverReady (d : Driver) (a : Accounts) (now : ℕ) : Type 0 where
   pub agrees : AgreesWith d.machine.world a
   pub reading : IsReadable d.now (Some now)
 
@@ -127,16 +127,16 @@ pub record CallsFailForMemory : Type 0 where
       FailsForMemory d (Install processor policy.hook generation (Some policy))
   pub admissions : (d : Driver) (a : Accounts) (home : ℕ) (kind : TaskKind) → AgreesWith d.machine.world a →
       IsAdmissible (count_in d.machine.world) (length a.by_task) home kind → FailsForMemory d (Admit (length a.by_task) kind.nice kind.mask kind.slice)
-  pub ticks : (d : Driver) (a : Accounts) (processor now : ℕ) → IsReady d a now → processor < count_in d.machine.world → FailsForMemory d (Tick processor now)
+  pub ticks : (d : Driver) (a : Accounts) (processor now : ℕ) → IsDriverReady d a now → processor < count_in d.machine.world → FailsForMemory d (Tick processor now)
   pub blocks : (d : Driver) (a : Accounts) (processor task now : ℕ) → AgreesBut task d.machine.world a → IsReadable d.now (Some now) → processor < count_in d.machine.world →
-      run_at a.by_processor processor ≡ Some task → FailsForMemory d (Block processor now)
-  pub pulls : (d : Driver) (a : Accounts) (processor from now : ℕ) → IsReady d a now → processor < count_in d.machine.world → from < count_in d.machine.world → processor ≢ from →
+      runner_at a.by_processor processor ≡ Some task → FailsForMemory d (Block processor now)
+  pub pulls : (d : Driver) (a : Accounts) (processor from now : ℕ) → IsDriverReady d a now → processor < count_in d.machine.world → from < count_in d.machine.world → processor ≢ from →
       FailsForMemory d (Pull processor from now)
-  pub wakes : (d : Driver) (a : Accounts) (from task now : ℕ) (c : TaskProgress) (why : DriveFault) → IsReady d a now →
+  pub wakes : (d : Driver) (a : Accounts) (from task now : ℕ) (c : TaskProgress) (why : DriveFault) → IsDriverReady d a now →
       from < count_in d.machine.world → slice_get a.by_task task ≡ Some c → can_run c.task_state ≡ false → IsWakeFault d from task now why → why ≡ OutOfMemory
   -- once a wake has placed its task, the task can be taken in
-  pub drains : (d e : Driver) (a : Accounts) (from task to now : ℕ) (c : TaskProgress) (reported : Reported) → IsReady d a now →
-      from < count_in d.machine.world → slice_get a.by_task task ≡ Some c → can_run c.task_state ≡ false → Places d from task now to reported e → FailsForMemory e (Drain to now)
+  pub drains : (d e : Driver) (a : Accounts) (from task to now : ℕ) (c : TaskProgress) (reported : Reported) → IsDriverReady d a now →
+      from < count_in d.machine.world → slice_get a.by_task task ≡ Some c → can_run c.task_state ≡ false → PlacesWoken d from task now to reported e → FailsForMemory e (Drain to now)
 
 -- Each answer is of its event's kind.
 abbrev pub AnswersFit : Type 0
@@ -144,17 +144,17 @@ AnswersFit = (d : Discipline) (w v : World) (event : Event) (calls : List Counte
 
 -- What comes next is not past, and nothing is past then.
 abbrev pub NothingIsMissed : Type 0
-NothingIsMissed = (end now time : ℕ) (a : Accounts) (due : Due) → end < 2 ^ 48 → IsOnTime now a → IsNext end a due time → (now ≤ time) × (time ≤ end) × IsOnTime time a
+NothingIsMissed = (end now time : ℕ) (a : Accounts) (due : Due) → end < 2 ^ 48 → IsOnTime now a → IsNextDue end a due time → (now ≤ time) × (time ≤ end) × IsOnTime time a
 
 -- the task that runs at a processor by the accounts, if one does, runs nowhere else
 abbrev pub RunsAlone : Accounts → ℕ → Type 0
-RunsAlone a processor = (other task : ℕ) → run_at a.by_processor processor ≡ Some task → run_at a.by_processor other ≡ Some task → other ≡ processor
+RunsAlone a processor = (other task : ℕ) → runner_at a.by_processor processor ≡ Some task → runner_at a.by_processor other ≡ Some task → other ≡ processor
 
 -- Nothing is past at an instant after what was done then: another task runs, as an answer says; a clock beats; a processor looks.
 pub record StaysOnTime : Type 0 where
   pub switched_on_time : (periods : Periods) (now processor : ℕ) (run : Option ℕ) (v : World) (a : Accounts) (l : ProcessorState) →
-      1 ≤ periods.tick → slice_get a.by_processor processor ≡ Some l → RunsAlone a processor → AgreesWith v (switched processor run now periods a) → IsOnTime now a →
-      IsOnTime now (switched processor run now periods a)
+      1 ≤ periods.tick → slice_get a.by_processor processor ≡ Some l → RunsAlone a processor → AgreesWith v (accounts_switched processor run now periods a) → IsOnTime now a →
+      IsOnTime now (accounts_switched processor run now periods a)
   pub beaten_on_time : (now processor tick : ℕ) (a : Accounts) → 1 ≤ tick → is_busy a processor ≡ true → IsOnTime now a → IsOnTime now (beaten processor now tick a)
   pub looked_on_time : (now processor balance : ℕ) (a : Accounts) → 1 ≤ balance → IsOnTime now a → IsOnTime now (looked processor now balance a)
 
@@ -167,4 +167,4 @@ abbrev pub MeetingsAreOnTime : Type 0
 MeetingsAreOnTime =
     (kinds : List TaskKind) (seed : ℕ) (periods : Periods) (d e : Driver) (b c : Book) (due : Due) (now : ℕ) (deeds : List Deed) (reported : Reported) →
     1 ≤ periods.tick → 1 ≤ periods.balance → now < 2 ^ 48 → Meet due now deeds →
-    Lives kinds seed periods d b deeds reported e c → Agree d b → IsOnTime now b.accounts → IsOnTime now c.accounts
+    Lives kinds seed periods d b deeds reported e c → BookAgrees d b → IsOnTime now b.accounts → IsOnTime now c.accounts

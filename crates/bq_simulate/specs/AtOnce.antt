@@ -10,7 +10,7 @@ use Rattle.bq_workload.specs.declared.progress.TaskState.{TaskState}
 use Rattle.bq_workload.specs.declared.progress.TaskState.TheVariants.{Asleep, Waiting, Runnable, Over}
 use Rattle.bq_workload.specs.declared.workload.TaskKind.{TaskKind}
 use Rattle.bq_workload.specs.Accounts.{Accounts, is_same}
-use Rattle.bq_workload.specs.Kinds.{count_of}
+use Rattle.bq_workload.specs.Kinds.{kind_count}
 
 -- how many steps a list of actions takes up to its first run or sleep, and with that one. A wake takes a step for each task
 -- that it wakes; of the first wake `woken` steps are done
@@ -19,15 +19,15 @@ steps_until kinds woken [] = 0
 steps_until kinds woken (Run asked ∷ actions) = 1
 steps_until kinds woken (Sleep asked ∷ actions) = 1
 steps_until kinds woken (Wait ∷ actions) = 1 + steps_until kinds 0 actions
-steps_until kinds woken (Wake kind ∷ actions) = (count_of kinds kind - woken) + steps_until kinds 0 actions
+steps_until kinds woken (Wake kind ∷ actions) = (kind_count kinds kind - woken) + steps_until kinds 0 actions
 
 -- what tasks of the kind of this number do
-abbrev pub actions_in : List TaskKind → ℕ → List Action
-actions_in kinds number = option_map_or (λ (kind : TaskKind). kind.actions.items) (slice_get kinds number) []
+abbrev pub kind_actions : List TaskKind → ℕ → List Action
+kind_actions kinds number = option_map_or (λ (kind : TaskKind). kind.actions.items) (slice_get kinds number) []
 
 -- the rest of a task's actions in this round, and then all of them again
 abbrev pub actions_ahead : List TaskKind → TaskProgress → List Action
-actions_ahead kinds c = drop c.action (actions_in kinds c.kind) ++ actions_in kinds c.kind
+actions_ahead kinds c = drop c.action (kind_actions kinds c.kind) ++ kind_actions kinds c.kind
 
 -- how many steps a task takes before its next action that takes time
 abbrev pub steps_ahead : List TaskKind → TaskProgress → ℕ
@@ -64,5 +64,5 @@ in_all f [] = 0
 in_all f (c ∷ more) = f 0 c + in_all (λ task. f (suc task)) more
 
 -- the most steps that all tasks and processors take at this instant
-abbrev pub left_at : List TaskKind → ℕ → Accounts → ℕ
-left_at kinds now a = in_all (left_of_task kinds now a.by_processor) a.by_task + sum_by (left_of_processor now) a.by_processor
+abbrev pub steps_left_at : List TaskKind → ℕ → Accounts → ℕ
+steps_left_at kinds now a = in_all (left_of_task kinds now a.by_processor) a.by_task + sum_by (left_of_processor now) a.by_processor

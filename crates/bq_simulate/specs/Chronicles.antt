@@ -15,10 +15,10 @@ use Rattle.bq_workload.specs.declared.progress.TaskState.{TaskState}
 use Rattle.bq_workload.specs.declared.progress.TaskState.TheVariants.{Asleep, Waiting}
 use Rattle.bq_workload.specs.declared.processor_state.ProcessorState.{ProcessorState}
 use Rattle.bq_workload.specs.declared.roster.Periods.{Periods}
-use Rattle.bq_workload.specs.Accounts.{Accounts, IsDone, LooksAt, TicksAt, beaten, changed_at, charged, entered_by, left_by, looked, of_task, passed, switched}
-use Rattle.bq_workload.specs.TaskProgress.{fresh, woken}
+use Rattle.bq_workload.specs.Accounts.{Accounts, IsPhaseDone, LooksAt, TicksAt, beaten, changed_at, accounts_charged, accounts_entered, left_by, looked, of_task, accounts_passed, accounts_switched}
+use Rattle.bq_workload.specs.TaskProgress.{fresh_task, progress_woken}
 use Rattle.bq_workload.specs.Dues.{IsSource}
-use Rattle.bq_simulate.specs.Actions.{IsOfKind, acted, aimed, asked_by, length_of, next_action, start_of}
+use Rattle.bq_simulate.specs.Actions.{IsTaskOfKind, acted, wake_target, asked_by, length_of_draw, next_action, kind_start}
 
 -- one thing that a simulation does
 pub data Deed : Type 0 where
@@ -45,22 +45,22 @@ abbrev pub is_busy : Accounts → ℕ → Bool
 is_busy a processor = option_map_or (λ (processor_state : ProcessorState). is_some processor_state.run) (slice_get a.by_processor processor) false
 
 -- a timer wakes a task from the processor that it ran on last; a task that waits is woken from a processor at which some task runs
-abbrev pub IsFrom : Accounts → TaskState → ℕ → ℕ → Type 0
-IsFrom a Asleep home from = from ≡ home
-IsFrom a Waiting home from = is_busy a from ≡ true
-IsFrom a task_state home from = ⊥
+abbrev pub IsWokenFrom : Accounts → TaskState → ℕ → ℕ → Type 0
+IsWokenFrom a Asleep home from = from ≡ home
+IsWokenFrom a Waiting home from = is_busy a from ≡ true
+IsWokenFrom a task_state home from = ⊥
 
 -- a task may be woken from this processor: it exists, and its state allows the wake
 pub record IsWoken (a : Accounts) (from task : ℕ) : Type 0 where
   pub progress : TaskProgress
   pub there : slice_get a.by_task task ≡ Some progress
-  pub place : IsFrom a progress.task_state progress.home from
+  pub place : IsWokenFrom a progress.task_state progress.home from
 
 -- a task that is woken sleeps, and is woken from the right processor; a tick comes only if something runs
-abbrev pub IsDue : Event → Accounts → Type 0
-IsDue (BeginWake from task) a = IsWoken a from task
-IsDue (Tick c now) a = is_busy a c ≡ true
-IsDue event a = Unit {0}
+abbrev pub MayCome : Event → Accounts → Type 0
+MayCome (BeginWake from task) a = IsWoken a from task
+MayCome (Tick c now) a = is_busy a c ≡ true
+MayCome event a = Unit {0}
 
 -- what is kept of a simulation: the accounts, and how many lengths each task's stream has given
 pub record Book : Type 0 where
@@ -68,16 +68,16 @@ pub record Book : Type 0 where
   pub drawn : List ℕ
 
 -- a task that was pulled, if one was, has gone from one queue to another
-abbrev pub pulled : ℕ → ℕ → Option ℕ → Accounts → Accounts
-pulled from to task a = option_map_or (λ _. passed from to a) task a
+abbrev pub accounts_pulled : ℕ → ℕ → Option ℕ → Accounts → Accounts
+accounts_pulled from to task a = option_map_or (λ _. accounts_passed from to a) task a
 
 -- the accounts after an answer: if another task runs now, the time of the one before is counted; a woken task has no phase yet
 abbrev pub after_event : Periods → Event → Reply → Accounts → Accounts
-after_event periods (BeginWake c task) reply a = of_task woken task a
-after_event periods (Drain c now) reply a = entered_by c (count_entered reply) (runs_now reply) now periods a
-after_event periods (Tick c now) reply a = switched c (runs_now reply) now periods a
+after_event periods (BeginWake c task) reply a = of_task progress_woken task a
+after_event periods (Drain c now) reply a = accounts_entered c (count_entered reply) (runs_now reply) now periods a
+after_event periods (Tick c now) reply a = accounts_switched c (runs_now reply) now periods a
 after_event periods (Block c now) reply a = left_by c (runs_now reply) now periods a
-after_event periods (Pull c from now) reply a = switched c (runs_now reply) now periods (pulled from c (task_pulled reply) a)
+after_event periods (Pull c from now) reply a = accounts_switched c (runs_now reply) now periods (accounts_pulled from c (task_pulled reply) a)
 after_event periods event reply a = a
 
 -- what is kept after an answer: only its accounts change
@@ -85,8 +85,8 @@ abbrev pub after_answer : Periods → Event → Reply → Book → Book
 after_answer periods event reply b = record b { accounts = after_event periods event reply b.accounts }
 
 -- a task is added that has done nothing; its timer is that of its kind, and its stream has given nothing
-abbrev pub joined : List TaskKind → ℕ → ℕ → Book → Book
-joined kinds kind home b = record { accounts = record b.accounts { by_task = b.accounts.by_task ++ fresh kind home (start_of kinds kind) ∷ [] }; drawn = b.drawn ++ 0 ∷ [] }
+abbrev pub task_added : List TaskKind → ℕ → ℕ → Book → Book
+task_added kinds kind home b = record { accounts = record b.accounts { by_task = b.accounts.by_task ++ fresh_task kind home (kind_start kinds kind) ∷ [] }; drawn = b.drawn ++ 0 ∷ [] }
 
 -- how many lengths a task's stream has given
 abbrev pub draws_of : List ℕ → ℕ → ℕ
@@ -95,7 +95,7 @@ draws_of drawn task = unwrap_or (slice_get drawn task) 0
 -- the length that an action takes which asks for one: the next of its task
 abbrev pub length_taken : ℕ → ℕ → List ℕ → Option Length → ℕ
 length_taken seed task drawn None = 0
-length_taken seed task drawn (Some asked) = length_of seed task (draws_of drawn task) asked
+length_taken seed task drawn (Some asked) = length_of_draw seed task (draws_of drawn task) asked
 
 -- if a length is asked for, the task's stream has given one more
 abbrev pub drawn_with : ℕ → List ℕ → Option Length → List ℕ
@@ -105,7 +105,7 @@ drawn_with task drawn (Some asked) = changed_at suc drawn task
 -- the task does its next action, once the time that it has run is counted
 abbrev pub after_act : List TaskKind → ℕ → ℕ → ℕ → ℕ → TaskProgress → Book → Book
 after_act kinds seed processor task now c b = record {
-  accounts = of_task (λ _. acted kinds (next_action kinds c) (length_taken seed task b.drawn (asked_by (next_action kinds c))) now c) task (charged processor now b.accounts);
+  accounts = of_task (λ _. acted kinds (next_action kinds c) (length_taken seed task b.drawn (asked_by (next_action kinds c))) now c) task (accounts_charged processor now b.accounts);
   drawn = drawn_with task b.drawn (asked_by (next_action kinds c));
 }
 
@@ -120,9 +120,9 @@ after_look periods processor now b = record b { accounts = looked processor now 
 -- what is kept after a deed: what a task does is its next action, by how far it has come
 abbrev pub after_deed : List TaskKind → ℕ → Periods → Deed → Book → Book
 after_deed kinds seed periods (Happens event reply) b = after_answer periods event reply b
-after_deed kinds seed periods (Joins kind home) b = joined kinds kind home b
+after_deed kinds seed periods (Joins kind home) b = task_added kinds kind home b
 after_deed kinds seed periods (Acts processor task now action aim) b =
-    option_map_or (λ c. after_act kinds seed processor task now c b) (slice_get (charged processor now b.accounts).by_task task) b
+    option_map_or (λ c. after_act kinds seed processor task now c b) (slice_get (accounts_charged processor now b.accounts).by_task task) b
 after_deed kinds seed periods (Rings task now) b = b
 after_deed kinds seed periods (Reaches task) b = b
 after_deed kinds seed periods (Misses task) b = b
@@ -142,12 +142,12 @@ after_deeds kinds seed periods b (deed ∷ deeds) = after_deeds kinds seed perio
 abbrev pub Lives : List TaskKind → ℕ → Periods → Driver → Book → List Deed → Reported → Driver → Book → Type 0
 Lives kinds seed periods d b [] reported e f = (reported ≡ []) × (e ≡ d) × (f ≡ b)
 Lives kinds seed periods d b (Happens event reply ∷ deeds) reported e f =
-    IsDue event b.accounts × (mid : Driver) × (first : Reported) × (more : Reported)
+    MayCome event b.accounts × (mid : Driver) × (first : Reported) × (more : Reported)
     × DrivesEvent d event reply first mid × Lives kinds seed periods mid (after_answer periods event reply b) deeds more e f × (reported ≡ first ++ more)
 Lives kinds seed periods d b (Joins kind home ∷ deeds) reported e f =
-    IsOfKind kinds (length b.accounts.by_task) kind × Lives kinds seed periods d (joined kinds kind home b) deeds reported e f
+    IsTaskOfKind kinds (length b.accounts.by_task) kind × Lives kinds seed periods d (task_added kinds kind home b) deeds reported e f
 Lives kinds seed periods d b (Acts processor task now action aim ∷ deeds) reported e f =
-    (c : TaskProgress) × IsDone (charged processor now b.accounts) processor task c × (action ≡ next_action kinds c) × (aim ≡ aimed kinds c)
+    (c : TaskProgress) × IsPhaseDone (accounts_charged processor now b.accounts) processor task c × (action ≡ next_action kinds c) × (aim ≡ wake_target kinds c)
     × Lives kinds seed periods d (after_act kinds seed processor task now c b) deeds reported e f
 Lives kinds seed periods d b (Rings task now ∷ deeds) reported e f =
     (c : TaskProgress) × (slice_get b.accounts.by_task task ≡ Some c) × (c.task_state ≡ Asleep) × (c.timer ≡ now) × Lives kinds seed periods d b deeds reported e f

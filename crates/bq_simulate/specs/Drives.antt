@@ -16,13 +16,13 @@ use Rattle.bq_simulate.specs.declared.drive_fault.DriveFault.TheVariants.{Answer
 use Rattle.bq_simulate.specs.declared.driver.Driver.{Driver}
 
 -- the reading that comes with an event
-abbrev pub reading_of : Event → Option ℕ
-reading_of (EndWake c now) = Some now
-reading_of (Drain c now) = Some now
-reading_of (Tick c now) = Some now
-reading_of (Block c now) = Some now
-reading_of (Pull c from now) = Some now
-reading_of event = None
+abbrev pub reading_of_event : Event → Option ℕ
+reading_of_event (EndWake c now) = Some now
+reading_of_event (Drain c now) = Some now
+reading_of_event (Tick c now) = Some now
+reading_of_event (Block c now) = Some now
+reading_of_event (Pull c from now) = Some now
+reading_of_event event = None
 
 -- a reading is no less than the last that any clock was given, and counts as it is
 abbrev pub Rises : ℕ → Option ℕ → ℕ → Type 0
@@ -44,13 +44,13 @@ pub record Starts (rule : Rule) (size : ProcessorCount) (reported : Reported) (d
 -- the event of the next line is done, and is not refused
 pub record DrivesEvent (d : Driver) (event : Event) (reply : Reply) (reported : Reported) (e : Driver) : Type 0 where
   pub line : e.line ≡ one_more d.line
-  pub rises : Rises d.now (reading_of event) e.now
+  pub rises : Rises d.now (reading_of_event event) e.now
   pub happens : Happens d.machine e.line event (Ok reply) reported e.machine
 
 -- why an event is not done: its reading falls, the machine refuses it for the first reason that there is, or memory runs out;
 -- never for the kind of its answer
 abbrev pub IsDriveFault : Driver → Event → DriveFault → Type 0
-IsDriveFault d event Reading = Falls d.now (reading_of event)
+IsDriveFault d event Reading = Falls d.now (reading_of_event event)
 IsDriveFault d event (Refused why) = refusal d.machine.world event ≡ Some why
 IsDriveFault d event OutOfMemory = Unit {0}
 IsDriveFault d event Answer = ⊥
@@ -67,11 +67,11 @@ IsUntouched Reading d e old new = (e ≡ d) × (new ≡ old)
 IsUntouched fault d e old new = Unit {0}
 
 -- how a sink takes an event of the line of this number
-abbrev pub Takes : Type 0 → Type 1
-Takes S = S → ℕ → TraceEvent → S → Type 0
+abbrev pub SinkTakes : Type 0 → Type 1
+SinkTakes S = S → ℕ → TraceEvent → S → Type 0
 
 -- a sink gets what comes of it
-abbrev pub Did : {S : Type 0} → Takes S → S → Driver → Event → Reply → S → Driver → Type 0
+abbrev pub Did : {S : Type 0} → SinkTakes S → S → Driver → Event → Reply → S → Driver → Type 0
 Did takes old d event reply new e = Gets takes old new (λ reported. DrivesEvent d event reply reported e)
 
 -- the task that runs at the event's processor now, as an answer says
@@ -98,17 +98,17 @@ placed_at (Placed task to by steps) = Some to
 placed_at reply = None
 
 -- a sink gets what comes of a drain, whose answer says that this many tasks entered the queue and that this one runs there now, or none
-abbrev pub TookIn : {S : Type 0} → Takes S → S → Driver → ℕ → ℕ → ℕ → Option ℕ → S → Driver → Type 0
+abbrev pub TookIn : {S : Type 0} → SinkTakes S → S → Driver → ℕ → ℕ → ℕ → Option ℕ → S → Driver → Type 0
 TookIn takes old d processor now count run new e =
     (reply : Reply) × (runs_now reply ≡ run) × (count_entered reply ≡ count) × Did takes old d (Drain processor now) reply new e
 
 -- a sink gets what comes of a pull, whose answer says that this task was taken, or none, and that this one runs there now, or none
-abbrev pub TookFrom : {S : Type 0} → Takes S → S → Driver → ℕ → ℕ → ℕ → Option ℕ → Option ℕ → S → Driver → Type 0
+abbrev pub TookFrom : {S : Type 0} → SinkTakes S → S → Driver → ℕ → ℕ → ℕ → Option ℕ → Option ℕ → S → Driver → Type 0
 TookFrom takes old d processor from now task run new e =
     (reply : Reply) × (runs_now reply ≡ run) × (task_pulled reply ≡ task) × Did takes old d (Pull processor from now) reply new e
 
 -- a wake from a processor begins and ends there, and its answer says that the task was placed on this one
-pub record Places (d : Driver) (from task now to : ℕ) (reported : Reported) (e : Driver) : Type 0 where
+pub record PlacesWoken (d : Driver) (from task now to : ℕ) (reported : Reported) (e : Driver) : Type 0 where
   pub begun : Reply
   pub placed : Reply
   pub mid : Driver
@@ -127,9 +127,9 @@ Drives d (event ∷ events) reported e =
     × DrivesEvent d event reply first mid × Drives mid events more e × (reported ≡ first ++ more)
 
 -- a sink gets what comes of them
-abbrev pub Drove : {S : Type 0} → Takes S → S → Driver → List Event → S → Driver → Type 0
+abbrev pub Drove : {S : Type 0} → SinkTakes S → S → Driver → List Event → S → Driver → Type 0
 Drove takes old d events new e = Gets takes old new (λ reported. Drives d events reported e)
 
 -- a sink gets what comes of some events
-abbrev pub Went : {S : Type 0} → Takes S → S → Driver → S → Driver → Type 0
+abbrev pub Went : {S : Type 0} → SinkTakes S → S → Driver → S → Driver → Type 0
 Went takes old d new e = (events : List Event) × Drove takes old d events new e

@@ -7,18 +7,18 @@ use Rattle.bq_parts.specs.World.{World, count_in, processor_at}
 use Rattle.bq_workload.specs.declared.action.Action.TheVariants.{Wake}
 use Rattle.bq_workload.specs.declared.progress.TaskProgress.{TaskProgress}
 use Rattle.bq_workload.specs.declared.workload.TaskKind.{TaskKind}
-use Rattle.bq_workload.specs.Kinds.{count_of, tasks_in}
+use Rattle.bq_workload.specs.Kinds.{kind_count, tasks_in}
 use Rattle.bq_simulate.specs.declared.driver.Driver.{Driver}
 use Rattle.bq_simulate.specs.declared.simulation.Simulation.{Simulation}
-use Rattle.bq_simulate.specs.Actions.{IsOfKind, actions_of, next_action}
+use Rattle.bq_simulate.specs.Actions.{IsTaskOfKind, action_count, next_action}
 use Rattle.bq_simulate.specs.Agreement.{AgreesWith, IsOnTime}
 use Rattle.bq_simulate.specs.Chronicles.{Book}
 
 -- a task is at one of the actions of its kind; if it wakes others next, its wake has come to fewer than there are
 pub record StandsAtAction (kinds : List TaskKind) (task : ℕ) (c : TaskProgress) : Type 0 where
-  pub of_kind : IsOfKind kinds task c.kind
-  pub action : c.action < actions_of kinds c
-  pub woken : (number : ℕ) → next_action kinds c ≡ Some (Wake number) → c.woken < count_of kinds number
+  pub of_kind : IsTaskOfKind kinds task c.kind
+  pub action : c.action < action_count kinds c
+  pub woken : (number : ℕ) → next_action kinds c ≡ Some (Wake number) → c.woken < kind_count kinds number
 
 -- each task does, and has a stream of its own
 pub record StandAtActions (kinds : List TaskKind) (b : Book) : Type 0 where

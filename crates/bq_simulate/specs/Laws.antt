@@ -26,18 +26,18 @@ CanStandInLine None = Unit {0}
 CanStandInLine (Some bytes) = IsImageOfLine bytes
 
 -- an install with an image asks to load it; an install without one takes away the policy at the hook
-abbrev pub installing : Option (List ℕ) → ℕ → Hook → ℕ → Command
-installing None c hook generation = Does (Install c hook generation None)
-installing (Some bytes) c hook generation = Load c hook generation (encode_lower bytes)
+abbrev pub install_asked : Option (List ℕ) → ℕ → Hook → ℕ → Command
+install_asked None c hook generation = Does (Install c hook generation None)
+install_asked (Some bytes) c hook generation = Load c hook generation (encode_lower bytes)
 
 -- what the line of an event asks for: any other is asked for as it is
-abbrev pub asked : Option (List ℕ) → Event → Command
-asked image (Install c hook generation policy) = installing image c hook generation
-asked image event = Does event
+abbrev pub event_command : Option (List ℕ) → Event → Command
+event_command image (Install c hook generation policy) = install_asked image c hook generation
+event_command image event = Does event
 
 -- The line of an event is read as exactly that event.
 abbrev pub EventsAreRead : Type 0
-EventsAreRead = (image : Option (List ℕ)) (event : Event) → CanStandInLine image → HasFittingNumbers event → reading_of (asking_line image event) ≡ Asks (asked image event)
+EventsAreRead = (image : Option (List ℕ)) (event : Event) → CanStandInLine image → HasFittingNumbers event → reading_of (asking_line image event) ≡ Asks (event_command image event)
 
 -- The line of a machine says that machine.
 abbrev pub MachinesAreRead : Type 0

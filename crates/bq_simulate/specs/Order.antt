@@ -11,7 +11,7 @@ use Rattle.bq_workload.specs.declared.workload.Workload.{Workload}
 use Rattle.bq_workload.specs.declared.roster.Periods.{Periods}
 use Rattle.bq_workload.specs.Accounts.{Accounts, accounts_of}
 use Rattle.bq_workload.specs.Bounds.{steps_at_once}
-use Rattle.bq_workload.specs.Kinds.{count_of}
+use Rattle.bq_workload.specs.Kinds.{kind_count}
 use Rattle.bq_workload.specs.Next.{IsAgreed}
 use Rattle.bq_workload.specs.Soundness.{first_flaw}
 use Rattle.bq_workload.specs.Strays.{IsStrayPass, IsStraySwitch}
@@ -19,15 +19,15 @@ use Rattle.bq_simulate.specs.declared.driver.Driver.{Driver}
 use Rattle.bq_simulate.specs.declared.fault.SimulateFault.{SimulateFault}
 use Rattle.bq_simulate.specs.declared.fault.SimulateFault.TheVariants.{Endless, Enough, OutOfMemory}
 use Rattle.bq_simulate.specs.declared.simulation.Simulation.{Simulation}
-use Rattle.bq_simulate.specs.Actions.{first_of}
-use Rattle.bq_simulate.specs.Agreement.{AgreesBut, AgreesWith, IsOnTime, run_at}
-use Rattle.bq_simulate.specs.Chronicles.{Book, is_busy, pulled}
+use Rattle.bq_simulate.specs.Actions.{first_task_of}
+use Rattle.bq_simulate.specs.Agreement.{AgreesBut, AgreesWith, IsOnTime, runner_at}
+use Rattle.bq_simulate.specs.Chronicles.{Book, is_busy, accounts_pulled}
 use Rattle.bq_simulate.specs.Kept.{HasAllFirsts, IsKept, IsNewerFrom, StandAtActions, WereDrawn}
 use Rattle.bq_simulate.specs.Simulations.{HasDrawn, HasFirsts, book_of, periods_of}
 
 -- The simulation of a workload without flaws has come to an instant until its end, and all is kept: by its machine, its
 -- accounts, its event queue, the streams of its tasks and the first task of each kind.
-pub record GoesWell (w : Workload) (now : ℕ) (s : Simulation) : Type 0 where
+pub record SimulationGoesWell (w : Workload) (now : ℕ) (s : Simulation) : Type 0 where
   pub sound : first_flaw w ≡ None
   pub until : now ≤ w.machine.duration
   pub periods : s.roster.periods ≡ periods_of w.machine
@@ -41,7 +41,7 @@ pub record GoesWell (w : Workload) (now : ℕ) (s : Simulation) : Type 0 where
 -- the simulation goes well at some instant
 pub record HasGoneWell (w : Workload) (s : Simulation) : Type 0 where
   pub now : ℕ
-  pub well : GoesWell w now s
+  pub well : SimulationGoesWell w now s
 
 -- a simulation has as many processors as its workload says
 abbrev pub HasProcessors : Workload → Simulation → Type 0
@@ -57,7 +57,7 @@ pub record FallsAsleep (w : Workload) (now processor : ℕ) (s : Simulation) : T
   pub read : s.driver.now ≤ now
   pub on_time : IsOnTime now (accounts_of s.roster)
   pub task : ℕ
-  pub runs : run_at s.roster.by_processor.items processor ≡ Some task
+  pub runs : runner_at s.roster.by_processor.items processor ≡ Some task
   pub agrees : AgreesBut task s.driver.machine.world (accounts_of s.roster)
   pub agreed : IsAgreed s.roster
 
@@ -65,7 +65,7 @@ pub record FallsAsleep (w : Workload) (now processor : ℕ) (s : Simulation) : T
 -- task is left that it has not woken. For a sleep, a wait or the end: the task is falling asleep. For a run: nothing.
 abbrev pub CanFollow : Workload → Option Action → TaskProgress → ℕ → ℕ → Simulation → Type 0
 CanFollow w (Some (Run asked)) c processor now s = Unit {0}
-CanFollow w (Some (Wake kind)) c processor now s = GoesWell w now s × (is_busy (accounts_of s.roster) processor ≡ true) × (c.woken < count_of w.tasks.items kind)
+CanFollow w (Some (Wake kind)) c processor now s = SimulationGoesWell w now s × (is_busy (accounts_of s.roster) processor ≡ true) × (c.woken < kind_count w.tasks.items kind)
 CanFollow w action c processor now s = FallsAsleep w now processor s
 
 -- two processors, both of which a simulation has
@@ -79,7 +79,7 @@ IsStrayAction kinds c action = (slice_get kinds c.kind ≡ None) ⊎ ((number : 
 -- what came of a pull is not kept: a task was taken and does not pass, or the switch fails
 abbrev pub IsStrayPull : Periods → ℕ → ℕ → Option ℕ → Option ℕ → ℕ → Accounts → Type 0
 IsStrayPull periods processor from task run now a =
-    ((task ≢ None) × IsStrayPass from processor a) ⊎ IsStraySwitch periods processor run now (pulled from processor task a)
+    ((task ≢ None) × IsStrayPass from processor a) ⊎ IsStraySwitch periods processor run now (accounts_pulled from processor task a)
 
 -- A simulation that opens, at instant 0, with this many processors and this many tasks until now: the accounts agree with the
 -- machine's world, and nothing in them is past.
@@ -104,7 +104,7 @@ pub record OpensWell (w : Workload) (tasks : ℕ) (s : Simulation) : Type 0 wher
 
 -- all tasks of the kinds before this one are there
 abbrev pub OpensBefore : Workload → ℕ → Simulation → Type 0
-OpensBefore w number s = OpensWell w (first_of w.tasks.items number) s
+OpensBefore w number s = OpensWell w (first_task_of w.tasks.items number) s
 
 -- this many generations were drawn, and each one at a hook is one of them
 pub record HasGenerations (count : ℕ) (w : World) : Type 0 where

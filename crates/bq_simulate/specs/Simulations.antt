@@ -11,10 +11,10 @@ pub use Rattle.bq_verify.specs.Accepted.{Accepted}
 use Rattle.bq_words.specs.Sizes.{processors_in}
 use Rattle.bq_trace.specs.TraceEvents.{Reported, Gets}
 use Rattle.bq_simulate.specs.declared.driver.Driver.{Driver}
-use Rattle.bq_simulate.specs.Drives.{Starts, Drives, Takes}
-use Rattle.bq_workload.specs.Accounts.{accounts_of, is_over, opening}
+use Rattle.bq_simulate.specs.Drives.{Starts, Drives, SinkTakes}
+use Rattle.bq_workload.specs.Accounts.{accounts_of, is_over, opening_accounts}
 use Rattle.bq_simulate.specs.declared.simulation.Simulation.{Simulation}
-use Rattle.bq_simulate.specs.Actions.{IsOfKind, first_of, next_length, start_of}
+use Rattle.bq_simulate.specs.Actions.{IsTaskOfKind, first_task_of, next_length, kind_start}
 use Rattle.bq_workload.specs.Bounds.{most_steps}
 use Rattle.bq_workload.specs.Next.{IsAgreed, NothingComes, StaysAgreed}
 use Rattle.bq_simulate.specs.Chronicles.{Book, Deed, Lives, after_deeds, events_of}
@@ -26,7 +26,7 @@ with_seed w seed = record w { machine = record w.machine { seed = seed } }
 
 -- no task is there, and nothing runs
 abbrev pub opening_book : Setup → Book
-opening_book machine = record { accounts = opening (processors_in machine.size) machine.balance; drawn = [] }
+opening_book machine = record { accounts = opening_accounts (processors_in machine.size) machine.balance; drawn = [] }
 
 -- when a machine's simulation ends, the times between its ticks and between its looks, and what a change of processor costs
 abbrev pub periods_of : Setup → Periods
@@ -56,7 +56,7 @@ ProceedsOut policies w seed periods = ProceedsBy policies (processors_in w.machi
 
 -- when nothing comes any more, and no timer, no end of a phase, no tick and no look for a task is left until the end, each processor that
 -- runs something ticks then, by number, and nothing else is done
-pub record Ends (policies : List Accepted) (w : Workload) (d : Driver) (deeds : List Deed) : Type 0 where
+pub record SimulationEnds (policies : List Accepted) (w : Workload) (d : Driver) (deeds : List Deed) : Type 0 where
   pub until : List Deed
   pub last : List Deed
   pub whole : deeds ≡ until ++ last
@@ -90,11 +90,11 @@ pub record IsSimulation (policies : List Accepted) (w : Workload) (reported : Re
   pub drives : Drives opening (events_of deeds) more closing
   pub lives : Lives w.tasks.items w.machine.seed (periods_of w.machine) opening (opening_book w.machine) deeds more closing book
   pub whole : reported ≡ first ++ more
-  pub ends : Ends policies w opening deeds
+  pub ends : SimulationEnds policies w opening deeds
 
 -- The beginning of a simulation: its machine is made, all that opens it is done, and then some of what comes due, as in a
 -- simulation that goes to its end.
-pub record Begins (policies : List Accepted) (w : Workload) (reported : Reported) : Type 0 where
+pub record SimulationBegins (policies : List Accepted) (w : Workload) (reported : Reported) : Type 0 where
   pub opening : Driver
   pub closing : Driver
   pub deeds : List Deed
@@ -109,15 +109,15 @@ pub record Begins (policies : List Accepted) (w : Workload) (reported : Reported
 
 -- A simulation that is too long: it begins, and then 2 ^ 64 - 1 things come due, one after another, as many as 64 bits count.
 pub record IsTooLong (policies : List Accepted) (w : Workload) (reported : Reported) : Type 0 where
-  pub begins : Begins policies w reported
+  pub begins : SimulationBegins policies w reported
   pub many : length begins.proceeds.meets.steps ≡ 2 ^ 64 - 1
 
 -- a whole simulation; or, if the sink has enough, the beginning of one
 abbrev pub IsFollowed : Bool → List Accepted → Workload → Reported → Type 0
-IsFollowed enough policies w reported = IsSimulation policies w reported ⊎ ((enough ≡ true) × Begins policies w reported)
+IsFollowed enough policies w reported = IsSimulation policies w reported ⊎ ((enough ≡ true) × SimulationBegins policies w reported)
 
 -- a sink has enough, and got events of which this holds
-abbrev pub HasEnough : {S : Type 0} → Takes S → (S → Bool) → (Reported → Type 0) → S → S → Type 0
+abbrev pub HasEnough : {S : Type 0} → SinkTakes S → (S → Bool) → (Reported → Type 0) → S → S → Type 0
 HasEnough takes sated Holds old new = (sated new ≡ true) × Gets takes old new Holds
 
 -- the streams of the tasks from this number on, each after this many draws
@@ -131,7 +131,7 @@ HasDrawn s drawn = s.streams.items ≡ streams_after s.seed 0 drawn
 
 -- each first task that is kept is the first of its kind
 abbrev pub HasFirsts : List TaskKind → Simulation → Type 0
-HasFirsts kinds s = (number first : ℕ) → slice_get s.firsts.items number ≡ Some first → first ≡ first_of kinds number
+HasFirsts kinds s = (number first : ℕ) → slice_get s.firsts.items number ≡ Some first → first ≡ first_task_of kinds number
 
 -- the first tasks of as many kinds are kept at least
 abbrev pub BeginsMore : Simulation → Simulation → Type 0
@@ -142,7 +142,7 @@ abbrev pub book_of : Simulation → List ℕ → Book
 book_of s drawn = record { accounts = accounts_of s.roster; drawn = drawn }
 
 -- a simulation, whose streams have given this many lengths, goes on by some deeds of which this holds, and which are reported to a sink
-pub record GoesByDeeds {S : Type 0} (takes : Takes S) (kinds : List TaskKind) (Are : List Deed → Type 0)
+pub record GoesByDeeds {S : Type 0} (takes : SinkTakes S) (kinds : List TaskKind) (Are : List Deed → Type 0)
     (old : S) (s : Simulation) (drawn : List ℕ) (new : S) (t : Simulation) : Type 0 where
   pub deeds : List Deed
   pub after : List ℕ
@@ -156,15 +156,15 @@ pub record GoesByDeeds {S : Type 0} (takes : Takes S) (kinds : List TaskKind) (A
   pub are : Are deeds
 
 -- from a state whose streams and firsts are right, the simulation goes on by deeds of this sort, and reports them to the sink
-abbrev pub Lived : {S : Type 0} → Takes S → List TaskKind → (List Deed → Type 0) → S → Simulation → S → Simulation → Type 0
+abbrev pub Lived : {S : Type 0} → SinkTakes S → List TaskKind → (List Deed → Type 0) → S → Simulation → S → Simulation → Type 0
 Lived takes kinds Are old s new t = (drawn : List ℕ) → HasDrawn s drawn → HasFirsts kinds s → GoesByDeeds takes kinds Are old s drawn new t
 
 -- if its event queue agrees with its accounts, the simulation goes on by deeds of this sort, by what was kept
-abbrev pub LivedFrom : {S : Type 0} → Takes S → List TaskKind → (Book → List Deed → Type 0) → S → Simulation → S → Simulation → Type 0
+abbrev pub LivedFrom : {S : Type 0} → SinkTakes S → List TaskKind → (Book → List Deed → Type 0) → S → Simulation → S → Simulation → Type 0
 LivedFrom takes kinds Are old s new t = (drawn : List ℕ) → HasDrawn s drawn → HasFirsts kinds s → IsAgreed s.roster → GoesByDeeds takes kinds (Are (book_of s drawn)) old s drawn new t
 
 -- it goes on by deeds of this sort, whatever the kinds of its tasks: what tasks do has no part in it
-abbrev pub Befell : {S : Type 0} → Takes S → (List Deed → Type 0) → S → Simulation → S → Simulation → Type 0
+abbrev pub Befell : {S : Type 0} → SinkTakes S → (List Deed → Type 0) → S → Simulation → S → Simulation → Type 0
 Befell takes Are old s new t = (kinds : List TaskKind) → Lived takes kinds Are old s new t
 
 -- it goes on by deeds of which nothing is reported
@@ -187,11 +187,11 @@ Silent kinds Are s t = (drawn : List ℕ) → HasDrawn s drawn → HasFirsts kin
 -- one more task is there, with this home, of a kind that starts then: if it is the next of its kind, and each task has a stream
 abbrev pub JoinsNext : ℕ → ℕ → ℕ → Simulation → Simulation → Type 0
 JoinsNext kind home start s t =
-    (kinds : List TaskKind) → IsOfKind kinds (length s.roster.by_task.items) kind → start ≡ start_of kinds kind →
+    (kinds : List TaskKind) → IsTaskOfKind kinds (length s.roster.by_task.items) kind → start ≡ kind_start kinds kind →
     length s.streams.items ≡ length s.roster.by_task.items → Silent kinds (IsJoin kind home) s t
 
 -- a simulation goes on until no timer, no end of a phase, no tick and no look is left, and then to its end
-pub record Runs {S : Type 0} (takes : Takes S) (policies : List Accepted) (kinds : List TaskKind) (most end processors : ℕ)
+pub record Runs {S : Type 0} (takes : SinkTakes S) (policies : List Accepted) (kinds : List TaskKind) (most end processors : ℕ)
     (old : S) (s : Simulation) (new : S) (t : Simulation) : Type 0 where
   pub sink : S
   pub ended : Simulation
@@ -201,29 +201,29 @@ pub record Runs {S : Type 0} (takes : Takes S) (policies : List Accepted) (kinds
   pub ticks : Lived takes kinds (AreJust (last_ticks end (all_processors processors) (accounts_of ended.roster))) sink ended new t
 
 -- the simulation of a workload is opened, and goes on by some of what comes due in it until its end
-abbrev pub HasProceeded : {S : Type 0} → Takes S → List Accepted → Workload → S → Simulation → S → Simulation → Type 0
+abbrev pub HasProceeded : {S : Type 0} → SinkTakes S → List Accepted → Workload → S → Simulation → S → Simulation → Type 0
 HasProceeded takes policies w old s new t = LivedFrom takes w.tasks.items (ProceedsIn policies w s.seed s.roster.periods) old s new t
 
 -- it goes on to its end, or until the sink has enough
-abbrev pub RunsToEndOrEnough : {S : Type 0} → Takes S → (S → Bool) → List Accepted → Workload → S → Simulation → S → Simulation → Type 0
+abbrev pub RunsToEndOrEnough : {S : Type 0} → SinkTakes S → (S → Bool) → List Accepted → Workload → S → Simulation → S → Simulation → Type 0
 RunsToEndOrEnough takes sated policies w old s new t =
     Runs takes policies w.tasks.items (most_steps w) w.machine.duration (processors_in w.machine.size) old s new t
     ⊎ ((sated new ≡ true) × HasProceeded takes policies w old s new t)
 
 -- it goes on until as many things have come due as its bound for all instants until its end, as far as 64 bits count
-abbrev pub RunsOut : {S : Type 0} → Takes S → List Accepted → Workload → S → Simulation → S → Simulation → Type 0
-RunsOut takes policies w old s new t = LivedFrom takes w.tasks.items (ProceedsOut policies w s.seed s.roster.periods) old s new t
+abbrev pub ComesToBound : {S : Type 0} → SinkTakes S → List Accepted → Workload → S → Simulation → S → Simulation → Type 0
+ComesToBound takes policies w old s new t = LivedFrom takes w.tasks.items (ProceedsOut policies w s.seed s.roster.periods) old s new t
 
 -- it goes on by what comes due until its end; at most this many things come due
-abbrev pub RunsToEnd : {S : Type 0} → Takes S → Workload → ℕ → S → Simulation → S → Simulation → Type 0
+abbrev pub RunsToEnd : {S : Type 0} → SinkTakes S → Workload → ℕ → S → Simulation → S → Simulation → Type 0
 RunsToEnd takes w most old s new t = LivedFrom takes w.tasks.items (AreMet w.tasks.items s.seed s.roster.periods most w.machine.duration) old s new t
 
 -- it goes on until exactly this many things have come due
-abbrev pub RunsToLimit : {S : Type 0} → Takes S → Workload → ℕ → S → Simulation → S → Simulation → Type 0
+abbrev pub RunsToLimit : {S : Type 0} → SinkTakes S → Workload → ℕ → S → Simulation → S → Simulation → Type 0
 RunsToLimit takes w count old s new t = LivedFrom takes w.tasks.items (AreAllMet w.tasks.items s.seed s.roster.periods count w.machine.duration) old s new t
 
 -- what stays beside the machine and the accounts, and that the event queue agrees with them
-pub record Stays (s t : Simulation) : Type 0 where
+pub record SimulationStays (s t : Simulation) : Type 0 where
   pub agrees : StaysAgreed s.roster t.roster
   pub periods : t.roster.periods ≡ s.roster.periods
   pub seed : t.seed ≡ s.seed
@@ -234,10 +234,10 @@ pub record Stays (s t : Simulation) : Type 0 where
 pub record Same (s t : Simulation) : Type 0 where
   pub driver : t.driver ≡ s.driver
   pub accounts : accounts_of t.roster ≡ accounts_of s.roster
-  pub stays : Stays s t
+  pub stays : SimulationStays s t
 
 -- a length is drawn for a task, and nothing else is done
-pub record Draws (task : ℕ) (asked : Length) (s : Simulation) (length : ℕ) (t : Simulation) : Type 0 where
+pub record DrawsLength (task : ℕ) (asked : Length) (s : Simulation) (length : ℕ) (t : Simulation) : Type 0 where
   pub stream : Lcg
   pub there : slice_get s.streams.items task ≡ Some stream
   pub value : length ≡ next_length asked stream
@@ -250,4 +250,4 @@ pub record Draws (task : ℕ) (asked : Length) (s : Simulation) (length : ℕ) (
 -- the next length is drawn if a length is asked for; otherwise the length is 0 and nothing changes
 abbrev pub DrawsFor : ℕ → Option Length → Simulation → ℕ → Simulation → Type 0
 DrawsFor task None s length t = (length ≡ 0) × (t ≡ s)
-DrawsFor task (Some asked) s length t = Draws task asked s length t
+DrawsFor task (Some asked) s length t = DrawsLength task asked s length t

@@ -16,9 +16,9 @@ use Rattle.bq_verify.specs.Accepted.{Accepted}
 use Rattle.bq_words.specs.Sizes.{processors_in}
 use Rattle.bq_workload.specs.Accounts.{Accounts}
 use Rattle.bq_workload.specs.declared.roster.Periods.{Periods}
-use Rattle.bq_workload.specs.Next.{IsNext}
+use Rattle.bq_workload.specs.Next.{IsNextDue}
 use Rattle.bq_workload.specs.Soundness.{IsFirstAllowed, has_numbers}
-use Rattle.bq_simulate.specs.Actions.{first_of}
+use Rattle.bq_simulate.specs.Actions.{first_task_of}
 use Rattle.bq_simulate.specs.Chronicles.{Acts, Beats, Book, Deed, Happens, Joins, Looks, Misses, Reaches, Rings, after_deeds, is_busy}
 use Rattle.bq_simulate.specs.Drives.{placed_at}
 
@@ -90,7 +90,7 @@ AreAdmissions w = AreAllAdmitted (processors_in w.machine.size) 0 0 w.tasks.item
 
 -- all tasks of the kind with this number are admitted, after the tasks of the kinds before
 abbrev pub AreKindAdmissions : Workload → ℕ → TaskKind → List Deed → Type 0
-AreKindAdmissions w number kind = AreAdmitted (processors_in w.machine.size) number kind (first_of w.tasks.items number) kind.count
+AreKindAdmissions w number kind = AreAdmitted (processors_in w.machine.size) number kind (first_task_of w.tasks.items number) kind.count
 
 -- a task is woken from a processor, and the one on which the answer says that it was placed takes it in at the same instant
 abbrev pub AreWake : ℕ → ℕ → ℕ → List Deed → Type 0
@@ -99,14 +99,14 @@ AreWake from task now deeds =
     × (deeds ≡ Happens (BeginWake from task) begun ∷ Happens (EndWake from now) placed ∷ Happens (Drain to now) drained ∷ [])
 
 -- the task that runs at a processor wakes this one from there if this one waits, and misses it otherwise
-abbrev pub Wakes : ℕ → ℕ → ℕ → List Deed → Type 0
-Wakes task processor now deeds = (deeds ≡ Misses task ∷ []) ⊎ ((more : List Deed) × (deeds ≡ Reaches task ∷ more) × AreWake processor task now more)
+abbrev pub WakesTask : ℕ → ℕ → ℕ → List Deed → Type 0
+WakesTask task processor now deeds = (deeds ≡ Misses task ∷ []) ⊎ ((more : List Deed) × (deeds ≡ Reaches task ∷ more) × AreWake processor task now more)
 
 -- what follows an action at once: a task that runs on does nothing; one that wakes others wakes the one that it aims at, or
 -- misses it; any other blocks
 abbrev pub Follow : Option Action → Option ℕ → ℕ → ℕ → List Deed → Type 0
 Follow (Some (Run asked)) aim processor now deeds = deeds ≡ []
-Follow (Some (Wake kind)) (Some task) processor now deeds = Wakes task processor now deeds
+Follow (Some (Wake kind)) (Some task) processor now deeds = WakesTask task processor now deeds
 Follow (Some (Wake kind)) None processor now deeds = ⊥
 Follow action aim processor now deeds = AreJust (Block processor now ∷ []) deeds
 
@@ -129,30 +129,30 @@ Meet (due.Tick processor) now deeds = (more : List Deed) × (deeds ≡ Beats pro
 Meet (due.Pull processor) now deeds = (source : Option ℕ) × (more : List Deed) × (deeds ≡ Looks processor now source ∷ more) × AreJust (pulls_of processor now source) more
 
 -- something that comes due, when, and the deeds by which it is met
-pub record Step : Type 0 where
+pub record MetDue : Type 0 where
   pub due : Due
   pub at : ℕ
   pub deeds : List Deed
   pub meet : Meet due at deeds
 
 -- the deeds of some steps, one after another
-abbrev pub deeds_of : List Step → List Deed
-deeds_of steps = flat_map (λ (step : Step). step.deeds) steps
+abbrev pub deeds_of : List MetDue → List Deed
+deeds_of steps = flat_map (λ (step : MetDue). step.deeds) steps
 
 -- instants that never fall, from the first to the last of these two
-abbrev pub Rise : ℕ → List Step → ℕ → Type 0
+abbrev pub Rise : ℕ → List MetDue → ℕ → Type 0
 Rise first [] last = first ≤ last
 Rise first (step ∷ steps) last = (first ≤ step.at) × Rise step.at steps last
 
 -- each step is the next by the accounts before it: of all that comes until the end it is the first, by its time, at one instant
 -- by its kind, and of one kind by its number
-abbrev pub AreInOrder : List TaskKind → ℕ → Periods → Book → List Step → Type 0
+abbrev pub AreInOrder : List TaskKind → ℕ → Periods → Book → List MetDue → Type 0
 AreInOrder kinds seed periods b [] = Unit {0}
-AreInOrder kinds seed periods b (step ∷ steps) = IsNext periods.end b.accounts step.due step.at × AreInOrder kinds seed periods (after_deeds kinds seed periods b step.deeds) steps
+AreInOrder kinds seed periods b (step ∷ steps) = IsNextDue periods.end b.accounts step.due step.at × AreInOrder kinds seed periods (after_deeds kinds seed periods b step.deeds) steps
 
 -- starting from what is kept, at most this many things come due until an instant, one after another in their order
 pub record AreMet (kinds : List TaskKind) (seed : ℕ) (periods : Periods) (most last : ℕ) (b : Book) (deeds : List Deed) : Type 0 where
-  pub steps : List Step
+  pub steps : List MetDue
   pub whole : deeds ≡ deeds_of steps
   pub rise : Rise 0 steps last
   pub few : length steps ≤ most

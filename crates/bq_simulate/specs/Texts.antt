@@ -17,14 +17,14 @@ abbrev pub ByHook : Type 0
 ByHook = Hook → Option (List ℕ)
 
 -- the bytes of an image, if there is one
-abbrev pub bytes_of : Option (Bor (List ℕ)) → Option (List ℕ)
-bytes_of image = option_map (λ b. b.now) image
+abbrev pub optional_image_bytes : Option (Bor (List ℕ)) → Option (List ℕ)
+optional_image_bytes image = option_map (λ b. b.now) image
 
 -- the bytes of the image at a hook, if there is one
 abbrev pub image_at : Images → ByHook
-image_at images hooks.Place = bytes_of images.place
-image_at images hooks.Preempt = bytes_of images.preempt
-image_at images hooks.Pull = bytes_of images.pull
+image_at images hooks.Place = optional_image_bytes images.place
+image_at images hooks.Preempt = optional_image_bytes images.preempt
+image_at images hooks.Pull = optional_image_bytes images.pull
 
 -- the image that an event brings
 abbrev pub brought : ByHook → Event → Option (List ℕ)
@@ -54,7 +54,7 @@ AreFitting [] = Unit {0}
 AreFitting ((n, x) ∷ more) = IsFitting x × AreFitting more
 
 -- A text grows by the lines of an event, and a line feed after each.
-pub record Writes (images : ByHook) (old : List ℕ) (traced : TraceEvent) (new : List ℕ) : Type 0 where
+pub record WritesEvent (images : ByHook) (old : List ℕ) (traced : TraceEvent) (new : List ℕ) : Type 0 where
   pub text : new ≡ old ++ with_feeds (traced_lines images traced)
   pub fits : IsFitting traced
 

@@ -1,18 +1,18 @@
 //! What a task does next, once it has run long enough.
 ghost use Rattle.std.specs.Prelude.{◌≡◌, ◌⊎◌, ◌+◌, ◌<◌, ◌≤◌, true, false, [], ◌∷◌, IfErr, IfOk, List, None, OnOk, Some, length, slice_get};
 ghost use Rattle.bq_parts.specs.declared.event.Event.TheVariants.{Block};
-ghost use Rattle.bq_workload.specs.TaskProgress.{begun};
-ghost use Rattle.bq_workload.specs.Kinds.{count_of};
+ghost use Rattle.bq_workload.specs.TaskProgress.{phase_begun};
+ghost use Rattle.bq_workload.specs.Kinds.{kind_count};
 ghost use Rattle.bq_workload.specs.Lengths.{is_length};
 ghost use Rattle.bq_workload.specs.declared.workload.TaskKind.{TaskKind};
 ghost use Rattle.bq_workload.specs.declared.workload.Workload.{Workload};
-ghost use Rattle.bq_simulate.specs.Actions.{acted, action_at, actions_of, asleep_for, advanced_in, aim_in, asked_by, first_of, next_action, resting, woken_one_in};
+ghost use Rattle.bq_simulate.specs.Actions.{acted, action_at, action_count, asleep_for, advanced_in, aim_in, asked_by, first_task_of, next_action, resting, woken_one_in};
 ghost use Rattle.bq_workload.specs.Accounts.{accounts_of};
-ghost use Rattle.bq_workload.specs.Next.{IsNext};
+ghost use Rattle.bq_workload.specs.Next.{IsNextDue};
 ghost use Rattle.bq_simulate.specs.Chronicles.{is_busy};
-ghost use Rattle.bq_simulate.specs.Order.{CanFollow, FallsAsleep, GoesWell, IsStrayAction, WantsMemory};
+ghost use Rattle.bq_simulate.specs.Order.{CanFollow, FallsAsleep, SimulationGoesWell, IsStrayAction, WantsMemory};
 ghost use Rattle.bq_simulate.specs.Simulations.{Befell, DrawsFor, Lived, Same, Silent};
-ghost use Rattle.bq_simulate.specs.Steps.{AreJust, Follow, IsAct, Meet, Wakes};
+ghost use Rattle.bq_simulate.specs.Steps.{AreJust, Follow, IsAct, Meet, WakesTask};
 
 use crate::fault::SimulateFault;
 use crate::simulation::Simulation;
@@ -35,7 +35,7 @@ struct Doing {
 /// Answers what a task does next; none if it has done all its actions as often as it is to.
 fn next_of(workload: &Workload, progress: &TaskProgress) -> Result<Option<Action>, BrokenInvariant>
     ensures action { IfOk result (λ action. action ≡ next_action workload.now.tasks.items progress.now) }
-    ensures stray { IfErr result (λ _. actions_of workload.now.tasks.items progress.now ≤ progress.now.action) }
+    ensures stray { IfErr result (λ _. action_count workload.now.tasks.items progress.now ≤ progress.now.action) }
 {
     match workload.tasks.get(progress.kind) {
         Some(kind) => action_at(kind, progress),
@@ -81,7 +81,7 @@ fn advanced(workload: &Workload, progress: TaskProgress) -> Result<TaskProgress,
 
 /// Answers how many tasks a kind has.
 fn count_of(workload: &Workload, kind: usize) -> Result<u16, BrokenInvariant>
-    ensures count { IfOk result (λ count. count ≡ count_of workload.now.tasks.items kind) }
+    ensures count { IfOk result (λ count. count ≡ kind_count workload.now.tasks.items kind) }
     ensures missing { IfErr result (λ _. slice_get workload.now.tasks.items kind ≡ None) }
 {
     let kind = workload.tasks.get(kind).ok_or(BrokenInvariant)?;
@@ -116,7 +116,7 @@ fn resting(progress: TaskProgress, task_state: TaskState) -> TaskProgress
 
 /// A task whose phase has this length.
 fn begun(progress: TaskProgress, length: u64) -> TaskProgress
-    ensures { result ≡ begun length progress }
+    ensures { result ≡ phase_begun length progress }
 {
     let mut progress = progress;
     progress.begin(length);
@@ -164,7 +164,7 @@ impl Simulation {
         sink: &mut S,
     ) -> Result<(), SimulateFault>
         ensures lived { OnOk result (Lived S.takes workload.now.tasks.items (Meet (Due.End processor) now) sink.old self.old sink.new self.new) }
-        ensures ends { GoesWell workload.now now self.old → IsNext workload.now.machine.duration (accounts_of self.old.roster) (Due.End processor) now → IfErr result WantsMemory }
+        ensures ends { SimulationGoesWell workload.now now self.old → IsNextDue workload.now.machine.duration (accounts_of self.old.roster) (Due.End processor) now → IfErr result WantsMemory }
     {
         let doing = self.take_action(workload, processor, now)?;
         self.count_phase(&doing.before);
@@ -180,7 +180,7 @@ impl Simulation {
         now: u64,
     ) -> Result<Doing, BrokenInvariant>
         ensures acts { IfOk result (λ doing. Silent workload.now.tasks.items (IsAct processor doing.task now doing.action (aim_in workload.now.tasks.items doing)) self.old self.new) }
-        ensures ends { GoesWell workload.now now self.old → IsNext workload.now.machine.duration (accounts_of self.old.roster) (Due.End processor) now → IfErr result (λ _. ⊥) }
+        ensures ends { SimulationGoesWell workload.now now self.old → IsNextDue workload.now.machine.duration (accounts_of self.old.roster) (Due.End processor) now → IfErr result (λ _. ⊥) }
     {
         let (task, before) = self.roster.end_phase(processor, now)?;
         let action = next_of(workload, &before)?;
@@ -263,8 +263,8 @@ impl Simulation {
         now: u64,
         sink: &mut S,
     ) -> Result<(), SimulateFault>
-        ensures lived { OnOk result ((kinds : List TaskKind) → Lived S.takes kinds (Wakes (first_of kinds kind + woken) processor now) sink.old self.old sink.new self.new) }
-        ensures ends { (w : Workload) → GoesWell w now self.old → is_busy (accounts_of self.old.roster) processor ≡ true → woken < count_of w.tasks.items kind → IfErr result WantsMemory }
+        ensures lived { OnOk result ((kinds : List TaskKind) → Lived S.takes kinds (WakesTask (first_task_of kinds kind + woken) processor now) sink.old self.old sink.new self.new) }
+        ensures ends { (w : Workload) → SimulationGoesWell w now self.old → is_busy (accounts_of self.old.roster) processor ≡ true → woken < kind_count w.tasks.items kind → IfErr result WantsMemory }
     {
         let first = self.first_of(kind)?;
         let target = first

@@ -3,7 +3,7 @@ ghost use Rattle.std.specs.Prelude.{◌≡◌, ◌∷◌, [], IfErr, IfOk, OnOk,
 ghost use Rattle.bq_parts.specs.declared.event.Event.TheVariants.{Admit, Draw, Install, EndWake, Drain, Tick, Block, Pull};
 ghost use Rattle.bq_parts.specs.declared.reply.Reply.{Reply};
 ghost use Rattle.bq_parts.specs.declared.reply.Reply.TheVariants.{Drawn};
-ghost use Rattle.bq_simulate.specs.Drives.{Did, Drove, IsDriveFault, IsWakeFault, Places, TookFrom, TookIn, placed_at, runs_now};
+ghost use Rattle.bq_simulate.specs.Drives.{Did, Drove, IsDriveFault, IsWakeFault, PlacesWoken, TookFrom, TookIn, placed_at, runs_now};
 ghost use Rattle.bq_trace.specs.TraceEvents.{Gets};
 
 use crate::drive_fault::DriveFault;
@@ -63,7 +63,7 @@ impl Driver {
         now: u64,
         sink: &mut S,
     ) -> Result<u8, DriveFault>
-        ensures does { IfOk result (λ to. Gets S.takes sink.old sink.new (λ reported. Places self.old processor task now to reported self.new)) }
+        ensures does { IfOk result (λ to. Gets S.takes sink.old sink.new (λ reported. PlacesWoken self.old processor task now to reported self.new)) }
         ensures fault { IfErr result (λ fault. IsWakeFault self.old processor task now fault) }
     {
         match self.perform(alloc, Event::BeginWake { processor, task }, sink)? {

@@ -1,6 +1,6 @@
 //! A machine, and how far it was driven.
 ghost use Rattle.std.specs.Prelude.{◌≡◌, IfErr, IfOk, OnErr, OnOk};
-ghost use Rattle.bq_simulate.specs.Drives.{reading_of, Falls, IsDriveFault, IsUntouched, Rises, DrivesEvent, Starts};
+ghost use Rattle.bq_simulate.specs.Drives.{reading_of_event, Falls, IsDriveFault, IsUntouched, Rises, DrivesEvent, Starts};
 ghost use Rattle.bq_simulate.specs.declared.drive_fault.DriveFault.TheVariants.{OutOfMemory, Reading};
 ghost use Rattle.bq_trace.specs.TraceEvents.{Gets};
 
@@ -95,7 +95,7 @@ impl Driver {
 
 /// The reading of a clock that comes with an event.
 fn reading_of(event: &Event) -> Option<u64>
-    ensures { result ≡ reading_of event.now }
+    ensures { result ≡ reading_of_event event.now }
 {
     match event {
         Event::EndWake { now, .. }

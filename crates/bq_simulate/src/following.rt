@@ -7,8 +7,8 @@ ghost use Rattle.bq_workload.specs.Next.{IsAgreed, NothingComes};
 ghost use Rattle.bq_workload.specs.Soundness.{first_flaw};
 ghost use Rattle.bq_workload.specs.declared.workload.Workload.{Workload};
 ghost use Rattle.bq_simulate.specs.Faults.{reported_flaw};
-ghost use Rattle.bq_simulate.specs.Order.{EndsEarly, GoesWell, HasGoneWell, HasProcessors, IfEndless, IsCutOff, StartsWell, WantsMemory};
-ghost use Rattle.bq_simulate.specs.Simulations.{Befell, RunsToEnd, RunsToLimit, HasEnough, HasProceeded, IsFollowed, IsSimulation, IsTooLong, RunsOut, RunsToEndOrEnough, opening_book, periods_of, with_seed};
+ghost use Rattle.bq_simulate.specs.Order.{EndsEarly, SimulationGoesWell, HasGoneWell, HasProcessors, IfEndless, IsCutOff, StartsWell, WantsMemory};
+ghost use Rattle.bq_simulate.specs.Simulations.{Befell, RunsToEnd, RunsToLimit, HasEnough, HasProceeded, IsFollowed, IsSimulation, IsTooLong, ComesToBound, RunsToEndOrEnough, opening_book, periods_of, with_seed};
 ghost use Rattle.bq_simulate.specs.Steps.{AreJust, KeepsOthers, all_processors, last_ticks};
 ghost use Rattle.bq_simulate.specs.declared.fault.SimulateFault.TheVariants as why;
 ghost use Rattle.bq_trace.specs.TraceEvents.{Gets};
@@ -153,7 +153,7 @@ impl Simulation {
         ensures tasks { IfOk result (λ counts. counts.tasks ≡ tasks_in workload.now.tasks.items) }
         ensures runs { OnOk result (RunsToEndOrEnough S.takes S.sated policies.now workload.now sink.old self.old sink.new self.new) }
         ensures ends { StartsWell workload.now self.old → IfErr result (EndsEarly workload.now) }
-        ensures endless { StartsWell workload.now self.old → IfErr result (IfEndless (RunsOut S.takes policies.now workload.now sink.old self.old sink.new self.new)) }
+        ensures endless { StartsWell workload.now self.old → IfErr result (IfEndless (ComesToBound S.takes policies.now workload.now sink.old self.old sink.new self.new)) }
     {
         let tasks = self.proceed(alloc, workload, policies, sink)?;
         if sink.has_enough() {
@@ -182,7 +182,7 @@ impl Simulation {
         ensures lived { OnOk result (HasProceeded S.takes policies.now workload.now sink.old self.old sink.new self.new) }
         ensures well { OnOk result (StartsWell workload.now self.old → HasGoneWell workload.now self.new) }
         ensures ends { StartsWell workload.now self.old → IfErr result (EndsEarly workload.now) }
-        ensures endless { StartsWell workload.now self.old → IfErr result (IfEndless (RunsOut S.takes policies.now workload.now sink.old self.old sink.new self.new)) }
+        ensures endless { StartsWell workload.now self.old → IfErr result (IfEndless (ComesToBound S.takes policies.now workload.now sink.old self.old sink.new self.new)) }
     {
         let processors = workload.machine.size.processors();
         self.install(alloc, processors, policies, sink)?;
@@ -213,9 +213,9 @@ impl Simulation {
     ) -> Result<(), SimulateFault>
         ensures none { OnOk result (S.sated sink.new ≡ false → IsAgreed self.new.roster → NothingComes self.new.roster.periods.end (accounts_of self.new.roster)) }
         ensures lived { OnOk result (RunsToEnd S.takes workload.now most sink.old self.old sink.new self.new) }
-        ensures well { OnOk result (GoesWell workload.now 0 self.old → HasGoneWell workload.now self.new) }
-        ensures ends { GoesWell workload.now 0 self.old → HasProcessors workload.now self.old → most ≡ most_steps workload.now → IfErr result (EndsEarly workload.now) }
-        ensures endless { GoesWell workload.now 0 self.old → IfErr result (IfEndless (RunsToLimit S.takes workload.now most sink.old self.old sink.new self.new)) }
+        ensures well { OnOk result (SimulationGoesWell workload.now 0 self.old → HasGoneWell workload.now self.new) }
+        ensures ends { SimulationGoesWell workload.now 0 self.old → HasProcessors workload.now self.old → most ≡ most_steps workload.now → IfErr result (EndsEarly workload.now) }
+        ensures endless { SimulationGoesWell workload.now 0 self.old → IfErr result (IfEndless (RunsToLimit S.takes workload.now most sink.old self.old sink.new self.new)) }
     {
         let end = workload.machine.duration;
         let mut last: u64 = 0;
@@ -244,7 +244,7 @@ impl Simulation {
         sink: &mut S,
     ) -> Result<(), SimulateFault>
         ensures befell { OnOk result (Befell S.takes (AreJust (last_ticks end (all_processors processors) (accounts_of self.old.roster))) sink.old self.old sink.new self.new) }
-        ensures ends { (w : Workload) → GoesWell w end self.old → processors ≤ length self.old.roster.by_processor.items → IfErr result WantsMemory }
+        ensures ends { (w : Workload) → SimulationGoesWell w end self.old → processors ≤ length self.old.roster.by_processor.items → IfErr result WantsMemory }
     {
         'processors: for processor in 0..processors {
             self.tick_at_end(alloc, processor, end, sink)?;
@@ -262,7 +262,7 @@ impl Simulation {
     ) -> Result<(), SimulateFault>
         ensures befell { OnOk result (Befell S.takes (AreJust (last_ticks end (processor ∷ []) (accounts_of self.old.roster))) sink.old self.old sink.new self.new) }
         ensures others { OnOk result (KeepsOthers processor (accounts_of self.old.roster) (accounts_of self.new.roster)) }
-        ensures ends { (w : Workload) → GoesWell w end self.old → slice_get self.old.roster.by_processor.items processor ≢ None → IfErr result WantsMemory }
+        ensures ends { (w : Workload) → SimulationGoesWell w end self.old → slice_get self.old.roster.by_processor.items processor ≢ None → IfErr result WantsMemory }
     {
         let processor_state = self.roster.processor_state(processor)?;
         match processor_state.run {

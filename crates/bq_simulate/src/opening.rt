@@ -5,7 +5,7 @@ ghost use Rattle.bq_parts.specs.declared.event.Event.TheVariants.{Admit};
 ghost use Rattle.bq_workload.specs.Kinds.{tasks_in};
 ghost use Rattle.bq_workload.specs.declared.workload.TaskKind.{TaskKind};
 ghost use Rattle.bq_workload.specs.declared.workload.Workload.{Workload};
-ghost use Rattle.bq_simulate.specs.Actions.{first_of};
+ghost use Rattle.bq_simulate.specs.Actions.{first_task_of};
 ghost use Rattle.bq_simulate.specs.Kept.{HasAllFirsts};
 ghost use Rattle.bq_simulate.specs.Order.{HasGenerations, HasNewer, OpensBefore, OpensWell, StartsWell, WantsMemory};
 ghost use Rattle.bq_simulate.specs.Simulations.{Befell, JoinsNext, Lived, Same, Silent};
@@ -98,13 +98,13 @@ impl Simulation {
         sink: &mut S,
     ) -> Result<(), SimulateFault>
         requires kind { slice_get workload.now.tasks.items number ≡ Some kind.now }
-        requires first { length self.old.roster.by_task.items ≡ first_of workload.now.tasks.items number }
-        requires streams { length self.old.streams.items ≡ first_of workload.now.tasks.items number }
+        requires first { length self.old.roster.by_task.items ≡ first_task_of workload.now.tasks.items number }
+        requires streams { length self.old.streams.items ≡ first_task_of workload.now.tasks.items number }
         ensures lived { OnOk result (Lived S.takes workload.now.tasks.items (AreKindAdmissions workload.now number kind.now) sink.old self.old sink.new self.new) }
         ensures tasks { OnOk result (length self.new.roster.by_task.items ≡ length self.old.roster.by_task.items + kind.now.count) }
         ensures streams { OnOk result (length self.new.streams.items ≡ length self.old.streams.items + kind.now.count) }
         ensures firsts { OnOk result (self.new.firsts ≡ self.old.firsts) }
-        ensures well { OnOk result (OpensBefore workload.now number self.old → OpensWell workload.now (first_of workload.now.tasks.items number + kind.now.count) self.new) }
+        ensures well { OnOk result (OpensBefore workload.now number self.old → OpensWell workload.now (first_task_of workload.now.tasks.items number + kind.now.count) self.new) }
         ensures ends { OpensBefore workload.now number self.old → IfErr result WantsMemory }
     {
         let processors = workload.machine.size.processors();
@@ -120,7 +120,7 @@ impl Simulation {
 
     /// The next task is the first of the next kind, which has this number.
     fn begin_kind(&mut self, number: usize) -> Result<(), SimulateFault>
-        ensures silent { OnOk result ((kinds : List TaskKind) → length self.old.streams.items ≡ first_of kinds number → Silent kinds (AreJust []) self.old self.new) }
+        ensures silent { OnOk result ((kinds : List TaskKind) → length self.old.streams.items ≡ first_task_of kinds number → Silent kinds (AreJust []) self.old self.new) }
         ensures by_task { self.new.roster ≡ self.old.roster }
         ensures streams { self.new.streams ≡ self.old.streams }
         ensures firsts { OnOk result (length self.new.firsts.items ≡ length self.old.firsts.items + 1) }

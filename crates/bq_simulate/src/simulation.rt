@@ -2,14 +2,14 @@
 ghost use Rattle.std.specs.Prelude.{◌≡◌, ◌≢◌, ◌⊎◌, ℕ, true, false, [], ◌∷◌, IfOk, IfErr, None, OnOk, slice_get};
 ghost use Rattle.bq_parts.specs.declared.event.Event.TheVariants.{BeginWake, EndWake, Drain, Pull, Tick};
 ghost use Rattle.bq_simulate.specs.Drives.{Drove};
-ghost use Rattle.bq_workload.specs.Accounts.{accounts_of, switched};
-ghost use Rattle.bq_workload.specs.Next.{IsNext, StaysAgreed};
+ghost use Rattle.bq_workload.specs.Accounts.{accounts_of, accounts_switched};
+ghost use Rattle.bq_workload.specs.Next.{IsNextDue, StaysAgreed};
 ghost use Rattle.bq_workload.specs.Strays.{IsStrayPass};
-ghost use Rattle.bq_simulate.specs.Chronicles.{IsWoken, is_busy, pulled};
+ghost use Rattle.bq_simulate.specs.Chronicles.{IsWoken, is_busy, accounts_pulled};
 ghost use Rattle.bq_workload.specs.Lengths.{is_length};
 ghost use Rattle.bq_workload.specs.declared.workload.Workload.{Workload};
-ghost use Rattle.bq_simulate.specs.Order.{GoesWell, HasBoth, IsStrayPull, WantsMemory};
-ghost use Rattle.bq_simulate.specs.Simulations.{Befell, Draws, Lived};
+ghost use Rattle.bq_simulate.specs.Order.{SimulationGoesWell, HasBoth, IsStrayPull, WantsMemory};
+ghost use Rattle.bq_simulate.specs.Simulations.{Befell, DrawsLength, Lived};
 ghost use Rattle.bq_simulate.specs.Steps.{AreJust, AreWake, KeepsOthers, Meet};
 
 use crate::Driver;
@@ -43,7 +43,7 @@ impl Simulation {
         sink: &mut S,
     ) -> Result<(), SimulateFault>
         ensures lived { OnOk result (Lived S.takes workload.now.tasks.items (Meet due now) sink.old self.old sink.new self.new) }
-        ensures ends { GoesWell workload.now now self.old → IsNext workload.now.machine.duration (accounts_of self.old.roster) due now → IfErr result WantsMemory }
+        ensures ends { SimulationGoesWell workload.now now self.old → IsNextDue workload.now.machine.duration (accounts_of self.old.roster) due now → IfErr result WantsMemory }
     {
         match due {
             Due::End(processor) => self.act(alloc, workload, processor, now, sink),
@@ -62,7 +62,7 @@ impl Simulation {
         sink: &mut S,
     ) -> Result<(), SimulateFault>
         ensures befell { OnOk result (Befell S.takes (Meet (Due.Wake task) now) sink.old self.old sink.new self.new) }
-        ensures ends { (w : Workload) → GoesWell w now self.old → IsNext w.machine.duration (accounts_of self.old.roster) (Due.Wake task) now → IfErr result WantsMemory }
+        ensures ends { (w : Workload) → SimulationGoesWell w now self.old → IsNextDue w.machine.duration (accounts_of self.old.roster) (Due.Wake task) now → IfErr result WantsMemory }
     {
         let progress = self.roster.progress(task)?;
         if progress.timer != now {
@@ -86,7 +86,7 @@ impl Simulation {
         requires { IsWoken (accounts_of self.old.roster) from task }
         ensures events { OnOk result ((to : ℕ) × Drove S.takes sink.old self.old.driver (BeginWake from task ∷ EndWake from now ∷ Drain to now ∷ []) sink.new self.new.driver) }
         ensures lived { OnOk result (Befell S.takes (AreWake from task now) sink.old self.old sink.new self.new) }
-        ensures ends { (w : Workload) → GoesWell w now self.old → IfErr result WantsMemory }
+        ensures ends { (w : Workload) → SimulationGoesWell w now self.old → IfErr result WantsMemory }
     {
         self.roster.wake(task)?;
         let to = self.driver.wake(alloc, from, task, now, sink)?;
@@ -104,7 +104,7 @@ impl Simulation {
         sink: &mut S,
     ) -> Result<(), SimulateFault>
         ensures befell { OnOk result (Befell S.takes (Meet (Due.Tick processor) now) sink.old self.old sink.new self.new) }
-        ensures ends { (w : Workload) → GoesWell w now self.old → IsNext w.machine.duration (accounts_of self.old.roster) (Due.Tick processor) now → IfErr result WantsMemory }
+        ensures ends { (w : Workload) → SimulationGoesWell w now self.old → IsNextDue w.machine.duration (accounts_of self.old.roster) (Due.Tick processor) now → IfErr result WantsMemory }
     {
         self.roster.beat(processor, now)?;
         let processor_state = self.roster.processor_state(processor)?;
@@ -125,7 +125,7 @@ impl Simulation {
         requires { is_busy (accounts_of self.old.roster) processor ≡ true }
         ensures befell { OnOk result (Befell S.takes (AreJust (Tick processor now ∷ [])) sink.old self.old sink.new self.new) }
         ensures others { OnOk result (KeepsOthers processor (accounts_of self.old.roster) (accounts_of self.new.roster)) }
-        ensures ends { (w : Workload) → GoesWell w now self.old → IfErr result WantsMemory }
+        ensures ends { (w : Workload) → SimulationGoesWell w now self.old → IfErr result WantsMemory }
     {
         let run = self.driver.tick(alloc, processor, now, sink)?;
         self.roster.switch(processor, run, now)?;
@@ -141,7 +141,7 @@ impl Simulation {
         sink: &mut S,
     ) -> Result<(), SimulateFault>
         ensures befell { OnOk result (Befell S.takes (Meet (Due.Pull processor) now) sink.old self.old sink.new self.new) }
-        ensures ends { (w : Workload) → GoesWell w now self.old → IsNext w.machine.duration (accounts_of self.old.roster) (Due.Pull processor) now → IfErr result WantsMemory }
+        ensures ends { (w : Workload) → SimulationGoesWell w now self.old → IsNextDue w.machine.duration (accounts_of self.old.roster) (Due.Pull processor) now → IfErr result WantsMemory }
     {
         let source = self.roster.look(processor, now)?;
         match source {
@@ -159,7 +159,7 @@ impl Simulation {
         sink: &mut S,
     ) -> Result<(), SimulateFault>
         ensures befell { OnOk result (Befell S.takes (AreJust (Pull processor from now ∷ [])) sink.old self.old sink.new self.new) }
-        ensures ends { (w : Workload) → GoesWell w now self.old → HasBoth processor from self.old → IfErr result WantsMemory }
+        ensures ends { (w : Workload) → SimulationGoesWell w now self.old → HasBoth processor from self.old → IfErr result WantsMemory }
     {
         let moved = self.driver.pull(alloc, processor, from, now, sink)?;
         keep_pull(&mut self.roster, processor, from, moved, now)?;
@@ -168,7 +168,7 @@ impl Simulation {
 
     /// The next length of a task.
     pub(crate) fn draw(&mut self, task: u16, length: Length) -> Result<u64, BrokenInvariant>
-        ensures drawn { IfOk result (λ drawn. Draws task length self.old drawn self.new) }
+        ensures drawn { IfOk result (λ drawn. DrawsLength task length self.old drawn self.new) }
         ensures stray { IfErr result (λ _. (is_length length ≡ false) ⊎ (slice_get self.old.streams.items task ≡ None)) }
     {
         if !length.is_sound() {
@@ -189,7 +189,7 @@ fn keep_pull(
     moved: Moved,
     now: u64,
 ) -> Result<(), BrokenInvariant>
-    ensures accounts { OnOk result (accounts_of roster.new ≡ switched processor moved.run now roster.old.periods (pulled from processor moved.task (accounts_of roster.old))) }
+    ensures accounts { OnOk result (accounts_of roster.new ≡ accounts_switched processor moved.run now roster.old.periods (accounts_pulled from processor moved.task (accounts_of roster.old))) }
     ensures agrees { OnOk result (StaysAgreed roster.old roster.new) }
     ensures periods { roster.new.periods ≡ roster.old.periods }
     ensures stray { IfErr result (λ _. IsStrayPull roster.old.periods processor from moved.task moved.run now (accounts_of roster.old)) }
@@ -205,7 +205,7 @@ fn pass_where_taken(
     from: u8,
     to: u8,
 ) -> Result<(), BrokenInvariant>
-    ensures accounts { OnOk result (accounts_of roster.new ≡ pulled from to taken (accounts_of roster.old)) }
+    ensures accounts { OnOk result (accounts_of roster.new ≡ accounts_pulled from to taken (accounts_of roster.old)) }
     ensures agrees { OnOk result (StaysAgreed roster.old roster.new) }
     ensures periods { roster.new.periods ≡ roster.old.periods }
     ensures stray { IfErr result (λ _. (taken ≢ None) × IsStrayPass from to (accounts_of roster.old)) }

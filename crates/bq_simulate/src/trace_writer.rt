@@ -2,7 +2,7 @@
 ghost use Rattle.std.specs.Prelude.{◌≡◌, ℕ, List, [], string_bytes};
 ghost use Rattle.std.specs.Borrow.{Bor};
 ghost use Rattle.std.specs.Option.{option_map};
-ghost use Rattle.bq_simulate.specs.Texts.{Writes, brought, image_at};
+ghost use Rattle.bq_simulate.specs.Texts.{WritesEvent, brought, image_at};
 
 use crate::images::Images;
 use crate::{write_event, write_machine};
@@ -44,7 +44,7 @@ impl<'a> TraceWriter<'a> {
 }
 
 impl Sink for TraceWriter<'_> {
-    ghost takes = { λ old n traced new. (new.images ≡ old.images) × Writes (image_at old.images) (string_bytes old.text) traced (string_bytes new.text) };
+    ghost takes = { λ old n traced new. (new.images ≡ old.images) × WritesEvent (image_at old.images) (string_bytes old.text) traced (string_bytes new.text) };
 
     fn take(&mut self, _number: u64, event: &TraceEvent<'_>) -> Result<(), AllocError> {
         match event {

@@ -13,7 +13,7 @@ use Rattle.bq_states.specs.declared.abstract_state.AbstractState.{AbstractState}
 use Rattle.bq_states.specs.declared.abstract_state.AbstractValue.{AbstractValue}
 use Rattle.bq_states.specs.declared.abstract_state.ValueKind.{ValueKind}
 use Rattle.bq_states.specs.declared.abstract_state.ValueKind.TheVariants.{Number, Context, Stack, Entry, EntryOrNull, Map}
-use Rattle.bq_states.specs.AbstractStates.{Contains, Suits, IsEntryBase, IsOfKind, Bounds, FindsBytes}
+use Rattle.bq_states.specs.AbstractStates.{Contains, Suits, IsEntryBase, IsRegionOfKind, Bounds, FindsBytes}
 use Rattle.bq_insn.proofs.OptionLemmas.{some_same}
 use Rattle.bq_states.proofs.LearnLemmas.{found_at}
 
@@ -112,7 +112,7 @@ entry_bounds shapes context_length m size shape kind kind_is known size_is f bas
 -- the bytes that a pointer of the kind points to are set
 pub region_byte : (shapes : List MapShape) (context_length : ℕ) (f : Setting) (v : AbstractState) (s : State)
     (kind : ValueKind) (region : Region) (base size i : ℕ)
-    → Suits shapes context_length f → Contains f v s → IsOfKind kind region → Spans f region base size → i < size
+    → Suits shapes context_length f → Contains f v s → IsRegionOfKind kind region → Spans f region base size → i < size
     → (kind ≡ Stack → slice_index_or v.set i false ≡ true)
     → (b : ℕ) × (byte_at f s region i ≡ Some b) × (b < 256)
 region_byte shapes context_length f v s Number region base size i suits contains is spans lt set = absurd is

@@ -13,8 +13,8 @@ use Rattle.bq_states.specs.declared.abstract_state.ValueKind.{ValueKind}
 use Rattle.bq_states.specs.declared.abstract_state.ValueKind.TheVariants.{Stack}
 use Rattle.bq_states.specs.declared.abstract_state.StackPart.{StackPart}
 use Rattle.bq_states.specs.declared.abstract_state.AbstractState.{AbstractState}
-use Rattle.bq_states.specs.Parts.{AllowsPart, HasBytes, HasPart, HaveParts, Outlives}
-use Rattle.bq_states.specs.AbstractStates.{Contains, IsOfKind}
+use Rattle.bq_states.specs.Parts.{AllowsPart, HasBytes, HasStackPart, HaveParts, Outlives}
+use Rattle.bq_states.specs.AbstractStates.{Contains, IsRegionOfKind}
 use Rattle.bq_states.proofs.StoreLemmas.{byte_inside_write, stack_cases}
 use Rattle.bq_insn.proofs.OptionLemmas.{some_same}
 
@@ -46,7 +46,7 @@ same_bytes stack first (suc count) (a ∷ as') (b ∷ bs) p q =
 
 -- the number of the bytes of a part is in its range
 pub part_number : (stack : ℕ → Option ℕ) (p : StackPart) (o : ℕ) (size : Size) (bytes : List ℕ)
-    → p.first ≡ o → p.size ≡ size → HasPart stack (Some p) → HasBytes stack o (byte_count size) bytes
+    → p.first ≡ o → p.size ≡ size → HasStackPart stack (Some p) → HasBytes stack o (byte_count size) bytes
     → Within p.range (number_of bytes)
 part_number stack p o size bytes place same h has =
     let own =
@@ -106,7 +106,7 @@ pub read_numbers : (kind : ValueKind) (at numbers : Range) (size : Size) (f : Se
     → ((stack : ℕ → Option ℕ) (o : ℕ) (own : List ℕ) → kind ≡ Stack → HaveParts stack parts → Within at o →
     HasBytes stack o (byte_count size) own → number_of own < 256 ^ byte_count size → Within numbers (number_of own))
     → HaveParts s.stack parts → length bytes ≡ byte_count size → number_of bytes < 256 ^ byte_count size
-    → IsOfKind kind r.region → Within at r.offset
+    → IsRegionOfKind kind r.region → Within at r.offset
     → Within numbers (number_of bytes)
 read_numbers Stack at numbers size f s address bytes parts r any on have long small is within =
     on s.stack r.offset bytes refl have within

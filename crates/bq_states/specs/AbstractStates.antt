@@ -64,8 +64,8 @@ StackIsAsKnown shapes None stack j = Unit {0}
 StackIsAsKnown shapes (Some k) stack j = (n : ℕ) × Describes shapes k n × ((i : ℕ) → i < 8 → stack (8 * j + i) ≡ Some (byte_at i n))
 
 -- each number of the list is below 256
-abbrev pub AreBytes : List ℕ → Type 0
-AreBytes bytes = (k : ℕ) → k < length bytes → slice_index bytes k < 256
+abbrev pub AreBelow256 : List ℕ → Type 0
+AreBelow256 bytes = (k : ℕ) → k < length bytes → slice_index bytes k < 256
 
 -- the abstract state describes this machine state: all that it says is true of the state
 pub record Contains (f : Setting) (v : AbstractState) (s : State) : Type 0 where
@@ -85,8 +85,8 @@ pub record Suits (shapes : List MapShape) (context_length : ℕ) (f : Setting) :
   pub processor_fits : f.processor < 2 ^ 32
 
 -- in every state that the abstract state describes, the operand is set to a word of `k`
-abbrev pub Finds : AbstractState → Source → AbstractValue → Type 0
-Finds v src k = (f : Setting) (s : State) → Contains f v s → (b : ℕ) × IsOperand s src b × Describes f.shapes k b
+abbrev pub FindsOperand : AbstractState → Source → AbstractValue → Type 0
+FindsOperand v src k = (f : Setting) (s : State) → Contains f v s → (b : ℕ) × IsOperand s src b × Describes f.shapes k b
 
 -- the abstract state after register `dst` got a word of `k`; the register is no longer a copy of another place
 abbrev pub knowing : AbstractState → ℕ → AbstractValue → AbstractState
@@ -99,16 +99,16 @@ Allows shapes None (Some new) = ⊥
 Allows shapes (Some old) (Some new) = (word : ℕ) → Describes shapes old word → Describes shapes new word
 
 -- a pointer of this kind points into this region
-abbrev pub IsOfKind : ValueKind → Region → Type 0
-IsOfKind Context region = region ≡ InContext
-IsOfKind Stack region = region ≡ InStack
-IsOfKind (Entry m) region = (map : ℕ) × (first : ℕ) × (region ≡ InEntry map first)
-IsOfKind _ region = ⊥
+abbrev pub IsRegionOfKind : ValueKind → Region → Type 0
+IsRegionOfKind Context region = region ≡ InContext
+IsRegionOfKind Stack region = region ≡ InStack
+IsRegionOfKind (Entry m) region = (map : ℕ) × (first : ℕ) × (region ≡ InEntry map first)
+IsRegionOfKind _ region = ⊥
 
 -- each base from which a pointer of this kind counts is the start of a region of this size
 abbrev pub Bounds : List MapShape → ℕ → ValueKind → ℕ → Type 0
 Bounds shapes context_length kind size =
-    (f : Setting) (base : ℕ) → Suits shapes context_length f → IsBase f.shapes kind base → (region : Region) × Spans f region base size × IsOfKind kind region × (base < 2 ^ 63)
+    (f : Setting) (base : ℕ) → Suits shapes context_length f → IsBase f.shapes kind base → (region : Region) × Spans f region base size × IsRegionOfKind kind region × (base < 2 ^ 63)
 
 -- registers 1 to 5 are forgotten, and no other register changes
 pub record Clears (old new : List (Option AbstractValue)) : Type 0 where
@@ -140,7 +140,7 @@ Forgets old new from to = (j : ℕ) → (slice_index_or new j None ≡ None) ⊎
 -- a state of the new one
 abbrev pub Overwrites : AbstractState → AbstractState → Range → ℕ → Type 0
 Overwrites old new at count =
-    (f : Setting) (s : State) (o : ℕ) (bytes : List ℕ) → Contains f old s → Within at o → length bytes ≡ count → AreBytes bytes → Contains f new (next (written s InStack o bytes))
+    (f : Setting) (s : State) (o : ℕ) (bytes : List ℕ) → Contains f old s → Within at o → length bytes ≡ count → AreBelow256 bytes → Contains f new (next (written s InStack o bytes))
 
 -- the abstract state after a word of `k` was kept in a slot of eight bytes
 abbrev pub keeping : AbstractState → ℕ → AbstractValue → AbstractState

@@ -13,13 +13,13 @@ abbrev pub HasBytes : (ℕ → Option ℕ) → ℕ → ℕ → List ℕ → Type
 HasBytes stack first count bytes = (length bytes ≡ count) × ((i : ℕ) → i < count → stack (first + i) ≡ Some (slice_index bytes i))
 
 -- if a part is known, its bytes are set, and the number that they spell, the low byte first, is in its range
-abbrev pub HasPart : (ℕ → Option ℕ) → Option StackPart → Type 0
-HasPart stack None = Unit {0}
-HasPart stack (Some p) = (bytes : List ℕ) × HasBytes stack p.first (byte_count p.size) bytes × Within p.range (number_of bytes)
+abbrev pub HasStackPart : (ℕ → Option ℕ) → Option StackPart → Type 0
+HasStackPart stack None = Unit {0}
+HasStackPart stack (Some p) = (bytes : List ℕ) × HasBytes stack p.first (byte_count p.size) bytes × Within p.range (number_of bytes)
 
 -- the stack is as each known part says
 abbrev pub HaveParts : (ℕ → Option ℕ) → List (Option StackPart) → Type 0
-HaveParts stack parts = (j : ℕ) → HasPart stack (slice_index_or parts j None)
+HaveParts stack parts = (j : ℕ) → HasStackPart stack (slice_index_or parts j None)
 
 -- the stack has the low bytes of the word from `first` on
 abbrev pub HasLowBytes : (ℕ → Option ℕ) → ℕ → Size → ℕ → Type 0
@@ -32,8 +32,8 @@ ReadsWithin parts at count read =
 
 -- every stack that has the old part has the new one
 pub record AllowsPart (old new : Option StackPart) : Type 0 where
-  pub has : (stack : ℕ → Option ℕ) → HasPart stack old → HasPart stack new
+  pub has : (stack : ℕ → Option ℕ) → HasStackPart stack old → HasStackPart stack new
 
 -- if a stack has the old part, it has the new part after any write to bytes from `from` up to `to`
 pub record Outlives (from to : ℕ) (old new : Option StackPart) : Type 0 where
-  pub has : (stack : ℕ → Option ℕ) (at : ℕ) (bytes : List ℕ) → from ≤ at → at + length bytes ≤ to → HasPart stack old → HasPart (stack_with stack at bytes) new
+  pub has : (stack : ℕ → Option ℕ) (at : ℕ) (bytes : List ℕ) → from ≤ at → at + length bytes ≤ to → HasStackPart stack old → HasStackPart (stack_with stack at bytes) new

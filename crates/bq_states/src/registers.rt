@@ -3,7 +3,7 @@
 ghost use Rattle.std.specs.Prelude.{◌≡◌, ◌<◌, ℕ, ℤ, None, IfSome, length, slice_index_or};
 ghost use Rattle.bq_bpf.specs.Meaning.{word_of};
 ghost use Rattle.bq_states.specs.Certainty.{IsScalarOperand, IsWord, Scalar, CertaintyHolds};
-ghost use Rattle.bq_states.specs.AbstractStates.{Clears, Finds, knowing};
+ghost use Rattle.bq_states.specs.AbstractStates.{Clears, FindsOperand, knowing};
 
 use crate::abstract_state::{AbstractState, AbstractValue, ValueKind};
 use bq_insn::{REGISTERS, Source};
@@ -11,7 +11,7 @@ use bq_ranges::Range;
 
 /// What is known of an operand, if it is set.
 pub fn operand(state: &AbstractState, src: Source) -> Option<AbstractValue>
-    ensures finds { IfSome result (Finds state.now src) }
+    ensures finds { IfSome result (FindsOperand state.now src) }
     ensures scalar { IsScalarOperand state.now src → CertaintyHolds Scalar result }
     ensures immediate { (i : ℤ) → src ≡ Source.Imm i → IsWord (word_of i) result }
     ensures register { (r : ℕ) → src ≡ Source.Reg r → result ≡ slice_index_or state.now.registers r None }

@@ -3,12 +3,12 @@ use Rattle.std.specs.Prelude.{◌≡◌, ℕ, ◌+◌, ◌-◌, ◌^◌, ◌<◌
 use Rattle.bq_streams.specs.declared.counted.Counted.{Counted}
 
 -- the reader or the writer itself
-abbrev pub inner_of : {T : Type 0} → Counted T → T
-inner_of c = c.inner
+abbrev pub counted_inner : {T : Type 0} → Counted T → T
+counted_inner c = c.inner
 
 -- how often the reader or the writer was called
-abbrev pub calls_of : {T : Type 0} → Counted T → ℕ
-calls_of c = c.calls
+abbrev pub call_count : {T : Type 0} → Counted T → ℕ
+call_count c = c.calls
 
 -- how often a call failed
 abbrev pub failures_of : {T : Type 0} → Counted T → ℕ

@@ -19,8 +19,8 @@ IsReadFault OutOfMemory old new calls after = new ≡ old
 IsReadFault Write old new calls after = ⊥
 
 -- The faults of a reader and a writer: each fault comes only for its cause, and only if no other failure came.
-abbrev pub IsFault : StreamFault → ℕ → ℕ → ℕ → ℕ → ℕ → ℕ → Type 0
-IsFault Read old_reads new_reads old_writes new_writes calls after = HasRisen old_reads new_reads × (new_writes ≡ old_writes)
-IsFault Write old_reads new_reads old_writes new_writes calls after = HasRisen old_writes new_writes × (new_reads ≡ old_reads)
-IsFault TooLong old_reads new_reads old_writes new_writes calls after = HasCounted (2 ^ 32) calls after × (new_reads ≡ old_reads) × (new_writes ≡ old_writes)
-IsFault OutOfMemory old_reads new_reads old_writes new_writes calls after = (new_reads ≡ old_reads) × (new_writes ≡ old_writes)
+abbrev pub IsStreamFault : StreamFault → ℕ → ℕ → ℕ → ℕ → ℕ → ℕ → Type 0
+IsStreamFault Read old_reads new_reads old_writes new_writes calls after = HasRisen old_reads new_reads × (new_writes ≡ old_writes)
+IsStreamFault Write old_reads new_reads old_writes new_writes calls after = HasRisen old_writes new_writes × (new_reads ≡ old_reads)
+IsStreamFault TooLong old_reads new_reads old_writes new_writes calls after = HasCounted (2 ^ 32) calls after × (new_reads ≡ old_reads) × (new_writes ≡ old_writes)
+IsStreamFault OutOfMemory old_reads new_reads old_writes new_writes calls after = (new_reads ≡ old_reads) × (new_writes ≡ old_writes)

@@ -4,8 +4,8 @@ use Rattle.std.specs.declared.io.Error.{Error}
 use Rattle.bq_streams.specs.declared.kept.Kept.{Kept}
 
 -- the reader or the writer itself
-abbrev pub inner_of : {T : Type 0} → Kept T → T
-inner_of k = k.inner
+abbrev pub kept_inner : {T : Type 0} → Kept T → T
+kept_inner k = k.inner
 
 -- the error of the last call that failed
 abbrev pub failure_of : {T : Type 0} → Kept T → Option Error

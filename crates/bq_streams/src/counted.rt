@@ -1,7 +1,7 @@
 //! Readers and writers whose calls and failures are counted.
 ghost use Rattle.std.specs.Prelude.{◌≡◌, ◌<◌, ◌≤◌, length, take, IfOk, IfErr, OnOk, OnErr, is_ok, if◌then◌else◌};
 ghost use Rattle.std.specs.Io.KnownBytes.{Appends, Keeps, ReadConsumes};
-ghost use Rattle.bq_streams.specs.Counts.{inner_of, calls_of, failures_of, one_more, HasCounted, HasRisen};
+ghost use Rattle.bq_streams.specs.Counts.{counted_inner, call_count, failures_of, one_more, HasCounted, HasRisen};
 ghost use Rattle.bq_streams.specs.Writing.{AppendsPart};
 
 use crate::fault::StreamFault;
@@ -18,8 +18,8 @@ pub struct Counted<T> {
 impl<T> Counted<T> {
     /// Counts the calls of a reader or a writer. Both counts begin at 0.
     pub fn new(inner: T) -> Counted<T>
-        ensures wraps { inner_of result ≡ inner }
-        ensures calls { calls_of result ≡ 0 }
+        ensures wraps { counted_inner result ≡ inner }
+        ensures calls { call_count result ≡ 0 }
         ensures failures { failures_of result ≡ 0 }
     {
         Counted {
@@ -31,14 +31,14 @@ impl<T> Counted<T> {
 
     /// How often the reader or the writer was called.
     pub fn calls(&self) -> u64
-        ensures { result ≡ calls_of self.now }
+        ensures { result ≡ call_count self.now }
     {
         self.calls
     }
 
     /// The reader or the writer.
     pub fn into_inner(self) -> T
-        ensures { result ≡ inner_of self }
+        ensures { result ≡ counted_inner self }
     {
         let Counted {
             inner,
@@ -53,8 +53,8 @@ impl<R: Read> Counted<R> {
     /// One read into `buf`. Its only error is `StreamFault::Read`.
     pub fn read(&mut self, buf: &mut [u8]) -> Result<usize, StreamFault>
         ensures bound { IfOk result (λ n. n ≤ length buf.new) }
-        ensures bytes { ReadConsumes (R.remaining (inner_of self.old)) (R.remaining (inner_of self.new)) result buf.new }
-        ensures calls { calls_of self.new ≡ one_more (calls_of self.old) }
+        ensures bytes { ReadConsumes (R.remaining (counted_inner self.old)) (R.remaining (counted_inner self.new)) result buf.new }
+        ensures calls { call_count self.new ≡ one_more (call_count self.old) }
         ensures failures { failures_of self.new ≡ (if is_ok result then failures_of self.old else one_more (failures_of self.old)) }
         ensures fault { IfErr result (λ e. e ≡ StreamFault.Read) }
     {
@@ -74,9 +74,9 @@ impl<W: Write> Counted<W> {
     pub fn write_some(&mut self, piece: &[u8]) -> Result<usize, StreamFault>
         requires { 0 < length piece.now }
         ensures taken { IfOk result (λ n. (0 < n) × (n ≤ length piece.now)
-            × Appends (W.contents (inner_of self.old)) (W.contents (inner_of self.new)) (take n piece.now)) }
-        ensures kept { OnErr result (Keeps (W.contents (inner_of self.old)) (W.contents (inner_of self.new))) }
-        ensures calls { calls_of self.new ≡ one_more (calls_of self.old) }
+            × Appends (W.contents (counted_inner self.old)) (W.contents (counted_inner self.new)) (take n piece.now)) }
+        ensures kept { OnErr result (Keeps (W.contents (counted_inner self.old)) (W.contents (counted_inner self.new))) }
+        ensures calls { call_count self.new ≡ one_more (call_count self.old) }
         ensures failures { failures_of self.new ≡ (if is_ok result then failures_of self.old else one_more (failures_of self.old)) }
         ensures fault { IfErr result (λ e. e ≡ StreamFault.Write) }
     {
@@ -92,11 +92,11 @@ impl<W: Write> Counted<W> {
 
     /// Writes the whole text. If a write fails, only a beginning of the text has been written.
     pub fn write_text(&mut self, text: &[u8]) -> Result<(), StreamFault>
-        ensures whole { OnOk result (Appends (W.contents (inner_of self.old)) (W.contents (inner_of self.new)) text.now) }
+        ensures whole { OnOk result (Appends (W.contents (counted_inner self.old)) (W.contents (counted_inner self.new)) text.now) }
         ensures kept { OnOk result (failures_of self.new ≡ failures_of self.old) }
-        ensures part { OnErr result (AppendsPart (W.contents (inner_of self.old)) (W.contents (inner_of self.new)) text.now) }
+        ensures part { OnErr result (AppendsPart (W.contents (counted_inner self.old)) (W.contents (counted_inner self.new)) text.now) }
         ensures risen { OnErr result (HasRisen (failures_of self.old) (failures_of self.new)) }
-        ensures calls { HasCounted 0 (calls_of self.old) (calls_of self.new) }
+        ensures calls { HasCounted 0 (call_count self.old) (call_count self.new) }
         ensures fault { IfErr result (λ e. e ≡ StreamFault.Write) }
     {
         let mut rest = text;

@@ -2,7 +2,7 @@
 ghost use Rattle.std.specs.Prelude.{◌≡◌, None, Some, IfErr, OnOk};
 ghost use Rattle.std.specs.Io.KnownBytes.{Keeps, ReadConsumes, WriteAppends};
 ghost use Rattle.std.specs.Io.{ReadsAtMost, WritesAtMost};
-ghost use Rattle.bq_streams.specs.Keeping.{failure_of, inner_of};
+ghost use Rattle.bq_streams.specs.Keeping.{failure_of, kept_inner};
 
 use std::io;
 use std::io::{Error, Read, Write};
@@ -23,7 +23,7 @@ pub struct Kept<T> {
 impl<T> Kept<T> {
     /// Keeps the failures of a reader or a writer. At first there are no failures.
     pub fn new(inner: T) -> Kept<T>
-        ensures inner { inner_of result ≡ inner }
+        ensures inner { kept_inner result ≡ inner }
         ensures failure { failure_of result ≡ None }
     {
         Kept {
@@ -41,11 +41,11 @@ impl<T> Kept<T> {
 }
 
 impl<R: Read> Read for Kept<R> {
-    ghost remaining = { λ k. R.remaining (inner_of k) };
+    ghost remaining = { λ k. R.remaining (kept_inner k) };
 
     fn read(&mut self, buf: &mut [u8]) -> io::Result<usize>
         ensures bound { ReadsAtMost result buf.new }
-        ensures bytes { ReadConsumes (R.remaining (inner_of self.old)) (R.remaining (inner_of self.new)) result buf.new }
+        ensures bytes { ReadConsumes (R.remaining (kept_inner self.old)) (R.remaining (kept_inner self.new)) result buf.new }
         ensures kept { IfErr result (λ e. failure_of self.new ≡ Some e) }
         ensures same { OnOk result (failure_of self.new ≡ failure_of self.old) }
     {
@@ -60,11 +60,11 @@ impl<R: Read> Read for Kept<R> {
 }
 
 impl<W: Write> Write for Kept<W> {
-    ghost contents = { λ k. W.contents (inner_of k) };
+    ghost contents = { λ k. W.contents (kept_inner k) };
 
     fn write(&mut self, buf: &[u8]) -> io::Result<usize>
         ensures bound { WritesAtMost result buf.now }
-        ensures bytes { WriteAppends (W.contents (inner_of self.old)) (W.contents (inner_of self.new)) result buf.now }
+        ensures bytes { WriteAppends (W.contents (kept_inner self.old)) (W.contents (kept_inner self.new)) result buf.now }
         ensures kept { IfErr result (λ e. failure_of self.new ≡ Some e) }
         ensures same { OnOk result (failure_of self.new ≡ failure_of self.old) }
     {
@@ -78,7 +78,7 @@ impl<W: Write> Write for Kept<W> {
     }
 
     fn flush(&mut self) -> io::Result<()>
-        ensures bytes { Keeps (W.contents (inner_of self.old)) (W.contents (inner_of self.new)) }
+        ensures bytes { Keeps (W.contents (kept_inner self.old)) (W.contents (kept_inner self.new)) }
         ensures kept { IfErr result (λ e. failure_of self.new ≡ Some e) }
         ensures same { OnOk result (failure_of self.new ≡ failure_of self.old) }
     {

@@ -1,6 +1,6 @@
 //! Inputs that are read whole before they are answered.
 ghost use Rattle.std.specs.Prelude.{◌≡◌, IfOk, IfErr, OnOk, OnErr};
-ghost use Rattle.bq_streams.specs.Counts.{inner_of, calls_of, failures_of};
+ghost use Rattle.bq_streams.specs.Counts.{counted_inner, call_count, failures_of};
 ghost use Rattle.bq_streams.specs.Faults.{IsReadFault};
 ghost use Rattle.bq_streams.specs.Reading.{GivesAll, GivesSome};
 
@@ -17,10 +17,10 @@ pub const READS: u64 = 1 << 32;
 
 /// Reads to the end of the input. Its errors are a failed read, an input that does not end after [`READS`] reads, and lack of memory.
 pub fn read_whole<R: Read>(alloc: Global, input: &mut Counted<R>) -> Result<Vec<u8>, StreamFault>
-    ensures all { IfOk result (λ whole. GivesAll (R.remaining (inner_of input.old)) (R.remaining (inner_of input.new)) whole.items) }
+    ensures all { IfOk result (λ whole. GivesAll (R.remaining (counted_inner input.old)) (R.remaining (counted_inner input.new)) whole.items) }
     ensures kept { OnOk result (failures_of input.new ≡ failures_of input.old) }
-    ensures part { OnErr result (GivesSome (R.remaining (inner_of input.old)) (R.remaining (inner_of input.new))) }
-    ensures fault { IfErr result (λ e. IsReadFault e (failures_of input.old) (failures_of input.new) (calls_of input.old) (calls_of input.new)) }
+    ensures part { OnErr result (GivesSome (R.remaining (counted_inner input.old)) (R.remaining (counted_inner input.new))) }
+    ensures fault { IfErr result (λ e. IsReadFault e (failures_of input.old) (failures_of input.new) (call_count input.old) (call_count input.new)) }
 {
     let mut whole = Vec::new(alloc);
     let mut piece = [0u8; PIECE];

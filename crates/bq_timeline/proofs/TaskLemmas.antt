@@ -3,7 +3,7 @@ use Rattle.std.proofs.Common.{◌≡◌, ℕ, suc, ◌+◌, ◌-◌, ◌<◌, �
 use Rattle.std.specs.Prelude.{option_and_then, option_map}
 use Rattle.std.specs.List.{range_with_len, slice_split}
 use Rattle.bq_words.specs.ProcessorSets.{is_comma}
-use Rattle.bq_timeline.specs.Settings.{AddsPart, RunBackwards, from_asked, is_name, tasks_in, tasks_of_part, to_asked}
+use Rattle.bq_timeline.specs.Settings.{AddsPart, RunBackwards, from_asked, is_name, tasks_in_parts, tasks_of_part, to_asked}
 use Rattle.bq_timeline.specs.declared.settings.Words.{Words}
 
 -- a range begins with its first number
@@ -40,24 +40,24 @@ map_join old some new (Some more) e = ap (λ l. Some (l ++ more)) e ∙ ap (λ l
 -- the tasks of a part and those of the parts behind it
 parts_in : (rest part : List ℕ) (parts : List (List ℕ)) (o : Option (List ℕ))
     → slice_split is_comma rest ≡ part ∷ parts → tasks_of_part part ≡ o
-    → tasks_in (slice_split is_comma rest) ≡ option_and_then (λ some. option_map (λ more. some ++ more) (tasks_in parts)) o
+    → tasks_in_parts (slice_split is_comma rest) ≡ option_and_then (λ some. option_map (λ more. some ++ more) (tasks_in_parts parts)) o
 parts_in rest part parts o split e =
-    ap (λ ps. tasks_in ps) split ∙ ap (λ p. option_and_then (λ some. option_map (λ more. some ++ more) (tasks_in parts)) p) e
+    ap (λ ps. tasks_in_parts ps) split ∙ ap (λ p. option_and_then (λ some. option_map (λ more. some ++ more) (tasks_in_parts parts)) p) e
 
 -- a part's tasks are added, and the parts behind it are left
 pub tasks_on : (old new rest part more : List ℕ) (word : Option (List ℕ))
     → slice_split is_comma rest ≡ part ∷ slice_split is_comma more → AddsPart part old new
-    → option_map (λ l. old ++ l) (tasks_in (slice_split is_comma rest)) ≡ word
-    → option_map (λ l. new ++ l) (tasks_in (slice_split is_comma more)) ≡ word
+    → option_map (λ l. old ++ l) (tasks_in_parts (slice_split is_comma rest)) ≡ word
+    → option_map (λ l. new ++ l) (tasks_in_parts (slice_split is_comma more)) ≡ word
 tasks_on old new rest part more word split adds so_far =
-    map_join old adds.0 new (tasks_in (slice_split is_comma more)) adds.2
+    map_join old adds.0 new (tasks_in_parts (slice_split is_comma more)) adds.2
     ∙ ap (λ o. option_map (λ l. old ++ l) o) (sym (parts_in rest part (slice_split is_comma more) (Some adds.0) split adds.1))
     ∙ so_far
 
 -- a part names no tasks, so the word names none
 pub tasks_none : (old rest part : List ℕ) (parts : List (List ℕ)) (word : Option (List ℕ))
     → slice_split is_comma rest ≡ part ∷ parts → tasks_of_part part ≡ None
-    → option_map (λ l. old ++ l) (tasks_in (slice_split is_comma rest)) ≡ word
+    → option_map (λ l. old ++ l) (tasks_in_parts (slice_split is_comma rest)) ≡ word
     → None ≡ word
 tasks_none old rest part parts word split none so_far =
     ap (λ o. option_map (λ l. old ++ l) o) (sym (parts_in rest part parts None split none)) ∙ so_far
@@ -65,7 +65,7 @@ tasks_none old rest part parts word split none so_far =
 -- the last part's tasks are added
 pub tasks_done : (old new rest : List ℕ) (word : Option (List ℕ))
     → slice_split is_comma rest ≡ rest ∷ [] → AddsPart rest old new
-    → option_map (λ l. old ++ l) (tasks_in (slice_split is_comma rest)) ≡ word
+    → option_map (λ l. old ++ l) (tasks_in_parts (slice_split is_comma rest)) ≡ word
     → Some new ≡ word
 tasks_done old new rest word split adds so_far =
     ap (λ l. Some l) (adds.2 ∙ ap (λ l. old ++ l) (sym (append-nil adds.0)))

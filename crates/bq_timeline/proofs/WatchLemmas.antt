@@ -5,17 +5,17 @@ use Rattle.std.specs.Str.Lines.{lines, strip_carriage_return}
 use Rattle.std.specs.Io.KnownBytes.{Consumes, IsAtEnd}
 use Rattle.std.proofs.KnownBytes.{Consumes-nil, Consumes-trans}
 use Rattle.std.proofs.lemmas.List.{map-append}
-use Rattle.bq_lines.specs.Kept.{IsOneLine, StandsFor}
+use Rattle.bq_lines.specs.Kept.{IsOneLine, KeepsLine}
 use Rattle.bq_schedule.specs.Figures.{Figures}
 use Rattle.bq_trace.specs.Feeding.{with_feeds}
 use Rattle.bq_trace.specs.TraceEvents.{TraceEvent, Reported, Gets, TakesAll}
 use Rattle.bq_trace.specs.Reporting.{ReportsPiece, Story}
-use Rattle.bq_trace.specs.Trace.{start}
+use Rattle.bq_trace.specs.Trace.{opening_progress}
 use Rattle.bq_trace.proofs.LineLemmas.{lines-with_feeds}
 use Rattle.bq_trace.proofs.ReplayLemmas.{with_feeds-join, AllByRecursion-append}
 use Rattle.bq_trace.proofs.StandingLemmas.{Story-append, stands_for_nothing}
 use Rattle.bq_timeline.specs.Notes.{last_notes}
-use Rattle.bq_timeline.specs.Timelines.{Closes, IsTimeline, Keeps, Watches}
+use Rattle.bq_timeline.specs.Timelines.{Closes, IsTimeline, TakesEvent, Watches}
 use Rattle.bq_timeline.specs.Watching.{schedule_after, troubled, troubles_after, watched}
 use Rattle.bq_timeline.specs.declared.showing.Outcome.{Outcome}
 use Rattle.bq_timeline.specs.declared.showing.Showing.{Showing}
@@ -23,7 +23,7 @@ use Rattle.bq_timeline.specs.declared.viewer.Viewer.{Viewer}
 
 -- a viewer takes an event
 abbrev pub Takes : Viewer → ℕ → TraceEvent → Viewer → Type 0
-Takes old n traced new = Keeps old traced new
+Takes old n traced new = TakesEvent old traced new
 
 -- events that a viewer takes leave it their schedule and their count
 pub takes_all : (old new : Viewer) (reported : Reported) → TakesAll Takes old reported new
@@ -60,14 +60,14 @@ pub record Underway (from to : Option (List ℕ)) (showing : Showing) : Type 0 w
   pub consumed : Consumes from to input
   pub whole : input ≡ with_feeds ended ++ rest
   pub each : AllByRecursion IsOneLine ended
-  pub story : Story start (map strip_carriage_return ended) reported showing.position.progress
-  pub stands : StandsFor showing.position.begun rest
+  pub story : Story opening_progress (map strip_carriage_return ended) reported showing.position.progress
+  pub stands : KeepsLine showing.position.begun rest
   pub schedule : showing.viewer.schedule ≡ schedule_after None reported
   pub troubles : showing.viewer.troubles ≡ troubles_after 0 reported
 
 -- at the start nothing has been read and nothing told
 pub Underway-none : (from : Option (List ℕ)) (showing : Showing)
-    → showing.position.progress ≡ start → showing.position.begun ≡ Some [] → showing.viewer.schedule ≡ None
+    → showing.position.progress ≡ opening_progress → showing.position.begun ≡ Some [] → showing.viewer.schedule ≡ None
     → showing.viewer.troubles ≡ 0
     → Underway from from showing
 Underway-none from showing first empty schedule troubles = record {
@@ -79,7 +79,7 @@ Underway-none from showing first empty schedule troubles = record {
   whole = refl;
   each = tt;
   story = (refl, first);
-  stands = subst (λ k. StandsFor k []) (sym empty) stands_for_nothing;
+  stands = subst (λ k. KeepsLine k []) (sym empty) stands_for_nothing;
   schedule = schedule;
   troubles = troubles;
 }
@@ -98,9 +98,9 @@ Underway-more from mid to s t piece h consumed w =
       whole = with_feeds-join [] h.input h.rest piece on.rest h.ended on.ended h.whole on.whole;
       each = AllByRecursion-append h.ended on.ended h.each on.each;
       story =
-          subst (λ ls. Story start ls (h.reported ++ w.reported) t.position.progress)
+          subst (λ ls. Story opening_progress ls (h.reported ++ w.reported) t.position.progress)
           (sym (map-append strip_carriage_return h.ended on.ended))
-          (Story-append start s.position.progress t.position.progress (map strip_carriage_return h.ended)
+          (Story-append opening_progress s.position.progress t.position.progress (map strip_carriage_return h.ended)
           (map strip_carriage_return on.ended) h.reported w.reported h.story on.story);
       stands = on.stands;
       schedule = w.schedule ∙ ap (λ k. schedule_after k w.reported) h.schedule ∙ sym (schedule_after-append None h.reported w.reported);
@@ -123,9 +123,9 @@ Underway-ends from mid to showing outcome h consumed at_end f =
       consumed = subst (Consumes from to) (append-nil h.input) (Consumes-trans from mid to h.input [] h.consumed consumed);
       at_end = at_end;
       story =
-          subst (λ ls. Story start ls (h.reported ++ f.reported) f.final)
+          subst (λ ls. Story opening_progress ls (h.reported ++ f.reported) f.final)
           (sym (ap lines h.whole ∙ lines-with_feeds h.ended h.rest h.each))
-          (Story-append start showing.position.progress f.final (map strip_carriage_return h.ended)
+          (Story-append opening_progress showing.position.progress f.final (map strip_carriage_return h.ended)
           (lines h.rest) h.reported f.reported h.story f.story);
       clean = f.clean ∙ ap (λ k. k == 0) count;
       before = f.before;

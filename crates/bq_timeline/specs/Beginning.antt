@@ -17,7 +17,7 @@ pub record BeginsForm (s : Settings) (old new : Screen) : Type 0 where
   pub notes : string_bytes new.notes ≡ string_bytes old.notes ++ uncalled_notes old.names s.names.items
 
 -- The form does not begin, and nothing changes.
-pub record Stays (old new : Screen) : Type 0 where
+pub record FormStays (old new : Screen) : Type 0 where
   pub shown : new.shown ≡ old.shown
   pub tasks : new.tasks ≡ old.tasks
   pub processors : new.processors ≡ old.processors
@@ -26,20 +26,20 @@ pub record Stays (old new : Screen) : Type 0 where
 -- The form begins if there is a machine and the form has not begun: then its settings are still there.
 abbrev pub BeginsBy : Option Rule → Option Settings → Screen → Screen → Type 0
 BeginsBy (Some rule) (Some s) old new = BeginsForm s old new
-BeginsBy rule asked old new = Stays old new
+BeginsBy rule asked old new = FormStays old new
 
 -- The form begins if it can, and otherwise nothing changes.
-abbrev pub Begins : Screen → Screen → Type 0
-Begins old new = BeginsBy old.rule old.asked old new
+abbrev pub FormBegins : Screen → Screen → Type 0
+FormBegins old new = BeginsBy old.rule old.asked old new
 
--- The form begins as `Begins` says if there is a schedule, which comes with the machine. Otherwise nothing changes.
-abbrev pub BeginsWith : Option Figures → Screen → Screen → Type 0
-BeginsWith None old new = Stays old new
-BeginsWith (Some s) old new = Begins old new
+-- The form begins as `FormBegins` says if there is a schedule, which comes with the machine. Otherwise nothing changes.
+abbrev pub FormBeginsWith : Option Figures → Screen → Screen → Type 0
+FormBeginsWith None old new = FormStays old new
+FormBeginsWith (Some s) old new = FormBegins old new
 
 -- The trace is over. The form begins, if it has not. Then come the notes on what is named but does not exist, and the last notes.
-pub record Ends (old new : Viewer) : Type 0 where
+pub record TraceEnds (old new : Viewer) : Type 0 where
   pub begun : Screen
-  pub begins : BeginsWith old.schedule old.screen begun
+  pub begins : FormBeginsWith old.schedule old.screen begun
   pub notes : string_bytes new.screen.notes
       ≡ (string_bytes begun.notes ++ absent_notes old.schedule begun.tasks.items begun.processors) ++ last_notes old.schedule old.troubles

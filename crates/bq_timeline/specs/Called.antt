@@ -36,12 +36,12 @@ abbrev pub shown_letter : ℕ → ℕ
 shown_letter letter = if nat_lt letter 32 || (nat_le 127 letter && nat_lt letter 160) then 63 else letter
 
 -- a name as a message quotes it: its first 40 characters
-abbrev pub quoted : List ℕ → List ℕ
-quoted name = encodes (map shown_letter (take 40 (chars name)))
+abbrev pub quoted_name : List ℕ → List ℕ
+quoted_name name = encodes (map shown_letter (take 40 (chars name)))
 
 -- the note that no task has this name
 abbrev pub lacking_note : List ℕ → List ℕ
-lacking_note name = codes "--tasks: no task is called " ++ (quoted name ++ codes "\n")
+lacking_note name = codes "--tasks: no task is called " ++ (quoted_name name ++ codes "\n")
 
 -- the note on a name, if no task has it
 abbrev pub uncalled_note : NamedTasks → List ℕ → List ℕ

@@ -15,7 +15,7 @@ ReadsComment (Skipped line) old new = Learns line old new
 ReadsComment traced old new = Unit {0}
 
 -- the schedule, the count of bad or refused lines and the settings stay the same
-pub record Rests (old new : Viewer) : Type 0 where
+pub record ViewerRests (old new : Viewer) : Type 0 where
   pub schedule : new.schedule ≡ old.schedule
   pub troubles : new.troubles ≡ old.troubles
   pub asked : new.screen.asked ≡ old.screen.asked

@@ -3,7 +3,7 @@ use Rattle.std.specs.Prelude.{ℕ, zero, suc, ◌==◌, ◌%◌, ◌-◌, ◌^�
 use Rattle.std.specs.Fmt.{decimal}
 use Rattle.std.specs.List.{list_any}
 use Rattle.bq_disc.specs.declared.limits.TheConstants.{PROCESSORS, TASKS}
-use Rattle.bq_schedule.specs.Figures.{Figures, task_of}
+use Rattle.bq_schedule.specs.Figures.{Figures, task_in_figures}
 use Rattle.bq_schedule.specs.Runnable.{undrained}
 
 -- the note on a task that was placed on a processor that was never drained after, if there is such a processor
@@ -23,7 +23,7 @@ is_number id = nat_lt id (2 ^ 16 - 1)
 
 -- tasks are asked for by number, but none of those that are asked for was admitted
 abbrev pub lacks_tasks : Figures → List ℕ → Bool
-lacks_tasks s tasks = list_any is_number tasks && not (list_any (λ id. (task_of s id).is_admitted) tasks)
+lacks_tasks s tasks = list_any is_number tasks && not (list_any (λ id. (task_in_figures s id).is_admitted) tasks)
 
 -- none of the processors that the bits name is one of this many
 abbrev pub lacks_processors : ℕ → ℕ → Bool

@@ -5,7 +5,7 @@ use Rattle.std.specs.Char.{is_ascii_digit}
 use Rattle.std.specs.List.{range_with_len, slice_split}
 use Rattle.std.specs.Str.{bytes_eq}
 use Rattle.bq_words.specs.Durations.{duration_of}
-use Rattle.bq_words.specs.Quantities.{decimal_of, task_of}
+use Rattle.bq_words.specs.Quantities.{decimal_of, task_in_word}
 use Rattle.bq_words.specs.ProcessorSets.{is_comma, is_dash, processors_of}
 use Rattle.bq_drawing.specs.Themes.{theme_of}
 use Rattle.bq_drawing.specs.declared.theme.Theme.{Theme}
@@ -19,8 +19,8 @@ use Rattle.bq_timeline.specs.declared.settings.SettingsFault.{SettingsFault}
 use Rattle.bq_timeline.specs.declared.settings.SettingsFault.TheVariants as fault
 
 -- the form of this name, if there is one
-abbrev pub form_of : List ℕ → Option FormName
-form_of word =
+abbrev pub form_named : List ℕ → Option FormName
+form_named word =
     if bytes_eq word (codes "report") then Some Report
     else if bytes_eq word (codes "map") then Some Map
     else if bytes_eq word (codes "timehist") then Some Timehist
@@ -37,8 +37,8 @@ tasks_between first last = if nat_lt last first then None else Some (range_with_
 
 -- one task, or a range if there is a dash
 abbrev pub tasks_at : List ℕ → Option ℕ → Option (List ℕ)
-tasks_at part None = option_map (λ only. only ∷ []) (task_of part)
-tasks_at part (Some dash) = option_and_then (λ first. option_and_then (tasks_between first) (task_of (drop (dash + 1) part))) (task_of (take dash part))
+tasks_at part None = option_map (λ only. only ∷ []) (task_in_word part)
+tasks_at part (Some dash) = option_and_then (λ first. option_and_then (tasks_between first) (task_in_word (drop (dash + 1) part))) (task_in_word (take dash part))
 
 -- a part is the name of a task: it is not empty, and does not begin with a digit
 abbrev pub is_name : List ℕ → Bool
@@ -54,25 +54,25 @@ abbrev pub AddsPart : List ℕ → List ℕ → List ℕ → Type 0
 AddsPart part old new = (more : List ℕ) × (tasks_of_part part ≡ Some more) × (new ≡ old ++ more)
 
 -- the tasks that parts name by number, one part after another; `None` if a part is neither a number, a range nor a name
-abbrev pub tasks_in : List (List ℕ) → Option (List ℕ)
-tasks_in [] = Some []
-tasks_in (part ∷ parts) = option_and_then (λ some. option_map (λ more. some ++ more) (tasks_in parts)) (tasks_of_part part)
+abbrev pub tasks_in_parts : List (List ℕ) → Option (List ℕ)
+tasks_in_parts [] = Some []
+tasks_in_parts (part ∷ parts) = option_and_then (λ some. option_map (λ more. some ++ more) (tasks_in_parts parts)) (tasks_of_part part)
 
 -- the tasks that the parts between commas name by number
-abbrev pub tasks_of : List ℕ → Option (List ℕ)
-tasks_of word = tasks_in (slice_split is_comma word)
+abbrev pub tasks_in_list : List ℕ → Option (List ℕ)
+tasks_in_list word = tasks_in_parts (slice_split is_comma word)
 
 -- the names of tasks among the parts between commas
-abbrev pub names_in : List ℕ → List (List ℕ)
-names_in word = filter is_name (slice_split is_comma word)
+abbrev pub names_among_parts : List ℕ → List (List ℕ)
+names_among_parts word = filter is_name (slice_split is_comma word)
 
 -- this many columns, if the number is from 20 to 10,000, the least and the greatest width
 abbrev pub as_width : ℕ → Option ℕ
 as_width columns = if nat_le LEAST_WIDTH columns && nat_le columns GREATEST_WIDTH then Some columns else None
 
 -- the columns that a word asks for
-abbrev pub width_of : List ℕ → Option ℕ
-width_of word = option_and_then as_width (decimal_of word)
+abbrev pub width_in_word : List ℕ → Option ℕ
+width_in_word word = option_and_then as_width (decimal_of word)
 
 -- what a word asks for, or the default if there is no word
 abbrev pub asked_or : {A : Type 0} → A → (List ℕ → Option A) → Option (String Global) → Option A
@@ -81,7 +81,7 @@ asked_or a read (Some word) = read (string_bytes word)
 
 -- the form that is asked for, a report if none is named
 abbrev pub form_asked : Words → Option FormName
-form_asked w = asked_or Report form_of w.form
+form_asked w = asked_or Report form_named w.form
 
 -- the first moment, 0 if none is named
 abbrev pub from_asked : Words → Option ℕ
@@ -97,12 +97,12 @@ processors_asked w = asked_or (2 ^ 64 - 1) processors_of w.cpus
 
 -- the tasks that are asked for by number; empty if no task is named, which means every task
 abbrev pub tasks_asked : Words → Option (List ℕ)
-tasks_asked w = asked_or [] tasks_of w.tasks
+tasks_asked w = asked_or [] tasks_in_list w.tasks
 
 -- the names in a word, none if there is no word
 abbrev pub names_given : Option (String Global) → List (List ℕ)
 names_given None = []
-names_given (Some word) = names_in (string_bytes word)
+names_given (Some word) = names_among_parts (string_bytes word)
 
 -- the names of the tasks that are asked for by name
 abbrev pub names_asked : Words → List (List ℕ)
@@ -110,15 +110,15 @@ names_asked w = names_given w.tasks
 
 -- the columns of a map, 80 if no width is named
 abbrev pub width_asked : Words → Option ℕ
-width_asked w = asked_or 80 width_of w.width
+width_asked w = asked_or 80 width_in_word w.width
 
 -- the theme of a picture, light if none is named
 abbrev pub theme_asked : Words → Option Theme
 theme_asked w = asked_or Light theme_of w.theme
 
 -- the text of a word, if there is one
-abbrev pub text_of : Option (String Global) → Option (List ℕ)
-text_of word = option_map (λ (t : String Global). string_bytes t) word
+abbrev pub optional_word_text : Option (String Global) → Option (List ℕ)
+optional_word_text word = option_map (λ (t : String Global). string_bytes t) word
 
 -- the form shows a stretch of time: a report and JSON have the figures of the whole trace
 abbrev pub has_stretch : FormName → Bool
@@ -150,7 +150,7 @@ pub record HeedsAll (form : FormName) (w : Words) : Type 0 where
   pub title : is_heeded (has_look form) w.title ≡ true
 
 -- the words ask for these settings, and for no option that their form does not heed
-pub record AsksFor (w : Words) (s : Settings) : Type 0 where
+pub record AsksForSettings (w : Words) (s : Settings) : Type 0 where
   pub form : form_asked w ≡ Some s.form
   pub from : from_asked w ≡ Some s.window.from
   pub to : to_asked w ≡ Some s.window.to
@@ -160,7 +160,7 @@ pub record AsksFor (w : Words) (s : Settings) : Type 0 where
   pub names : map string_bytes s.names.items ≡ names_asked w
   pub width : width_asked w ≡ Some s.width
   pub theme : theme_asked w ≡ Some s.look.theme
-  pub title : text_of s.look.title ≡ text_of w.title
+  pub title : optional_word_text s.look.title ≡ optional_word_text w.title
   pub heeded : HeedsAll s.form w
 
 -- both moments are named, and the last is before the first
@@ -195,23 +195,23 @@ IsNoSettings w fault.OutOfMemory = ⊤
 IsNoSettings w unused = IsUnused w unused
 
 -- the word that a fault refuses; none if the fault is not that of one word
-abbrev pub word_refused : Words → SettingsFault → Option (String Global)
-word_refused w fault.Form = w.form
-word_refused w fault.From = w.from
-word_refused w fault.To = w.to
-word_refused w fault.Processors = w.cpus
-word_refused w fault.Tasks = w.tasks
-word_refused w fault.Width = w.width
-word_refused w fault.Theme = w.theme
-word_refused w other = None
+abbrev pub settings_word_refused : Words → SettingsFault → Option (String Global)
+settings_word_refused w fault.Form = w.form
+settings_word_refused w fault.From = w.from
+settings_word_refused w fault.To = w.to
+settings_word_refused w fault.Processors = w.cpus
+settings_word_refused w fault.Tasks = w.tasks
+settings_word_refused w fault.Width = w.width
+settings_word_refused w fault.Theme = w.theme
+settings_word_refused w other = None
 
 -- the option of the word that a fault refuses
-abbrev pub option_refused : SettingsFault → List ℕ
-option_refused fault.Form = codes "as"
-option_refused fault.From = codes "from"
-option_refused fault.To = codes "to"
-option_refused fault.Processors = codes "cpus"
-option_refused fault.Tasks = codes "tasks"
-option_refused fault.Width = codes "width"
-option_refused fault.Theme = codes "theme"
-option_refused other = []
+abbrev pub settings_option_refused : SettingsFault → List ℕ
+settings_option_refused fault.Form = codes "as"
+settings_option_refused fault.From = codes "from"
+settings_option_refused fault.To = codes "to"
+settings_option_refused fault.Processors = codes "cpus"
+settings_option_refused fault.Tasks = codes "tasks"
+settings_option_refused fault.Width = codes "width"
+settings_option_refused fault.Theme = codes "theme"
+settings_option_refused other = []

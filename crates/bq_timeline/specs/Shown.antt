@@ -21,15 +21,15 @@ is_read_by_lines named.Svg = false
 is_read_by_lines named.Perfetto = false
 
 -- the name of a form
-abbrev pub name_of : Shown → FormName
-name_of (form.Report _) = named.Report
-name_of (form.Map _) = named.Map
-name_of (form.Timehist _) = named.Timehist
-name_of (form.Csv _) = named.Csv
-name_of (form.Json _) = named.Json
-name_of (form.Svg _) = named.Svg
-name_of (form.Perfetto _) = named.Perfetto
-name_of (form.Why _) = named.Why
+abbrev pub form_name_of : Shown → FormName
+form_name_of (form.Report _) = named.Report
+form_name_of (form.Map _) = named.Map
+form_name_of (form.Timehist _) = named.Timehist
+form_name_of (form.Csv _) = named.Csv
+form_name_of (form.Json _) = named.Json
+form_name_of (form.Svg _) = named.Svg
+form_name_of (form.Perfetto _) = named.Perfetto
+form_name_of (form.Why _) = named.Why
 
 -- the stretch of time, processors and tasks that the form shows
 abbrev pub window_of : Shown → Window
@@ -43,8 +43,8 @@ window_of (form.Perfetto trace) = trace.window
 window_of (form.Why choices) = choices.window
 
 -- The form has this name, and shows this window.
-pub record IsShown (form : FormName) (window : Window) (shown : Shown) : Type 0 where
-  pub form_is : name_of shown ≡ form
+pub record ShowsForm (form : FormName) (window : Window) (shown : Shown) : Type 0 where
+  pub form_is : form_name_of shown ≡ form
   pub window_is : window_of shown ≡ window
 
 -- The window is the one that the settings ask for, with the tasks that have the names that they ask for.
@@ -56,7 +56,7 @@ pub record IsWindowOf (s : Settings) (named : NamedTasks) (window : Window) : Ty
 
 -- The form and its window are those that the settings ask for, if tasks have these names.
 abbrev pub IsAskedFor : Settings → NamedTasks → Shown → Type 0
-IsAskedFor s named shown = (window : Window) × IsWindowOf s named window × IsShown s.form window shown
+IsAskedFor s named shown = (window : Window) × IsWindowOf s named window × ShowsForm s.form window shown
 
 -- There is a form, and it is the one that the settings ask for.
 abbrev pub ShowsAsked : Settings → NamedTasks → Option Shown → Type 0
@@ -65,5 +65,5 @@ ShowsAsked s named (Some shown) = IsAskedFor s named shown
 
 -- The form has the same name as before, and shows the same window.
 pub record StaysShown (old new : Shown) : Type 0 where
-  pub form_is : name_of new ≡ name_of old
+  pub form_is : form_name_of new ≡ form_name_of old
   pub window_is : window_of new ≡ window_of old

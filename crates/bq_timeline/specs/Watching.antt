@@ -4,13 +4,13 @@ use Rattle.bq_parts.specs.World.{count_in}
 use Rattle.bq_words.specs.Sizes.{processors_in}
 use Rattle.bq_streams.specs.Counts.{one_more}
 use Rattle.bq_trace.specs.TraceEvents.{TraceEvent, Reported, Opened, Answered, NotHex, NotLoaded, ProcessorAsked, Bad}
-use Rattle.bq_schedule.specs.Figures.{Figures, opening}
-use Rattle.bq_schedule.specs.Steps.{after}
+use Rattle.bq_schedule.specs.Figures.{Figures, opening_figures}
+use Rattle.bq_schedule.specs.Steps.{figures_after}
 
 -- the schedule begins with the machine, and takes each event with its answer
 abbrev pub watched : Option Figures → TraceEvent → Option Figures
-watched s (Opened rule size) = Some (opening (processors_in size))
-watched (Some s) (Answered event answer m) = Some (after s event answer)
+watched s (Opened rule size) = Some (opening_figures (processors_in size))
+watched (Some s) (Answered event answer m) = Some (figures_after s event answer)
 watched s traced = s
 
 -- the count goes up by one for each line that is bad or refused

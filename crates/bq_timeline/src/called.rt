@@ -1,7 +1,7 @@
 //! The tasks that are asked for by name.
 ghost use Rattle.std.specs.Prelude.{◌≡◌, ◌++◌, IfOk, OnOk, option_map, string_bytes};
 ghost use Rattle.bq_report.specs.Names.{name_of};
-ghost use Rattle.bq_timeline.specs.Called.{is_named, lacking_note, quoted, shown_letter, tasks_called, tasks_for, uncalled_note, uncalled_notes};
+ghost use Rattle.bq_timeline.specs.Called.{is_named, lacking_note, quoted_name, shown_letter, tasks_called, tasks_for, uncalled_note, uncalled_notes};
 
 use bq_disc::limits::TASKS;
 use bq_report::Names;
@@ -71,7 +71,7 @@ const QUOTED: usize = 40;
 
 /// A name as a message quotes it: its first 40 characters, and `?` for each control character.
 fn quoted(alloc: Global, name: &str) -> Result<String, AllocError>
-    ensures { IfOk result (λ text. string_bytes text ≡ quoted name.now) }
+    ensures { IfOk result (λ text. string_bytes text ≡ quoted_name name.now) }
 {
     let mut text = String::new(alloc);
     for letter in name.chars().take(QUOTED) {

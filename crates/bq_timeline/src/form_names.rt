@@ -1,6 +1,6 @@
 //! The forms by name.
 ghost use Rattle.std.specs.Prelude.{◌≡◌};
-ghost use Rattle.bq_timeline.specs.Settings.{form_of, has_look, has_stretch, has_width};
+ghost use Rattle.bq_timeline.specs.Settings.{form_named, has_look, has_stretch, has_width};
 ghost use Rattle.bq_timeline.specs.Shown.{is_read_by_lines};
 
 /// A form in which a schedule is shown.
@@ -35,7 +35,7 @@ macro_rules! with_stretches {
 impl FormName {
     /// The form of this name, if there is one.
     pub fn of_word(word: &str) -> Option<FormName>
-        ensures { result ≡ form_of word.now }
+        ensures { result ≡ form_named word.now }
     {
         match word {
             "report" => Some(FormName::Report),

@@ -1,7 +1,7 @@
 //! Tasks and widths as words.
 ghost use Rattle.std.specs.Prelude.{◌≡◌, ◌<◌, ◌≤◌, ◌+◌, ◌-◌, ◌++◌, IfOk, IfSome, MatchBool, None, OnOk, length, map, option_map, position, string_bytes};
 ghost use Rattle.std.specs.List.{range_with_len};
-ghost use Rattle.bq_timeline.specs.Settings.{AddsPart, is_name, names_in, tasks_at, tasks_of, tasks_of_part, width_of};
+ghost use Rattle.bq_timeline.specs.Settings.{AddsPart, is_name, names_among_parts, tasks_at, tasks_in_list, tasks_of_part, width_in_word};
 ghost use Rattle.bq_words.specs.ProcessorSets.{is_dash};
 
 use bq_words::processor_sets::first_part;
@@ -20,7 +20,7 @@ pub const GREATEST_WIDTH: u64 = 10_000;
 /// `None` if a part between commas is something else, or if a range runs backwards.
 #[tactic(auto, using(crate::proofs::TaskLemmas::tasks_on, crate::proofs::TaskLemmas::tasks_none, crate::proofs::TaskLemmas::tasks_done))]
 pub fn tasks(alloc: Global, word: &str) -> Result<Option<Vec<u16>>, AllocError>
-    ensures { IfOk result (λ tasks. option_map (λ t. t.items) tasks ≡ tasks_of word.now) }
+    ensures { IfOk result (λ tasks. option_map (λ t. t.items) tasks ≡ tasks_in_list word.now) }
 {
     let mut tasks = Vec::new(alloc);
     let mut rest = word.as_bytes();
@@ -38,7 +38,7 @@ pub fn tasks(alloc: Global, word: &str) -> Result<Option<Vec<u16>>, AllocError>
 
 /// The names of tasks in a word: the nonempty parts between commas that do not begin with a digit.
 pub fn names(alloc: Global, word: &str) -> Result<Vec<String>, AllocError>
-    ensures { IfOk result (λ names. map string_bytes names.items ≡ names_in word.now) }
+    ensures { IfOk result (λ names. map string_bytes names.items ≡ names_among_parts word.now) }
 {
     let mut names = Vec::new(alloc);
     for part in word.split(',') {
@@ -130,7 +130,7 @@ fn is_dash(byte: u8) -> bool
 ///
 /// `None` if the word is no number, or if the number is outside that range.
 pub fn width(word: &str) -> Option<usize>
-    ensures { result ≡ width_of word.now }
+    ensures { result ≡ width_in_word word.now }
 {
     let columns = decimal(word.as_bytes())?;
     if LEAST_WIDTH <= columns && columns <= GREATEST_WIDTH {

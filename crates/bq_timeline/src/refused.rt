@@ -1,6 +1,6 @@
 //! The word that a fault of settings refuses.
 ghost use Rattle.std.specs.Prelude.{◌≡◌, IfNone, IfSome, None, Some};
-ghost use Rattle.bq_timeline.specs.Settings.{option_refused, text_of, word_refused};
+ghost use Rattle.bq_timeline.specs.Settings.{settings_option_refused, optional_word_text, settings_word_refused};
 
 use crate::settings::{SettingsFault, Words};
 use crate::with_forms;
@@ -20,9 +20,9 @@ pub struct RefusedWord<'a> {
 impl SettingsFault {
     /// The word that the fault refuses, and its option. `None` if the fault is not that of one word.
     pub fn refused<'a>(self, words: &'a Words) -> Option<RefusedWord<'a>>
-        ensures word { IfSome result (λ r. text_of (word_refused words.now self) ≡ Some r.word.now) }
-        ensures none { IfNone result (word_refused words.now self ≡ None) }
-        ensures option { IfSome result (λ r. r.option.now ≡ option_refused self) }
+        ensures word { IfSome result (λ r. optional_word_text (settings_word_refused words.now self) ≡ Some r.word.now) }
+        ensures none { IfNone result (settings_word_refused words.now self ≡ None) }
+        ensures option { IfSome result (λ r. r.option.now ≡ settings_option_refused self) }
     {
         match self {
             SettingsFault::Form => word_after("as", &words.form, with_forms!("report, ")),
@@ -49,7 +49,7 @@ pub fn word_after<'a>(
     word: &'a Option<String>,
     known: &'static str,
 ) -> Option<RefusedWord<'a>>
-    ensures word { IfSome result (λ r. text_of word.now ≡ Some r.word.now) }
+    ensures word { IfSome result (λ r. optional_word_text word.now ≡ Some r.word.now) }
     ensures none { IfNone result (word.now ≡ None) }
     ensures option { IfSome result (λ r. r.option.now ≡ option.now) }
 {

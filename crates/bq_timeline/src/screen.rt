@@ -3,9 +3,9 @@ ghost use Rattle.std.specs.Prelude.{◌≡◌, ◌++◌, ℕ, IfOk, OnOk, None, 
 ghost use Rattle.std.specs.List.{list_any};
 ghost use Rattle.bq_report.specs.Names.{Learns, name_of};
 ghost use Rattle.bq_timeline.specs.Called.{tasks_for};
-ghost use Rattle.bq_timeline.specs.Beginning.{Begins, BeginsForm};
+ghost use Rattle.bq_timeline.specs.Beginning.{FormBegins, BeginsForm};
 ghost use Rattle.bq_timeline.specs.Notes.{absent_notes, is_number, lacks_processors, lacks_tasks, last_notes, processors_note, tasks_note, trouble_note, unmade_note, waiting_note, waiting_notes};
-ghost use Rattle.bq_schedule.specs.Figures.{task_of};
+ghost use Rattle.bq_schedule.specs.Figures.{task_in_figures};
 ghost use Rattle.bq_timeline.specs.Shown.{IsAskedFor, is_read_by_lines};
 
 use crate::bounds_table::BoundsTable;
@@ -90,7 +90,7 @@ impl Screen {
     /// Begins the form that is asked for, if there is a machine and the form has not begun. It shows the tasks that are asked for by number,
     /// or by a name that a comment has given so far.
     pub fn begin(&mut self, alloc: Global, schedule: &Schedule) -> Result<(), AllocError>
-        ensures { OnOk result (Begins self.old self.new) }
+        ensures { OnOk result (FormBegins self.old self.new) }
     {
         let Some(rule) = self.rule else {
             return Ok(());
@@ -371,14 +371,14 @@ fn has_number(tasks: &[u16]) -> bool
 
 /// Whether one of some tasks was ever admitted.
 fn admits_any(schedule: &Schedule, tasks: &[u16]) -> bool
-    ensures { result ≡ list_any (λ id. (task_of schedule.now id).is_admitted) tasks.now }
+    ensures { result ≡ list_any (λ id. (task_in_figures schedule.now id).is_admitted) tasks.now }
 {
     tasks.iter().any(|id| is_admitted(schedule, *id))
 }
 
 /// Whether a task was ever admitted.
 fn is_admitted(schedule: &Schedule, id: u16) -> bool
-    ensures { result ≡ (task_of schedule.now id).is_admitted }
+    ensures { result ≡ (task_in_figures schedule.now id).is_admitted }
 {
     schedule.task(id).is_admitted
 }

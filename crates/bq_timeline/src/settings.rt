@@ -3,7 +3,7 @@ ghost use Rattle.std.specs.Prelude.{◌≡◌, IfErr, IfOk, OnOk, map, string_by
 ghost use Rattle.bq_words.specs.Durations.{duration_of};
 ghost use Rattle.bq_words.specs.ProcessorSets.{processors_of};
 ghost use Rattle.bq_drawing.specs.Themes.{theme_of};
-ghost use Rattle.bq_timeline.specs.Settings.{AsksFor, HeedsAll, IsNoSettings, IsUnheeded, asked_or, form_of, is_heeded, names_given, text_of, width_of};
+ghost use Rattle.bq_timeline.specs.Settings.{AsksForSettings, HeedsAll, IsNoSettings, IsUnheeded, asked_or, form_named, is_heeded, names_given, optional_word_text, width_in_word};
 ghost use Rattle.bq_timeline.specs.declared.settings.SettingsFault.TheVariants.{OutOfMemory};
 
 use crate::form_names::FormName;
@@ -145,7 +145,7 @@ impl Settings {
     /// that the first moment is after the last, or names an option that the form does not heed.
     #[tactic(auto, using(crate::proofs::TaskLemmas::runs_backwards, crate::proofs::HeedingLemmas::unheeded))]
     pub fn of(alloc: Global, words: &Words) -> Result<Settings, SettingsFault>
-        ensures asked { IfOk result (AsksFor words.now) }
+        ensures asked { IfOk result (AsksForSettings words.now) }
         ensures refused { IfErr result (IsNoSettings words.now) }
     {
         let mut window = Window::whole(alloc);
@@ -211,7 +211,7 @@ fn is_heeded(heeds: bool, word: &Option<String>) -> bool
 
 /// The form that a word names, or the default if there is no word. `None` if no form has this name.
 fn form_or(word: &Option<String>, default: FormName) -> Option<FormName>
-    ensures { result ≡ asked_or default form_of word.now }
+    ensures { result ≡ asked_or default form_named word.now }
 {
     match word {
         Some(word) => FormName::of_word(word.as_str()),
@@ -251,7 +251,7 @@ fn names_or_none(alloc: Global, word: &Option<String>) -> Result<Vec<String>, Al
 
 /// The columns that a word asks for, or the default if there is no word. `None` if the word is no width.
 fn width_or(word: &Option<String>, default: usize) -> Option<usize>
-    ensures { result ≡ asked_or default width_of word.now }
+    ensures { result ≡ asked_or default width_in_word word.now }
 {
     match word {
         Some(word) => numbers::width(word.as_str()),
@@ -271,7 +271,7 @@ fn theme_or(word: &Option<String>, default: Theme) -> Option<Theme>
 
 /// A copy of a word, if there is one.
 fn copied(alloc: Global, word: &Option<String>) -> Result<Option<String>, AllocError>
-    ensures { IfOk result (λ copy. text_of copy ≡ text_of word.now) }
+    ensures { IfOk result (λ copy. optional_word_text copy ≡ optional_word_text word.now) }
 {
     match word {
         Some(word) => Ok(Some(String::from_str(alloc, word.as_str())?)),

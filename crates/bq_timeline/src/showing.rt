@@ -1,10 +1,10 @@
 //! A timeline of a whole trace, from any reader to any writer.
 ghost use Rattle.std.specs.Prelude.{◌≡◌, ℕ, List, [], IfOk, IfErr, OnOk};
-ghost use Rattle.bq_lines.specs.Kept.{StandsFor};
-ghost use Rattle.bq_streams.specs.Counts.{inner_of, calls_of, failures_of};
-ghost use Rattle.bq_streams.specs.Faults.{IsFault, IsWriteFault};
+ghost use Rattle.bq_lines.specs.Kept.{KeepsLine};
+ghost use Rattle.bq_streams.specs.Counts.{counted_inner, call_count, failures_of};
+ghost use Rattle.bq_streams.specs.Faults.{IsStreamFault, IsWriteFault};
 ghost use Rattle.bq_trace.specs.Reporting.{ReportsPiece};
-ghost use Rattle.bq_trace.specs.Trace.{start};
+ghost use Rattle.bq_trace.specs.Trace.{opening_progress};
 ghost use Rattle.bq_timeline.specs.Timelines.{Watches, Closes, IsTimeline};
 
 use crate::settings::Settings;
@@ -33,15 +33,15 @@ pub fn show<R: Read, W: Write, E: Write>(
     errors: &mut E,
 ) -> Result<Outcome, StreamFault>
     // The timeline shows all lines that the reader gave.
-    ensures timeline { IfOk result (IsTimeline (R.remaining (inner_of input.old)) (R.remaining (inner_of input.new))) }
+    ensures timeline { IfOk result (IsTimeline (R.remaining (counted_inner input.old)) (R.remaining (counted_inner input.new))) }
 
     // No read and no write failed: the first failure ends the timeline.
     ensures reads { OnOk result (failures_of input.new ≡ failures_of input.old) }
     ensures writes { OnOk result (failures_of output.new ≡ failures_of output.old) }
 
     // Each fault has its cause.
-    ensures fault { IfErr result (λ e. IsFault e (failures_of input.old) (failures_of input.new)
-        (failures_of output.old) (failures_of output.new) (calls_of input.old) (calls_of input.new)) }
+    ensures fault { IfErr result (λ e. IsStreamFault e (failures_of input.old) (failures_of input.new)
+        (failures_of output.old) (failures_of output.new) (call_count input.old) (call_count input.new)) }
 {
     let mut showing = Showing::new(alloc, settings);
     let mut piece = [0u8; PIECE];
@@ -75,7 +75,7 @@ impl Drop for Showing {
 
 impl Showing {
     fn new(alloc: Global, settings: Settings) -> Showing
-        ensures progress { result.position.progress ≡ start }
+        ensures progress { result.position.progress ≡ opening_progress }
         ensures begun { result.position.begun ≡ Some [] }
         ensures schedule { result.viewer.schedule ≡ None }
         ensures troubles { result.viewer.troubles ≡ 0 }
@@ -94,7 +94,7 @@ impl Showing {
         output: &mut Counted<W>,
         errors: &mut E,
     ) -> Result<(), StreamFault>
-        ensures reported { OnOk result ((begun : List ℕ) → StandsFor self.old.position.begun begun
+        ensures reported { OnOk result ((begun : List ℕ) → KeepsLine self.old.position.begun begun
             → Watches self.old.viewer self.new.viewer (λ reported. ReportsPiece self.old.position begun piece.now reported self.new.position)) }
         ensures kept { OnOk result (failures_of output.new ≡ failures_of output.old) }
         ensures fault { IfErr result (λ e. IsWriteFault e (failures_of output.old) (failures_of output.new)) }
@@ -109,7 +109,7 @@ impl Showing {
 
     /// The trace is over: writes what is left, and answers the last notes.
     fn finish<W: Write>(&mut self, output: &mut Counted<W>) -> Result<Outcome, StreamFault>
-        ensures reported { IfOk result (λ outcome. (begun : List ℕ) → StandsFor self.old.position.begun begun
+        ensures reported { IfOk result (λ outcome. (begun : List ℕ) → KeepsLine self.old.position.begun begun
             → Closes self.old begun outcome) }
         ensures kept { OnOk result (failures_of output.new ≡ failures_of output.old) }
         ensures fault { IfErr result (λ e. IsWriteFault e (failures_of output.old) (failures_of output.new)) }

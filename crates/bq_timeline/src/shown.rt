@@ -1,5 +1,5 @@
 //! All forms as one type.
-ghost use Rattle.bq_timeline.specs.Shown.{IsShown, StaysShown};
+ghost use Rattle.bq_timeline.specs.Shown.{ShowsForm, StaysShown};
 
 use crate::form_names::FormName;
 use bq_drawing::{Look, Perfetto, Svg};
@@ -26,7 +26,7 @@ pub enum Shown {
 impl Shown {
     /// The form of this name, for what the window shows.
     pub fn of(alloc: Global, form: FormName, window: Window, width: usize, look: Look) -> Shown
-        ensures { IsShown form window result }
+        ensures { ShowsForm form window result }
     {
         match form {
             FormName::Report => Shown::Report(Report::new(alloc, window)),

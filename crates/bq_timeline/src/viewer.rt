@@ -2,9 +2,9 @@
 ghost use Rattle.bq_streams.specs.Counts.{one_more};
 ghost use Rattle.bq_timeline.specs.Notes.{absent_notes, last_notes};
 ghost use Rattle.bq_report.specs.Names.{name_of};
-ghost use Rattle.bq_timeline.specs.Beginning.{BeginsWith, Ends};
-ghost use Rattle.bq_timeline.specs.Timelines.{Keeps};
-ghost use Rattle.bq_timeline.specs.Comments.{ReadsComment, IsSkipped, Rests};
+ghost use Rattle.bq_timeline.specs.Beginning.{FormBeginsWith, TraceEnds};
+ghost use Rattle.bq_timeline.specs.Timelines.{TakesEvent};
+ghost use Rattle.bq_timeline.specs.Comments.{ReadsComment, IsSkipped, ViewerRests};
 ghost use Rattle.bq_trace.specs.Borrowed.{event_of};
 ghost use Rattle.std.specs.Prelude.{◌≡◌, ◌++◌, ℕ, OnOk, string_bytes};
 
@@ -53,7 +53,7 @@ impl Viewer {
     fn begin(&mut self) -> Result<(), AllocError>
         ensures schedule { self.new.schedule ≡ self.old.schedule }
         ensures troubles { self.new.troubles ≡ self.old.troubles }
-        ensures form { OnOk result (BeginsWith self.old.schedule self.old.screen self.new.screen) }
+        ensures form { OnOk result (FormBeginsWith self.old.schedule self.old.screen self.new.screen) }
     {
         match &self.schedule {
             Some(schedule) => self.screen.begin(self.alloc, schedule),
@@ -75,7 +75,7 @@ impl Viewer {
     pub fn end(&mut self) -> Result<(), AllocError>
         ensures schedule { self.new.schedule ≡ self.old.schedule }
         ensures troubles { self.new.troubles ≡ self.old.troubles }
-        ensures notes { OnOk result (Ends self.old self.new) }
+        ensures notes { OnOk result (TraceEnds self.old self.new) }
     {
         self.begin()?;
         self.close()?;
@@ -98,13 +98,13 @@ impl Viewer {
 }
 
 impl Sink for Viewer {
-    ghost takes = { λ old n traced new. Keeps old traced new };
+    ghost takes = { λ old n traced new. TakesEvent old traced new };
 
     fn take(&mut self, number: u64, event: &TraceEvent<'_>) -> Result<(), AllocError>
-        ensures kept { OnOk result (Keeps self.old (event_of event.now) self.new) }
+        ensures kept { OnOk result (TakesEvent self.old (event_of event.now) self.new) }
 
         // A comment changes only the names, even if memory runs out.
-        ensures rest { IsSkipped (event_of event.now) → Rests self.old self.new }
+        ensures rest { IsSkipped (event_of event.now) → ViewerRests self.old self.new }
         ensures short_line { OnOk result (ReadsComment (event_of event.now) self.old.screen.names self.new.screen.names) }
     {
         match event {

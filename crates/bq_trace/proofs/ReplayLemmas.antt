@@ -6,8 +6,8 @@ use Rattle.std.specs.Io.KnownBytes.{Appends, Consumes, Keeps, IsAtEnd}
 use Rattle.std.proofs.KnownBytes.{Appends-nil, Appends-trans, Consumes-nil, Consumes-trans, Consumes-kept}
 use Rattle.std.proofs.lemmas.List.{map-append}
 use Rattle.std.proofs.lemmas.Grind.{flat_map-append}
-use Rattle.bq_lines.specs.Kept.{IsOneLine, StandsFor}
-use Rattle.bq_trace.specs.Trace.{AnswersAll, start}
+use Rattle.bq_lines.specs.Kept.{IsOneLine, KeepsLine}
+use Rattle.bq_trace.specs.Trace.{AnswersAll, opening_progress}
 use Rattle.bq_trace.specs.Feeding.{with_feeds, Continues, Feeds, BreaksOff, Finishes}
 use Rattle.bq_trace.specs.Replaying.{Replays, ReplaysInPart}
 use Rattle.bq_trace.proofs.LineLemmas.{AnswersAll-append, lines-with_feeds}
@@ -23,12 +23,12 @@ pub record Underway (from to old new : Option (List ℕ)) (s : TracePosition) : 
   pub consumed : Consumes from to input
   pub whole : input ≡ with_feeds ended ++ rest
   pub each : AllByRecursion IsOneLine ended
-  pub chain : AnswersAll start (map strip_carriage_return ended) output s.progress
-  pub stands : StandsFor s.begun rest
+  pub chain : AnswersAll opening_progress (map strip_carriage_return ended) output s.progress
+  pub stands : KeepsLine s.begun rest
   pub added : Appends old new output
 
 -- at the start nothing has been read and nothing answered
-pub Underway-none : (from old : Option (List ℕ)) (s : TracePosition) → s.progress ≡ start → s.begun ≡ Some [] → Underway from from old old s
+pub Underway-none : (from old : Option (List ℕ)) (s : TracePosition) → s.progress ≡ opening_progress → s.begun ≡ Some [] → Underway from from old old s
 Underway-none from old s first empty = record {
   input = [];
   output = [];
@@ -38,7 +38,7 @@ Underway-none from old s first empty = record {
   whole = refl;
   each = tt;
   chain = (refl, first);
-  stands = subst (λ k. StandsFor k []) (sym empty) stands_for_nothing;
+  stands = subst (λ k. KeepsLine k []) (sym empty) stands_for_nothing;
   added = Appends-nil old;
 }
 
@@ -87,9 +87,9 @@ Underway-more from mid to old now new s t piece h consumed fed = record {
   whole = with_feeds-join [] h.input h.rest piece fed.goes_on.rest h.ended fed.goes_on.ended h.whole fed.goes_on.whole;
   each = AllByRecursion-append h.ended fed.goes_on.ended h.each fed.goes_on.each;
   chain =
-      subst (λ ls. AnswersAll start ls (h.output ++ fed.text) t.progress)
+      subst (λ ls. AnswersAll opening_progress ls (h.output ++ fed.text) t.progress)
       (sym (map-append strip_carriage_return h.ended fed.goes_on.ended))
-      (AnswersAll-append start s.progress t.progress (map strip_carriage_return h.ended)
+      (AnswersAll-append opening_progress s.progress t.progress (map strip_carriage_return h.ended)
       (map strip_carriage_return fed.goes_on.ended) h.output fed.text h.chain fed.goes_on.chain);
   stands = fed.goes_on.stands;
   added = Appends-trans old now new h.output fed.text h.added fed.added;
@@ -107,8 +107,8 @@ Underway-ends from mid to old now new s clean h consumed at_end f = record {
   added = Appends-trans old now new h.output f.text h.added f.added;
   answers = record {
     final = f.final;
-    chain = subst (λ ls. AnswersAll start ls (h.output ++ f.text) f.final) (sym (ap lines h.whole ∙ lines-with_feeds h.ended h.rest h.each))
-        (AnswersAll-append start s.progress f.final (map strip_carriage_return h.ended) (lines h.rest) h.output f.text h.chain f.chain);
+    chain = subst (λ ls. AnswersAll opening_progress ls (h.output ++ f.text) f.final) (sym (ap lines h.whole ∙ lines-with_feeds h.ended h.rest h.each))
+        (AnswersAll-append opening_progress s.progress f.final (map strip_carriage_return h.ended) (lines h.rest) h.output f.text h.chain f.chain);
     is_clean = f.is_clean;
   };
 }
@@ -129,7 +129,7 @@ Underway-breaks from mid to old now new s piece h consumed b = record {
         ∙ sym (append_assoc (map strip_carriage_return h.ended) b.answered b.others);
     text = h.output ++ b.text;
     final = b.final;
-    chain = AnswersAll-append start s.progress b.final (map strip_carriage_return h.ended) b.answered h.output b.text h.chain b.chain;
+    chain = AnswersAll-append opening_progress s.progress b.final (map strip_carriage_return h.ended) b.answered h.output b.text h.chain b.chain;
     part = (
       b.part.0,
       record {

@@ -4,26 +4,26 @@ use Rattle.std.specs.Str.Lines.{lines, strip_carriage_return}
 use Rattle.std.specs.Io.KnownBytes.{Appends}
 use Rattle.std.proofs.KnownBytes.{Appends-nil}
 use Rattle.bq_streams.specs.Writing.{AppendsPart}
-use Rattle.bq_trace.specs.Writing.{Adds}
+use Rattle.bq_trace.specs.Writing.{GrowsByPiece}
 use Rattle.bq_trace.specs.Trace.{AnswersAll}
 use Rattle.bq_trace.specs.Feeding.{Continues, Feeds, BreaksOff, Finishes}
 use Rattle.bq_trace.proofs.LineLemmas.{lines-with_feeds}
 use Rattle.bq_trace.specs.declared.trace_position.TracePosition.{TracePosition}
 
 -- what was added to nothing is the piece
-only : (new : List ℕ) (Holds : List ℕ → Type 0) (a : Adds [] new Holds) → Holds new
+only : (new : List ℕ) (Holds : List ℕ → Type 0) (a : GrowsByPiece [] new Holds) → Holds new
 only new Holds a = subst Holds (sym a.added) a.holds
 
 -- all of it was written
 pub feeds_all : (s t : TracePosition) (begun piece answers : List ℕ) (old new : Option (List ℕ))
-    → Adds [] answers (λ l. Continues s begun piece l t) → Appends old new answers
+    → GrowsByPiece [] answers (λ l. Continues s begun piece l t) → Appends old new answers
     → Feeds s begun piece t old new
 feeds_all s t begun piece answers old new a written =
     record { text = answers; goes_on = only answers (λ l. Continues s begun piece l t) a; added = written }
 
 -- a beginning of it was written
 pub feeds_part : (s t : TracePosition) (begun piece answers : List ℕ) (old new : Option (List ℕ))
-    → Adds [] answers (λ l. Continues s begun piece l t) → AppendsPart old new answers
+    → GrowsByPiece [] answers (λ l. Continues s begun piece l t) → AppendsPart old new answers
     → BreaksOff s begun piece old new
 feeds_part s t begun piece answers old new a part =
     let c : Continues s begun piece answers t = only answers (λ l. Continues s begun piece l t) a in
@@ -51,7 +51,7 @@ feeds_none s begun piece w = record {
 
 -- the last line's answer was written
 pub finishes_all : (s t : TracePosition) (begun answers : List ℕ) (old new : Option (List ℕ))
-    → Adds [] answers (λ l. AnswersAll s.progress (lines begun) l t.progress) → Appends old new answers
+    → GrowsByPiece [] answers (λ l. AnswersAll s.progress (lines begun) l t.progress) → Appends old new answers
     → Finishes s begun old new t.progress.clean
 finishes_all s t begun answers old new a written =
     record {
@@ -64,7 +64,7 @@ finishes_all s t begun answers old new a written =
 
 -- a beginning of it was written
 pub finishes_part : (s t : TracePosition) (begun answers : List ℕ) (old new : Option (List ℕ))
-    → Adds [] answers (λ l. AnswersAll s.progress (lines begun) l t.progress) → AppendsPart old new answers
+    → GrowsByPiece [] answers (λ l. AnswersAll s.progress (lines begun) l t.progress) → AppendsPart old new answers
     → BreaksOff s begun [] old new
 finishes_part s t begun answers old new a part = record {
   answered = lines begun;

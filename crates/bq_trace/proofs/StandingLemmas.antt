@@ -4,7 +4,7 @@ use Rattle.std.specs.List.{AllByRecursion}
 use Rattle.std.specs.Str.Lines.{lines, strip_carriage_return}
 use Rattle.std.proofs.lemmas.List.{map-append}
 use Rattle.std.proofs.lemmas.List.Elements.{All-append, All-nil}
-use Rattle.bq_lines.specs.Kept.{IsOneLine, StandsFor}
+use Rattle.bq_lines.specs.Kept.{IsOneLine, KeepsLine}
 use Rattle.bq_trace.specs.TraceEvents.{TraceEvent, Reported, TakesAll, Gets}
 use Rattle.bq_trace.specs.Reporting.{ReportsLine, Story}
 use Rattle.bq_trace.specs.Feeding.{with_feeds}
@@ -34,12 +34,12 @@ pub record SoFar {S : Type 0} (takes : S → ℕ → TraceEvent → S → Type 0
   pub split : whole ≡ with_feeds ended ++ (current ++ rest)
   pub each : AllByRecursion IsOneLine ended
   pub story : Story s.progress (map strip_carriage_return ended) reported t.progress
-  pub stands : StandsFor t.begun current
+  pub stands : KeepsLine t.begun current
   pub taken : TakesAll takes old reported new
 
 -- before the first byte of a piece no line is reported, and the line that had begun stands
 pub SoFar-none : {S : Type 0} (takes : S → ℕ → TraceEvent → S → Type 0) (s : TracePosition) (begun piece : List ℕ) (old : S)
-    → StandsFor s.begun begun → SoFar takes s (begun ++ piece) s piece old old
+    → KeepsLine s.begun begun → SoFar takes s (begun ++ piece) s piece old old
 SoFar-none takes s begun piece old h = record {
   ended = [];
   current = begun;
@@ -63,7 +63,7 @@ with_feeds-one (y ∷ xs) x more =
     ∙ sym (append_assoc (y ++ 10 ∷ []) (with_feeds xs) (x ++ 10 ∷ more))
 
 -- nothing is kept of a line that has not begun
-pub stands_for_nothing : StandsFor (Some []) []
+pub stands_for_nothing : KeepsLine (Some []) []
 stands_for_nothing = record { one_line = All-nil (λ b. eqb b 10 ≡ false); kept_is = refl }
 
 -- one more line ends
@@ -88,7 +88,7 @@ SoFar-more takes s t u whole rest tail more old mid new h cut one a cleared = re
       (Story-append s.progress t.progress u.progress (map strip_carriage_return h.ended)
       (strip_carriage_return (h.current ++ tail) ∷ []) h.reported a.reported h.story
       (Story-one t.progress u.progress (strip_carriage_return (h.current ++ tail)) a.reported a.holds));
-  stands = subst (λ k. StandsFor k []) (sym cleared) stands_for_nothing;
+  stands = subst (λ k. KeepsLine k []) (sym cleared) stands_for_nothing;
   taken = TakesAll-append takes old mid new h.reported a.reported h.taken a.taken;
 }
 

@@ -13,11 +13,11 @@ use Rattle.bq_lines.specs.declared.command.LineReading.TheVariants as reads
 use Rattle.bq_lines.proofs.KeptLemmas.{reading_of_short_line-line}
 use Rattle.bq_trace.specs.Machines.{Driven}
 use Rattle.bq_trace.specs.Doing.{DoesAndAnswers}
-use Rattle.bq_trace.specs.Loading.{LoadsAndAnswers, fault_line, no_hex_line}
+use Rattle.bq_trace.specs.Loading.{LoadsAndAnswers, load_fault_line, no_hex_line}
 use Rattle.bq_trace.specs.Texts.{event_line, bad_line, counter_line, show_line}
-use Rattle.bq_trace.specs.Trace.{AnswersAtPhase, AnswersLine, AnswersAll, EndsWake, Wakes}
+use Rattle.bq_trace.specs.Trace.{AnswersAtPhase, AnswersLine, AnswersAll, EndsWake, AnswersWake}
 use Rattle.bq_trace.specs.Feeding.{Continues}
-use Rattle.bq_trace.specs.Writing.{Adds}
+use Rattle.bq_trace.specs.Writing.{GrowsByPiece}
 use Rattle.bq_trace.specs.TraceEvents.{Reported, CounterRead, Bad, Gets, text_of, texts}
 use Rattle.bq_trace.specs.Reporting.{Happens, EndHappens, WakeHappens, LoadHappens, Reports, ReportsLine, Story, ReportsPiece, skips}
 use Rattle.bq_trace.specs.declared.progress.Phase.{Phase}
@@ -41,7 +41,7 @@ ends_text (Err refusal) m k n c now reported h = (ap texts h.0, h.1)
 ends_text (Ok reply) m k n c now reported h = (h.0, happens_text m k n (EndWake c now) h.0 reported h.1)
 
 wake_text : (m k : Driven) (n c task now : ℕ) (reported : Reported)
-    → WakeHappens m n c task now reported k → Wakes m c task now (texts reported) k
+    → WakeHappens m n c task now reported k → AnswersWake m c task now (texts reported) k
 wake_text m k n c task now reported h = record {
   begun = h.begun;
   mid = h.mid;
@@ -57,7 +57,7 @@ load_text : (m k : Driven) (n c generation : ℕ) (hook : Hook) (image : List �
     → LoadsAndAnswers m c hook generation image (texts reported) k
 load_text m k n c generation hook image reported (inl h) = inl (h.0, h.1, ap texts h.2 ∙ append-nil no_hex_line, h.3)
 load_text m k n c generation hook image reported (inr (inl h)) =
-    inr (inl (h.0, h.1, h.2, h.3, h.4, ap texts h.5 ∙ append-nil (fault_line h.1), h.6))
+    inr (inl (h.0, h.1, h.2, h.3, h.4, ap texts h.5 ∙ append-nil (load_fault_line h.1), h.6))
 load_text m k n c generation hook image reported (inr (inr h)) = inr (inr (h.0, h.1, h.2, h.3, h.4, happens_text m k n _ h.2 reported h.5))
 
 skips_text : (n : ℕ) (line : Option (List ℕ)) → texts (skips n line) ≡ []
@@ -129,6 +129,6 @@ goes_on_text s t begun piece reported h = record {
 pub gets_text : {S : Type 0} (bytes : S → List ℕ) (old new : S) (Tale : Reported → Type 0) (Text : List ℕ → Type 0)
     → ((reported : Reported) → Tale reported → Text (texts reported))
     → Gets (λ o n x w. bytes w ≡ bytes o ++ text_of n x) old new Tale
-    → Adds (bytes old) (bytes new) Text
+    → GrowsByPiece (bytes old) (bytes new) Text
 gets_text bytes old new Tale Text along g =
     record { piece = texts g.reported; added = added_by bytes old new g.reported g.taken; holds = along g.reported g.holds }

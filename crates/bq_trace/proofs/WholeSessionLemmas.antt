@@ -3,10 +3,10 @@ use Rattle.std.proofs.Common.{◌≡◌, ℕ, Bool, List, [], ◌∷◌, ◌++�
 use Rattle.std.specs.Str.Lines.{lines, strip_carriage_return}
 use Rattle.std.specs.Io.KnownBytes.{Appends}
 use Rattle.std.proofs.KnownBytes.{Appends-nil, Appends-trans}
-use Rattle.bq_lines.specs.Kept.{StandsFor}
-use Rattle.bq_trace.specs.Trace.{AnswersAll, start}
+use Rattle.bq_lines.specs.Kept.{KeepsLine}
+use Rattle.bq_trace.specs.Trace.{AnswersAll, opening_progress}
 use Rattle.bq_trace.specs.Feeding.{Continues, Feeds, Finishes}
-use Rattle.bq_trace.specs.Sessions.{IsFed, joined, GetsAnswers, SessionAnswers}
+use Rattle.bq_trace.specs.Sessions.{IsFed, pieces_joined, GetsAnswers, SessionAnswers}
 use Rattle.bq_trace.proofs.LineLemmas.{AnswersAll-append, lines-with_feeds}
 use Rattle.bq_trace.proofs.ReplayLemmas.{Continues-join}
 use Rattle.bq_trace.proofs.StandingLemmas.{stands_for_nothing}
@@ -27,7 +27,7 @@ nothing_read s w empty = record {
     whole = refl;
     each = tt;
     chain = (refl, refl);
-    stands = subst (λ k. StandsFor k []) (sym empty) stands_for_nothing;
+    stands = subst (λ k. KeepsLine k []) (sym empty) stands_for_nothing;
   };
   added = Appends-nil w;
 }
@@ -43,18 +43,18 @@ one_more s t u input piece old now new h fed = record {
 
 -- some more pieces are read
 more : (s t u : TracePosition) (input : List ℕ) (pieces : List (List ℕ)) (old now new : Option (List ℕ))
-    → HasRead s input t old now → IsFed t pieces u now new → HasRead s (input ++ joined pieces) u old new
+    → HasRead s input t old now → IsFed t pieces u now new → HasRead s (input ++ pieces_joined pieces) u old new
 more s t u input [] old now new h f =
     subst (λ w. HasRead s (input ++ []) u old w) (sym f.1)
     (subst (λ v. HasRead s (input ++ []) v old now) (sym f.0) (subst (λ i. HasRead s i t old now) (sym (append-nil input)) h))
 more s t u input (piece ∷ pieces) old now new h f =
     let next = one_more s t f.0 input piece old now f.1 h (f.2 h.goes_on.rest h.goes_on.stands) in
-    subst (λ i. HasRead s i u old new) (append_assoc input piece (joined pieces))
+    subst (λ i. HasRead s i u old new) (append_assoc input piece (pieces_joined pieces))
     (more s f.0 u (input ++ piece) pieces old f.1 new next f.3)
 
 -- the line that has begun is the last
 ends : (s t : TracePosition) (input : List ℕ) (old now new : Option (List ℕ)) (clean : Bool)
-    → s.progress ≡ start → (h : HasRead s input t old now) → Finishes t h.goes_on.rest now new clean
+    → s.progress ≡ opening_progress → (h : HasRead s input t old now) → Finishes t h.goes_on.rest now new clean
     → GetsAnswers input old new clean
 ends s t input old now new clean first h f =
     let c = h.goes_on in
@@ -64,8 +64,8 @@ ends s t input old now new clean first h f =
       answers = record {
         final = f.final;
         chain =
-            subst (λ ls. AnswersAll start ls (h.output ++ f.text) f.final) (sym (ap lines c.whole ∙ lines-with_feeds c.ended c.rest c.each))
-            (AnswersAll-append start t.progress f.final (map strip_carriage_return c.ended) (lines c.rest) h.output f.text
+            subst (λ ls. AnswersAll opening_progress ls (h.output ++ f.text) f.final) (sym (ap lines c.whole ∙ lines-with_feeds c.ended c.rest c.each))
+            (AnswersAll-append opening_progress t.progress f.final (map strip_carriage_return c.ended) (lines c.rest) h.output f.text
             (subst (λ p. AnswersAll p (map strip_carriage_return c.ended) h.output t.progress) first c.chain) f.chain);
         is_clean = f.is_clean;
       };
@@ -75,4 +75,4 @@ ends s t input old now new clean first h f =
 pub session_answers : SessionAnswers
 session_answers s t pieces old now new clean first empty fed finished =
     let h = more s s t [] pieces old old now (nothing_read s old empty) fed in
-    ends s t (joined pieces) old now new clean first h (finished h.goes_on.rest h.goes_on.stands)
+    ends s t (pieces_joined pieces) old now new clean first h (finished h.goes_on.rest h.goes_on.stands)

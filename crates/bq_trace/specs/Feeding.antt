@@ -3,7 +3,7 @@ use Rattle.std.specs.Prelude.{◌≡◌, ℕ, Bool, List, [], ◌∷◌, ◌++�
 use Rattle.std.specs.List.{flat_map, AllByRecursion}
 use Rattle.std.specs.Str.Lines.{lines, strip_carriage_return}
 use Rattle.std.specs.Io.KnownBytes.{Appends}
-use Rattle.bq_lines.specs.Kept.{IsOneLine, StandsFor}
+use Rattle.bq_lines.specs.Kept.{IsOneLine, KeepsLine}
 use Rattle.bq_trace.specs.Trace.{AnswersAll, WritesBeginning}
 use Rattle.bq_trace.specs.declared.progress.Progress.{Progress}
 use Rattle.bq_trace.specs.declared.trace_position.TracePosition.{TracePosition}
@@ -19,7 +19,7 @@ pub record Continues (s : TracePosition) (begun piece text : List ℕ) (t : Trac
   pub whole : begun ++ piece ≡ with_feeds ended ++ rest
   pub each : AllByRecursion IsOneLine ended
   pub chain : AnswersAll s.progress (map strip_carriage_return ended) text t.progress
-  pub stands : StandsFor t.begun rest
+  pub stands : KeepsLine t.begun rest
 
 -- The piece continues the line that has begun, as `Continues` says, and the writer got the text.
 pub record Feeds (s : TracePosition) (begun piece : List ℕ) (t : TracePosition) (old new : Option (List ℕ)) : Type 0 where

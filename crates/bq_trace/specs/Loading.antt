@@ -5,7 +5,7 @@ use Rattle.hex.specs.Hex.{decode_of}
 use Rattle.bq_verify.specs.Accepted.{Accepted}
 use Rattle.bq_hooks.specs.declared.hook.Hook.{Hook}
 use Rattle.bq_load.specs.Answers.{Loads, IsUnloaded}
-use Rattle.bq_load.specs.Naming.{fault_text}
+use Rattle.bq_load.specs.Naming.{load_fault_text}
 use Rattle.bq_load.specs.declared.fault.LoadFault.{LoadFault}
 use Rattle.bq_load.specs.declared.fault.LoadFault.TheVariants as fault
 use Rattle.bq_parts.specs.declared.event.Event.TheVariants.{Install}
@@ -16,8 +16,8 @@ use Rattle.bq_trace.specs.Machines.{Driven}
 use Rattle.bq_trace.specs.Doing.{DoesAndAnswers}
 
 -- the line that refuses an image
-abbrev pub fault_line : LoadFault → List ℕ
-fault_line why = refused_line (fault_text why)
+abbrev pub load_fault_line : LoadFault → List ℕ
+load_fault_line why = refused_line (load_fault_text why)
 
 -- the line that refuses a word that is not hex
 abbrev pub no_hex_line : List ℕ
@@ -30,7 +30,7 @@ RefusesHex m image text n = (error : FromHexError) × (decode_of image ≡ Err e
 -- the word spells bytes that do not load: they are refused, and the machine stays as it is
 abbrev pub RefusesImage : Driven → List ℕ → List ℕ → Driven → Type 0
 RefusesImage m image text n =
-    (bytes : List ℕ) × (why : LoadFault) × (decode_of image ≡ Ok bytes) × IsUnloaded bytes why × (why ≢ fault.OutOfMemory) × (text ≡ fault_line why) × (n ≡ m)
+    (bytes : List ℕ) × (why : LoadFault) × (decode_of image ≡ Ok bytes) × IsUnloaded bytes why × (why ≢ fault.OutOfMemory) × (text ≡ load_fault_line why) × (n ≡ m)
 
 -- the word spells the image of a program that is accepted, and its policy is installed as an event
 abbrev pub InstallsImage : Driven → ℕ → Hook → ℕ → List ℕ → List ℕ → Driven → Type 0

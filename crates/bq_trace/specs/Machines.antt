@@ -45,7 +45,7 @@ pub record Advances (s : PolicySemantics) (w : World) (old : List ℕ) (event : 
 
 -- One event is a step of a world, the policies' calls lead from the old counters to the new ones, and the answer is not lack
 -- of memory.
-pub record Steps (s : PolicySemantics) (w : World) (old : List ℕ) (event : Event) (answer : Result Reply Refusal) (v : World) (new : List ℕ) : Type 0 where
+pub record StepsWorld (s : PolicySemantics) (w : World) (old : List ℕ) (event : Event) (answer : Result Reply Refusal) (v : World) (new : List ℕ) : Type 0 where
   pub calls : List CounterCall
   pub step : WorldStep s w event calls answer v
   pub through : Through Counts old calls new

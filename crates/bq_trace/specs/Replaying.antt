@@ -2,7 +2,7 @@
 use Rattle.std.specs.Prelude.{ℕ, Bool, List, Option}
 use Rattle.std.specs.Str.Lines.{lines}
 use Rattle.std.specs.Io.KnownBytes.{Appends, Consumes, IsAtEnd}
-use Rattle.bq_trace.specs.Trace.{TraceText, WritesBeginning, start}
+use Rattle.bq_trace.specs.Trace.{TraceText, WritesBeginning, opening_progress}
 
 -- The reader gave these bytes and has no more, and the writer got the answers to them.
 pub record Replays (from to old new : Option (List ℕ)) (clean : Bool) : Type 0 where
@@ -17,4 +17,4 @@ pub record Replays (from to old new : Option (List ℕ)) (clean : Bool) : Type 0
 pub record ReplaysInPart (from to old new : Option (List ℕ)) : Type 0 where
   pub input : List ℕ
   pub consumed : Consumes from to input
-  pub beginning : WritesBeginning start (lines input) old new
+  pub beginning : WritesBeginning opening_progress (lines input) old new

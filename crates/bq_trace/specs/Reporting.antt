@@ -15,7 +15,7 @@ use Rattle.bq_parts.specs.declared.event.Event.TheVariants.{Install, BeginWake, 
 use Rattle.bq_parts.specs.declared.reply.Reply.{Reply}
 use Rattle.bq_parts.specs.declared.refusal.Refusal.{Refusal}
 use Rattle.bq_parts.specs.declared.refusal.Refusal.TheVariants as no
-use Rattle.bq_lines.specs.Kept.{IsOneLine, StandsFor, short_line}
+use Rattle.bq_lines.specs.Kept.{IsOneLine, KeepsLine, short_line}
 use Rattle.bq_lines.specs.Lines.{reading_of_short_line}
 use Rattle.bq_lines.specs.declared.command.Command.TheVariants.{Machine, Does, Wake, Load, Show, Counter}
 use Rattle.bq_lines.specs.declared.command.LineReading.{LineReading}
@@ -118,4 +118,4 @@ pub record ReportsPiece (s : TracePosition) (begun piece : List ℕ) (reported :
   pub whole : begun ++ piece ≡ with_feeds ended ++ rest
   pub each : AllByRecursion IsOneLine ended
   pub story : Story s.progress (map strip_carriage_return ended) reported t.progress
-  pub stands : StandsFor t.begun rest
+  pub stands : KeepsLine t.begun rest

@@ -2,24 +2,24 @@
 use Rattle.std.specs.Prelude.{◌≡◌, ℕ, Bool, List, [], ◌∷◌, Option, Some}
 use Rattle.std.specs.List.{flat_map}
 use Rattle.std.specs.Io.KnownBytes.{Appends}
-use Rattle.bq_lines.specs.Kept.{StandsFor}
+use Rattle.bq_lines.specs.Kept.{KeepsLine}
 use Rattle.bq_trace.specs.Feeding.{Feeds, Finishes}
-use Rattle.bq_trace.specs.Trace.{TraceText, start}
+use Rattle.bq_trace.specs.Trace.{TraceText, opening_progress}
 use Rattle.bq_trace.specs.declared.trace_position.TracePosition.{TracePosition}
 
 -- A session is fed some pieces, one after another, and each feed does what its contract says.
 abbrev pub IsFed : TracePosition → List (List ℕ) → TracePosition → Option (List ℕ) → Option (List ℕ) → Type 0
 IsFed s [] t old new = (t ≡ s) × (new ≡ old)
 IsFed s (piece ∷ pieces) t old new =
-    (mid : TracePosition) × (now : Option (List ℕ)) × ((begun : List ℕ) → StandsFor s.begun begun → Feeds s begun piece mid old now) × IsFed mid pieces t now new
+    (mid : TracePosition) × (now : Option (List ℕ)) × ((begun : List ℕ) → KeepsLine s.begun begun → Feeds s begun piece mid old now) × IsFed mid pieces t now new
 
 -- A session is finished, and the finish does what its contract says.
 abbrev pub IsFinished : TracePosition → Option (List ℕ) → Option (List ℕ) → Bool → Type 0
-IsFinished s old new clean = (begun : List ℕ) → StandsFor s.begun begun → Finishes s begun old new clean
+IsFinished s old new clean = (begun : List ℕ) → KeepsLine s.begun begun → Finishes s begun old new clean
 
 -- all pieces in one
-abbrev pub joined : List (List ℕ) → List ℕ
-joined pieces = flat_map (λ piece. piece) pieces
+abbrev pub pieces_joined : List (List ℕ) → List ℕ
+pieces_joined pieces = flat_map (λ piece. piece) pieces
 
 -- The writer got the answers to an input.
 pub record GetsAnswers (input : List ℕ) (old new : Option (List ℕ)) (clean : Bool) : Type 0 where
@@ -31,4 +31,4 @@ pub record GetsAnswers (input : List ℕ) (old new : Option (List ℕ)) (clean :
 abbrev pub SessionAnswers : Type 0
 SessionAnswers =
     (s t : TracePosition) (pieces : List (List ℕ)) (old now new : Option (List ℕ)) (clean : Bool) →
-    s.progress ≡ start → s.begun ≡ Some [] → IsFed s pieces t old now → IsFinished t now new clean → GetsAnswers (joined pieces) old new clean
+    s.progress ≡ opening_progress → s.begun ≡ Some [] → IsFed s pieces t old now → IsFinished t now new clean → GetsAnswers (pieces_joined pieces) old new clean

@@ -25,7 +25,7 @@ EndsWake (Err refusal) m c now text n = (text ≡ []) × (n ≡ m)
 EndsWake (Ok begun) m c now text n = (answer : Result Reply Refusal) × DoesAndAnswers m (EndWake c now) answer text n
 
 -- A wake is a begin and what follows the begin; the text answers both.
-pub record Wakes (m : Driven) (c task now : ℕ) (text : List ℕ) (n : Driven) : Type 0 where
+pub record AnswersWake (m : Driven) (c task now : ℕ) (text : List ℕ) (n : Driven) : Type 0 where
   pub begun : Result Reply Refusal
   pub mid : Driven
   pub first : List ℕ
@@ -43,7 +43,7 @@ AnswersAtPhase Waiting reading n text after bad = (text ≡ bad_line n) × (afte
 AnswersAtPhase (Running m) Skipped n text after bad = (text ≡ []) × (after ≡ Running m) × (bad ≡ false)
 AnswersAtPhase (Running m) (Asks (Does event)) n text after bad =
     (k : Driven) × (answer : Result Reply Refusal) × DoesAndAnswers m event answer text k × (after ≡ Running k) × (bad ≡ false)
-AnswersAtPhase (Running m) (Asks (Wake c task now)) n text after bad = (k : Driven) × Wakes m c task now text k × (after ≡ Running k) × (bad ≡ false)
+AnswersAtPhase (Running m) (Asks (Wake c task now)) n text after bad = (k : Driven) × AnswersWake m c task now text k × (after ≡ Running k) × (bad ≡ false)
 AnswersAtPhase (Running m) (Asks (Load c hook generation image)) n text after bad = (k : Driven) × LoadsAndAnswers m c hook generation image text k × (after ≡ Running k) × (bad ≡ false)
 AnswersAtPhase (Running m) (Asks (Counter i)) n text after bad =
     (text ≡ (if nat_lt i COUNTERS then counter_line i (slice_index m.counters i) else bad_line n)) × (after ≡ Running m) × (bad ≡ not (nat_lt i COUNTERS))
@@ -69,13 +69,13 @@ AnswersAll p (line ∷ others) text q =
     (m : Progress) × (first : List ℕ) × (more : List ℕ) × AnswersLine p line first m × AnswersAll m others more q × (text ≡ first ++ more)
 
 -- the state before the first line
-abbrev pub start : Progress
-start = record { phase = Waiting; line = 0; clean = true }
+abbrev pub opening_progress : Progress
+opening_progress = record { phase = Waiting; line = 0; clean = true }
 
 -- The output that answers an input. It is clean if no line was called bad.
 pub record TraceText (input output : List ℕ) (clean : Bool) : Type 0 where
   pub final : Progress
-  pub chain : AnswersAll start (lines input) output final
+  pub chain : AnswersAll opening_progress (lines input) output final
   pub is_clean : clean ≡ final.clean
 
 -- The writer got a beginning of the answers to the first few of these lines.

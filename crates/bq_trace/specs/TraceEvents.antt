@@ -7,7 +7,7 @@ use Rattle.bq_parts.specs.declared.refusal.Refusal.{Refusal}
 use Rattle.bq_words.specs.declared.rule.Rule.{Rule}
 use Rattle.bq_words.specs.declared.processor_count.ProcessorCount.{ProcessorCount}
 use Rattle.bq_trace.specs.Machines.{Driven}
-use Rattle.bq_trace.specs.Loading.{fault_line, no_hex_line}
+use Rattle.bq_trace.specs.Loading.{load_fault_line, no_hex_line}
 use Rattle.bq_trace.specs.Texts.{event_line, bad_line, show_line, counter_line}
 
 -- what a line of a trace leads to
@@ -42,7 +42,7 @@ text_of n (Skipped line) = []
 text_of n (Comes event m) = []
 text_of n (Answered event answer m) = event_line answer
 text_of n NotHex = no_hex_line
-text_of n (NotLoaded why) = fault_line why
+text_of n (NotLoaded why) = load_fault_line why
 text_of n (ProcessorAsked c m) = show_line m.world c
 text_of n (CounterRead i value) = counter_line i value
 text_of n (Bad short_line) = bad_line n

@@ -1,10 +1,10 @@
 //! Laws of the definitions.
-ghost use Rattle.bq_trace.specs.Laws.{PiecesJoin};
+ghost use Rattle.bq_trace.specs.Laws.{TracePiecesJoin};
 ghost use Rattle.bq_trace.specs.Sessions.{SessionAnswers};
 
 /// Two pieces, one after the other, do what their join does.
 pub fn pieces_join()
-    ensures { PiecesJoin }
+    ensures { TracePiecesJoin }
 {}
 
 /// A session that begins, is fed some pieces and is finished has written the answers to the joined pieces, if each call did

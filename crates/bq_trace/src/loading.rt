@@ -1,6 +1,6 @@
 //! Images that a trace installs, and the lines that refuse them.
 ghost use Rattle.std.specs.Prelude.{◌≡◌, ◌++◌, OnOk, string_bytes};
-ghost use Rattle.bq_trace.specs.Loading.{fault_line};
+ghost use Rattle.bq_trace.specs.Loading.{load_fault_line};
 
 use crate::any_core::AnyCore;
 use crate::reporting::report;
@@ -68,7 +68,7 @@ impl AnyCore {
 
 /// Adds the line that refuses an image, with the reason.
 pub fn write_fault(text: &mut String, fault: LoadFault) -> Result<(), AllocError>
-    ensures { OnOk result (string_bytes text.new ≡ string_bytes text.old ++ fault_line fault) }
+    ensures { OnOk result (string_bytes text.new ≡ string_bytes text.old ++ load_fault_line fault) }
 {
     write!(text, "refused {fault}\n")
 }

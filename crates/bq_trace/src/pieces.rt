@@ -1,8 +1,8 @@
 //! A replay of a whole trace, from any reader to any writer.
 ghost use Rattle.std.specs.Prelude.{◌≡◌, IfOk, IfErr, OnOk, OnErr};
-ghost use Rattle.bq_streams.specs.Counts.{inner_of, calls_of, failures_of};
+ghost use Rattle.bq_streams.specs.Counts.{counted_inner, call_count, failures_of};
 ghost use Rattle.bq_trace.specs.Replaying.{Replays, ReplaysInPart};
-ghost use Rattle.bq_streams.specs.Faults.{IsFault};
+ghost use Rattle.bq_streams.specs.Faults.{IsStreamFault};
 
 use crate::session::Session;
 use bq_streams::{Counted, PIECE, READS, StreamFault};
@@ -27,20 +27,20 @@ pub fn replay<R: Read, W: Write>(
     output: &mut Counted<W>,
 ) -> Result<bool, StreamFault>
     // The input was read to its end, and the answers to the trace were written.
-    ensures ok { IfOk result (λ clean. Replays (R.remaining (inner_of input.old)) (R.remaining (inner_of input.new))
-        (W.contents (inner_of output.old)) (W.contents (inner_of output.new)) clean) }
+    ensures ok { IfOk result (λ clean. Replays (R.remaining (counted_inner input.old)) (R.remaining (counted_inner input.new))
+        (W.contents (counted_inner output.old)) (W.contents (counted_inner output.new)) clean) }
 
     // No read and no write failed: the first failure ends the replay.
     ensures reads { OnOk result (failures_of input.new ≡ failures_of input.old) }
     ensures writes { OnOk result (failures_of output.new ≡ failures_of output.old) }
 
     // After a fault, a beginning of the answers to what was read is written.
-    ensures part { OnErr result (ReplaysInPart (R.remaining (inner_of input.old)) (R.remaining (inner_of input.new))
-        (W.contents (inner_of output.old)) (W.contents (inner_of output.new))) }
+    ensures part { OnErr result (ReplaysInPart (R.remaining (counted_inner input.old)) (R.remaining (counted_inner input.new))
+        (W.contents (counted_inner output.old)) (W.contents (counted_inner output.new))) }
 
     // Each fault has its cause.
-    ensures fault { IfErr result (λ e. IsFault e (failures_of input.old) (failures_of input.new)
-        (failures_of output.old) (failures_of output.new) (calls_of input.old) (calls_of input.new)) }
+    ensures fault { IfErr result (λ e. IsStreamFault e (failures_of input.old) (failures_of input.new)
+        (failures_of output.old) (failures_of output.new) (call_count input.old) (call_count input.new)) }
 {
     let mut session = Session::new(alloc);
     let mut piece = [0u8; PIECE];

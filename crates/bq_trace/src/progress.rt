@@ -229,12 +229,12 @@ pub struct Progress {
 }
 
 impl Progress {
-    ghost use Rattle.bq_trace.specs.Trace.{start};
+    ghost use Rattle.bq_trace.specs.Trace.{opening_progress};
     ghost use Rattle.bq_trace.specs.Reporting.{ReportsShortLine};
 
     /// The state before the first line.
     pub fn start() -> Progress
-        ensures { result ≡ start }
+        ensures { result ≡ opening_progress }
     {
         Progress {
             phase: Phase::Waiting,

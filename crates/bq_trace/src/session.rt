@@ -1,8 +1,8 @@
 //! A replay of a trace that comes in pieces.
 ghost use Rattle.std.specs.Prelude.{◌≡◌, ℕ, List, [], IfOk, IfErr, OnOk, OnErr, Some};
-ghost use Rattle.bq_streams.specs.Counts.{inner_of, failures_of};
+ghost use Rattle.bq_streams.specs.Counts.{counted_inner, failures_of};
 ghost use Rattle.bq_streams.specs.Faults.{IsWriteFault};
-ghost use Rattle.bq_lines.specs.Kept.{StandsFor};
+ghost use Rattle.bq_lines.specs.Kept.{KeepsLine};
 
 use crate::trace_position::TracePosition;
 use bq_streams::{Counted, StreamFault};
@@ -50,12 +50,12 @@ impl Model for Session {
 }
 
 impl Session {
-    ghost use Rattle.bq_trace.specs.Trace.{start};
+    ghost use Rattle.bq_trace.specs.Trace.{opening_progress};
     ghost use Rattle.bq_trace.specs.Feeding.{Feeds, BreaksOff, Finishes};
 
     /// A replay to which nothing has come yet. It takes its memory from `alloc`.
     pub fn new(alloc: Global) -> Session
-        ensures progress { result.progress ≡ start }
+        ensures progress { result.progress ≡ opening_progress }
         ensures begun { result.begun ≡ Some [] }
     {
         Session {
@@ -67,11 +67,11 @@ impl Session {
 
     /// Runs the lines that this piece ends, and writes their answers.
     fn go_on<W: Write>(&mut self, piece: &[u8], out: &mut Counted<W>) -> Result<(), StreamFault>
-        ensures ok { OnOk result ((begun : List ℕ) → StandsFor self.old.begun begun
-            → Feeds self.old begun piece.now self.new (W.contents (inner_of out.old)) (W.contents (inner_of out.new))) }
+        ensures ok { OnOk result ((begun : List ℕ) → KeepsLine self.old.begun begun
+            → Feeds self.old begun piece.now self.new (W.contents (counted_inner out.old)) (W.contents (counted_inner out.new))) }
         ensures kept { OnOk result (failures_of out.new ≡ failures_of out.old) }
-        ensures part { OnErr result ((begun : List ℕ) → StandsFor self.old.begun begun
-            → BreaksOff self.old begun piece.now (W.contents (inner_of out.old)) (W.contents (inner_of out.new))) }
+        ensures part { OnErr result ((begun : List ℕ) → KeepsLine self.old.begun begun
+            → BreaksOff self.old begun piece.now (W.contents (counted_inner out.old)) (W.contents (counted_inner out.new))) }
         ensures fault { IfErr result (λ e. IsWriteFault e (failures_of out.old) (failures_of out.new)) }
     {
         self.answers.clear();
@@ -87,11 +87,11 @@ impl Session {
         piece: &[u8],
         out: &mut Counted<W>,
     ) -> Result<Session, StreamFault>
-        ensures ok { IfOk result (λ next. (begun : List ℕ) → StandsFor self.begun begun
-            → Feeds self begun piece.now next (W.contents (inner_of out.old)) (W.contents (inner_of out.new))) }
+        ensures ok { IfOk result (λ next. (begun : List ℕ) → KeepsLine self.begun begun
+            → Feeds self begun piece.now next (W.contents (counted_inner out.old)) (W.contents (counted_inner out.new))) }
         ensures kept { OnOk result (failures_of out.new ≡ failures_of out.old) }
-        ensures part { OnErr result ((begun : List ℕ) → StandsFor self.begun begun
-            → BreaksOff self begun piece.now (W.contents (inner_of out.old)) (W.contents (inner_of out.new))) }
+        ensures part { OnErr result ((begun : List ℕ) → KeepsLine self.begun begun
+            → BreaksOff self begun piece.now (W.contents (counted_inner out.old)) (W.contents (counted_inner out.new))) }
         ensures fault { IfErr result (λ e. IsWriteFault e (failures_of out.old) (failures_of out.new)) }
     {
         self.go_on(piece, out)?;
@@ -100,11 +100,11 @@ impl Session {
 
     /// Runs the last line, if no line feed ended it, and writes its answer. Answers true if no line of the trace was bad.
     fn end<W: Write>(&mut self, out: &mut Counted<W>) -> Result<bool, StreamFault>
-        ensures ok { IfOk result (λ clean. (begun : List ℕ) → StandsFor self.old.begun begun
-            → Finishes self.old begun (W.contents (inner_of out.old)) (W.contents (inner_of out.new)) clean) }
+        ensures ok { IfOk result (λ clean. (begun : List ℕ) → KeepsLine self.old.begun begun
+            → Finishes self.old begun (W.contents (counted_inner out.old)) (W.contents (counted_inner out.new)) clean) }
         ensures kept { OnOk result (failures_of out.new ≡ failures_of out.old) }
-        ensures part { OnErr result ((begun : List ℕ) → StandsFor self.old.begun begun
-            → BreaksOff self.old begun [] (W.contents (inner_of out.old)) (W.contents (inner_of out.new))) }
+        ensures part { OnErr result ((begun : List ℕ) → KeepsLine self.old.begun begun
+            → BreaksOff self.old begun [] (W.contents (counted_inner out.old)) (W.contents (counted_inner out.new))) }
         ensures fault { IfErr result (λ e. IsWriteFault e (failures_of out.old) (failures_of out.new)) }
     {
         self.answers.clear();
@@ -115,11 +115,11 @@ impl Session {
 
     /// Runs the last line, if no line feed ended it. Answers true if no line of the trace was bad.
     pub fn finish<W: Write>(mut self, out: &mut Counted<W>) -> Result<bool, StreamFault>
-        ensures ok { IfOk result (λ clean. (begun : List ℕ) → StandsFor self.begun begun
-            → Finishes self begun (W.contents (inner_of out.old)) (W.contents (inner_of out.new)) clean) }
+        ensures ok { IfOk result (λ clean. (begun : List ℕ) → KeepsLine self.begun begun
+            → Finishes self begun (W.contents (counted_inner out.old)) (W.contents (counted_inner out.new)) clean) }
         ensures kept { OnOk result (failures_of out.new ≡ failures_of out.old) }
-        ensures part { OnErr result ((begun : List ℕ) → StandsFor self.begun begun
-            → BreaksOff self begun [] (W.contents (inner_of out.old)) (W.contents (inner_of out.new))) }
+        ensures part { OnErr result ((begun : List ℕ) → KeepsLine self.begun begun
+            → BreaksOff self begun [] (W.contents (counted_inner out.old)) (W.contents (counted_inner out.new))) }
         ensures fault { IfErr result (λ e. IsWriteFault e (failures_of out.old) (failures_of out.new)) }
     {
         self.end(out)

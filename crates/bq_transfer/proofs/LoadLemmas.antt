@@ -18,7 +18,7 @@ use Rattle.bq_states.specs.declared.abstract_state.AbstractState.{AbstractState}
 use Rattle.bq_states.specs.declared.abstract_state.AbstractValue.{AbstractValue}
 use Rattle.bq_states.specs.declared.abstract_state.ValueKind.{ValueKind}
 use Rattle.bq_states.specs.declared.abstract_state.ValueKind.TheVariants.{Number, Stack}
-use Rattle.bq_states.specs.AbstractStates.{Describes, Contains, StackIsAsKnown, Suits, IsOfKind, Bounds}
+use Rattle.bq_states.specs.AbstractStates.{Describes, Contains, StackIsAsKnown, Suits, IsRegionOfKind, Bounds}
 use Rattle.bq_transfer.specs.Transfers.{FindsPlace}
 use Rattle.bq_states.proofs.WordLemmas.{describes_number}
 use Rattle.bq_states.proofs.AccessLemmas.{good_at, read_bytes, region_byte}
@@ -48,7 +48,7 @@ pub reads_place : (shapes : List MapShape) (context_length : ℕ) (state : Abstr
     → (kind ≡ Stack → (o i : ℕ) → Within at o → i < byte_count size → slice_index_or state.set (o + i) false ≡ true)
     → (f : Setting) (s : State) → Suits shapes context_length f → Contains f state s
     → (word : ℕ) × (bytes : List ℕ) × (s.register src ≡ Some word) × (length bytes ≡ byte_count size)
-    × (r : Reads f s (address_of word off) bytes) × (number_of bytes < 256 ^ byte_count size) × IsOfKind kind r.region
+    × (r : Reads f s (address_of word off) bytes) × (number_of bytes < 256 ^ byte_count size) × IsRegionOfKind kind r.region
     × Within at r.offset
 reads_place shapes context_length state size src off kind at finds set f s suits contains =
     let found = finds f s suits contains in
@@ -73,7 +73,7 @@ pub load_gives : (shapes : List MapShape) (context_length : ℕ) (state : Abstra
     → FindsPlace shapes context_length state src off size kind at
     → (kind ≡ Stack → (o i : ℕ) → Within at o → i < byte_count size → slice_index_or state.set (o + i) false ≡ true)
     → ((f : Setting) (s : State) (word : ℕ) (bytes : List ℕ) (r : Reads f s (address_of word off) bytes) →
-    Contains f state s → length bytes ≡ byte_count size → number_of bytes < 256 ^ byte_count size → IsOfKind kind r.region →
+    Contains f state s → length bytes ≡ byte_count size → number_of bytes < 256 ^ byte_count size → IsRegionOfKind kind r.region →
     Within at r.offset → Within numbers (loaded size signed (number_of bytes)))
     → dst < 10 → (f : Setting) (s : State) → Suits shapes context_length f → Contains f state s
     → (n : ℕ) × Does f (Load size signed dst src off) s (put s 1 dst n)

@@ -16,7 +16,7 @@ use Rattle.bq_states.specs.declared.abstract_state.ValueKind.TheVariants.{Entry,
 use Rattle.bq_states.specs.declared.abstract_state.AbstractValue.{AbstractValue}
 use Rattle.bq_states.specs.declared.abstract_state.AbstractState.{AbstractState}
 use Rattle.bq_states.specs.Certainty.{Pointer, CertaintyHolds}
-use Rattle.bq_transfer.specs.Ready.{IsPlaced}
+use Rattle.bq_transfer.specs.Ready.{IsAccessPlaced}
 use Rattle.bq_states.specs.AbstractStates.{bound_of}
 
 -- a sum of words
@@ -40,7 +40,7 @@ option_same a b v p q = let e : Some a ≡ Some b = p ∙ q in cc
 -- an access that is placed is found there, and stays inside
 pub placed_in : (shapes : List MapShape) (context : ℕ) (state : AbstractState) (size : Size) (r : ℕ) (off : ℤ)
     (kind : ValueKind) (at : ℕ)
-    → SFits w16 off → IsPlaced shapes context state size r off kind at
+    → SFits w16 off → IsAccessPlaced shapes context state size r off kind at
     → (known : AbstractValue) → Some known ≡ slice_index_or state.registers r None → (bound : ℕ)
     → Some bound ≡ bound_of shapes context known.kind → bound ≤ 65536 → (sum : Range) (word : ℕ) → word ≡ word_of off
     → (known.offset.lo ≡ known.offset.hi → sum.lo ≡ alu_result W64 Add known.offset.lo word)
@@ -62,7 +62,7 @@ placed_in shapes context state size r off kind at short placed known is bound bo
 -- on the stack an access stays below 512
 pub stack_inside : (shapes : List MapShape) (context : ℕ) (state : AbstractState) (size : Size)
     (r : ℕ) (off : ℤ) (kind : ValueKind) (at : ℕ)
-    → kind ≡ Stack → IsPlaced shapes context state size r off kind at → at + byte_count size ≤ 512
+    → kind ≡ Stack → IsAccessPlaced shapes context state size r off kind at → at + byte_count size ≤ 512
 stack_inside shapes context state size r off kind at stack placed =
     let same : 512 ≡ placed.bound =
     option_same 512 placed.bound _ (ap (λ (k : ValueKind). bound_of shapes context k) (sym stack)) placed.bound_is in

@@ -14,7 +14,7 @@ use Rattle.bq_states.specs.declared.abstract_state.ValueKind.TheVariants.{Stack,
 use Rattle.bq_states.specs.declared.abstract_state.AbstractState.{AbstractState}
 use Rattle.bq_transfer.specs.After.{After, GivesExact, GivesNumber, GivesPointer, IsStackByte, StoresByte}
 use Rattle.bq_transfer.specs.Obligations.{MayBeUnproven}
-use Rattle.bq_transfer.specs.Ready.{IsIntoEntry, IsOnFrame, IsPlaced, IsTransferred}
+use Rattle.bq_transfer.specs.Ready.{IsIntoEntry, IsOnFrame, IsAccessPlaced, IsTransferred}
 use Rattle.bq_transfer.specs.Transfers.{IsStraight}
 use Rattle.bq_transfer.specs.declared.obligation.Obligation.{Obligation}
 use Rattle.bq_transfer.proofs.CertaintyLemmas.{bytes_at, has_given, has_left, has_stored}
@@ -59,8 +59,8 @@ pub stores_number : {T E : Type 0} (r : Result T E) (insn : Insn) (old new : Abs
     → ((n : ℕ) → GivesNumber insn n → ⊥) → ((n m : ℕ) → GivesExact n insn m → ⊥)
     → ((kind : ValueKind) (o slot k n : ℕ) → GivesPointer kind o slot k insn n old → ⊥)
     → ((i : ℕ) → StoresByte insn i → (dst ≡ 10) × IsStackByte size off i)
-    → ((at : ℕ) → IsPlaced shapes context old size dst off Stack at → IsOk r × IsStoredAt old new at (at + byte_count size))
-    → ((map at : ℕ) → IsPlaced shapes context old size dst off (Entry map) at → IsOk r × (new ≡ old))
+    → ((at : ℕ) → IsAccessPlaced shapes context old size dst off Stack at → IsOk r × IsStoredAt old new at (at + byte_count size))
+    → ((map at : ℕ) → IsAccessPlaced shapes context old size dst off (Entry map) at → IsOk r × (new ≡ old))
     → IsOnFrame shapes context old size dst off ⊎ IsIntoEntry shapes context old size dst off
     → IsOk r × ((x : Fact) (slot k : ℕ) → After x slot k insn old → Has x new)
 stores_number r insn old new shapes context size dst off none inexact nowhere bytes on_frame into_entry (inl f) = (

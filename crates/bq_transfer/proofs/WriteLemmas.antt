@@ -25,7 +25,7 @@ use Rattle.bq_states.specs.declared.abstract_state.ValueKind.TheVariants.{Stack,
 use Rattle.bq_states.specs.declared.abstract_state.AbstractState.{AbstractState}
 use Rattle.bq_states.specs.declared.relations.Related.{Related}
 use Rattle.bq_states.specs.declared.abstract_state.AbstractValue.{AbstractValue}
-use Rattle.bq_states.specs.AbstractStates.{Contains, Describes, StackIsAsKnown, IsOfKind, keeping}
+use Rattle.bq_states.specs.AbstractStates.{Contains, Describes, StackIsAsKnown, IsRegionOfKind, keeping}
 use Rattle.bq_transfer.specs.Transfers.{FindsPlace, IsWholeSlot, Stores, Transfers}
 use Rattle.bq_states.proofs.StoreLemmas.{low_first_byte, stored_bytes}
 use Rattle.bq_states.specs.Copies.{AreCopies, HasWord}
@@ -126,7 +126,7 @@ stores_on_stack : (shapes : List MapShape) (context_length dst : ℕ) (off : ℤ
     → Stores shapes context_length dst off size k old new slot
 stores_on_stack shapes context_length dst off size k at kind old new slot whole stack finds after f s v suits contains d =
     let found = finds f s suits contains in
-    let region : found.1 ≡ InStack = subst (λ (x : ValueKind). IsOfKind x found.1) stack found.5 in
+    let region : found.1 ≡ InStack = subst (λ (x : ValueKind). IsRegionOfKind x found.1) stack found.5 in
     let good = subst (λ (r : Region). IsGood f (address_of found.0 off) (byte_count size) r found.2) region found.4 in (
       found.0,
       written s InStack found.2 (low_bytes size v),
@@ -157,7 +157,7 @@ pub stores_in_entry : (shapes : List MapShape) (context_length dst : ℕ) (off :
     → Stores shapes context_length dst off size k state state None
 stores_in_entry shapes context_length dst off size k at kind m state entry finds f s v suits contains d =
     let found = finds f s suits contains in
-    let into : (map : ℕ) × (first : ℕ) × (found.1 ≡ InEntry map first) = subst (λ (x : ValueKind). IsOfKind x found.1) entry found.5 in
+    let into : (map : ℕ) × (first : ℕ) × (found.1 ≡ InEntry map first) = subst (λ (x : ValueKind). IsRegionOfKind x found.1) entry found.5 in
     let good = subst (λ (r : Region). IsGood f (address_of found.0 off) (byte_count size) r found.2) into.2 found.4 in (
       found.0,
       written s (InEntry into.0 into.1) found.2 (low_bytes size v),

@@ -33,7 +33,7 @@ IsLeftReady Mov state dst = Unit {0}
 IsLeftReady _ state dst = CertaintyHoldsAt Scalar state dst
 
 -- an access by register `r` is at offset `at` of the region of this kind into which the register points, and inside it
-pub record IsPlaced (shapes : List MapShape) (context : ℕ) (state : AbstractState) (size : Size) (r : ℕ) (off : ℤ) (kind : ValueKind) (at : ℕ) : Type 0 where
+pub record IsAccessPlaced (shapes : List MapShape) (context : ℕ) (state : AbstractState) (size : Size) (r : ℕ) (off : ℤ) (kind : ValueKind) (at : ℕ) : Type 0 where
   pub base : ℕ
   pub stands : CertaintyHoldsAt (Pointer kind base) state r
   pub at_is : pos at ≡ (pos base +ℤ off)
@@ -43,13 +43,13 @@ pub record IsPlaced (shapes : List MapShape) (context : ℕ) (state : AbstractSt
 
 -- the access is at offset `at` of a region of this kind, and inside it
 abbrev pub IsPlacedAt : List MapShape → ℕ → AbstractState → Access → ValueKind → ℕ → Type 0
-IsPlacedAt shapes context state access kind at = IsPlaced shapes context state access.size access.base access.off kind at
+IsPlacedAt shapes context state access kind at = IsAccessPlaced shapes context state access.size access.base access.off kind at
 
 -- the load may read its bytes: if they are on the stack, they are set; and no slot of the stack keeps a pointer
 pub record IsLoadReady (shapes : List MapShape) (context : ℕ) (state : AbstractState) (size : Size) (r : ℕ) (off : ℤ) : Type 0 where
   pub kind : ValueKind
   pub at : ℕ
-  pub placed : IsPlaced shapes context state size r off kind at
+  pub placed : IsAccessPlaced shapes context state size r off kind at
   pub set : kind ≡ Stack → (i : ℕ) → at ≤ i → i < at + byte_count size → Has (IsSetAt i) state
   pub plain : (j : ℕ) → Has (IsPlainAt j) state
 
@@ -57,13 +57,13 @@ pub record IsLoadReady (shapes : List MapShape) (context : ℕ) (state : Abstrac
 pub record IsOnFrame (shapes : List MapShape) (context : ℕ) (state : AbstractState) (size : Size) (r : ℕ) (off : ℤ) : Type 0 where
   pub at : ℕ
   pub at_is : pos at ≡ (pos stack_size +ℤ off)
-  pub placed : IsPlaced shapes context state size r off Stack at
+  pub placed : IsAccessPlaced shapes context state size r off Stack at
 
 -- the store is into an entry of a map, and not by register 10
 pub record IsIntoEntry (shapes : List MapShape) (context : ℕ) (state : AbstractState) (size : Size) (r : ℕ) (off : ℤ) : Type 0 where
   pub map : ℕ
   pub at : ℕ
-  pub placed : IsPlaced shapes context state size r off (Entry map) at
+  pub placed : IsAccessPlaced shapes context state size r off (Entry map) at
   pub other : r ≢ 10
 
 -- the instruction is a 64-bit move of register 10, which points into the stack

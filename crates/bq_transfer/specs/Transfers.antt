@@ -24,7 +24,7 @@ use Rattle.bq_insn.specs.declared.Operation.{Operation}
 use Rattle.bq_insn.specs.declared.Operation.TheVariants.{Add, Mov}
 use Rattle.bq_insn.specs.declared.Width.{Width}
 use Rattle.bq_insn.specs.declared.Width.TheVariants.{W64}
-use Rattle.bq_states.specs.AbstractStates.{Contains, Describes, IsOfKind, Suits}
+use Rattle.bq_states.specs.AbstractStates.{Contains, Describes, IsRegionOfKind, Suits}
 use Rattle.bq_transfer.specs.declared.access.Location.{Location}
 
 -- from every state of the old abstract state the instruction has a step, to a state of the new one at the next slot
@@ -47,13 +47,13 @@ abbrev pub HoldsNumber : AbstractState → ℕ → Range → Type 0
 HoldsNumber state r range = (f : Setting) (s : State) → Contains f state s → (n : ℕ) × (s.register r ≡ Some n) × Within range n
 
 -- the access by register `r` is good: it is in a region of this kind, at an offset of the range
-abbrev pub Reaches : Setting → State → ℕ → ℤ → Size → ValueKind → Range → Type 0
-Reaches f s r off size kind at =
-    (word : ℕ) × (region : Region) × (o : ℕ) × (s.register r ≡ Some word) × IsGood f (address_of word off) (byte_count size) region o × IsOfKind kind region × Within at o
+abbrev pub ReachesRegion : Setting → State → ℕ → ℤ → Size → ValueKind → Range → Type 0
+ReachesRegion f s r off size kind at =
+    (word : ℕ) × (region : Region) × (o : ℕ) × (s.register r ≡ Some word) × IsGood f (address_of word off) (byte_count size) region o × IsRegionOfKind kind region × Within at o
 
 -- in every state of the abstract state the access by register `r` is good, in a region of this kind at an offset of the range
 abbrev pub FindsPlace : List MapShape → ℕ → AbstractState → ℕ → ℤ → Size → ValueKind → Range → Type 0
-FindsPlace shapes context_length state r off size kind at = (f : Setting) (s : State) → Suits shapes context_length f → Contains f state s → Reaches f s r off size kind at
+FindsPlace shapes context_length state r off size kind at = (f : Setting) (s : State) → Suits shapes context_length f → Contains f state s → ReachesRegion f s r off size kind at
 
 -- the access is to exactly the eight bytes of this slot of the stack
 abbrev pub IsWholeSlot : Range → Size → ℕ → Type 0

@@ -7,7 +7,7 @@ use Rattle.bq_disc.specs.Queues.{HasDistinctIds, HasSmallIds, key_of}
 use Rattle.bq_tree.specs.Trees.{Knowledge, IsTreeBehind, in_order_behind}
 use Rattle.bq_disc.specs.declared.node.Node.{Node}
 use Rattle.bq_disc.proofs.QueueLemmas.{length-few, length-place, HasDistinctIds-place, HasSmallIds-place, HasDistinctIds-without, HasSmallIds-without}
-use Rattle.bq_tree.specs.Taking.{Takes}
+use Rattle.bq_tree.specs.Taking.{TakesOut}
 use Rattle.bq_tree.specs.Sound.{Knows, IsSound, first_key, lesser_of}
 use Rattle.bq_disc.proofs.RisingLemmas.{IsRising-place}
 use Rattle.bq_tree.proofs.OrderLemmas.{IsRising-drop}
@@ -70,7 +70,7 @@ first_by_test (x ∷ xs) t ys least e n = e
 pub sound_taken : (knows : Knowledge) (len left : ℕ) (old new : Option (Box Node Global)) (was least : Option (ℕ × ℕ))
     (times : List ℕ) (v id : ℕ) (t : Task)
     → IsSound knows old len was times → len ≡ left + 1 → IsTreeBehind knows new
-    → Takes v id (in_order_behind old) (Some t) (in_order_behind new) → least ≡ first_key (in_order_behind new)
+    → TakesOut v id (in_order_behind old) (Some t) (in_order_behind new) → least ≡ first_key (in_order_behind new)
     → IfSome least (λ key. key.0 ≤ 2 ^ 62)
     → IsSound knows new left least times
 sound_taken knows len left old new was least times v id x s one tree t leads high =
@@ -89,7 +89,7 @@ sound_taken knows len left old new was least times v id x s one tree t leads hig
 
 -- the first task stays the first when another goes
 pub leads_on : (all : List Task) (rest : List Task) (least : Option (ℕ × ℕ)) (v id : ℕ) (t : Task)
-    → least ≡ first_key all → Takes v id all (Some t) rest → option_map_or (λ (k : ℕ × ℕ). eqb k.1 id) least false ≡ false
+    → least ≡ first_key all → TakesOut v id all (Some t) rest → option_map_or (λ (k : ℕ × ℕ). eqb k.1 id) least false ≡ false
     → least ≡ first_key rest
 leads_on all rest least v id x e t n =
     first_by_test t.0 x t.1 least (e ∙ ap first_key t.4) (rw t.3 n) ∙ ap first_key (sym t.5)

@@ -6,7 +6,7 @@ use Rattle.bq_disc.specs.Tasks.{Task, place, runs_before}
 use Rattle.bq_disc.specs.Queues.{comes_after}
 use Rattle.bq_disc.specs.Rising.{IsRising, NoneRunsBefore}
 use Rattle.bq_disc.proofs.RisingLemmas.{not_before}
-use Rattle.bq_tree.specs.Taking.{is_at, IsAbsent, Takes, Finds}
+use Rattle.bq_tree.specs.Taking.{is_task_at, IsAbsent, TakesOut, FindsTask}
 
 -- a task runs before none of these
 abbrev pub RunsBeforeNone : Task → List Task → Type 0
@@ -71,7 +71,7 @@ place-right t (y ∷ xs) x ys e h =
 comes_later : (v id : ℕ) (x y : Task) → comes_after v id x ≡ true → runs_before y x ≡ false → comes_after v id y ≡ true
 comes_later v id x y p q = grind (arith, nat_tests)
 
-is_at-after : (v id : ℕ) (x : Task) → comes_after v id x ≡ true → is_at v id x ≡ false
+is_at-after : (v id : ℕ) (x : Task) → comes_after v id x ≡ true → is_task_at v id x ≡ false
 is_at-after v id x p = grind (arith, nat_tests)
 
 -- (v, id) lies before x, and so it is not among the later ones
@@ -79,11 +79,11 @@ absent_later : (v id : ℕ) (x : Task) (xs : List Task) → comes_after v id x �
 absent_later v id x [] a h = tt
 absent_later v id x (y ∷ xs) a h = (is_at-after v id y (comes_later v id x y a h.0), absent_later v id x xs a h.1)
 
-not_at-before : (v id : ℕ) (x y : Task) → comes_after v id x ≡ false → is_at v id x ≡ false → runs_before x y ≡ false → is_at v id y ≡ false
+not_at-before : (v id : ℕ) (x y : Task) → comes_after v id x ≡ false → is_task_at v id x ≡ false → runs_before x y ≡ false → is_task_at v id y ≡ false
 not_at-before v id x y p q r = grind (arith, nat_tests)
 
 -- (v, id) lies after x, and so it is not among the earlier ones
-absent_earlier : (v id : ℕ) (x : Task) (xs : List Task) → comes_after v id x ≡ false → is_at v id x ≡ false
+absent_earlier : (v id : ℕ) (x : Task) (xs : List Task) → comes_after v id x ≡ false → is_task_at v id x ≡ false
     → RunsBeforeNone x xs
     → IsAbsent v id xs
 absent_earlier v id x [] a n h = tt
@@ -95,8 +95,8 @@ absent_join v id (x ∷ xs) ys h k = (h.0, absent_join v id xs ys h.1 k)
 
 -- what is taken from the left side is taken from the whole
 pub Takes-left : (v id : ℕ) (xs : List Task) (x : Task) (ys : List Task) (o : Option Task) (rest : List Task)
-    → IsRising (xs ++ x ∷ ys) → comes_after v id x ≡ true → Takes v id xs o rest
-    → Takes v id (xs ++ x ∷ ys) o (rest ++ x ∷ ys)
+    → IsRising (xs ++ x ∷ ys) → comes_after v id x ≡ true → TakesOut v id xs o rest
+    → TakesOut v id (xs ++ x ∷ ys) o (rest ++ x ∷ ys)
 Takes-left v id xs x ys None rest h a t =
     let later = absent_later v id x ys a (IsRising-after xs x ys h) in
     (absent_join v id xs (x ∷ ys) t.0 (is_at-after v id x a, later), ap (λ l. l ++ x ∷ ys) t.1)
@@ -111,8 +111,8 @@ Takes-left v id xs x ys (Some y) rest h a t = (
 
 -- what is taken from the right side is taken from the whole
 pub Takes-right : (v id : ℕ) (xs : List Task) (x : Task) (ys : List Task) (o : Option Task) (rest : List Task)
-    → IsRising (xs ++ x ∷ ys) → comes_after v id x ≡ false → is_at v id x ≡ false → Takes v id ys o rest
-    → Takes v id (xs ++ x ∷ ys) o (xs ++ x ∷ rest)
+    → IsRising (xs ++ x ∷ ys) → comes_after v id x ≡ false → is_task_at v id x ≡ false → TakesOut v id ys o rest
+    → TakesOut v id (xs ++ x ∷ ys) o (xs ++ x ∷ rest)
 Takes-right v id xs x ys None rest h a n t =
     let earlier = absent_earlier v id x xs a n (IsRising-before xs x ys h) in
     (absent_join v id xs (x ∷ ys) earlier (n, t.0), ap (λ l. xs ++ x ∷ l) t.1)
@@ -127,7 +127,7 @@ Takes-right v id xs x ys (Some y) rest h a n t = (
 
 -- what is found on the left side is found in the whole
 pub Finds-left : (v id : ℕ) (xs : List Task) (x : Task) (ys : List Task) (o : Option Task)
-    → IsRising (xs ++ x ∷ ys) → comes_after v id x ≡ true → Finds v id xs o → Finds v id (xs ++ x ∷ ys) o
+    → IsRising (xs ++ x ∷ ys) → comes_after v id x ≡ true → FindsTask v id xs o → FindsTask v id (xs ++ x ∷ ys) o
 Finds-left v id xs x ys None h a t =
     absent_join v id xs (x ∷ ys) t (is_at-after v id x a, absent_later v id x ys a (IsRising-after xs x ys h))
 Finds-left v id xs x ys (Some y) h a t =
@@ -135,8 +135,8 @@ Finds-left v id xs x ys (Some y) h a t =
 
 -- what is found on the right side is found in the whole
 pub Finds-right : (v id : ℕ) (xs : List Task) (x : Task) (ys : List Task) (o : Option Task)
-    → IsRising (xs ++ x ∷ ys) → comes_after v id x ≡ false → is_at v id x ≡ false → Finds v id ys o
-    → Finds v id (xs ++ x ∷ ys) o
+    → IsRising (xs ++ x ∷ ys) → comes_after v id x ≡ false → is_task_at v id x ≡ false → FindsTask v id ys o
+    → FindsTask v id (xs ++ x ∷ ys) o
 Finds-right v id xs x ys None h a n t =
     absent_join v id xs (x ∷ ys) (absent_earlier v id x xs a n (IsRising-before xs x ys h)) (n, t)
 Finds-right v id xs x ys (Some y) h a n t =

@@ -10,7 +10,7 @@ use Rattle.bq_tree.specs.Trees.{Knowledge, IsTree, in_order, in_order_behind, St
 use Rattle.bq_disc.specs.declared.node.Node.{Node, out-Node, roll-Node}
 use Rattle.bq_disc.specs.declared.totals.Totals.{Totals}
 use Rattle.bq_tree.specs.Knowing.{knows_sums}
-use Rattle.bq_tree.specs.Taking.{is_at, IsAbsent, Takes}
+use Rattle.bq_tree.specs.Taking.{is_task_at, IsAbsent, TakesOut}
 use Rattle.bq_tree.proofs.OrderLemmas.{Takes-left, Takes-right}
 use Rattle.bq_tree.proofs.NodeLemmas.{IsRootBehind, root_of, on_left, on_right, on_left-same, on_right-same, hanging-made, in_order-hanging}
 use Rattle.bq_tree.proofs.TotalsLemmas.{sums_of-cut, added-cancel, first_due-cut, is_same_due, other_is_first}
@@ -84,18 +84,18 @@ still_right knows n t new before after tree old right =
 
 -- what is left behind a link once a task has left
 pub record Loses (link : Option (Box Node Global)) (k : Node) (v id : ℕ) (t : Task) : Type 0 where
-  pub taken : Takes v id (in_order_behind link) (Some t) (in_order k)
+  pub taken : TakesOut v id (in_order_behind link) (Some t) (in_order k)
   pub few : length (in_order k) ≤ length (in_order_behind link)
 
-fewer : (v id : ℕ) (all : List Task) (t : Task) (rest : List Task) → Takes v id all (Some t) rest → length rest ≤ length all
+fewer : (v id : ℕ) (all : List Task) (t : Task) (rest : List Task) → TakesOut v id all (Some t) rest → length rest ≤ length all
 fewer v id all t rest h = omega (arith, ap length h.4, ap length h.5, length-append h.0 (t ∷ h.1), length-append h.0 h.1)
 
 loses : (knows : Knowledge) (link : Option (Box Node Global)) (n k : Node) (v id : ℕ) (t : Task) (rest : List Task)
-    → IsRootBehind knows link n → hanging k ≡ rest → Takes v id (hanging n) (Some t) rest
+    → IsRootBehind knows link n → hanging k ≡ rest → TakesOut v id (hanging n) (Some t) rest
     → Loses link k v id t
 loses knows link n k v id t rest root left taken =
     let whole = root.order ∙ in_order-hanging n in
-    let h : Takes v id (in_order_behind link) (Some t) (in_order k) = rw (whole, in_order-hanging k, left) taken in
+    let h : TakesOut v id (in_order_behind link) (Some t) (in_order k) = rw (whole, in_order-hanging k, left) taken in
     record { taken = h; few = fewer v id (in_order_behind link) t (in_order k) h }
 
 hanging-kept : (m k : Node) → KeepsSides m k → hanging k ≡ hanging m
@@ -108,7 +108,7 @@ hanging-kept m k h =
 pub loses_left : (knows : Knowledge) (link : Option (Box Node Global)) (n k : Node) (new : Option (Box Node Global))
     (v id : ℕ) (t : Task)
     → IsRootBehind knows link n → IsRising (in_order_behind link) → comes_after v id (out-Node n).entity ≡ true
-    → Takes v id (in_order_behind (out-Node n).left) (Some t) (in_order_behind new) → KeepsSides (on_left n new) k
+    → TakesOut v id (in_order_behind (out-Node n).left) (Some t) (in_order_behind new) → KeepsSides (on_left n new) k
     → Loses link k v id t
 loses_left knows link n k new v id t root rising after taken kept =
     let e = (out-Node n).entity in
@@ -124,7 +124,7 @@ loses_left knows link n k new v id t root rising after taken kept =
 pub loses_right : (knows : Knowledge) (link : Option (Box Node Global)) (n k : Node) (new : Option (Box Node Global))
     (v id : ℕ) (t : Task)
     → IsRootBehind knows link n → IsRising (in_order_behind link) → comes_after v id (out-Node n).entity ≡ false
-    → is_at v id (out-Node n).entity ≡ false → Takes v id (in_order_behind (out-Node n).right) (Some t) (in_order_behind new)
+    → is_task_at v id (out-Node n).entity ≡ false → TakesOut v id (in_order_behind (out-Node n).right) (Some t) (in_order_behind new)
     → KeepsSides (on_right n new) k
     → Loses link k v id t
 loses_right knows link n k new v id t root rising after other taken kept =
@@ -140,7 +140,7 @@ loses_right knows link n k new v id t root rising after other taken kept =
 -- what is behind a link where no task was there to take
 pub record Keeps (link : Option (Box Node Global)) (b : Box Node Global) (m : Node) (v id : ℕ) : Type 0 where
   pub same : Some (with_value b m) ≡ link
-  pub taken : Takes v id (in_order_behind link) None (in_order m)
+  pub taken : TakesOut v id (in_order_behind link) None (in_order m)
 
 keeps : (knows : Knowledge) (link : Option (Box Node Global)) (b : Box Node Global) (n m : Node) (v id : ℕ)
     → link ≡ Some b → n ≡ b.value → IsRootBehind knows link n → m ≡ n → IsAbsent v id (hanging n)
@@ -157,7 +157,7 @@ pub keeps_left : (knows : Knowledge) (link : Option (Box Node Global)) (b : Box 
     (new : Option (Box Node Global)) (v id : ℕ)
     → link ≡ Some b → n ≡ b.value → IsRootBehind knows link n → IsRising (in_order_behind link)
     → comes_after v id (out-Node n).entity ≡ true → new ≡ (out-Node n).left
-    → Takes v id (in_order_behind (out-Node n).left) None (in_order_behind new)
+    → TakesOut v id (in_order_behind (out-Node n).left) None (in_order_behind new)
     → Keeps link b (on_left n new) v id
 keeps_left knows link b n new v id e f root rising after same taken =
     let x = (out-Node n).entity in
@@ -171,8 +171,8 @@ keeps_left knows link b n new v id e f root rising after same taken =
 pub keeps_right : (knows : Knowledge) (link : Option (Box Node Global)) (b : Box Node Global) (n : Node)
     (new : Option (Box Node Global)) (v id : ℕ)
     → link ≡ Some b → n ≡ b.value → IsRootBehind knows link n → IsRising (in_order_behind link)
-    → comes_after v id (out-Node n).entity ≡ false → is_at v id (out-Node n).entity ≡ false → new ≡ (out-Node n).right
-    → Takes v id (in_order_behind (out-Node n).right) None (in_order_behind new)
+    → comes_after v id (out-Node n).entity ≡ false → is_task_at v id (out-Node n).entity ≡ false → new ≡ (out-Node n).right
+    → TakesOut v id (in_order_behind (out-Node n).right) None (in_order_behind new)
     → Keeps link b (on_right n new) v id
 keeps_right knows link b n new v id e f root rising after other same taken =
     let x = (out-Node n).entity in

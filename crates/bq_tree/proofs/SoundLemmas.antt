@@ -4,7 +4,7 @@ use Rattle.std.proofs.lemmas.Bool.Decides.{nat_tests}
 use Rattle.bq_disc.specs.Tasks.{Task, has_id, with_id, without, place, runs_before}
 use Rattle.bq_disc.specs.Queues.{HasDistinctIds}
 use Rattle.bq_disc.proofs.QueueLemmas.{without-absent, with_id-none}
-use Rattle.bq_tree.specs.Taking.{is_at, IsAbsent, Takes, Finds}
+use Rattle.bq_tree.specs.Taking.{is_task_at, IsAbsent, TakesOut, FindsTask}
 use Rattle.bq_tree.specs.Sound.{Knows}
 
 -- a table that has the v of some tasks and of one more has them all once that one is in its place
@@ -81,7 +81,7 @@ without-amid (x ∷ xs) t ys d =
     ∙ ap (λ l. x ∷ l) (without-amid xs t ys d.1)
 
 absent_by_test : (b : Bool) (v id : ℕ) (x : Task) (o : Option Task)
-    → has_id id x ≡ b → is_at v id x ≡ false → IfSome (cond b (Some x) o) (λ t. t.v ≡ v)
+    → has_id id x ≡ b → is_task_at v id x ≡ false → IfSome (cond b (Some x) o) (λ t. t.v ≡ v)
     → (IfSome o (λ t. t.v ≡ v) → o ≡ None)
     → cond b (Some x) o ≡ None
 absent_by_test true v id x o e a h rest =
@@ -96,7 +96,7 @@ none_of_id v id (x ∷ xs) a h = absent_by_test (has_id id x) v id x (with_id id
 
 -- what is taken at (v, id) is the task of that id
 pub Takes-id : (v id : ℕ) (all : List Task) (o : Option Task) (rest : List Task)
-    → HasDistinctIds all → IfSome (with_id id all) (λ t. t.v ≡ v) → Takes v id all o rest
+    → HasDistinctIds all → IfSome (with_id id all) (λ t. t.v ≡ v) → TakesOut v id all o rest
     → (o ≡ with_id id all) × (rest ≡ without id all)
 Takes-id v id all None rest d h t =
     let none = none_of_id v id all t.0 h in
@@ -111,7 +111,7 @@ Takes-id v id all (Some x) rest d h t =
 
 -- what is found at (v, id) is the task of that id
 pub Finds-id : (v id : ℕ) (all : List Task) (o : Option Task)
-    → HasDistinctIds all → IfSome (with_id id all) (λ t. t.v ≡ v) → Finds v id all o → o ≡ with_id id all
+    → HasDistinctIds all → IfSome (with_id id all) (λ t. t.v ≡ v) → FindsTask v id all o → o ≡ with_id id all
 Finds-id v id all None d h t = sym (none_of_id v id all t h)
 Finds-id v id all (Some x) d h t =
     let apart = rw t.4 at d in

@@ -6,7 +6,7 @@ ghost use Rattle.bq_disc.specs.Queues.{comes_after};
 ghost use Rattle.bq_disc.specs.Chains.{task_of, IsLone};
 ghost use Rattle.bq_disc.specs.Rising.{IsRising};
 ghost use Rattle.bq_tree.specs.Trees.{in_order_behind, height_behind, IsTreeBehind, HasNoLeft, DifferByAtMost, left_behind, right_behind};
-ghost use Rattle.bq_tree.specs.Taking.{is_at, Takes};
+ghost use Rattle.bq_tree.specs.Taking.{is_task_at, TakesOut};
 
 use crate::balance::{gathered, height, leaf, opened, rebalance, rebalanced};
 use crate::summary::Summary;
@@ -134,7 +134,7 @@ fn pop<S: Summary>(link: &mut Link) -> Link
 
 /// Whether the task is the one at (v, id).
 pub(crate) fn is_at(entity: &Entity, v: u64, id: u16) -> bool
-    ensures { result ≡ is_at v id entity.now }
+    ensures { result ≡ is_task_at v id entity.now }
 {
     entity.v() == v && entity.id() == id
 }
@@ -152,7 +152,7 @@ pub(crate) fn take_from<S: Summary>(link: &mut Link, v: u64, id: u16) -> Link
     requires rising { IsRising (in_order_behind link.old) }
     requires low { height_behind link.old ≤ 90 }
     requires few { length (in_order_behind link.old) ≤ 2 ^ 16 }
-    ensures taken { Takes v id (in_order_behind link.old) (option_map (λ b. task_of b.value) result) (in_order_behind link.new) }
+    ensures taken { TakesOut v id (in_order_behind link.old) (option_map (λ b. task_of b.value) result) (in_order_behind link.new) }
     ensures same { IfNone result (link.new ≡ link.old) }
     ensures lone { IfSome result (λ b. IsLone b.value) }
     ensures tree { IsTreeBehind S.knows link.new }

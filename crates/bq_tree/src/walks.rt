@@ -4,11 +4,11 @@ ghost use Rattle.std.specs.Option.{option_map};
 ghost use Rattle.bq_disc.specs.Tasks.{with_id};
 ghost use Rattle.bq_disc.specs.Queues.{comes_after, follows};
 ghost use Rattle.bq_disc.specs.Chains.{task_of};
-ghost use Rattle.bq_disc.specs.Movable.{Adds};
+ghost use Rattle.bq_disc.specs.Movable.{AddsMovable};
 ghost use Rattle.bq_disc.specs.Totals.{sums_of, HasBounds, is_at_most_mean};
 ghost use Rattle.bq_disc.specs.Rising.{IsRising};
 ghost use Rattle.bq_tree.specs.Trees.{in_order, IsTree, IsTreeBehind, in_order_behind};
-ghost use Rattle.bq_tree.specs.Taking.{Finds};
+ghost use Rattle.bq_tree.specs.Taking.{FindsTask};
 ghost use Rattle.bq_tree.specs.Knowing.{knows_sums};
 ghost use Rattle.bq_disc.specs.Dues.{first_due, sooner_of};
 
@@ -29,7 +29,7 @@ fn sides(node: &Node) -> (&Link, &Link)
 /// The node at (v, id).
 pub(crate) fn get_at(link: &Link, v: u64, id: u16) -> Option<&Node>
     requires rising { IsRising (in_order_behind link.now) }
-    ensures { Finds v id (in_order_behind link.now) (option_map (λ n. task_of n.now) result) }
+    ensures { FindsTask v id (in_order_behind link.now) (option_map (λ n. task_of n.now) result) }
 {
     let Some(node) = link else {
         return None;
@@ -129,7 +129,7 @@ pub(crate) fn movable_into(link: &Link, processor: u8, found: &mut Movable)
     requires processor { processor < PROCESSORS }
     requires few { found.old.count + length (in_order_behind link.now) ≤ 2 ^ 20 }
     requires fits { length found.old.first.items ≤ 8 }
-    ensures { Adds processor (in_order_behind link.now) found.old found.new }
+    ensures { AddsMovable processor (in_order_behind link.now) found.old found.new }
 {
     let Some(node) = link else {
         return;

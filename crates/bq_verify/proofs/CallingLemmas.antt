@@ -15,18 +15,18 @@ use Rattle.bq_bpf.specs.Steps.{LeadsTo, instruction_at}
 use Rattle.bq_bpf.specs.declared.shape.MapShape.{MapShape}
 use Rattle.bq_verify.specs.Edges.{IsEdge, IsStart}
 use Rattle.bq_bpf.specs.Instructions.{Leaves, distance_of, goes_on, destination_of}
-use Rattle.bq_verify.specs.Paths.{CallsOnWay, IsPath, Path, calls_before_end, end_of}
+use Rattle.bq_verify.specs.Paths.{CallsOnWay, IsPath, Path, calls_before_end, path_end}
 use Rattle.bq_verify.specs.Faults.{IsFaultless, is_helper}
 use Rattle.bq_verify.specs.declared.graph_cause.GraphCause.TheVariants.{Jump, NoExit, Unreached, Frame, Helper, Counters}
 use Rattle.bq_verify.proofs.EdgeLemmas.{exit_is_last}
 use Rattle.bq_verify.proofs.CountLemmas.{one_call}
 use Rattle.bq_states.specs.declared.abstract_state.ValueKind.TheVariants.{Map, Stack}
-use Rattle.bq_verify.specs.Straight.{leaves, loads, stores, untouched, writes, HasOneWay, IsByteStored, IsCounting, IsGiving, IsLoaded, IsMoveOnStack, IsNaming, IsPointerFrom, IsWritten, Needs, OnEachPath}
-use Rattle.bq_verify.specs.Worked.{calling, CallingIsStraight}
+use Rattle.bq_verify.specs.Straight.{leaves, loads, stores, untouched, writes, HasOneWay, IsByteStored, IsCounting, IsGiving, IsLoaded, IsMoveOnStack, IsEntryNamed, IsPointerFrom, IsWrittenOnEachPath, Needs, OnEachPath}
+use Rattle.bq_verify.specs.Worked.{calls_program, CallingIsStraight}
 use Rattle.bq_verify.proofs.EachSlotLemmas.{each_slot, ◌then◌, holds_along_path, made_before, made_first, goes_next, goes_nowhere, edge_on, path_on, no_jump, not_frame}
 
 abbrev program : List (Option Insn)
-program = spread calling
+program = spread calls_program
 
 -- the slot before each slot: control goes on from each to the next
 abbrev before : ℕ → ℕ
@@ -140,7 +140,7 @@ forward from to edge =
     two = omega arith
 
 -- a path has no more calls of counters than slots that it passes
-few_calls : (rest : List ℕ) (from : ℕ) → IsPath program from rest → calls_before_end program from rest + from ≤ end_of from rest
+few_calls : (rest : List ℕ) (from : ℕ) → IsPath program from rest → calls_before_end program from rest + from ≤ path_end from rest
 few_calls [] from path = omega arith
 few_calls (next ∷ rest) from path =
     let step = forward from next path.0 in
@@ -264,7 +264,7 @@ value_8 = (one_way 8, edge_on program 7 _ refl refl, inr ((refl, tt), value_7))
 stored_8 : (i : ℕ) → 504 ≤ i → i < 512 → IsByteStored program 8 i
 stored_8 i le lt = (Double, neg_ℤ (pos 8), made_first program (stores Double (neg_ℤ (pos 8))) refl 8 (omega arith), (504, refl, le, lt))
 
-naming : IsNaming program 8 0
+naming : IsEntryNamed program 8 0
 naming = record {
   names = (7 ∷ 6 ∷ 5 ∷ 4 ∷ 3 ∷ 1 ∷ [], names_8);
   at = 504;
@@ -306,12 +306,12 @@ made_then_left slots makes leaves first j k later past made only left rest path 
     rest 0 first path (λ same. absurd (omega (arith, same, later)), λ same. absurd (omega (arith, same, past)))).1
     ends
 
-written_11 : IsWritten program 11 2
+written_11 : IsWrittenOnEachPath program 11 2
 written_11 =
     made_then_left program (writes 2) (leaves 2) false 10 11 (omega arith) (omega arith)
     (λ from edge. rw (only_before from 10 edge) refl) (λ from edge. only_before from 11 edge) refl
 
-written_14 : IsWritten program 14 0
+written_14 : IsWrittenOnEachPath program 14 0
 written_14 = made_before program (writes 0) (leaves 0) false 14 (omega arith) (λ from edge. rw (only_before from 14 edge) refl)
 
 counting_11 : IsCounting program 11 (pos 100)

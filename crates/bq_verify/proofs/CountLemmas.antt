@@ -6,9 +6,9 @@ use Rattle.std.proofs.lemmas.Bool.Decides.{eqb_tells}
 use Rattle.bq_insn.specs.declared.Insn.{Insn}
 use Rattle.bq_bpf.specs.Steps.{instruction_at}
 use Rattle.bq_verify.specs.Edges.{IsEdge}
-use Rattle.bq_verify.specs.Paths.{IsPath, end_of, CallsOnWay, calls_of, calls_before_end, IsMostCalls}
+use Rattle.bq_verify.specs.Paths.{IsPath, path_end, CallsOnWay, counter_calls_of, calls_before_end, IsMostCalls}
 use Rattle.bq_bpf.specs.Instructions.{asks_counter}
-use Rattle.bq_verify.specs.Passes.{IsSound, IsAmongTargets, LeadsOut, Raises, CountsFollowed}
+use Rattle.bq_verify.specs.Passes.{IsGraphSound, IsAmongTargets, LeadsOut, Raises, CountsFollowed}
 use Rattle.bq_verify.specs.declared.edges.Targets.{Targets}
 use Rattle.bq_insn.proofs.OptionLemmas.{some_same, some_none}
 use Rattle.bq_verify.proofs.EdgeLemmas.{edge_inside, end_of-push, IsPath-push}
@@ -53,7 +53,7 @@ if_one true = omega arith
 if_one false = omega arith
 
 -- an instruction is at most one counter call
-pub one_call : (v : Option Insn) → calls_of v ≤ 1
+pub one_call : (v : Option Insn) → counter_calls_of v ≤ 1
 one_call None = omega arith
 one_call (Some insn) = if_one (asks_counter insn)
 
@@ -61,13 +61,13 @@ module _ (slots : List (Option Insn)) where
   -- a path that goes on has the calls of its end too
   calls-push : (from : ℕ) (rest : List ℕ) (t : ℕ)
       → calls_before_end slots from (rest ++ t ∷ [])
-      ≡ calls_before_end slots from rest + calls_of (instruction_at slots (end_of from rest))
+      ≡ calls_before_end slots from rest + counter_calls_of (instruction_at slots (path_end from rest))
   calls-push from [] t = omega arith
   calls-push from (n ∷ rest) t = let more = calls-push n rest t in omega arith
 
   -- a way that goes on by an edge, with its calls
   pub extend : (slot to n : ℕ) → CallsOnWay slots slot n → IsEdge slots slot to
-      → CallsOnWay slots to (n + calls_of (instruction_at slots slot))
+      → CallsOnWay slots to (n + counter_calls_of (instruction_at slots slot))
   extend slot to n way edge = record {
     rest = way.rest ++ to ∷ [];
     is_path = IsPath-push slots 0 way.rest to way.is_path (subst (λ (s : ℕ). IsEdge slots s to) (sym way.ends) edge);
@@ -76,14 +76,14 @@ module _ (slots : List (Option Insn)) where
         let pushed = calls-push 0 way.rest to in
         subst (λ (s : ℕ).
         calls_before_end slots 0 (way.rest ++ to ∷ [])
-        ≡ calls_before_end slots 0 way.rest + calls_of (instruction_at slots s)) way.ends pushed
-        ∙ ap (λ (m : ℕ). m + calls_of (instruction_at slots slot)) way.count_is;
+        ≡ calls_before_end slots 0 way.rest + counter_calls_of (instruction_at slots s)) way.ends pushed
+        ∙ ap (λ (m : ℕ). m + counter_calls_of (instruction_at slots slot)) way.count_is;
   }
 
   -- the edges from one more slot
   pub counted_same : (slot : ℕ) (most : List (Option ℕ)) → CountsFollowed slots slot most
       → ((to n : ℕ) → IsEdge slots slot to → slice_index_or most slot None ≡ Some n →
-      (m : ℕ) × (slice_index_or most to None ≡ Some m) × (n + calls_of (instruction_at slots slot) ≤ m))
+      (m : ℕ) × (slice_index_or most to None ≡ Some m) × (n + counter_calls_of (instruction_at slots slot) ≤ m))
       → CountsFollowed slots (slot + 1) most
   counted_same slot most old here = record {
     begins = old.begins;
@@ -94,17 +94,17 @@ module _ (slots : List (Option Insn)) where
     where
       by : (from to n : ℕ) → from < slot + 1 → IsEdge slots from to → slice_index_or most from None ≡ Some n
           → (from < slot) ⊎ (slot ≤ from)
-          → (m : ℕ) × (slice_index_or most to None ≡ Some m) × (n + calls_of (instruction_at slots from) ≤ m)
+          → (m : ℕ) × (slice_index_or most to None ≡ Some m) × (n + counter_calls_of (instruction_at slots from) ≤ m)
       by from to n lt edge e (inl less) = old.closed from to n less edge e
       by from to n lt edge e (inr more) =
           let same : slot ≡ from = omega arith in
           subst (λ (s : ℕ).
           IsEdge slots s to → slice_index_or most s None ≡ Some n →
-          (m : ℕ) × (slice_index_or most to None ≡ Some m) × (n + calls_of (instruction_at slots s) ≤ m))
+          (m : ℕ) × (slice_index_or most to None ≡ Some m) × (n + counter_calls_of (instruction_at slots s) ≤ m))
           same (here to n) edge e
 
-  module _ (sound : IsSound slots) (slot : ℕ) (targets : Targets) (out : LeadsOut slots slot targets)
-      (n count : ℕ) (count_is : count ≡ n + calls_of (instruction_at slots slot)) (old mid new : List (Option ℕ))
+  module _ (sound : IsGraphSound slots) (slot : ℕ) (targets : Targets) (out : LeadsOut slots slot targets)
+      (n count : ℕ) (count_is : count ≡ n + counter_calls_of (instruction_at slots slot)) (old mid new : List (Option ℕ))
       (first : Raises old targets.next count mid) (second : Raises mid targets.jump count new) where
     later : (to : ℕ) → IsAmongTargets targets to → slot < to
     later to of = (sound.forward slot to (out.only to of)).0
@@ -177,7 +177,7 @@ module _ (slots : List (Option Insn)) where
   module _ (most : List (Option ℕ)) (counted : CountsFollowed slots (length slots) most) where
     -- the number at the end of a path is no less than the calls on it
     along : (from : ℕ) (rest : List ℕ) (n : ℕ) → IsPath slots from rest → slice_index_or most from None ≡ Some n
-        → (m : ℕ) × (slice_index_or most (end_of from rest) None ≡ Some m) × (n + calls_before_end slots from rest ≤ m)
+        → (m : ℕ) × (slice_index_or most (path_end from rest) None ≡ Some m) × (n + calls_before_end slots from rest ≤ m)
     along from [] n p e = (n, e, omega arith)
     along from (next ∷ rest) n p e =
         let one = counted.closed from next n (edge_inside slots from next p.0) p.0 e in

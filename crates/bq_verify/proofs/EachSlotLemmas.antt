@@ -9,7 +9,7 @@ use Rattle.bq_insn.specs.Slots.{slots_of}
 use Rattle.bq_bpf.specs.Steps.{LeadsTo, instruction_at}
 use Rattle.bq_verify.specs.Edges.{IsEdge, IsStart}
 use Rattle.bq_bpf.specs.Instructions.{Leaves, distance_of, goes_on}
-use Rattle.bq_verify.specs.Paths.{IsPath, Path, end_of}
+use Rattle.bq_verify.specs.Paths.{IsPath, Path, path_end}
 use Rattle.bq_verify.proofs.EdgeLemmas.{end_of-push, IsPath-push, exit_is_last}
 use Rattle.bq_verify.specs.Straight.{held_along, OnEachPath, always}
 
@@ -49,7 +49,7 @@ pub holds_along_path : (slots : List (Option Insn)) (makes leaves : Option Insn 
     → ((from to : ℕ) (held : Bool) → IsEdge slots from to → P from held →
     P to (makes (instruction_at slots from) || (leaves (instruction_at slots from) && held)))
     → (rest : List ℕ) (from : ℕ) (held : Bool) → IsPath slots from rest → P from held
-    → P (end_of from rest) (held_along slots makes leaves held from rest)
+    → P (path_end from rest) (held_along slots makes leaves held from rest)
 holds_along_path slots makes leaves P step [] from held path p = p
 holds_along_path slots makes leaves P step (next ∷ rest) from held path p =
     holds_along_path slots makes leaves P step rest next _ path.1 (step from next held path.0 p)

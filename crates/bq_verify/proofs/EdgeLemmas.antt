@@ -10,9 +10,9 @@ use Rattle.bq_insn.proofs.OptionLemmas.{some_same, some_none}
 use Rattle.bq_bpf.specs.Steps.{LeadsTo, instruction_at}
 use Rattle.bq_verify.specs.Edges.{IsEdge, IsStart, IsForward}
 use Rattle.bq_bpf.specs.Instructions.{Leaves, distance_of, goes_on}
-use Rattle.bq_verify.specs.Paths.{IsPath, end_of}
+use Rattle.bq_verify.specs.Paths.{IsPath, path_end}
 use Rattle.bq_verify.specs.Faults.{IsBadJump}
-use Rattle.bq_verify.specs.Passes.{IsSound, IsAmongTargets, LeadsOut}
+use Rattle.bq_verify.specs.Passes.{IsGraphSound, IsAmongTargets, LeadsOut}
 use Rattle.bq_verify.specs.declared.edges.Targets.{Targets}
 
 -- an instruction stands inside the program
@@ -38,19 +38,19 @@ bad_jump slots slot insn distance here jumps nowhere =
     record { insn = insn; here = here; distance = distance; jumps = sym jumps; nowhere = nowhere }
 
 -- a path that goes on to a slot ends there
-pub end_of-push : (from : ℕ) (rest : List ℕ) (t : ℕ) → end_of from (rest ++ t ∷ []) ≡ t
+pub end_of-push : (from : ℕ) (rest : List ℕ) (t : ℕ) → path_end from (rest ++ t ∷ []) ≡ t
 end_of-push from [] t = refl
 end_of-push from (n ∷ rest) t = end_of-push n rest t
 
 -- a path goes on by an edge from its end
 pub IsPath-push : (slots : List (Option Insn)) (from : ℕ) (rest : List ℕ) (t : ℕ)
-    → IsPath slots from rest → IsEdge slots (end_of from rest) t → IsPath slots from (rest ++ t ∷ [])
+    → IsPath slots from rest → IsEdge slots (path_end from rest) t → IsPath slots from (rest ++ t ∷ [])
 IsPath-push slots from [] t p e = (e, tt)
 IsPath-push slots from (n ∷ rest) t p e = (p.0, IsPath-push slots n rest t p.1 e)
 
 -- a path goes up
 pub path_rises : (slots : List (Option Insn)) → IsForward slots → (from : ℕ) (rest : List ℕ) → IsPath slots from rest
-    → IsStart slots (end_of from rest)
+    → IsStart slots (path_end from rest)
     → from + length rest < length slots
 path_rises slots forward from [] p start = let lt = start_inside slots from start in omega arith
 path_rises slots forward from (next ∷ rest) p start =
@@ -158,11 +158,11 @@ module _ (slots : List (Option Insn)) (slot : ℕ) (insn : Insn) (here : instruc
 
 -- a target is the slot of a later instruction
 pub target_later : (slots : List (Option Insn)) (slot : ℕ) (targets : Targets)
-    → IsSound slots → LeadsOut slots slot targets → (to : ℕ) → IsAmongTargets targets to
+    → IsGraphSound slots → LeadsOut slots slot targets → (to : ℕ) → IsAmongTargets targets to
     → (slot < to) × IsStart slots to
 target_later slots slot targets sound out to of = sound.forward slot to (out.only to of)
 
 -- a target is a slot of the program
 pub target_inside : (slots : List (Option Insn)) (slot : ℕ) (targets : Targets)
-    → IsSound slots → LeadsOut slots slot targets → (to : ℕ) → IsAmongTargets targets to → to < length slots
+    → IsGraphSound slots → LeadsOut slots slot targets → (to : ℕ) → IsAmongTargets targets to → to < length slots
 target_inside slots slot targets sound out to of = start_inside slots to (target_later slots slot targets sound out to of).1

@@ -4,7 +4,7 @@ use Rattle.std.proofs.lemmas.Bool.{cases_lt}
 use Rattle.bq_insn.specs.declared.Insn.{Insn}
 use Rattle.bq_verify.specs.declared.graph_cause.GraphCause.{GraphCause}
 use Rattle.bq_verify.specs.declared.graph_cause.GraphCause.TheVariants.{Jump, NoExit, Unreached, Frame, Helper, Counters}
-use Rattle.bq_verify.specs.Faults.{HasFault, IsFirstFault, place_of}
+use Rattle.bq_verify.specs.Faults.{HasFault, IsFirstFault, check_place}
 use Rattle.bq_verify.specs.Laws.{FaultlessHasNone, OneFirstFault}
 
 -- the cause of that check
@@ -17,7 +17,7 @@ cause_at (suc (suc (suc (suc zero)))) = Frame
 cause_at (suc (suc (suc (suc (suc zero))))) = Helper
 cause_at (suc (suc (suc (suc (suc (suc n)))))) = Counters
 
-at_place : (slots : List (Option Insn)) (a : GraphCause) (j : ℕ) → HasFault slots a j → cause_at (place_of a) ≡ a
+at_place : (slots : List (Option Insn)) (a : GraphCause) (j : ℕ) → HasFault slots a j → cause_at (check_place a) ≡ a
 at_place slots Jump j h = refl
 at_place slots NoExit j h = refl
 at_place slots Unreached j h = refl
@@ -27,7 +27,7 @@ at_place slots Counters j h = refl
 
 -- no later check names a fault where an earlier one has one
 not_before : (slots : List (Option Insn)) (a b : GraphCause) (j k : ℕ)
-    → IsFirstFault slots a j → IsFirstFault slots b k → place_of a < place_of b → ⊥
+    → IsFirstFault slots a j → IsFirstFault slots b k → check_place a < check_place b → ⊥
 not_before slots a b j k first second lt = second.0 a lt j first.1.0
 
 same_slot : (slots : List (Option Insn)) (a : GraphCause) (j k : ℕ)
@@ -37,9 +37,9 @@ same_slot slots a j k first second (inr le) (inl lt) = absurd (first.1.1 k lt se
 same_slot slots a j k first second (inr le) (inr ge) = omega arith
 
 same_place : (slots : List (Option Insn)) (a b : GraphCause) (j k : ℕ)
-    → IsFirstFault slots a j → IsFirstFault slots b k → (place_of a < place_of b) ⊎ (place_of b ≤ place_of a)
-    → (place_of b < place_of a) ⊎ (place_of a ≤ place_of b)
-    → place_of a ≡ place_of b
+    → IsFirstFault slots a j → IsFirstFault slots b k → (check_place a < check_place b) ⊎ (check_place b ≤ check_place a)
+    → (check_place b < check_place a) ⊎ (check_place a ≤ check_place b)
+    → check_place a ≡ check_place b
 same_place slots a b j k first second (inl lt) back = absurd (not_before slots a b j k first second lt)
 same_place slots a b j k first second (inr le) (inl lt) = absurd (not_before slots b a k j second first lt)
 same_place slots a b j k first second (inr le) (inr ge) = omega arith
@@ -47,7 +47,7 @@ same_place slots a b j k first second (inr le) (inr ge) = omega arith
 -- two faults that are each the first of a program agree in cause and slot
 pub one_first_fault : OneFirstFault
 one_first_fault slots a b j k first second =
-    let places = same_place slots a b j k first second (cases_lt (place_of a) (place_of b)) (cases_lt (place_of b) (place_of a)) in
+    let places = same_place slots a b j k first second (cases_lt (check_place a) (check_place b)) (cases_lt (check_place b) (check_place a)) in
     let causes : a ≡ b = sym (at_place slots a j first.1.0) ∙ ap cause_at places ∙ at_place slots b k second.1.0 in (
       causes,
       same_slot slots a j k first (subst (λ (c : GraphCause). IsFirstFault slots c k) (sym causes) second)

@@ -9,10 +9,10 @@ use Rattle.bq_verify.proofs.SoundLemmas.{late_by, sound_graph}
 use Rattle.bq_insn.specs.declared.Insn.{Insn}
 use Rattle.bq_insn.specs.Slots.{spread}
 use Rattle.bq_verify.specs.Edges.{IsEdge, IsWhole, IsStart}
-use Rattle.bq_verify.specs.Paths.{IsGreatest, IsMostCalls, PathOut, CallsOnWay, calls_of}
+use Rattle.bq_verify.specs.Paths.{IsGreatest, IsMostCalls, PathOut, CallsOnWay, counter_calls_of}
 use Rattle.bq_bpf.specs.Instructions.{asks_counter}
 use Rattle.bq_verify.specs.Faults.{IsFaultless}
-use Rattle.bq_verify.specs.Passes.{IsSound, Measured}
+use Rattle.bq_verify.specs.Passes.{IsGraphSound, Measured}
 use Rattle.bq_verify.specs.declared.graph_cause.GraphCause.TheVariants.{Jump, NoExit, Unreached, Counters}
 use Rattle.bq_verify.proofs.SpreadLemmas.{spread_begins}
 use Rattle.bq_verify.proofs.HeightLemmas.{heights_fall, heights_positive}
@@ -27,11 +27,11 @@ pub spread_first : (insns : List Insn) (slots : List (Option Insn)) → slots �
 spread_first insns slots same = subst (λ (s : List (Option Insn)). 0 < length s → IsStart s 0) (sym same) (spread_begins insns).first
 
 -- the graph of a program without faults may be walked
-pub faultless_sound : (insns : List Insn) (slots : List (Option Insn)) → slots ≡ spread insns → IsFaultless slots → IsSound slots
+pub faultless_sound : (insns : List Insn) (slots : List (Option Insn)) → slots ≡ spread insns → IsFaultless slots → IsGraphSound slots
 faultless_sound insns slots same faultless = sound_graph slots (spread_whole insns slots same) (faultless Jump) (faultless NoExit)
 
 -- the measured numbers fall along each edge, and are positive where an instruction begins
-pub heights_are : (slots : List (Option Insn)) (heights : List ℕ) → IsSound slots → Measured slots 0 heights → AreHeights slots heights
+pub heights_are : (slots : List (Option Insn)) (heights : List ℕ) → IsGraphSound slots → Measured slots 0 heights → AreHeights slots heights
 heights_are slots heights sound measured = record {
   fall = heights_fall slots sound heights measured;
   positive = λ slot insn here. heights_positive slots heights measured slot (record { insn = insn; here = here });
@@ -70,11 +70,11 @@ module _ (slots : List (Option Insn)) (most : List (Option ℕ)) (faultless : Is
           subst (λ (m : ℕ). IsGreatest (CallsOnWay slots k) m) (sym (ap count_in e))
           (subst (λ (o : Option ℕ). IsMostCalls slots k o) e (counted k))
 
-  module _ (sound : IsSound slots) where
-    along : (from to : ℕ) → IsEdge slots from to → most_calls_at most from + calls_of (instruction_at slots from) ≤ most_calls_at most to
+  module _ (sound : IsGraphSound slots) where
+    along : (from to : ℕ) → IsEdge slots from to → most_calls_at most from + counter_calls_of (instruction_at slots from) ≤ most_calls_at most to
     along from to edge =
         let before = at_start from (record { insn = edge.insn; here = edge.here }) in
-        (at_start to (sound.forward from to edge).1).bounds (most_calls_at most from + calls_of (instruction_at slots from))
+        (at_start to (sound.forward from to edge).1).bounds (most_calls_at most from + counter_calls_of (instruction_at slots from))
         (extend slots from to (most_calls_at most from) before.holds edge)
 
     not_late : (from : ℕ) (insn : Insn) → instruction_at slots from ≡ Some insn → IsCounterCall insn
@@ -87,7 +87,7 @@ module _ (slots : List (Option Insn)) (most : List (Option ℕ)) (faultless : Is
         (at_start from (record { insn = insn; here = here })) many))
 
     one_more : (from : ℕ) (insn : Insn) → instruction_at slots from ≡ Some insn → IsCounterCall insn
-        → calls_of (instruction_at slots from) ≡ 1
+        → counter_calls_of (instruction_at slots from) ≡ 1
     one_more from insn here counter = rw (here, asks_of insn counter) refl
 
     pub made_by : BoundsCalls slots (most_calls_at most)
@@ -101,6 +101,6 @@ module _ (slots : List (Option Insn)) (most : List (Option ℕ)) (faultless : Is
 
 -- in a program without faults the most calls on the way to a slot grow along the edges, and stay few enough
 pub most_calls_are_made : (slots : List (Option Insn)) (most : List (Option ℕ))
-    → IsSound slots → IsFaultless slots → ((k : ℕ) → IsMostCalls slots k (slice_index_or most k None))
+    → IsGraphSound slots → IsFaultless slots → ((k : ℕ) → IsMostCalls slots k (slice_index_or most k None))
     → BoundsCalls slots (most_calls_at most)
 most_calls_are_made slots most sound faultless counted = made_by slots most faultless counted sound

@@ -7,12 +7,12 @@ use Rattle.bq_insn.specs.declared.Insn.{Insn}
 use Rattle.bq_insn.specs.declared.Insn.TheVariants.{Exit}
 use Rattle.bq_bpf.specs.Steps.{instruction_at}
 use Rattle.bq_verify.specs.Edges.{IsEdge, IsStart}
-use Rattle.bq_verify.specs.Paths.{IsPath, end_of, PathOut, IsGreatest}
-use Rattle.bq_verify.specs.Passes.{IsSound, IsAmongTargets, LeadsOut, Measured, height_to}
+use Rattle.bq_verify.specs.Paths.{IsPath, path_end, PathOut, IsGreatest}
+use Rattle.bq_verify.specs.Passes.{IsGraphSound, IsAmongTargets, LeadsOut, Measured, height_to}
 use Rattle.bq_verify.specs.declared.edges.Targets.{Targets}
 use Rattle.bq_verify.proofs.EdgeLemmas.{path_rises, target_later}
 
-module _ (slots : List (Option Insn)) (sound : IsSound slots) where
+module _ (slots : List (Option Insn)) (sound : IsGraphSound slots) where
   -- a path out is no longer than what is left of the program
   pub out_short : (k n : ℕ) → PathOut slots k n → n + k ≤ length slots
   out_short k n out =
@@ -62,7 +62,7 @@ module _ (slots : List (Option Insn)) (sound : IsSound slots) where
     bound_by to n le (inl e) = let same = height_is to targets.next e in omega arith
     bound_by to n le (inr e) = let same = height_is to targets.jump e in omega arith
 
-    bounds_by : (m : ℕ) (rest : List ℕ) → IsPath slots slot rest → instruction_at slots (end_of slot rest) ≡ Some Exit
+    bounds_by : (m : ℕ) (rest : List ℕ) → IsPath slots slot rest → instruction_at slots (path_end slot rest) ≡ Some Exit
         → m ≡ suc (length rest)
         → m ≤ 1 + max (height_to heights targets.next) (height_to heights targets.jump)
     bounds_by m [] p exits e = omega arith
@@ -98,7 +98,7 @@ measured_set slots slot h heights lt measured here k le start =
     measured_at slots slot h k heights _ lt measured here le start (eqb_tells k slot)
 
 -- the budget and more: heights fall along edges
-pub heights_fall : (slots : List (Option Insn)) → IsSound slots → (heights : List ℕ) → Measured slots 0 heights
+pub heights_fall : (slots : List (Option Insn)) → IsGraphSound slots → (heights : List ℕ) → Measured slots 0 heights
     → (from to : ℕ) → IsEdge slots from to
     → slice_index heights to < slice_index heights from
 heights_fall slots sound heights measured from to edge =

@@ -14,12 +14,12 @@ use Rattle.bq_bpf.specs.declared.shape.MapShape.{MapShape}
 use Rattle.bq_bpf.specs.declared.board.CounterCall.{CounterCall}
 use Rattle.bq_bpf.specs.Counters.{answer_of}
 use Rattle.bq_bpf.specs.Memory.{Setting, State, Region, InContext, InStack, InEntry, Writes, written, HaveShapes}
-use Rattle.bq_bpf.specs.Runs.{Steps, listed, start}
+use Rattle.bq_bpf.specs.Runs.{Steps, call_listed, start}
 use Rattle.bq_bpf.specs.Steps.{Does, Helps, LeadsTo, Step, Takes}
 use Rattle.bq_bpf.specs.Safe.{IsSetting}
 use Rattle.bq_verify.specs.Edges.{IsEdge, IsStart}
 use Rattle.bq_bpf.specs.Instructions.{Leaves}
-use Rattle.bq_verify.specs.Passes.{IsSound}
+use Rattle.bq_verify.specs.Passes.{IsGraphSound}
 use Rattle.bq_verify.specs.Subjects.{Subject}
 use Rattle.bq_states.specs.declared.abstract_state.AbstractState.{AbstractState}
 use Rattle.bq_states.specs.declared.abstract_state.ValueKind.TheVariants.{Map}
@@ -85,7 +85,7 @@ first_step : (f : Setting) (s : State) (n : ℕ) (calls : List CounterCall) (t :
 first_step f s zero calls t (before, c, u, (none, same), step, e) = (c, t, [], subst (λ (x : State). Step f x c t) same step, (refl, refl))
 first_step f s (suc n) calls t (before, c, u, chain, step, e) =
     let h = first_step f s n before u chain in
-    (h.0, h.1, h.2 ++ listed c, h.3, (h.2, c, u, h.4, step, refl))
+    (h.0, h.1, h.2 ++ call_listed c, h.3, (h.2, c, u, h.4, step, refl))
 
 -- the state after a step from where a slot leads on
 after_one : (f : Setting) (L : Setting → State → Type 0) → length f.context < 2 ^ 16
@@ -109,7 +109,7 @@ after_one f L small s u (Some c) (inr (inr each)) step =
     subst (λ (x : State). IsEdge f.slots s.slot x.slot × L f x) same.1
     (record { insn = e.4.insn; here = e.4.here; leaves = e.4.leaves }, e.5)
 
-module _ (p : Subject) (sound : IsSound p.slots) (small : p.context < 2 ^ 16) where
+module _ (p : Subject) (sound : IsGraphSound p.slots) (small : p.context < 2 ^ 16) where
   -- a chain goes forward
   forward : (f : Setting) → IsSetting p.slots p.shapes p.context f
       → (s : State) (n : ℕ) (calls : List CounterCall) (t : State) → Steps f s n calls t
@@ -231,7 +231,7 @@ KnowsRuns p slot (Some state) = ContainsRuns p slot state
 KnowsRuns p slot None = IsNotReached p slot
 
 -- what arrives at a slot tells its runs
-pub knows_arrival : (p : Subject) (sound : IsSound p.slots) (small : p.context < 2 ^ 16) (slot : ℕ)
+pub knows_arrival : (p : Subject) (sound : IsGraphSound p.slots) (small : p.context < 2 ^ 16) (slot : ℕ)
     (pending after : List (Option (Box AbstractState Global))) (state seen : AbstractState) (live arrived : Bool)
     (here : Option AbstractState)
     → ((f : Setting) (s : State) → f.shapes ≡ p.shapes → IsKnown pending state live slot f s → IsKnown after seen arrived slot f s)

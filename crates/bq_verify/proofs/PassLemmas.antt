@@ -22,7 +22,7 @@ use Rattle.bq_bpf.specs.Safe.{IsSetting, Safe, most_calls}
 use Rattle.bq_ranges.specs.Within.{Within}
 use Rattle.bq_verify.specs.Edges.{IsEdge, IsStart}
 use Rattle.bq_bpf.specs.Instructions.{Leaves}
-use Rattle.bq_verify.specs.Passes.{IsSound}
+use Rattle.bq_verify.specs.Passes.{IsGraphSound}
 use Rattle.bq_verify.specs.Subjects.{Subject}
 use Rattle.bq_states.specs.declared.abstract_state.AbstractState.{AbstractState}
 use Rattle.bq_states.specs.declared.abstract_state.AbstractValue.{AbstractValue}
@@ -33,7 +33,7 @@ use Rattle.bq_states.specs.Relations.{IsRelated}
 use Rattle.bq_states.specs.AbstractStates.{Contains, Suits, Describes, knowing}
 use Rattle.bq_transfer.specs.Transfers.{Transfers, AsksFrom, IsStraight}
 use Rattle.bq_transfer.specs.Sides.{KnownDescribes}
-use Rattle.bq_verify.specs.Control.{IsAskingEdge, AreHeights, BoundsCalls, EndsWithin, IsIn, KeepsWaiting, WaitsBoxed, IsKnown, LeadsOn, LeadsOnFrom, PassesOn, RestIsSafe, IsOnSide, BranchesTo}
+use Rattle.bq_verify.specs.Control.{IsAskingEdge, AreHeights, BoundsCalls, EndsWithin, IsDescribed, KeepsWaiting, WaitsBoxed, IsKnown, LeadsOn, LeadsOnFrom, PassesOn, RestIsSafe, IsOnSide, BranchesTo}
 use Rattle.bq_insn.proofs.OptionLemmas.{some_none}
 use Rattle.bq_states.proofs.LearnLemmas.{contains_learn, found_at}
 use Rattle.bq_verify.proofs.OneStepLemmas.{goes_well}
@@ -258,7 +258,7 @@ ends_asking f s (suc m) made le few each =
           ),
     ))
 
-module _ (p : Subject) (heights : List ℕ) (made : ℕ → ℕ) (sound : IsSound p.slots) (fall : AreHeights p.slots heights)
+module _ (p : Subject) (heights : List ℕ) (made : ℕ → ℕ) (sound : IsGraphSound p.slots) (fall : AreHeights p.slots heights)
     (rise : BoundsCalls p.slots made) (slot : ℕ) (K L : Setting → State → Type 0) where
   -- a state from which the program goes on is safe where the rest is
   ends_from : RestIsSafe p heights made (slot + 1) L → (f : Setting) (s : State) → IsSetting p.slots p.shapes p.context f
@@ -304,13 +304,13 @@ module _ (p : Subject) (heights : List ℕ) (made : ℕ → ℕ) (sound : IsSoun
   rest_before passes rest f s setting le begins known = at_state passes rest f s _ setting le begins known (eqb_tells s.slot slot)
 
 -- where no abstract state waits, none is right about the state
-pub none_waits : (f : Setting) (s : State) (waiting : Option (Box AbstractState Global)) → waiting ≡ None → IsIn f waiting s → ⊥
+pub none_waits : (f : Setting) (s : State) (waiting : Option (Box AbstractState Global)) → waiting ≡ None → IsDescribed f waiting s → ⊥
 none_waits f s waiting none here = rw none at here
 
 -- an abstract state that waits at the slot of a state waits at each slot equal to it
 pub waits_at_slot : (f : Setting) (s : State) (pending : List (Option (Box AbstractState Global))) (slot : ℕ)
-    → s.slot ≡ slot → WaitsBoxed f pending s → IsIn f (slice_index_or pending slot None) s
-waits_at_slot f s pending slot same waits = subst (λ (n : ℕ). IsIn f (slice_index_or pending n None) s) same waits
+    → s.slot ≡ slot → WaitsBoxed f pending s → IsDescribed f (slice_index_or pending slot None) s
+waits_at_slot f s pending slot same waits = subst (λ (n : ℕ). IsDescribed f (slice_index_or pending n None) s) same waits
 
 module _ (p : Subject) (slot : ℕ) (pending : List (Option (Box AbstractState Global))) (state : AbstractState)
     (live : Bool) (K : Setting → State → Type 0) (empty : slice_index_or pending slot None ≡ None)

@@ -8,7 +8,7 @@ use Rattle.bq_verify.specs.Edges.{IsStart, IsWhole}
 use Rattle.bq_bpf.specs.Instructions.{Leaves, distance_of, goes_on, asks_counter}
 use Rattle.bq_verify.specs.Paths.{IsGreatest, CallsOnWay}
 use Rattle.bq_verify.specs.Faults.{IsBadJump, RunsOut, IsLateCall}
-use Rattle.bq_verify.specs.Passes.{IsSound}
+use Rattle.bq_verify.specs.Passes.{IsGraphSound}
 use Rattle.bq_insn.proofs.OptionLemmas.{some_none}
 use Rattle.bq_insn.proofs.CountLemmas.{slots_positive}
 use Rattle.bq_verify.proofs.EdgeLemmas.{leads_same}
@@ -60,7 +60,7 @@ module _ (slots : List (Option Insn)) (whole : IsWhole slots) (lands : (slot : â
   leaves_by from to insn here (inr l) = jump_by from to insn l.0 here l.1 l.2 (cases_lt from to) (start_or_not slots to _ refl)
 
   -- a whole program of good jumps that ends may be walked
-  pub sound_graph : IsSound slots
+  pub sound_graph : IsGraphSound slots
   sound_graph = record { forward = Î» from to edge. leaves_by from to edge.insn edge.here edge.leaves; lands = lands }
 
 -- the number decides whether a counter call is late

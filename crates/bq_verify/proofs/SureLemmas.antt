@@ -18,8 +18,8 @@ use Rattle.bq_insn.specs.Slots.{byte_count}
 use Rattle.bq_bpf.specs.Meaning.{word_of}
 use Rattle.bq_bpf.specs.Steps.{instruction_at}
 use Rattle.bq_verify.specs.Edges.{IsEdge}
-use Rattle.bq_verify.specs.Paths.{IsPath, Path, end_of}
-use Rattle.bq_verify.specs.Passes.{IsSound}
+use Rattle.bq_verify.specs.Paths.{IsPath, Path, path_end}
+use Rattle.bq_verify.specs.Passes.{IsGraphSound}
 use Rattle.bq_bpf.specs.Instructions.{destination_of}
 use Rattle.bq_verify.specs.declared.graph_cause.GraphCause.TheVariants.{Frame}
 use Rattle.bq_verify.proofs.EdgeLemmas.{end_of-push, IsPath-push}
@@ -29,13 +29,13 @@ use Rattle.bq_states.specs.declared.abstract_state.AbstractState.{AbstractState}
 use Rattle.bq_states.specs.Certainty.{Scalar, Exact, Pointer, NoPointer, CertaintyHoldsAt, Fact, Never, AtRegister, IsSetAt, IsPlainAt, Has, IsScalarOperand}
 use Rattle.bq_verify.specs.Ways.{HasWaiting, GoesOnSure, IsReadyFor, IsSureOf}
 use Rattle.bq_verify.specs.Subjects.{Subject}
-use Rattle.bq_transfer.specs.Ready.{IsAsking, IsAtMost, IsCopyOfFrame, IsLeftReady, IsMoveOfPointer, IsNamingEntry, IsPlaced, IsLoadReady, IsOnFrame, IsIntoEntry, IsUpdating}
+use Rattle.bq_transfer.specs.Ready.{IsAsking, IsAtMost, IsCopyOfFrame, IsLeftReady, IsMoveOfPointer, IsNamingEntry, IsAccessPlaced, IsLoadReady, IsOnFrame, IsIntoEntry, IsUpdating}
 use Rattle.bq_states.specs.AbstractStates.{size_of_shape}
 use Rattle.bq_transfer.specs.After.{GivesExact, GivesNumber, GivesPointer, IsNoTestOf, LeavesNumber, LeavesPointer, Spares, IsStackByte, StoresByte, After}
 use Rattle.bq_states.specs.Learnt.{IsCertain}
 use Rattle.bq_transfer.proofs.CertaintyLemmas.{exact_at_most}
-use Rattle.bq_verify.specs.Straight.{held_along, OnEachPath, is_register, writes, leaves, spares, loads, untouched, stores, always, never, IsWritten, IsStored, IsLoaded, IsContextLeft, IsWrittenOperand, IsWrittenLeft, IsOnStack, MakesPointer, LeavesPointerIn, IsPointerFrom, IsPointerAt, IsInEntry, IsGoodLoad, IsGoodStore, IsCopyOfEnd, IsMoveOnStack, IsNaming, IsGiving, IsCounting, Needs, IsStraightBefore, IsStraightProgram}
-use Rattle.bq_verify.specs.Sure.{IsDue, IsSure}
+use Rattle.bq_verify.specs.Straight.{held_along, OnEachPath, is_destination, writes, leaves, spares, loads, untouched, stores, always, never, IsWrittenOnEachPath, IsStoredOnEachPath, IsLoaded, IsContextLeft, IsWrittenOperand, IsWrittenLeft, IsOnStack, MakesPointer, LeavesPointerIn, IsPointerFrom, IsPointerAt, IsInEntry, IsGoodLoad, IsGoodStore, IsCopyOfEnd, IsMoveOnStack, IsEntryNamed, IsGiving, IsCounting, Needs, IsStraightBefore, IsStraightProgram}
+use Rattle.bq_verify.specs.Sure.{IsFactDue, IsSure}
 
 left_on : (a b x : Bool) → a ≡ false → (a || (b && x)) ≡ true → (b ≡ true) × (x ≡ true)
 left_on true b x e h = absurd (let no : ⊥ = cc in no)
@@ -44,11 +44,11 @@ left_on false b x e h = and_parts b x h
 int_is : (a b : ℤ) → int_eq a b ≡ true → a ≡ b
 int_is a b h = (Decides-int_eq a b).0 h
 
-register_is : (v : Option ℕ) (r : ℕ) → is_register v r ≡ true → v ≡ Some r
+register_is : (v : Option ℕ) (r : ℕ) → is_destination v r ≡ true → v ≡ Some r
 register_is None r h = absurd (let no : ⊥ = cc in no)
 register_is (Some dst) r h = ap (λ (n : ℕ). Some n) (eqb-true dst r h)
 
-register_other : (v : Option ℕ) (r : ℕ) → not (is_register v r) ≡ true → v ≡ Some r → ⊥
+register_other : (v : Option ℕ) (r : ℕ) → not (is_destination v r) ≡ true → v ≡ Some r → ⊥
 register_other None r h e = let no : ⊥ = cc in no
 register_other (Some dst) r h e = by (eqb_tells dst r)
   where
@@ -117,17 +117,17 @@ stores_byte _ size off i h byte = absurd (let no : ⊥ = cc in no)
 module _ (slots : List (Option Insn)) (makes leaves : Option Insn → Bool) where
   held-push : (before : Bool) (from : ℕ) (rest : List ℕ) (t : ℕ)
       → held_along slots makes leaves before from (rest ++ t ∷ [])
-      ≡ (makes (instruction_at slots (end_of from rest))
-      || (leaves (instruction_at slots (end_of from rest)) && held_along slots makes leaves before from rest))
+      ≡ (makes (instruction_at slots (path_end from rest))
+      || (leaves (instruction_at slots (path_end from rest)) && held_along slots makes leaves before from rest))
   held-push before from [] t = refl
   held-push before from (n ∷ rest) t =
       held-push (makes (instruction_at slots from) || (leaves (instruction_at slots from) && before)) n rest t
 
   each_back : (first : Bool) (slot k : ℕ) → IsEdge slots slot k → OnEachPath slots makes leaves first k
-      → (rest : List ℕ) → IsPath slots 0 rest → end_of 0 rest ≡ slot
+      → (rest : List ℕ) → IsPath slots 0 rest → path_end 0 rest ≡ slot
       → (makes (instruction_at slots slot) || (leaves (instruction_at slots slot) && held_along slots makes leaves first 0 rest)) ≡ true
   each_back first slot k edge all rest path ends =
-      let edge' : IsEdge slots (end_of 0 rest) k = subst (λ (s : ℕ). IsEdge slots s k) (sym ends) edge in
+      let edge' : IsEdge slots (path_end 0 rest) k = subst (λ (s : ℕ). IsEdge slots s k) (sym ends) edge in
       let held = sym (held-push first 0 rest k) ∙ all (rest ++ k ∷ []) (IsPath-push slots 0 rest k path edge') (end_of-push 0 rest k) in
       subst (λ (s : ℕ).
       (makes (instruction_at slots s) || (leaves (instruction_at slots s) && held_along slots makes leaves first 0 rest))
@@ -140,7 +140,7 @@ module _ (slots : List (Option Insn)) (makes leaves : Option Insn → Bool) wher
       → (makes (Some insn) ≡ true) ⊎ ((leaves (Some insn) ≡ true) × OnEachPath slots makes leaves first slot)
   made_or_left first slot k insn here edge all reached = by (makes (Some insn)) (leaves (Some insn)) refl refl
     where
-      held : (rest : List ℕ) → IsPath slots 0 rest → end_of 0 rest ≡ slot
+      held : (rest : List ℕ) → IsPath slots 0 rest → path_end 0 rest ≡ slot
           → (makes (Some insn) || (leaves (Some insn) && held_along slots makes leaves first 0 rest)) ≡ true
       held rest path ends =
           subst (λ (v : Option Insn). (makes v || (leaves v && held_along slots makes leaves first 0 rest)) ≡ true) here
@@ -178,7 +178,7 @@ gives_pointer kind o r slot k _ state Was frame known made = absurd made
 
 -- one slot of a program that is straight up to it
 module _ (p : Subject) (slot : ℕ) (insn : Insn) (state : AbstractState) (here : instruction_at p.slots slot ≡ Some insn)
-    (straight : IsStraightBefore p (slot + 1)) (has : (x : Fact) → IsDue p.slots x slot → Has x state) where
+    (straight : IsStraightBefore p (slot + 1)) (has : (x : Fact) → IsFactDue p.slots x slot → Has x state) where
   reached : (Path p.slots 0 slot → ⊥) → ⊥
   reached none = has Never none
 
@@ -225,10 +225,10 @@ module _ (p : Subject) (slot : ℕ) (insn : Insn) (state : AbstractState) (here 
       )
 
   -- what is due after an edge is sure after the instruction
-  due_on : (k : ℕ) → IsEdge p.slots slot k → (x : Fact) → IsDue p.slots x k → After x slot k insn state
+  due_on : (k : ℕ) → IsEdge p.slots slot k → (x : Fact) → IsFactDue p.slots x k → After x slot k insn state
   due_on k edge Never due =
       has Never (λ path.
-      let edge' : IsEdge p.slots (end_of 0 path.rest) k = subst (λ (s : ℕ). IsEdge p.slots s k) (sym path.ends) edge in
+      let edge' : IsEdge p.slots (path_end 0 path.rest) k = subst (λ (s : ℕ). IsEdge p.slots s k) (sym path.ends) edge in
       due (record {
         rest = path.rest ++ k ∷ [];
         is_path = IsPath-push p.slots 0 path.rest k path.is_path edge';
@@ -236,7 +236,7 @@ module _ (p : Subject) (slot : ℕ) (insn : Insn) (state : AbstractState) (here 
       }))
   due_on k edge (AtRegister Scalar r) due = by (made_or_left p.slots (writes r) (leaves r) false slot k insn here edge due reached)
     where
-      by : (writes r (Some insn) ≡ true) ⊎ ((leaves r (Some insn) ≡ true) × IsWritten p.slots slot r)
+      by : (writes r (Some insn) ≡ true) ⊎ ((leaves r (Some insn) ≡ true) × IsWrittenOnEachPath p.slots slot r)
           → After (AtRegister Scalar r) slot k insn state
       by (inl made) = inl (writes_gives insn r made)
       by (inr (left, written)) = inr (leaves_is insn r left, has (AtRegister Scalar r) written)
@@ -272,7 +272,7 @@ module _ (p : Subject) (slot : ℕ) (insn : Insn) (state : AbstractState) (here 
   due_on k edge (IsSetAt i) (size, off, stored, byte) =
       by (made_or_left p.slots (stores size off) always false slot k insn here edge stored reached)
     where
-      by : (stores size off (Some insn) ≡ true) ⊎ ((always (Some insn) ≡ true) × IsStored p.slots slot size off)
+      by : (stores size off (Some insn) ≡ true) ⊎ ((always (Some insn) ≡ true) × IsStoredOnEachPath p.slots slot size off)
           → After (IsSetAt i) slot k insn state
       by (inl made) = inl (stores_byte insn size off i made byte)
       by (inr (left, before)) = inr (has (IsSetAt i) (size, off, before, byte))
@@ -288,7 +288,7 @@ module _ (p : Subject) (slot : ℕ) (insn : Insn) (state : AbstractState) (here 
 
   frame_placed : (size : Size) (dst : ℕ) (off : ℤ) (at : ℕ) → dst ≡ 10 → pos at ≡ (pos 512 +ℤ off)
       → at + byte_count size ≤ 512
-      → IsPlaced p.shapes p.context state size dst off Stack at
+      → IsAccessPlaced p.shapes p.context state size dst off Stack at
   frame_placed size dst off at ten at_is inside = record {
     base = 512;
     stands = subst (λ (n : ℕ). CertaintyHoldsAt (Pointer Stack 512) state n) (sym ten) frame;
@@ -302,7 +302,7 @@ module _ (p : Subject) (slot : ℕ) (insn : Insn) (state : AbstractState) (here 
   on_frame size dst off ten (at, at_is, inside) = record { at = at; at_is = at_is; placed = frame_placed size dst off at ten at_is inside }
 
   entry_placed : (size : Size) (r : ℕ) (off : ℤ) → (entry : IsInEntry p.slots p.shapes slot r size off)
-      → IsPlaced p.shapes p.context state size r off (Entry entry.map) entry.at
+      → IsAccessPlaced p.shapes p.context state size r off (Entry entry.map) entry.at
   entry_placed size r off entry = record {
     base = 0;
     stands = pointer (Entry entry.map) 0 r entry.entry;
@@ -351,7 +351,7 @@ module _ (p : Subject) (slot : ℕ) (insn : Insn) (state : AbstractState) (here 
   storable size dst off (inr (other, entry)) =
       inr (record { map = entry.map; at = entry.at; placed = entry_placed size dst off entry; other = other })
 
-  naming : (map : ℕ) → IsNaming p.slots slot map → IsNamingEntry state map
+  naming : (map : ℕ) → IsEntryNamed p.slots slot map → IsNamingEntry state map
   naming map n = record {
     names = pointer (Map map) 0 1 n.names;
     at = n.at;
@@ -426,7 +426,7 @@ module _ (p : Subject) (slot : ℕ) (insn : Insn) (state : AbstractState) (here 
 
   -- one slot further the pass is as sure
   pub sure_on : (pending new : List (Option (Box AbstractState Global))) (after : AbstractState) (on : Bool)
-      → ((x : Fact) (k : ℕ) → IsDue p.slots x k → HasWaiting x pending k)
+      → ((x : Fact) (k : ℕ) → IsFactDue p.slots x k → HasWaiting x pending k)
       → GoesOnSure p.slots slot insn state pending new after on
       → IsSure p.slots new after on (slot + 1)
   sure_on pending new after on waits goes x k due = goes x k (waits x k due) (λ edge. due_on k edge x due)
@@ -455,22 +455,22 @@ sure_arrived slots pending after state seen live arrived slot waits has sure x k
 -- where no abstract state is transferred on
 pub sure_over : (slots : List (Option Insn)) (pending : List (Option (Box AbstractState Global)))
     (state : AbstractState) (slot : ℕ)
-    → ((x : Fact) (k : ℕ) → IsDue slots x k → HasWaiting x pending k) → IsSure slots pending state false slot
+    → ((x : Fact) (k : ℕ) → IsFactDue slots x k → HasWaiting x pending k) → IsSure slots pending state false slot
 sure_over slots pending state slot waits x k due = record { waiting = waits x k due; transferred = λ live. absurd (let no : ⊥ = cc in no) }
 
 -- at the start
 pub sure_start : (slots : List (Option Insn)) (pending : List (Option (Box AbstractState Global))) (state : AbstractState)
-    → IsSound slots → ((k : ℕ) → slice_index_or pending k None ≡ None) → CertaintyHoldsAt (Pointer Context 0) state 1
+    → IsGraphSound slots → ((k : ℕ) → slice_index_or pending k None ≡ None) → CertaintyHoldsAt (Pointer Context 0) state 1
     → CertaintyHoldsAt (Pointer Stack 512) state 10 → ((j : ℕ) → Has (IsPlainAt j) state)
     → IsSure slots pending state true 0
 sure_start slots pending state sound blank context frame plain x k due =
-    record { waiting = rw (blank k) tt; transferred = λ live same. at x (subst (λ (n : ℕ). IsDue slots x n) same due) }
+    record { waiting = rw (blank k) tt; transferred = λ live same. at x (subst (λ (n : ℕ). IsFactDue slots x n) same due) }
   where
     not_made : (kind : ValueKind) (o r : ℕ) (back : List ℕ) → IsPointerFrom slots kind o r 0 back → ⊥
     not_made kind o r [] chain = chain
     not_made kind o r (before ∷ back) chain = let up = (sound.forward before 0 chain.1).0 in omega (arith, up)
 
-    at : (x : Fact) → IsDue slots x 0 → Has x state
+    at : (x : Fact) → IsFactDue slots x 0 → Has x state
     at Never due = due (record { rest = []; is_path = tt; ends = refl })
     at (AtRegister Scalar r) due = absurd (let e : false ≡ true = due [] tt refl in let no : ⊥ = cc in no)
     at (AtRegister (Exact n) r) due = absurd (let e : false ≡ true = due [] tt refl in let no : ⊥ = cc in no)

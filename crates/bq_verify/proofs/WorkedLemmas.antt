@@ -21,7 +21,7 @@ use Rattle.bq_verify.specs.declared.graph_cause.GraphCause.TheVariants.{Jump, No
 use Rattle.bq_verify.proofs.EdgeLemmas.{end_of-push, IsPath-push, leads_same}
 use Rattle.bq_transfer.specs.Ready.{IsNullCheck}
 use Rattle.bq_states.specs.declared.abstract_state.ValueKind.TheVariants.{Entry, EntryOrNull, Map, Stack}
-use Rattle.bq_verify.specs.Straight.{stores, writes, leaves, HasOneWay, IsByteStored, IsInEntry, IsMoveOnStack, IsNaming, IsPointerFrom, IsWritten, Needs}
+use Rattle.bq_verify.specs.Straight.{stores, writes, leaves, HasOneWay, IsByteStored, IsInEntry, IsMoveOnStack, IsEntryNamed, IsPointerFrom, IsWrittenOnEachPath, Needs}
 use Rattle.bq_verify.specs.Worked.{worked, WorkedIsStraight}
 use Rattle.bq_verify.proofs.EachSlotLemmas.{each_slot, ◌then◌, made_before, made_first, goes_next, goes_nowhere, edge_on, path_on, no_jump, not_frame}
 
@@ -142,10 +142,10 @@ faultless Counters slot fault =
     (false≢true then false≢true then false≢true then false≢true then false≢true then false≢true then false≢true
     then false≢true then false≢true then false≢true then tt) slot fault.insn fault.here fault.asks
 
-written_8 : IsWritten program 8 0
+written_8 : IsWrittenOnEachPath program 8 0
 written_8 = made_before program (writes 0) (leaves 0) false 8 (omega arith) (λ from edge. rw (only_before from 8 edge) refl)
 
-written_10 : IsWritten program 10 0
+written_10 : IsWrittenOnEachPath program 10 0
 written_10 = made_before program (writes 0) (leaves 0) false 10 (omega arith) (λ from edge. rw (only_before from 10 edge) refl)
 
 apart_slots : (a b : ℕ) → a < b → a ≡ b → ⊥
@@ -185,7 +185,7 @@ entry_7 = (
 stored_5 : (i : ℕ) → 508 ≤ i → i < 508 + 4 → IsByteStored program 5 i
 stored_5 i le lt = (Word, neg_ℤ (pos 4), made_first program (stores Word (neg_ℤ (pos 4))) refl 5 (omega arith), (508, refl, le, lt))
 
-naming : IsNaming program 5 0
+naming : IsEntryNamed program 5 0
 naming = record { names = (4 ∷ 3 ∷ 1 ∷ [], names_5); at = 508; points = (4 ∷ 3 ∷ [], points_5); inside = omega arith; stored = stored_5 }
 
 zero_low : 0 < 10

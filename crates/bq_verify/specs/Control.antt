@@ -18,7 +18,7 @@ use Rattle.bq_bpf.specs.Instructions.{Leaves}
 use Rattle.bq_insn.specs.declared.TheConstants.{SLOTS}
 use Rattle.bq_bpf.specs.declared.shape.TheConstants.{MAPS}
 use Rattle.bq_verify.specs.Edges.{IsEdge, IsStart}
-use Rattle.bq_verify.specs.Passes.{IsSound}
+use Rattle.bq_verify.specs.Passes.{IsGraphSound}
 use Rattle.bq_verify.specs.Subjects.{Subject}
 use Rattle.bq_states.specs.declared.abstract_state.AbstractValue.{AbstractValue}
 use Rattle.bq_states.specs.declared.abstract_state.AbstractState.{AbstractState}
@@ -40,7 +40,7 @@ SparesFrame slots = (slot : ℕ) (insn : Insn) → instruction_at slots slot ≡
 -- what the pass relies on: the control graph is sound, an instruction begins at slot 0, no instruction writes register
 -- 10, and all is within the limits of images
 pub record CanBePassed (p : Subject) : Type 0 where
-  pub sound : IsSound p.slots
+  pub sound : IsGraphSound p.slots
   pub first : IsStart p.slots 0
   pub frame : SparesFrame p.slots
   pub short : length p.slots ≤ SLOTS
@@ -71,9 +71,9 @@ EndsWithin f s (suc n) made =
     ⊎ ((made < most_calls) × ((x : ℕ) → x < 2 ^ 64 → (c : CounterCall) × (t : State) × (answer_of c ≡ x) × Step f s (Some c) t × EndsWithin f t n (made + 1)))
 
 -- there is a boxed abstract state, and it describes the machine state
-abbrev pub IsIn : Setting → Option (Box AbstractState Global) → State → Type 0
-IsIn f None s = ⊥
-IsIn f (Some boxed) s = Contains f boxed.value s
+abbrev pub IsDescribed : Setting → Option (Box AbstractState Global) → State → Type 0
+IsDescribed f None s = ⊥
+IsDescribed f (Some boxed) s = Contains f boxed.value s
 
 -- for each slot the abstract state that waits there, if one does
 abbrev pub Waiting : Type 0
@@ -81,7 +81,7 @@ Waiting = List (Option (Box AbstractState Global))
 
 -- an abstract state waits at the slot of the machine state and describes it
 abbrev pub WaitsBoxed : Setting → Waiting → State → Type 0
-WaitsBoxed f pending s = IsIn f (slice_index_or pending s.slot None) s
+WaitsBoxed f pending s = IsDescribed f (slice_index_or pending s.slot None) s
 
 -- in a setting with these map shapes, each machine state that the old waiting states describe the new ones describe
 abbrev pub KeepsWaiting : List MapShape → Waiting → Waiting → Type 0

@@ -76,17 +76,17 @@ IsLeast P None = (k : ℕ) → P k → ⊥
 IsLeast P (Some k) = P k × ((j : ℕ) → j < k → P j → ⊥)
 
 -- the place of a cause in the order of the checks
-abbrev pub place_of : GraphCause → ℕ
-place_of Jump = 1
-place_of NoExit = 2
-place_of Unreached = 3
-place_of Frame = 4
-place_of Helper = 5
-place_of Counters = 6
+abbrev pub check_place : GraphCause → ℕ
+check_place Jump = 1
+check_place NoExit = 2
+check_place Unreached = 3
+check_place Frame = 4
+check_place Helper = 5
+check_place Counters = 6
 
 -- no check before the check for this cause finds a fault
 abbrev pub EarlierPass : List (Option Insn) → GraphCause → Type 0
-EarlierPass slots cause = (other : GraphCause) → place_of other < place_of cause → IsLeast (HasFault slots other) None
+EarlierPass slots cause = (other : GraphCause) → check_place other < check_place cause → IsLeast (HasFault slots other) None
 
 -- the fault that the verifier names: the first check that finds one, and its least slot
 abbrev pub IsFirstFault : List (Option Insn) → GraphCause → ℕ → Type 0

@@ -4,12 +4,12 @@ use Rattle.bq_insn.specs.declared.Insn.{Insn}
 use Rattle.bq_insn.specs.declared.Insn.TheVariants.{Exit}
 use Rattle.bq_bpf.specs.Steps.{instruction_at}
 use Rattle.bq_verify.specs.Edges.{IsEdge, IsStart, IsForward}
-use Rattle.bq_verify.specs.Paths.{PathOut, CallsOnWay, IsGreatest, calls_of}
+use Rattle.bq_verify.specs.Paths.{PathOut, CallsOnWay, IsGreatest, counter_calls_of}
 use Rattle.bq_verify.specs.Faults.{IsBadJump}
 use Rattle.bq_verify.specs.declared.edges.Targets.{Targets}
 
 -- the control graph is sound: each edge leads to a later instruction, and each jump is an edge
-pub record IsSound (slots : List (Option Insn)) : Type 0 where
+pub record IsGraphSound (slots : List (Option Insn)) : Type 0 where
   pub forward : IsForward slots
   pub lands : (slot : ℕ) → IsBadJump slots slot → ⊥
 
@@ -38,7 +38,7 @@ pub record CountsFollowed (slots : List (Option Insn)) (below : ℕ) (most : Lis
   pub begins : (n : ℕ) × (slice_index_or most 0 None ≡ Some n)
   pub way : (k n : ℕ) → slice_index_or most k None ≡ Some n → CallsOnWay slots k n
   pub small : (k n : ℕ) → slice_index_or most k None ≡ Some n → n ≤ k
-  pub closed : (from to n : ℕ) → from < below → IsEdge slots from to → slice_index_or most from None ≡ Some n → HasAtLeast most to (n + calls_of (instruction_at slots from))
+  pub closed : (from to n : ℕ) → from < below → IsEdge slots from to → slice_index_or most from None ≡ Some n → HasAtLeast most to (n + counter_calls_of (instruction_at slots from))
 
 -- from slot `from` on, the height of each instruction is the number of instructions on the longest path from it to an EXIT
 abbrev pub Measured : List (Option Insn) → ℕ → List ℕ → Type 0

@@ -12,21 +12,21 @@ IsPath slots from [] = Unit {0}
 IsPath slots from (next ∷ rest) = IsEdge slots from next × IsPath slots next rest
 
 -- the last slot of the path
-abbrev pub end_of : ℕ → List ℕ → ℕ
-end_of from [] = from
-end_of from (next ∷ rest) = end_of next rest
+abbrev pub path_end : ℕ → List ℕ → ℕ
+path_end from [] = from
+path_end from (next ∷ rest) = path_end next rest
 
 -- there is a path from the one slot to the other
 pub record Path (slots : List (Option Insn)) (from to : ℕ) : Type 0 where
   pub rest : List ℕ
   pub is_path : IsPath slots from rest
-  pub ends : end_of from rest ≡ to
+  pub ends : path_end from rest ≡ to
 
 -- there is a path of this many instructions from the slot to an EXIT
 pub record PathOut (slots : List (Option Insn)) (from count : ℕ) : Type 0 where
   pub rest : List ℕ
   pub is_path : IsPath slots from rest
-  pub exits : instruction_at slots (end_of from rest) ≡ Some Exit
+  pub exits : instruction_at slots (path_end from rest) ≡ Some Exit
   pub count_is : count ≡ suc (length rest)
 
 -- the property holds for this number and for no greater one
@@ -35,20 +35,20 @@ pub record IsGreatest (P : ℕ → Type 0) (n : ℕ) : Type 0 where
   pub bounds : (m : ℕ) → P m → m ≤ n
 
 -- the number of counter calls that an instruction is: 1 or 0
-abbrev pub calls_of : Option Insn → ℕ
-calls_of None = 0
-calls_of (Some insn) = if asks_counter insn then 1 else 0
+abbrev pub counter_calls_of : Option Insn → ℕ
+counter_calls_of None = 0
+counter_calls_of (Some insn) = if asks_counter insn then 1 else 0
 
 -- how many counter calls the path has before its last slot
 abbrev pub calls_before_end : List (Option Insn) → ℕ → List ℕ → ℕ
 calls_before_end slots from [] = 0
-calls_before_end slots from (next ∷ rest) = calls_of (instruction_at slots from) + calls_before_end slots next rest
+calls_before_end slots from (next ∷ rest) = counter_calls_of (instruction_at slots from) + calls_before_end slots next rest
 
 -- there is a path from slot 0 to the slot with this many counter calls before the slot
 pub record CallsOnWay (slots : List (Option Insn)) (slot count : ℕ) : Type 0 where
   pub rest : List ℕ
   pub is_path : IsPath slots 0 rest
-  pub ends : end_of 0 rest ≡ slot
+  pub ends : path_end 0 rest ≡ slot
   pub count_is : calls_before_end slots 0 rest ≡ count
 
 -- the greatest number of counter calls before the slot on any path from slot 0; None if no path leads there

@@ -19,7 +19,7 @@ use Rattle.bq_bpf.specs.Helpers.{number_of_helper}
 use Rattle.bq_bpf.specs.declared.helper.Helper.TheVariants.{Lookup, Update, Now, Processor, AddCounter, ReadCounter}
 use Rattle.bq_bpf.specs.Memory.{stack_size}
 use Rattle.bq_verify.specs.Edges.{IsEdge}
-use Rattle.bq_verify.specs.Paths.{IsPath, end_of}
+use Rattle.bq_verify.specs.Paths.{IsPath, path_end}
 use Rattle.bq_verify.specs.Faults.{IsFaultless}
 use Rattle.bq_verify.specs.Subjects.{Subject}
 use Rattle.bq_bpf.specs.Instructions.{destination_of}
@@ -37,12 +37,12 @@ held_along slots makes leaves before from (next ∷ rest) =
 
 -- something holds at the slot on each path from the start
 abbrev pub OnEachPath : List (Option Insn) → (Option Insn → Bool) → (Option Insn → Bool) → Bool → ℕ → Type 0
-OnEachPath slots makes leaves first slot = (rest : List ℕ) → IsPath slots 0 rest → end_of 0 rest ≡ slot → held_along slots makes leaves first 0 rest ≡ true
+OnEachPath slots makes leaves first slot = (rest : List ℕ) → IsPath slots 0 rest → path_end 0 rest ≡ slot → held_along slots makes leaves first 0 rest ≡ true
 
 -- whether the instruction writes this register
-abbrev pub is_register : Option ℕ → ℕ → Bool
-is_register None r = false
-is_register (Some dst) r = dst == r
+abbrev pub is_destination : Option ℕ → ℕ → Bool
+is_destination None r = false
+is_destination (Some dst) r = dst == r
 
 -- in a straight program the instruction makes the register a number. A move does unless it copies register 10: by `Needs`, any other
 -- register that it copies has a number. A call makes register 0 one unless it is a look-up. Each other instruction that writes the register
@@ -54,7 +54,7 @@ writes r (Some (Alu w Mov dst (Reg src))) = (dst == r) && not (src == 10)
 writes r (Some (Alu w op dst src)) = false
 writes r (Some (MapRef dst index)) = false
 writes r (Some (Call helper)) = (r == 0) && not (int_eq helper (number_of_helper Lookup))
-writes r (Some insn) = is_register (destination_of insn) r
+writes r (Some insn) = is_destination (destination_of insn) r
 
 -- a register that holds a number still holds one after the instruction
 abbrev pub leaves : ℕ → Option Insn → Bool
@@ -62,13 +62,13 @@ leaves r None = true
 leaves r (Some (Alu w Mov dst src)) = not (dst == r)
 leaves r (Some (Alu w op dst src)) = true
 leaves r (Some (Call helper)) = nat_lt 5 r
-leaves r (Some insn) = not (is_register (destination_of insn) r)
+leaves r (Some insn) = not (is_destination (destination_of insn) r)
 
 -- the instruction leaves the register as it is: a call leaves registers from 6 on
 abbrev pub spares : ℕ → Option Insn → Bool
 spares r None = true
 spares r (Some (Call helper)) = nat_lt 5 r
-spares r (Some insn) = not (is_register (destination_of insn) r)
+spares r (Some insn) = not (is_destination (destination_of insn) r)
 
 -- the instruction moves exactly this number into the register
 abbrev pub loads : ℕ → ℕ → Option Insn → Bool
@@ -95,16 +95,16 @@ abbrev pub never : Option Insn → Bool
 never insn = false
 
 -- on each path to the slot a number was written into the register, and the register has been a number since
-abbrev pub IsWritten : List (Option Insn) → ℕ → ℕ → Type 0
-IsWritten slots slot r = OnEachPath slots (writes r) (leaves r) false slot
+abbrev pub IsWrittenOnEachPath : List (Option Insn) → ℕ → ℕ → Type 0
+IsWrittenOnEachPath slots slot r = OnEachPath slots (writes r) (leaves r) false slot
 
 -- on each path to the slot this many bytes were stored at this offset from register 10
-abbrev pub IsStored : List (Option Insn) → ℕ → Size → ℤ → Type 0
-IsStored slots slot size off = OnEachPath slots (stores size off) always false slot
+abbrev pub IsStoredOnEachPath : List (Option Insn) → ℕ → Size → ℤ → Type 0
+IsStoredOnEachPath slots slot size off = OnEachPath slots (stores size off) always false slot
 
 -- byte `i` of the stack was stored on each path to the slot
 abbrev pub IsByteStored : List (Option Insn) → ℕ → ℕ → Type 0
-IsByteStored slots slot i = (size : Size) × (off : ℤ) × IsStored slots slot size off × IsStackByte size off i
+IsByteStored slots slot i = (size : Size) × (off : ℤ) × IsStoredOnEachPath slots slot size off × IsStackByte size off i
 
 -- on each path to the slot this number was moved into the register; since then no instruction has written the register, and no branch
 -- has had it as its first operand
@@ -118,12 +118,12 @@ IsContextLeft slots slot = OnEachPath slots never (spares 1) true slot
 -- the second operand is an immediate, or a register that was written on each path
 abbrev pub IsWrittenOperand : List (Option Insn) → ℕ → Source → Type 0
 IsWrittenOperand slots slot (Imm i) = Unit {0}
-IsWrittenOperand slots slot (Reg r) = IsWritten slots slot r
+IsWrittenOperand slots slot (Reg r) = IsWrittenOnEachPath slots slot r
 
 -- the first operand was written on each path; a MOV has no first operand
 abbrev pub IsWrittenLeft : Operation → List (Option Insn) → ℕ → ℕ → Type 0
 IsWrittenLeft Mov slots slot dst = Unit {0}
-IsWrittenLeft _ slots slot dst = IsWritten slots slot dst
+IsWrittenLeft _ slots slot dst = IsWrittenOnEachPath slots slot dst
 
 -- all bytes of an access at this offset from register 10 are on the stack
 abbrev pub IsOnStack : Size → ℤ → Type 0
@@ -207,16 +207,16 @@ pub record IsMoveOnStack (slots : List (Option Insn)) (slot : ℕ) (w : Width) (
   pub small : at ≤ stack_size
 
 -- register 1 names a map, and register 2 points to four bytes on the stack that were stored
-pub record IsNaming (slots : List (Option Insn)) (slot map : ℕ) : Type 0 where
+pub record IsEntryNamed (slots : List (Option Insn)) (slot map : ℕ) : Type 0 where
   pub names : IsPointerAt slots (Map map) 0 1 slot
   pub at : ℕ
   pub points : IsPointerAt slots Stack at 2 slot
   pub inside : at + 4 ≤ stack_size
   pub stored : (i : ℕ) → at ≤ i → i < at + 4 → IsByteStored slots slot i
 
--- what an update needs: all that `IsNaming` says; register 3 points to as many stored bytes as a value has; and register 4 is 0
+-- what an update needs: all that `IsEntryNamed` says; register 3 points to as many stored bytes as a value has; and register 4 is 0
 pub record IsGiving (slots : List (Option Insn)) (shapes : List MapShape) (slot map : ℕ) : Type 0 where
-  pub naming : IsNaming slots slot map
+  pub naming : IsEntryNamed slots slot map
   pub shape : MapShape
   pub known : slice_get shapes map ≡ Some shape
   pub at : ℕ
@@ -230,13 +230,13 @@ pub record IsCounting (slots : List (Option Insn)) (slot : ℕ) (helper : ℤ) :
   pub counter : ℕ
   pub loaded : IsLoaded slots slot 1 counter
   pub few : counter < COUNTERS
-  pub amount : helper ≡ number_of_helper AddCounter → IsWritten slots slot 2
+  pub amount : helper ≡ number_of_helper AddCounter → IsWrittenOnEachPath slots slot 2
 
 -- what a call needs, by its helper: nothing for the time and the processor, else what a look-up, an update or a counter needs
 abbrev pub IsGoodCall : List (Option Insn) → List MapShape → ℕ → ℤ → Type 0
 IsGoodCall slots shapes slot helper =
     ((helper ≡ number_of_helper Now) ⊎ (helper ≡ number_of_helper Processor))
-    ⊎ ((helper ≡ number_of_helper Lookup) × (map : ℕ) × IsNaming slots slot map)
+    ⊎ ((helper ≡ number_of_helper Lookup) × (map : ℕ) × IsEntryNamed slots slot map)
     ⊎ ((helper ≡ number_of_helper Update) × (map : ℕ) × IsGiving slots shapes slot map)
     ⊎ (((helper ≡ number_of_helper AddCounter) ⊎ (helper ≡ number_of_helper ReadCounter)) × IsCounting slots slot helper)
 
@@ -244,20 +244,20 @@ IsGoodCall slots shapes slot helper =
 abbrev pub Needs : List (Option Insn) → List MapShape → ℕ → ℕ → Insn → Type 0
 Needs slots shapes context slot (Alu w op dst src) =
     (dst < 10) × ((IsWrittenLeft op slots slot dst × IsWrittenOperand slots slot src) ⊎ (IsCopyOfEnd w op src ⊎ IsMoveOnStack slots slot w op dst src))
-Needs slots shapes context slot (MovSx w bits dst src) = (dst < 10) × IsWritten slots slot src
-Needs slots shapes context slot (Neg w dst) = (dst < 10) × IsWritten slots slot dst
-Needs slots shapes context slot (End order bits dst) = (dst < 10) × IsWritten slots slot dst
+Needs slots shapes context slot (MovSx w bits dst src) = (dst < 10) × IsWrittenOnEachPath slots slot src
+Needs slots shapes context slot (Neg w dst) = (dst < 10) × IsWrittenOnEachPath slots slot dst
+Needs slots shapes context slot (End order bits dst) = (dst < 10) × IsWrittenOnEachPath slots slot dst
 Needs slots shapes context slot (Load size signed dst src off) = (dst < 10) × IsGoodLoad slots shapes context slot size src off
 Needs slots shapes context slot (StoreImm size dst off imm) = IsGoodStore slots shapes slot size dst off
-Needs slots shapes context slot (StoreReg size dst off src) = IsWritten slots slot src × IsGoodStore slots shapes slot size dst off
+Needs slots shapes context slot (StoreReg size dst off src) = IsWrittenOnEachPath slots slot src × IsGoodStore slots shapes slot size dst off
 Needs slots shapes context slot (Imm64 dst value) = dst < 10
 Needs slots shapes context slot (MapRef dst index) = (dst < 10) × (map : ℕ) × (index ≡ pos map) × (map < length shapes)
 Needs slots shapes context slot (Goto off) = Unit {0}
 Needs slots shapes context slot (Goto32 imm) = Unit {0}
 Needs slots shapes context slot (Branch w c dst src off) =
-    (dst < 10) × ((IsWritten slots slot dst × IsWrittenOperand slots slot src) ⊎ (IsNullCheck w c src × (map : ℕ) × IsPointerAt slots (EntryOrNull map) 0 dst slot))
+    (dst < 10) × ((IsWrittenOnEachPath slots slot dst × IsWrittenOperand slots slot src) ⊎ (IsNullCheck w c src × (map : ℕ) × IsPointerAt slots (EntryOrNull map) 0 dst slot))
 Needs slots shapes context slot (Call helper) = IsGoodCall slots shapes slot helper
-Needs slots shapes context slot Exit = IsWritten slots slot 0
+Needs slots shapes context slot Exit = IsWrittenOnEachPath slots slot 0
 
 -- a straight program: its control graph has no fault, and each instruction has what it needs
 pub record IsStraightProgram (p : Subject) : Type 0 where

@@ -17,12 +17,12 @@ pub record Subject : Type 0 where
   pub context : ℕ
 
 -- how many bytes the context of a policy of this form has
-abbrev pub context_of : PolicyForm → ℕ
-context_of form = context_length_of form.hook form.version
+abbrev pub context_size_of : PolicyForm → ℕ
+context_size_of form = context_length_of form.hook form.version
 
 -- these slots as a program of this form
 abbrev pub subject_of_slots : List (Option Insn) → PolicyForm → Subject
-subject_of_slots slots form = record { slots = slots; shapes = form.shapes.items; context = context_of form }
+subject_of_slots slots form = record { slots = slots; shapes = form.shapes.items; context = context_size_of form }
 
 -- these instructions, one after another, as a program for this hook and version with maps of these shapes
 abbrev pub subject_of_insns : List Insn → Hook → Version → List MapShape → Subject

@@ -30,13 +30,13 @@ WorkedIsStraight = (is_well_formed worked ≡ true) × ((shape : MapShape) (cont
 
 -- stdw [r10-8], 0; ldmap r1, 0; mov64 r2, r10; add64 r2, -8; mov64 r3, r10; add64 r3, -8; mov64 r4, 0; call 2;
 -- mov64 r2, 1; mov64 r1, 5; call 100; mov64 r1, 5; call 101; exit
-abbrev pub calling : List Insn
-calling =
+abbrev pub calls_program : List Insn
+calls_program =
     StoreImm Double 10 (neg_ℤ (pos 8)) (pos 0) ∷ MapRef 1 (pos 0) ∷ Alu W64 Mov 2 (Reg 10) ∷ Alu W64 Add 2 (Imm (neg_ℤ (pos 8)))
     ∷ Alu W64 Mov 3 (Reg 10) ∷ Alu W64 Add 3 (Imm (neg_ℤ (pos 8))) ∷ Alu W64 Mov 4 (Imm (pos 0)) ∷ Call (pos 2)
     ∷ Alu W64 Mov 2 (Imm (pos 1)) ∷ Alu W64 Mov 1 (Imm (pos 5)) ∷ Call (pos 100) ∷ Alu W64 Mov 1 (Imm (pos 5)) ∷ Call (pos 101) ∷ Exit ∷ []
 
--- `calling` is well formed, and straight with any one map whose values have at most 8 bytes and a context of any length
+-- `calls_program` is well formed, and straight with any one map whose values have at most 8 bytes and a context of any length
 abbrev pub CallingIsStraight : Type 0
 CallingIsStraight =
-    (is_well_formed calling ≡ true) × ((shape : MapShape) (context : ℕ) → shape.value_size ≤ 8 → IsStraightProgram (subject_with_one_map calling shape context))
+    (is_well_formed calls_program ≡ true) × ((shape : MapShape) (context : ℕ) → shape.value_size ≤ 8 → IsStraightProgram (subject_with_one_map calls_program shape context))

@@ -4,8 +4,8 @@ ghost use Rattle.bq_insn.specs.Slots.{slots_of};
 ghost use Rattle.bq_bpf.specs.Steps.{LeadsTo, instruction_at};
 ghost use Rattle.bq_bpf.specs.Instructions.{distance_of, goes_on};
 ghost use Rattle.bq_verify.specs.Edges.{IsStart};
-ghost use Rattle.bq_verify.specs.Paths.{IsMostCalls, IsGreatest, PathOut, calls_of};
-ghost use Rattle.bq_verify.specs.Passes.{IsSound, LeadsOut, Raises, CountsFollowed, Measured, height_to};
+ghost use Rattle.bq_verify.specs.Paths.{IsMostCalls, IsGreatest, PathOut, counter_calls_of};
+ghost use Rattle.bq_verify.specs.Passes.{IsGraphSound, LeadsOut, Raises, CountsFollowed, Measured, height_to};
 
 use crate::edges::{Targets, instruction, landing};
 use bq_bpf::instruction::{distance, is_counter_call, may_go_on};
@@ -28,7 +28,7 @@ pub fn target(slots: &[Option<Insn>], slot: usize, insn: Insn, distance: i64) ->
     requires here { instruction_at slots.now slot ≡ Some insn }
     requires inside { slot < length slots.now }
     requires short { length slots.now ≤ SLOTS }
-    requires sound { IsSound slots.now }
+    requires sound { IsGraphSound slots.now }
     requires jumps { distance_of insn ≡ Some distance }
     ensures to { LeadsTo slot distance result }
     ensures within { result < length slots.now }
@@ -44,7 +44,7 @@ fn jump_slot(slots: &[Option<Insn>], slot: usize, insn: Insn) -> Option<usize>
     requires here { instruction_at slots.now slot ≡ Some insn }
     requires inside { slot < length slots.now }
     requires short { length slots.now ≤ SLOTS }
-    requires sound { IsSound slots.now }
+    requires sound { IsGraphSound slots.now }
     ensures some { IfSome result (λ to. (distance : ℤ) × (distance_of insn ≡ Some distance) × LeadsTo slot distance to) }
     ensures none { IfNone result (distance_of insn ≡ None) }
 {
@@ -59,7 +59,7 @@ pub fn targets(slots: &[Option<Insn>], slot: usize, insn: Insn) -> Targets
     requires here { instruction_at slots.now slot ≡ Some insn }
     requires inside { slot < length slots.now }
     requires short { length slots.now ≤ SLOTS }
-    requires sound { IsSound slots.now }
+    requires sound { IsGraphSound slots.now }
     ensures { LeadsOut slots.now slot result }
 {
     Targets {
@@ -70,7 +70,7 @@ pub fn targets(slots: &[Option<Insn>], slot: usize, insn: Insn) -> Targets
 
 /// The number of counter calls that an instruction is: 1 or 0.
 fn calls(insn: Insn) -> u32
-    ensures { result ≡ calls_of (Some insn) }
+    ensures { result ≡ counter_calls_of (Some insn) }
 {
     if is_counter_call(insn) { 1 } else { 0 }
 }
@@ -111,7 +111,7 @@ fn raise(most: &mut [Option<u32>], to: Option<usize>, count: u32)
 fn pass_on(slots: &[Option<Insn>], slot: usize, most: &mut [Option<u32>])
     requires inside { slot < length slots.now }
     requires short { length slots.now ≤ SLOTS }
-    requires sound { IsSound slots.now }
+    requires sound { IsGraphSound slots.now }
     requires room { length most.old ≡ length slots.now }
     requires counted { CountsFollowed slots.now slot most.old }
     ensures { CountsFollowed slots.now (slot + 1) most.new }
@@ -132,7 +132,7 @@ fn pass_on(slots: &[Option<Insn>], slot: usize, most: &mut [Option<u32>])
 pub fn count_calls(slots: &[Option<Insn>], most: &mut [Option<u32>])
     requires some { 0 < length slots.now }
     requires short { length slots.now ≤ SLOTS }
-    requires sound { IsSound slots.now }
+    requires sound { IsGraphSound slots.now }
     requires room { length most.old ≡ length slots.now }
     requires blank { (k : ℕ) → slice_index_or most.old k None ≡ None }
     ensures { (k : ℕ) → IsMostCalls slots.now k (slice_index_or most.new k None) }
@@ -158,7 +158,7 @@ fn height_at(heights: &[u32], to: Option<usize>) -> u32
 fn height(slots: &[Option<Insn>], slot: usize, heights: &[u32]) -> u32
     requires inside { slot < length slots.now }
     requires short { length slots.now ≤ SLOTS }
-    requires sound { IsSound slots.now }
+    requires sound { IsGraphSound slots.now }
     requires room { length heights.now ≡ length slots.now }
     requires measured { Measured slots.now (slot + 1) heights.now }
     ensures { IsStart slots.now slot → IsGreatest (PathOut slots.now slot) result }
@@ -178,7 +178,7 @@ fn height(slots: &[Option<Insn>], slot: usize, heights: &[u32]) -> u32
 /// The number at slot 0 is the budget of the program.
 pub fn measure(slots: &[Option<Insn>], heights: &mut [u32])
     requires short { length slots.now ≤ SLOTS }
-    requires sound { IsSound slots.now }
+    requires sound { IsGraphSound slots.now }
     requires room { length heights.old ≡ length slots.now }
     ensures { Measured slots.now 0 heights.new }
 {

@@ -19,11 +19,11 @@ pub struct PolicyForm {
 
 impl PolicyForm {
     ghost use Rattle.std.specs.Prelude.{◌≡◌};
-    ghost use Rattle.bq_verify.specs.Subjects.{context_of};
+    ghost use Rattle.bq_verify.specs.Subjects.{context_size_of};
 
     /// Answers how many bytes the context of the policy has.
     pub fn context_length(&self) -> usize
-        ensures { result ≡ context_of self.now }
+        ensures { result ≡ context_size_of self.now }
     {
         context_length(self.hook, self.version)
     }

@@ -6,7 +6,7 @@ ghost use Rattle.bq_insn.specs.Spelling.{is_insn, is_well_formed};
 ghost use Rattle.std.specs.List.{list_all};
 ghost use Rattle.bq_verify.specs.Accepted.{IsAccepted};
 ghost use Rattle.bq_verify.specs.Edges.{IsWhole};
-ghost use Rattle.bq_verify.specs.Passes.{IsSound, Measured};
+ghost use Rattle.bq_verify.specs.Passes.{IsGraphSound, Measured};
 ghost use Rattle.bq_verify.specs.Paths.{IsGreatest, PathOut};
 ghost use Rattle.bq_verify.specs.Faults.{IsFaultless};
 ghost use Rattle.bq_verify.specs.Refusals.{IsGraphVerdict, IsOutOfMemory, IsVerdictOn};
@@ -64,7 +64,7 @@ pub(crate) fn check_graph(alloc: Global, slots: &[Option<Insn>]) -> Result<(), R
 /// The number of instructions on the longest path from each slot.
 fn heights_of(alloc: Global, slots: &[Option<Insn>]) -> Result<Vec<u32>, AllocError>
     requires short { length slots.now ≤ SLOTS }
-    requires sound { IsSound slots.now }
+    requires sound { IsGraphSound slots.now }
     ensures measured { IfOk result (λ heights. Measured slots.now 0 heights.items) }
     ensures room { IfOk result (λ heights. length heights.items ≡ length slots.now) }
 {

@@ -22,13 +22,13 @@ pub struct Verified {
 impl Model for Verified {
     ghost use Rattle.bq_bpf.specs.Packing.{Stands};
     ghost use Rattle.bq_verify.specs.Accepted.{Accepted, IsAccepted};
-    ghost use Rattle.bq_verify.specs.Subjects.{context_of};
+    ghost use Rattle.bq_verify.specs.Subjects.{context_size_of};
 
     ghost Value = { Accepted };
 
     ghost view = { λ v. record { slots = v.slots.items; shapes = v.form.shapes.items; hook = v.form.hook; version = v.form.version; budget = v.budget } };
 
-    ghost invariant = { λ v. Stands v.code.items v.slots.items × IsAccepted v.slots.items v.form.shapes.items (context_of v.form) v.budget };
+    ghost invariant = { λ v. Stands v.code.items v.slots.items × IsAccepted v.slots.items v.form.shapes.items (context_size_of v.form) v.budget };
 }
 
 impl Verified {

@@ -5,7 +5,7 @@ ghost use Rattle.bq_bpf.specs.Memory.{Setting, State};
 ghost use Rattle.bq_states.specs.Certainty.{Fact, Has};
 ghost use Rattle.bq_verify.specs.Ways.{HasIn, HasWaiting, IsSureOf};
 ghost use Rattle.bq_states.specs.AbstractStates.{Contains};
-ghost use Rattle.bq_verify.specs.Control.{AddsWaiting, IsIn, IsKnown, KeepsWaiting};
+ghost use Rattle.bq_verify.specs.Control.{AddsWaiting, IsDescribed, IsKnown, KeepsWaiting};
 
 use bq_bpf::MapShape;
 use bq_states::abstract_state::AbstractState;
@@ -56,7 +56,7 @@ fn take_over(
 ) -> bool
     ensures empty { waiting.new ≡ None }
     ensures transferred { (f : Setting) (s : State) → f.shapes ≡ shapes.now → live ≡ true → Contains f state.old s → (result ≡ true) × Contains f state.new s }
-    ensures waited { (f : Setting) (s : State) → f.shapes ≡ shapes.now → IsIn f waiting.old s → (result ≡ true) × Contains f state.new s }
+    ensures waited { (f : Setting) (s : State) → f.shapes ≡ shapes.now → IsDescribed f waiting.old s → (result ≡ true) × Contains f state.new s }
     ensures has { (x : Fact) → (live ≡ true → Has x state.old) → HasIn x waiting.old → result ≡ true → Has x state.new }
 {
     let Some(boxed) = waiting.take() else {
@@ -94,8 +94,8 @@ fn join(
     waiting: &mut Option<Box<AbstractState>>,
     state: &AbstractState,
 ) -> Result<(), AllocError>
-    ensures kept { OnOk result ((f : Setting) (s : State) → f.shapes ≡ shapes.now → IsIn f waiting.old s → IsIn f waiting.new s) }
-    ensures added { OnOk result ((f : Setting) (s : State) → f.shapes ≡ shapes.now → Contains f state.now s → IsIn f waiting.new s) }
+    ensures kept { OnOk result ((f : Setting) (s : State) → f.shapes ≡ shapes.now → IsDescribed f waiting.old s → IsDescribed f waiting.new s) }
+    ensures added { OnOk result ((f : Setting) (s : State) → f.shapes ≡ shapes.now → Contains f state.now s → IsDescribed f waiting.new s) }
     ensures has { OnOk result ((x : Fact) → HasIn x waiting.old → Has x state.now → HasIn x waiting.new) }
 {
     if let Some(boxed) = waiting {

@@ -1,7 +1,7 @@
 //! The two programs that laws call straight, instruction by instruction, and that they are accepted.
 
 ghost use Rattle.std.specs.Prelude.{◌≡◌};
-ghost use Rattle.bq_verify.specs.Worked.{calling, worked};
+ghost use Rattle.bq_verify.specs.Worked.{calls_program, worked};
 
 use crate::judging::{are_answered, preempt, shape};
 use bq_insn::{Condition, Insn, Operation, Size, Source, Width};
@@ -81,7 +81,7 @@ fn worked_is_accepted(rt: HostRuntime) {
 
 /// The program with calls that the law calls straight.
 fn calling_program() -> [Insn; 14]
-    ensures { result ≡ calling }
+    ensures { result ≡ calls_program }
 {
     let wide = Width::W64;
     let mov = Operation::Mov;

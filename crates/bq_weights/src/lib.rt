@@ -2,7 +2,7 @@
 #![tactic(auto)]
 
 ghost use Rattle.std.specs.Prelude.{◌≡◌, ◌+◌, ◌-◌, ◌*◌, ◌/◌, ◌<◌, ◌≤◌, ◌^◌, pos, negsuc, ◌≤ℤ◌, IsTrue, slice_index};
-ghost use Rattle.bq_weights.specs.VirtualTime.{is_nice, weights, weight_of, IsWeight, vdelta_of, time_of, advance_of, shift_of, held_within, distance_of};
+ghost use Rattle.bq_weights.specs.VirtualTime.{is_nice, weights, weight_of, IsWeight, vdelta_of, time_of, advance_of, shift_of, held_within, distance_from_mark};
 
 /// The greatest virtual time.
 pub const GREATEST: u64 = 1 << 62;
@@ -116,7 +116,7 @@ pub fn shift_within(mark: u64, rel: i64, most: u64) -> u64
 
 /// `v` less the mark, held within the farthest distance on either side.
 pub fn distance(v: u64, mark: u64) -> i64
-    ensures value { result ≡ distance_of v mark }
+    ensures value { result ≡ distance_from_mark v mark }
 {
     if mark <= v {
         (v - mark).min(FARTHEST) as i64

@@ -6,7 +6,7 @@ use Rattle.bq_disc.specs.Totals.{total_weight, mean_of}
 use Rattle.bq_disc.specs.Movable.{movable_to}
 use Rattle.bq_disc.specs.Pulls.{pull_of}
 use Rattle.bq_trace.specs.Machines.{discipline_of}
-use Rattle.bq_why.specs.Rows.{row_of}
+use Rattle.bq_why.specs.Rows.{row_of_task}
 use Rattle.bq_why.specs.Rivals.{tied_with}
 use Rattle.bq_why.specs.Pulls.{own_pull_of}
 use Rattle.bq_why.specs.declared.pulling.OwnPull.{OwnPull}
@@ -14,7 +14,7 @@ use Rattle.bq_why.specs.declared.pulling.OwnPull.TheVariants.{Greatest}
 
 -- a task is eligible exactly when its v is at most the mean of the tasks that are there, rounded down
 abbrev pub EligibleUpToTheMean : Type 0
-EligibleUpToTheMean = (xs : List Task) (t : Task) (mean : ℕ) → 0 < total_weight xs → mean_of xs ≡ Some mean → (row_of xs t).is_eligible ≡ nat_le t.v mean
+EligibleUpToTheMean = (xs : List Task) (t : Task) (mean : ℕ) → 0 < total_weight xs → mean_of xs ≡ Some mean → (row_of_task xs t).is_eligible ≡ nat_le t.v mean
 
 -- if another task differs from the choice only by its id, the choice has the lower id
 abbrev pub LowerIdWins : Type 0

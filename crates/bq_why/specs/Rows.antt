@@ -20,8 +20,8 @@ row_by weight sum mean t =
     record { task = t.id; weight = t.weight; v = t.v; deadline = t.deadline; is_eligible = is_at_most_mean weight sum t; lag = time_of (apart t.v mean) t.weight }
 
 -- a task's row among these tasks
-abbrev pub row_of : List Task → Task → TaskRow
-row_of xs t = row_by (total_weight xs) (weighted_sum xs) (unwrap_or (mean_of xs) 0) t
+abbrev pub row_of_task : List Task → Task → TaskRow
+row_of_task xs t = row_by (total_weight xs) (weighted_sum xs) (unwrap_or (mean_of xs) 0) t
 
 -- what a rule measures some tasks from: CFS from their least v, EEVDF from their mean v
 abbrev pub measured_from : Rule → List Task → Option ℕ

@@ -10,22 +10,22 @@ use Rattle.bq_why.specs.declared.words_of.Standing.{Standing}
 use Rattle.bq_why.specs.Rows.{apart}
 
 -- the processor at which an event may choose, and the event's time
-abbrev pub place_of : Event → Option (ℕ × ℕ)
-place_of (EndWake processor now) = Some (processor, now)
-place_of (Drain processor now) = Some (processor, now)
-place_of (Tick processor now) = Some (processor, now)
-place_of (Block processor now) = Some (processor, now)
-place_of (Pull processor from now) = Some (processor, now)
-place_of other = None
+abbrev pub choice_place : Event → Option (ℕ × ℕ)
+choice_place (EndWake processor now) = Some (processor, now)
+choice_place (Drain processor now) = Some (processor, now)
+choice_place (Tick processor now) = Some (processor, now)
+choice_place (Block processor now) = Some (processor, now)
+choice_place (Pull processor from now) = Some (processor, now)
+choice_place other = None
 
 -- the sign of a lag: an eligible task is owed time, another one has had more than its share
-abbrev pub sign_of : Bool → List ℕ
-sign_of true = codes "+"
-sign_of false = codes "-"
+abbrev pub lag_sign : Bool → List ℕ
+lag_sign true = codes "+"
+lag_sign false = codes "-"
 
 -- a row's lag in milliseconds; the nanoseconds are at most the greatest number of 64 bits
 abbrev pub lag_text : TaskRow → List ℕ
-lag_text row = sign_of row.is_eligible ++ millis_text (min row.lag (2 ^ 64 - 1))
+lag_text row = lag_sign row.is_eligible ++ millis_text (min row.lag (2 ^ 64 - 1))
 
 -- whether a task may run, in words
 abbrev pub eligibility_text : Bool → List ℕ

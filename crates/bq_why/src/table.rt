@@ -1,6 +1,6 @@
 //! The tasks of a processor, as a choice saw them.
 ghost use Rattle.std.specs.Prelude.{◌≡◌, ◌≤◌, length, map, IfOk};
-ghost use Rattle.bq_why.specs.Rows.{row_of, row_by, measured_from};
+ghost use Rattle.bq_why.specs.Rows.{row_of_task, row_by, measured_from};
 
 use crate::choices::choice;
 use bq_bounds::totals::totals;
@@ -30,7 +30,7 @@ pub struct TaskRow {
 /// One row for each task, in the order of the tasks.
 pub fn rows(alloc: Global, tasks: &[Entity]) -> Result<Vec<TaskRow>, AllocError>
     requires { length tasks.now ≤ TASKS }
-    ensures { IfOk result (λ rows. rows.items ≡ map (row_of tasks.now) tasks.now) }
+    ensures { IfOk result (λ rows. rows.items ≡ map (row_of_task tasks.now) tasks.now) }
 {
     let totals = totals(tasks);
     let mean = match totals.mean() {

@@ -1,6 +1,6 @@
 //! The form `why`: for each choice the tasks that were there, and why the running one was chosen.
 ghost use Rattle.std.specs.Prelude.{◌≡◌};
-ghost use Rattle.bq_why.specs.Words.{place_of};
+ghost use Rattle.bq_why.specs.Words.{choice_place};
 
 use crate::asked::Asked;
 use crate::choice_text::{RunChoice, write_choice};
@@ -41,7 +41,7 @@ pub struct Why {
 
 /// The processor at which an event may choose, and the event's time. `None` if the event makes no choice.
 pub fn place_of(event: &Event) -> Option<(u8, u64)>
-    ensures { result ≡ place_of event.now }
+    ensures { result ≡ choice_place event.now }
 {
     match event {
         Event::EndWake { processor, now }

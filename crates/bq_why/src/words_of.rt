@@ -1,6 +1,6 @@
 //! Tasks, virtual times and lags as text.
 ghost use Rattle.std.specs.Prelude.{◌≡◌, ◌^◌, ◌-◌, min, Some};
-ghost use Rattle.bq_why.specs.Words.{lag_text, sign_of, eligibility, standing_text, origin_name, virtual_text, sign_before};
+ghost use Rattle.bq_why.specs.Words.{lag_text, lag_sign, eligibility, standing_text, origin_name, virtual_text, sign_before};
 
 use crate::table::TaskRow;
 use bq_disc::limits::FIRST_MARK;
@@ -128,7 +128,7 @@ fn amount(row: &TaskRow) -> u64
 
 /// The sign of a row's lag.
 fn sign(row: &TaskRow) -> &'static str
-    ensures { result.now ≡ sign_of row.now.is_eligible }
+    ensures { result.now ≡ lag_sign row.now.is_eligible }
 {
     if row.is_eligible { "+" } else { "-" }
 }

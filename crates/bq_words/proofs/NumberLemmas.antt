@@ -7,7 +7,7 @@ use Rattle.std.specs.Str.Parse.{digits_value_after}
 use Rattle.std.proofs.lemmas.Bool.Decides.{nat_tests}
 use Rattle.std.proofs.Math.Nat.{mul-le-mul_left}
 use Rattle.std.proofs.lemmas.List.{drop_all, drop_more}
-use Rattle.bq_words.specs.Numbers.{below, number_of}
+use Rattle.bq_words.specs.Numbers.{below, number_in_base}
 
 -- the number of these digits after those of n
 abbrev pub number_from : ℕ → ℕ → List ℕ → Option ℕ
@@ -40,7 +40,7 @@ number_from-large base n word h large =
     none_of false = refl
 
 -- the number of a word is what its bytes write after 0
-pub number_from-all : (base : ℕ) (word : List ℕ) → 0 < length word → number_of base word ≡ number_from base 0 word
+pub number_from-all : (base : ℕ) (word : List ℕ) → 0 < length word → number_in_base base word ≡ number_from base 0 word
 number_from-all base word h = let e : ltb 0 (length word) ≡ true = grind (arith, nat_tests) in rw e refl
 
 -- a digit at a place of the word is taken in, and the bytes behind it are left
@@ -52,7 +52,7 @@ number_step base value i word h digit =
 -- a word of which the first digits are too large for 64 bits is no number
 pub number_too_large : (base value i : ℕ) (word : List ℕ) → number_from base 0 word ≡ number_from base value (drop i word)
     → i < length word → digit_value (get_or word i 0) < base → 2 ^ 64 ≤ value * base + digit_value (get_or word i 0)
-    → number_of base word ≡ None
+    → number_in_base base word ≡ None
 number_too_large base value i word so_far h digit large =
     number_from-all base word (omega arith) ∙ so_far ∙ number_step base value i word h digit
     ∙ number_from-large base (value * base + digit_value (get_or word i 0)) (drop (i + 1) word) (omega arith) large
@@ -60,7 +60,7 @@ number_too_large base value i word so_far h digit large =
 -- a word of which all digits were taken in is what they came to
 pub number_whole : (base value i : ℕ) (word : List ℕ) → number_from base 0 word ≡ number_from base value (drop i word)
     → 0 < length word → length word ≤ i → value < 2 ^ 64
-    → number_of base word ≡ Some value
+    → number_in_base base word ≡ Some value
 number_whole base value i word so_far some end fits =
     number_from-all base word some ∙ so_far ∙ ap (number_from base value) (drop_all i word end) ∙ whole
   where

@@ -1,7 +1,7 @@
 //! The numbers that words write.
 ghost use Rattle.std.specs.Prelude.{◌≡◌, ◌≤◌, MatchOption, codes, drop, false, nat_eq, true};
 ghost use Rattle.std.specs.List.{starts_with};
-ghost use Rattle.bq_words.specs.Numbers.{number_of, value_of};
+ghost use Rattle.bq_words.specs.Numbers.{number_in_base, value_of};
 
 /// `before`, 2^32 and `behind` as one text. 2^32 is the limit of numbers of 32 bits.
 #[macro_export]
@@ -15,7 +15,7 @@ macro_rules! with_32_bits {
 pub fn number(word: &[u8], base: u32) -> Option<u64>
     requires low { 2 ≤ base }
     requires high { base ≤ 36 }
-    ensures { result ≡ number_of base word.now }
+    ensures { result ≡ number_in_base base word.now }
 {
     if word.is_empty() {
         return None;

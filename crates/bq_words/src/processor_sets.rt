@@ -1,7 +1,7 @@
 //! Sets of processors, as bits: bit k is processor k.
 ghost use Rattle.std.specs.Prelude.{◌≡◌, ◌<◌, ◌≤◌, ◌+◌, ◌-◌, ◌^◌, ◌==◌, [], ◌∷◌, IfNone, IfSome, bit_or, length, option_and_then, option_map, position};
 ghost use Rattle.std.specs.List.{slice_split};
-ghost use Rattle.bq_words.specs.ProcessorSets.{processors_of, is_comma, bits_of, span_of, span_at, processor_below};
+ghost use Rattle.bq_words.specs.ProcessorSets.{processors_of, is_comma, range_bits, span_of, span_at, processor_below};
 
 use crate::{ProcessorCount, quantities};
 
@@ -74,7 +74,7 @@ fn span_at(part: &[u8], dash: Option<usize>) -> Option<u64>
 
 /// The bit of one processor.
 fn one_bit(word: &[u8]) -> Option<u64>
-    ensures { result ≡ option_and_then (λ only. bits_of only only) (processor_below word.now) }
+    ensures { result ≡ option_and_then (λ only. range_bits only only) (processor_below word.now) }
 {
     match processor(word) {
         Some(only) => Some(bits(only, only)),
@@ -84,7 +84,7 @@ fn one_bit(word: &[u8]) -> Option<u64>
 
 /// The bits of a range from one word to another. `None` if a word is no processor, or if the range runs backwards.
 fn range(first: &[u8], last: &[u8]) -> Option<u64>
-    ensures { result ≡ option_and_then (λ f. option_and_then (bits_of f) (processor_below last.now)) (processor_below first.now) }
+    ensures { result ≡ option_and_then (λ f. option_and_then (range_bits f) (processor_below last.now)) (processor_below first.now) }
 {
     match processor(first).zip(processor(last)) {
         Some((first, last)) if first <= last => Some(bits(first, last)),

@@ -9,9 +9,9 @@ use Rattle.bq_workload.specs.declared.due.Due.{Due}
 use Rattle.bq_workload.specs.declared.due.Due.TheVariants.{End}
 use Rattle.bq_workload.specs.declared.processor_state.ProcessorState.{ProcessorState}
 use Rattle.bq_workload.specs.Accounts.{Accounts, changed_at, is_same}
-use Rattle.bq_workload.specs.Dues.{IsDropped, IsDue, IsPlanned, end_of, place_of, until}
-use Rattle.bq_workload.specs.Minima.{at_place, number_of}
-use Rattle.bq_workload.specs.Next.{AgreesAt, HasHome, HaveHomes, Rests, comes_at, ends_at, runs_at}
+use Rattle.bq_workload.specs.Dues.{IsDropped, IsDue, IsPlanned, phase_end, due_place, until}
+use Rattle.bq_workload.specs.Minima.{at_place, due_number}
+use Rattle.bq_workload.specs.Next.{AgreesAt, HasHome, HaveHomes, TaskRests, comes_at, phase_ends_at, runs_at}
 
 -- a write to one place leaves the others
 pub slice_get-set_other : {A : Type 0} (xs : List A) (n k : ℕ) (x : A) → k ≢ n → slice_get (slice_set xs n x) k ≡ slice_get xs k
@@ -66,11 +66,11 @@ changed_at-read {A} {B} f v same xs n k = elim (cases_eq k n) [
 
 -- what comes when it came, and whose place is as it was
 pub agrees_if_kept : (end : ℕ) (a b : Accounts) (x y : List ℕ) (due : Due)
-    → comes_at end b due ≡ comes_at end a due → (IsDue due → at_place y (place_of due) ≡ at_place x (place_of due))
+    → comes_at end b due ≡ comes_at end a due → (IsDue due → at_place y (due_place due) ≡ at_place x (due_place due))
     → AgreesAt end a x due
     → AgreesAt end b y due
 agrees_if_kept end a b x y due same place h = record {
-  at = λ there. place there ∙ h.at there ∙ ap (number_of (place_of due)) (sym same);
+  at = λ there. place there ∙ h.at there ∙ ap (due_number (due_place due)) (sym same);
   there = λ time is. h.there time (sym same ∙ is);
 }
 
@@ -78,19 +78,19 @@ agrees_if_kept end a b x y due same place h = record {
 pub agrees_if_planned : (end time : ℕ) (b : Accounts) (x y : List ℕ) (due : Due)
     → IsPlanned end due time x y → comes_at end b due ≡ until end time → AgreesAt end b y due
 agrees_if_planned end time b x y due p is =
-    record { at = λ there. p.at ∙ ap (number_of (place_of due)) (sym is); there = λ t some. p.there }
+    record { at = λ there. p.at ∙ ap (due_number (due_place due)) (sym is); there = λ t some. p.there }
 
 -- what does not come
 pub agrees_if_dropped : (end : ℕ) (b : Accounts) (x y : List ℕ) (due : Due)
     → IsDropped due x y → comes_at end b due ≡ None → AgreesAt end b y due
-agrees_if_dropped end b x y due d is = record { at = λ there. d.at ∙ ap (number_of (place_of due)) (sym is); there = λ t some. d.there }
+agrees_if_dropped end b x y due d is = record { at = λ there. d.at ∙ ap (due_number (due_place due)) (sym is); there = λ t some. d.there }
 
 -- a phase of a task that has not changed ends when it did
 ends-same : (end : ℕ) (cs ds : List TaskProgress) (processor_state : ProcessorState)
     → ((task : ℕ) → processor_state.run ≡ Some task → slice_get ds task ≡ slice_get cs task)
-    → ends_at end ds processor_state ≡ ends_at end cs processor_state
+    → phase_ends_at end ds processor_state ≡ phase_ends_at end cs processor_state
 ends-same end cs ds processor_state same =
-    let v : TaskProgress → Option ℕ = λ c. until end (end_of processor_state.since c) in
+    let v : TaskProgress → Option ℕ = λ c. until end (phase_end processor_state.since c) in
     let at : List TaskProgress → Option ℕ → Option ℕ = λ xs o. option_and_then (λ task. option_and_then v (slice_get xs task)) o in
     elim (some_or_none processor_state.run) [
       | inl none ↦ ap (at ds) none ∙ sym (ap (at cs) none)
@@ -104,7 +104,7 @@ pub kept-end : (end q : ℕ) (a b : Accounts) (x y : List ℕ) → slice_get b.b
     → (q < 64 → at_place y q ≡ at_place x q) → AgreesAt end a x (End q)
     → AgreesAt end b y (End q)
 kept-end end q a b x y by_processor by_task place h =
-    let at : List TaskProgress → Option ProcessorState → Option ℕ = λ cs o. option_and_then (ends_at end cs) o in
+    let at : List TaskProgress → Option ProcessorState → Option ℕ = λ cs o. option_and_then (phase_ends_at end cs) o in
     let same : at b.by_task (slice_get a.by_processor q) ≡ at a.by_task (slice_get a.by_processor q) =
     elim (some_or_none (slice_get a.by_processor q)) [
       | inl none ↦ ap (at b.by_task) none ∙ sym (ap (at a.by_task) none)
@@ -123,7 +123,7 @@ pub one-home : (a : Accounts) (task p q : ℕ) → HasHome a task p → HasHome 
 one-home a task p q g h = sym g.home ∙ ap (λ (c : TaskProgress). c.home) (same_Some g.progress h.progress (sym g.there ∙ h.there)) ∙ h.home
 
 -- a task that does not run where it ran last runs nowhere
-pub resting_runs_nowhere : (a : Accounts) (task : ℕ) → HaveHomes a → Rests a task → (q : ℕ) (processor_state : ProcessorState)
+pub resting_runs_nowhere : (a : Accounts) (task : ℕ) → HaveHomes a → TaskRests a task → (q : ℕ) (processor_state : ProcessorState)
     → slice_get a.by_processor q ≡ Some processor_state → processor_state.run ≡ Some task
     → ⊥
 resting_runs_nowhere a task homes rests q processor_state at runs =

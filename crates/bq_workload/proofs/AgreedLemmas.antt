@@ -9,11 +9,11 @@ use Rattle.bq_workload.specs.declared.due.Due.{Due}
 use Rattle.bq_workload.specs.declared.due.Due.TheVariants.{End, Wake, Tick, Pull}
 use Rattle.bq_workload.specs.declared.processor_state.ProcessorState.{ProcessorState}
 use Rattle.bq_workload.specs.declared.roster.Periods.{Periods}
-use Rattle.bq_workload.specs.Accounts.{Accounts, changed_at, charged, charged_by, idled, occupied, of_processor, taken_over}
+use Rattle.bq_workload.specs.Accounts.{Accounts, changed_at, accounts_charged, runner_charged, idled, occupied, of_processor, taken_over}
 use Rattle.bq_workload.specs.TaskProgress.{moved_to, run_for}
-use Rattle.bq_workload.specs.Dues.{IsDue, end_of, next_multiple, place_of, until}
+use Rattle.bq_workload.specs.Dues.{IsDue, phase_end, next_multiple, due_place, until}
 use Rattle.bq_workload.specs.Minima.{at_place}
-use Rattle.bq_workload.specs.Next.{Agrees, AgreesAt, HasHome, HaveHomes, Rests, comes_at, ends_at, rings_at}
+use Rattle.bq_workload.specs.Next.{QueueAgrees, AgreesAt, HasHome, HaveHomes, TaskRests, comes_at, phase_ends_at, rings_at}
 use Rattle.bq_workload.specs.Plans.{PlansLook, PlansNone, PlansTask, PlansTick}
 use Rattle.bq_workload.proofs.AgreeLemmas.{changed_at-here, changed_at-others, changed_at-read, agrees_if_dropped, agrees_if_kept, kept-end, kept-home, resting_runs_nowhere, one-home, agrees_if_planned, some_or_none}
 
@@ -35,7 +35,7 @@ look_at end l = option_and_then (until end) l.look
 
 -- an event queue that is the same at a place
 pub agrees_if_same_there : (end : ℕ) (b : Accounts) (x y : List ℕ) (due : Due)
-    → (IsDue due → at_place y (place_of due) ≡ at_place x (place_of due)) → AgreesAt end b x due
+    → (IsDue due → at_place y (due_place due) ≡ at_place x (due_place due)) → AgreesAt end b x due
     → AgreesAt end b y due
 agrees_if_same_there end b x y due place h = agrees_if_kept end b b x y due refl place h
 
@@ -48,7 +48,7 @@ pub record AgreesBut (end p : ℕ) (a : Accounts) (x : List ℕ) : Type 0 where
   pub homes : HaveHomes a
 
 -- what agrees, except for that end
-pub agrees_but_one_end : (end p : ℕ) (a : Accounts) (x : List ℕ) → Agrees end a x → AgreesBut end p a x
+pub agrees_but_one_end : (end p : ℕ) (a : Accounts) (x : List ℕ) → QueueAgrees end a x → AgreesBut end p a x
 agrees_but_one_end end p a x h = record {
   ends = λ q other. h.all (End q);
   wakes = λ k. h.all (Wake k);
@@ -86,7 +86,7 @@ pub record Changes (end p : ℕ) (a b : Accounts) (x y : List ℕ) : Type 0 wher
       → HasHome b task p
 
 -- all agrees after a change of one processor
-pub after-change : (end p : ℕ) (a b : Accounts) (x y : List ℕ) → AgreesBut end p a x → Changes end p a b x y → Agrees end b y
+pub after-change : (end p : ℕ) (a b : Accounts) (x y : List ℕ) → AgreesBut end p a x → Changes end p a b x y → QueueAgrees end b y
 after-change end p a b x y h c =
     let low = c.low in
     let ends : (q : ℕ) → q ≢ p → AgreesAt end b y (End q) = λ q other.
@@ -179,17 +179,17 @@ homes-read f same p a b by_processor home h q task processor_state at runs =
 -- a processor whose task, time, tick and look have not changed changes nothing that is due
 pub agrees_if_times_same : (end p : ℕ) (f : ProcessorState → ProcessorState) (a b : Accounts) (x y : List ℕ)
     → ((l : ProcessorState) → (f l).run ≡ l.run)
-    → ((cs : List TaskProgress) (l : ProcessorState) → ends_at end cs (f l) ≡ ends_at end cs l)
+    → ((cs : List TaskProgress) (l : ProcessorState) → phase_ends_at end cs (f l) ≡ phase_ends_at end cs l)
     → ((l : ProcessorState) → (f l).tick ≡ l.tick) → ((l : ProcessorState) → (f l).look ≡ l.look) → b ≡ of_processor f p a
-    → y ≡ x → Agrees end a x
-    → Agrees end b y
+    → y ≡ x → QueueAgrees end a x
+    → QueueAgrees end b y
 agrees_if_times_same end p f a b x y run ends tick look is event_queue h =
     let c = of_processor f p a in
-    let place : (due : Due) → IsDue due → at_place y (place_of due) ≡ at_place x (place_of due) =
-    λ due there. ap (λ (l : List ℕ). at_place l (place_of due)) event_queue in
+    let place : (due : Due) → IsDue due → at_place y (due_place due) ≡ at_place x (due_place due) =
+    λ due there. ap (λ (l : List ℕ). at_place l (due_place due)) event_queue in
     let at : AgreesBut end 64 c y = record {
       ends = λ q other.
-          agrees_if_kept end a c x y (End q) (changed_at-read f (ends_at end a.by_task) (ends a.by_task) a.by_processor p q)
+          agrees_if_kept end a c x y (End q) (changed_at-read f (phase_ends_at end a.by_task) (ends a.by_task) a.by_processor p q)
           (place (End q)) (h.all (End q));
       wakes = λ k. agrees_if_kept end a c x y (Wake k) refl (place (Wake k)) (h.all (Wake k));
       ticks = λ q.
@@ -202,13 +202,13 @@ agrees_if_times_same end p f a b x y run ends tick look is event_queue h =
           (place (Pull q)) (h.all (Pull q));
       homes = homes-read f run p a c refl (λ k. refl) h.homes;
     } in
-    let whole : Agrees end c y = record {
+    let whole : QueueAgrees end c y = record {
       all =
           with_end end 64 c y at (agrees_if_kept end a c x y (End 64)
-          (changed_at-read f (ends_at end a.by_task) (ends a.by_task) a.by_processor p 64) (place (End 64)) (h.all (End 64)));
+          (changed_at-read f (phase_ends_at end a.by_task) (ends a.by_task) a.by_processor p 64) (place (End 64)) (h.all (End 64)));
       homes = at.homes;
     } in
-    subst (λ (z : Accounts). Agrees end z y) (sym is) whole
+    subst (λ (z : Accounts). QueueAgrees end z y) (sym is) whole
 
 -- since when the time of a processor is counted
 abbrev pub since_now : ℕ → ProcessorState → ProcessorState
@@ -219,18 +219,18 @@ abbrev pub counted : ProcessorState → ℕ → List TaskProgress → List TaskP
 counted processor_state now cs = option_map_or (λ task. changed_at (run_for (now - processor_state.since)) cs task) processor_state.run cs
 
 charged_by-is : (processor_state : ProcessorState) (now : ℕ) (a : Accounts)
-    → charged_by processor_state now a ≡ both (counted processor_state now a.by_task) a.by_processor
+    → runner_charged processor_state now a ≡ both (counted processor_state now a.by_task) a.by_processor
 charged_by-is processor_state now a =
     elim processor_state.run as (λ (o : Option ℕ).
-    charged_by (record processor_state { run = o }) now a
+    runner_charged (record processor_state { run = o }) now a
     ≡ both (counted (record processor_state { run = o }) now a.by_task) a.by_processor) [ None ↦ refl | Some task ↦ refl ]
 
 -- the accounts once that is so
 pub charged-is : (p now : ℕ) (processor_state : ProcessorState) (a : Accounts)
     → slice_get a.by_processor p ≡ Some processor_state
-    → charged p now a ≡ both (counted processor_state now a.by_task) (changed_at (since_now now) a.by_processor p)
+    → accounts_charged p now a ≡ both (counted processor_state now a.by_task) (changed_at (since_now now) a.by_processor p)
 charged-is p now processor_state a at =
-    ap (λ (o : Option ProcessorState). option_map_or (λ (l : ProcessorState). of_processor (since_now now) p (charged_by l now a)) o a) at
+    ap (λ (o : Option ProcessorState). option_map_or (λ (l : ProcessorState). of_processor (since_now now) p (runner_charged l now a)) o a) at
     ∙ ap (of_processor (since_now now) p) (charged_by-is processor_state now a)
 
 -- what is read of a task's progress, and does not change with its time
@@ -269,8 +269,8 @@ counted-here processor_state now cs k c runs there =
 
 -- once its time is counted all but the end of the phase of a processor agrees
 pub charged-agrees : (end p now : ℕ) (processor_state : ProcessorState) (a : Accounts) (x : List ℕ)
-    → slice_get a.by_processor p ≡ Some processor_state → Agrees end a x
-    → AgreesBut end p (charged p now a) x
+    → slice_get a.by_processor p ≡ Some processor_state → QueueAgrees end a x
+    → AgreesBut end p (accounts_charged p now a) x
 charged-agrees end p now processor_state a x at h =
     let f = since_now now in
     let c = both (counted processor_state now a.by_task) (changed_at f a.by_processor p) in
@@ -309,10 +309,10 @@ look-of end p a l at = ap (λ (o : Option ProcessorState). option_and_then (look
 -- the phase of a task that runs at a processor ends when it has got what is left of it
 pub end-of : (end p task : ℕ) (a : Accounts) (l : ProcessorState) (c : TaskProgress)
     → slice_get a.by_processor p ≡ Some l → l.run ≡ Some task → slice_get a.by_task task ≡ Some c
-    → comes_at end a (End p) ≡ until end (end_of l.since c)
+    → comes_at end a (End p) ≡ until end (phase_end l.since c)
 end-of end p task a l c at runs there =
-    let v : TaskProgress → Option ℕ = λ d. until end (end_of l.since d) in
-    ap (λ (o : Option ProcessorState). option_and_then (ends_at end a.by_task) o) at
+    let v : TaskProgress → Option ℕ = λ d. until end (phase_end l.since d) in
+    ap (λ (o : Option ProcessorState). option_and_then (phase_ends_at end a.by_task) o) at
     ∙ ap (λ (o : Option ℕ). option_and_then (λ (k : ℕ). option_and_then v (slice_get a.by_task k)) o) runs
     ∙ ap (λ (o : Option TaskProgress). option_and_then v o) there
 
@@ -320,8 +320,8 @@ end-of end p task a l c at runs there =
 end-none : (end p : ℕ) (a : Accounts) (l : ProcessorState) → slice_get a.by_processor p ≡ Some l → l.run ≡ None
     → comes_at end a (End p) ≡ None
 end-none end p a l at none =
-    let v : TaskProgress → Option ℕ = λ d. until end (end_of l.since d) in
-    ap (λ (o : Option ProcessorState). option_and_then (ends_at end a.by_task) o) at
+    let v : TaskProgress → Option ℕ = λ d. until end (phase_end l.since d) in
+    ap (λ (o : Option ProcessorState). option_and_then (phase_ends_at end a.by_task) o) at
     ∙ ap (λ (o : Option ℕ). option_and_then (λ (k : ℕ). option_and_then v (slice_get a.by_task k)) o) none
 
 -- a tick that is put down where there was none
@@ -359,9 +359,9 @@ look-others periods p now (Some time) x y plans k few other = plans.others k few
 pub started-agrees : (periods : Periods) (p t now : ℕ) (processor_state : ProcessorState) (c : TaskProgress)
     (a b : Accounts) (x y : List ℕ)
     → AgreesBut periods.end p a x → slice_get a.by_processor p ≡ Some processor_state
-    → Rests a t → b ≡ taken_over p (Some t) now periods a → slice_get b.by_task t ≡ Some c
+    → TaskRests a t → b ≡ taken_over p (Some t) now periods a → slice_get b.by_task t ≡ Some c
     → PlansTask periods p now processor_state.tick c x y
-    → Agrees periods.end b y
+    → QueueAgrees periods.end b y
 started-agrees periods p t now processor_state c a b x y h at rests is there plans =
     let end = periods.end in
     let f : ProcessorState → ProcessorState = occupied periods.tick t now in
@@ -375,14 +375,14 @@ started-agrees periods p t now processor_state c a b x y h at rests is there pla
     let mid : AgreesAt end d plans.mid (Tick p) =
     tick-planned periods p now processor_state.tick a d x plans.mid (tick-of end p a processor_state at)
     (tick-of end p d (f processor_state) new) plans.ticks (h.ticks p) in
-    let whole : Agrees end d y = after-change end p a d x y h (record {
+    let whole : QueueAgrees end d y = after-change end p a d x y h (record {
       low = low;
       by_processor = λ q other. changed_at-others f a.by_processor p q other;
       by_task = λ q task l other here mine. changed_at-others g a.by_task t task (alone q task l here mine);
       rings = λ k. changed_at-read g (ring end) (λ e. refl) a.by_task t k;
       places = λ k few one two three.
           plans.ends.others k few one ∙ tick-others periods p now processor_state.tick x plans.mid plans.ticks k few two;
-      ends = agrees_if_planned end (end_of now c) d plans.mid y (End p) plans.ends (end-of end p t d (f processor_state) c new refl runs);
+      ends = agrees_if_planned end (phase_end now c) d plans.mid y (End p) plans.ends (end-of end p t d (f processor_state) c new refl runs);
       ticks = agrees_if_same_there end d plans.mid y (Tick p) (λ few. plans.ends.others (1088 + p) (omega arith) (omega arith)) mid;
       looks =
           agrees_if_kept end a d x y (Pull p)
@@ -397,13 +397,13 @@ started-agrees periods p t now processor_state c a b x y h at rests is there pla
           subst (λ (k : ℕ). HasHome d k p) task_is
           (record { progress = g rests.progress; there = changed_at-here g a.by_task t rests.progress rests.there; home = refl });
     }) in
-    subst (λ (z : Accounts). Agrees end z y) (sym is) whole
+    subst (λ (z : Accounts). QueueAgrees end z y) (sym is) whole
 
 -- nothing runs at a processor from now on
 pub idled-agrees : (periods : Periods) (p now : ℕ) (processor_state : ProcessorState) (a b : Accounts) (x y : List ℕ)
     → AgreesBut periods.end p a x → slice_get a.by_processor p ≡ Some processor_state → b ≡ taken_over p None now periods a
     → PlansNone periods p now processor_state.look x y
-    → Agrees periods.end b y
+    → QueueAgrees periods.end b y
 idled-agrees periods p now processor_state a b x y h at is plans =
     let end = periods.end in
     let f : ProcessorState → ProcessorState = idled now in
@@ -416,7 +416,7 @@ idled-agrees periods p now processor_state a b x y h at is plans =
     let still : AgreesAt end a plans.still (Pull p) =
     agrees_if_same_there end a x plans.still (Pull p)
     (λ few. two (1152 + p) (omega arith) (omega arith) ∙ one (1152 + p) (omega arith) (omega arith)) (h.looks p) in
-    let whole : Agrees end d y = after-change end p a d x y h (record {
+    let whole : QueueAgrees end d y = after-change end p a d x y h (record {
       low = low;
       by_processor = λ q other. changed_at-others f a.by_processor p q other;
       by_task = λ q task l other here mine. refl;
@@ -435,4 +435,4 @@ idled-agrees periods p now processor_state a b x y h at is plans =
       home = λ task l here mine.
           absurd (none-some task (sym (ap (λ (m : ProcessorState). m.run) (same_Some l (f processor_state) (sym here ∙ new))) ∙ mine));
     }) in
-    subst (λ (z : Accounts). Agrees end z y) (sym is) whole
+    subst (λ (z : Accounts). QueueAgrees end z y) (sym is) whole

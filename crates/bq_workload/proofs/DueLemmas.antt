@@ -12,25 +12,25 @@ use Rattle.bq_workload.specs.declared.due.Due.TheVariants.{End, Wake, Tick, Pull
 use Rattle.bq_workload.specs.declared.processor_state.ProcessorState.{ProcessorState}
 use Rattle.bq_workload.specs.declared.roster.Periods.{Periods}
 use Rattle.bq_workload.specs.declared.roster.Roster.{Roster}
-use Rattle.bq_workload.specs.Accounts.{Accounts, IsDone, accounts_of, at_rest, beaten, changed_at, charged, first_look, grown, looked, of_processor, of_task, opening, shrunk}
-use Rattle.bq_workload.specs.TaskProgress.{run_for, woken}
-use Rattle.bq_workload.specs.Dues.{AreLooks, IsDropped, IsDue, IsPlanned, due_at, end_of, look_of, next_multiple, place_of, until}
-use Rattle.bq_workload.specs.Minima.{AreNever, IsFirst, at_place, never, number_of}
-use Rattle.bq_workload.specs.Next.{Agrees, AgreesAt, HasHome, HaveHomes, IsAgreed, IsBefore, IsNext, NothingComes, Rests, StaysAgreed, comes_at, ends_at, rings_at}
+use Rattle.bq_workload.specs.Accounts.{Accounts, IsPhaseDone, accounts_of, processor_at_rest, beaten, changed_at, accounts_charged, first_look, grown, looked, of_processor, of_task, opening_accounts, shrunk}
+use Rattle.bq_workload.specs.TaskProgress.{run_for, progress_woken}
+use Rattle.bq_workload.specs.Dues.{AreLooks, IsDropped, IsDue, IsPlanned, due_at, phase_end, look_of, next_multiple, due_place, until}
+use Rattle.bq_workload.specs.Minima.{AreNever, IsFirstDue, at_place, never_due, due_number}
+use Rattle.bq_workload.specs.Next.{QueueAgrees, AgreesAt, HasHome, HaveHomes, IsAgreed, IsBefore, IsNextDue, NothingComes, TaskRests, StaysAgreed, comes_at, phase_ends_at, rings_at}
 use Rattle.bq_workload.specs.Plans.{PlansProgress, PlansTimer}
 use Rattle.bq_workload.proofs.AgreeLemmas.{changed_at-here, changed_at-others, changed_at-read, agrees_if_dropped, agrees_if_kept, kept-end, kept-home, resting_runs_nowhere, one-home, agrees_if_planned, slice_get-set_here, slice_get-set_other, some_or_none}
 use Rattle.bq_workload.proofs.AgreedLemmas.{AgreesBut, after-change, both, agrees_but_one_end, charged-agrees, charged-is, counted, counted-here, end-of, homes-read, agrees_if_same_there, agrees_if_times_same, look_at, look-of, since_now, tick_at, tick-of, with_end}
 
 -- a phase that has just ended ends when it was to
 ends-now : (since now : ℕ) (c : TaskProgress) → since ≤ now → now < 2 ^ 64 → c.got + (now - since) ≡ c.due
-    → end_of now (run_for (now - since) c) ≡ end_of since c
+    → phase_end now (run_for (now - since) c) ≡ phase_end since c
 ends-now since now c early late done = omega arith
 
 -- the phase of the task that runs at a processor has just ended
 pub done-agrees : (end p now task : ℕ) (processor_state : ProcessorState) (c : TaskProgress) (a b : Accounts) (x y : List ℕ)
     → slice_get a.by_processor p ≡ Some processor_state → IfSome processor_state.run (λ _. processor_state.since ≤ now)
-    → now < 2 ^ 64 → b ≡ charged p now a → y ≡ x → IsDone b p task c → Agrees end a x
-    → Agrees end b y
+    → now < 2 ^ 64 → b ≡ accounts_charged p now a → y ≡ x → IsPhaseDone b p task c → QueueAgrees end a x
+    → QueueAgrees end b y
 done-agrees end p now task processor_state c a b x y at early late is event_queue done h =
     let d = both (counted processor_state now a.by_task) (changed_at (since_now now) a.by_processor p) in
     let same : b ≡ d = is ∙ charged-is p now processor_state a at in
@@ -56,31 +56,31 @@ done-agrees end p now task processor_state c a b x y at early late is event_queu
     let others : AgreesBut end p d x =
     subst (λ (z : Accounts). AgreesBut end p z x) (charged-is p now processor_state a at)
     (charged-agrees end p now processor_state a x at h) in
-    let whole : Agrees end d x = record {
+    let whole : QueueAgrees end d x = record {
       all = with_end end p d x others (agrees_if_kept end a d x x (End p) e (λ low. refl) (h.all (End p)));
       homes = others.homes;
     } in
-    subst (λ (z : Accounts). Agrees end z y) (sym same) (subst (λ (l : List ℕ). Agrees end d l) (sym event_queue) whole)
+    subst (λ (z : Accounts). QueueAgrees end z y) (sym same) (subst (λ (l : List ℕ). QueueAgrees end d l) (sym event_queue) whole)
 
 -- a processor ticks next then
 pub beaten-agrees : (end p now between : ℕ) (a b : Accounts) (x y : List ℕ) (processor_state : ProcessorState)
     → slice_get a.by_processor p ≡ Some processor_state → b ≡ beaten p now between a
-    → IsPlanned end (Tick p) (next_multiple between now) x y → Agrees end a x
-    → Agrees end b y
+    → IsPlanned end (Tick p) (next_multiple between now) x y → QueueAgrees end a x
+    → QueueAgrees end b y
 beaten-agrees end p now between a b x y processor_state at is plan h =
     let f : ProcessorState → ProcessorState = λ l. record l { tick = Some (next_multiple between now) } in
     let d = of_processor f p a in
     let low : p < 64 = plan.there in
     let new : slice_get d.by_processor p ≡ Some (f processor_state) = changed_at-here f a.by_processor p processor_state at in
     let homes : HaveHomes d = homes-read f (λ l. refl) p a d refl (λ k. refl) h.homes in
-    let whole : Agrees end d y = after-change end p a d x y (agrees_but_one_end end p a x h) (record {
+    let whole : QueueAgrees end d y = after-change end p a d x y (agrees_but_one_end end p a x h) (record {
       low = low;
       by_processor = λ q other. changed_at-others f a.by_processor p q other;
       by_task = λ q task l other here mine. refl;
       rings = λ k. refl;
       places = λ k few i j l. plan.others k few j;
       ends =
-          agrees_if_kept end a d x y (End p) (changed_at-read f (ends_at end a.by_task) (λ l. refl) a.by_processor p p)
+          agrees_if_kept end a d x y (End p) (changed_at-read f (phase_ends_at end a.by_task) (λ l. refl) a.by_processor p p)
           (λ few. plan.others p (omega arith) (omega arith)) (h.all (End p));
       ticks = agrees_if_planned end (next_multiple between now) d x y (Tick p) plan (tick-of end p d (f processor_state) new);
       looks =
@@ -88,27 +88,27 @@ beaten-agrees end p now between a b x y processor_state at is plan h =
           (λ few. plan.others (1152 + p) (omega arith) (omega arith)) (h.all (Pull p));
       home = λ task l here mine. homes p task l here mine;
     }) in
-    subst (λ (z : Accounts). Agrees end z y) (sym is) whole
+    subst (λ (z : Accounts). QueueAgrees end z y) (sym is) whole
 
 -- a processor looks next then
 pub looked-agrees : (end p now between : ℕ) (a b : Accounts) (x y : List ℕ) (processor_state : ProcessorState)
     → slice_get a.by_processor p ≡ Some processor_state → b ≡ looked p now between a
-    → IsPlanned end (Pull p) (next_multiple between now) x y → Agrees end a x
-    → Agrees end b y
+    → IsPlanned end (Pull p) (next_multiple between now) x y → QueueAgrees end a x
+    → QueueAgrees end b y
 looked-agrees end p now between a b x y processor_state at is plan h =
     let f : ProcessorState → ProcessorState = λ l. record l { look = Some (next_multiple between now) } in
     let d = of_processor f p a in
     let low : p < 64 = plan.there in
     let new : slice_get d.by_processor p ≡ Some (f processor_state) = changed_at-here f a.by_processor p processor_state at in
     let homes : HaveHomes d = homes-read f (λ l. refl) p a d refl (λ k. refl) h.homes in
-    let whole : Agrees end d y = after-change end p a d x y (agrees_but_one_end end p a x h) (record {
+    let whole : QueueAgrees end d y = after-change end p a d x y (agrees_but_one_end end p a x h) (record {
       low = low;
       by_processor = λ q other. changed_at-others f a.by_processor p q other;
       by_task = λ q task l other here mine. refl;
       rings = λ k. refl;
       places = λ k few i j l. plan.others k few l;
       ends =
-          agrees_if_kept end a d x y (End p) (changed_at-read f (ends_at end a.by_task) (λ l. refl) a.by_processor p p)
+          agrees_if_kept end a d x y (End p) (changed_at-read f (phase_ends_at end a.by_task) (λ l. refl) a.by_processor p p)
           (λ few. plan.others p (omega arith) (omega arith)) (h.all (End p));
       ticks =
           agrees_if_kept end a d x y (Tick p) (changed_at-read f (tick_at end) (λ l. refl) a.by_processor p p)
@@ -116,7 +116,7 @@ looked-agrees end p now between a b x y processor_state at is plan h =
       looks = agrees_if_planned end (next_multiple between now) d x y (Pull p) plan (look-of end p d (f processor_state) new);
       home = λ task l here mine. homes p task l here mine;
     }) in
-    subst (λ (z : Accounts). Agrees end z y) (sym is) whole
+    subst (λ (z : Accounts). QueueAgrees end z y) (sym is) whole
 
 -- a task's progress in a list
 ring-of : (end task : ℕ) (a : Accounts) (c : TaskProgress) → slice_get a.by_task task ≡ Some c
@@ -149,8 +149,8 @@ timer-there end task timer Over x y plan = plan.there
 -- the task that runs at a processor has come so far
 pub taken_up-agrees : (end p task : ℕ) (processor_state : ProcessorState) (c : TaskProgress) (a b : Accounts) (x y : List ℕ)
     → slice_get a.by_processor p ≡ Some processor_state → b.by_task ≡ slice_set a.by_task task c
-    → b.by_processor ≡ a.by_processor → PlansProgress end p task processor_state c x y → Agrees end a x
-    → Agrees end b y
+    → b.by_processor ≡ a.by_processor → PlansProgress end p task processor_state c x y → QueueAgrees end a x
+    → QueueAgrees end b y
 taken_up-agrees end p task processor_state c a b x y at by_task by_processor plan h =
     let d = both (slice_set a.by_task task c) a.by_processor in
     let is : b ≡ d =
@@ -199,19 +199,19 @@ taken_up-agrees end p task processor_state c a b x y at by_task by_processor pla
       homes = homes;
     } in
     let ends =
-    agrees_if_planned end (end_of processor_state.since c) d plan.mid y (End p) plan.ends
+    agrees_if_planned end (phase_end processor_state.since c) d plan.mid y (End p) plan.ends
     (end-of end p task d processor_state c at plan.runs there) in
-    let whole : Agrees end d y = record { all = with_end end p d y rest ends; homes = homes } in
-    subst (λ (z : Accounts). Agrees end z y) (sym is) whole
+    let whole : QueueAgrees end d y = record { all = with_end end p d y rest ends; homes = homes } in
+    subst (λ (z : Accounts). QueueAgrees end z y) (sym is) whole
 
 -- a task that rests is woken
 pub woken-agrees : (end task : ℕ) (a b : Accounts) (x y : List ℕ)
-    → Rests a task → b ≡ of_task woken task a → IsDropped (Wake task) x y → Agrees end a x → Agrees end b y
+    → TaskRests a task → b ≡ of_task progress_woken task a → IsDropped (Wake task) x y → QueueAgrees end a x → QueueAgrees end b y
 woken-agrees end task a b x y rests is plan h =
-    let d = of_task woken task a in
-    let there : slice_get d.by_task task ≡ Some (woken rests.progress) = changed_at-here woken a.by_task task rests.progress rests.there in
+    let d = of_task progress_woken task a in
+    let there : slice_get d.by_task task ≡ Some (progress_woken rests.progress) = changed_at-here progress_woken a.by_task task rests.progress rests.there in
     let others : (k : ℕ) → k ≢ task → slice_get d.by_task k ≡ slice_get a.by_task k =
-    λ k other. changed_at-others woken a.by_task task k other in
+    λ k other. changed_at-others progress_woken a.by_task task k other in
     let few : task < 1024 = plan.there in
     let alone : (q k : ℕ) (l : ProcessorState) → slice_get a.by_processor q ≡ Some l → l.run ≡ Some k → k ≢ task =
     λ q k l here runs same. resting_runs_nowhere a task h.homes rests q l here (runs ∙ ap (λ (n : ℕ). Some n) same) in
@@ -224,7 +224,7 @@ woken-agrees end task a b x y rests is plan h =
       wakes = λ k. elim (cases_eq k task) [
         | inl same ↦
             subst (λ (n : ℕ). AgreesAt end d y (Wake n)) (sym same)
-            (agrees_if_dropped end d x y (Wake task) plan (ring-of end task d (woken rests.progress) there))
+            (agrees_if_dropped end d x y (Wake task) plan (ring-of end task d (progress_woken rests.progress) there))
         | inr other ↦
             agrees_if_kept end a d x y (Wake k)
             (ap (λ (o : Option TaskProgress). option_and_then (λ e. rings_at end e.task_state e.timer) o) (others k other))
@@ -234,8 +234,8 @@ woken-agrees end task a b x y rests is plan h =
       looks = λ q. agrees_if_kept end a d x y (Pull q) refl (λ small. plan.others (1152 + q) (omega arith) (omega arith)) (h.all (Pull q));
       homes = homes;
     } in
-    let whole : Agrees end d y = record { all = with_end end 64 d y rest (ends 64); homes = homes } in
-    subst (λ (z : Accounts). Agrees end z y) (sym is) whole
+    let whole : QueueAgrees end d y = record { all = with_end end 64 d y rest (ends 64); homes = homes } in
+    subst (λ (z : Accounts). QueueAgrees end z y) (sym is) whole
 
 -- what stands in a list stands in a longer one
 in-longer : {A : Type 0} (xs ys : List A) (k : ℕ) (x : A) → slice_get xs k ≡ Some x → slice_get (xs ++ ys) k ≡ Some x
@@ -259,8 +259,8 @@ others-of (z ∷ zs) x (suc k) h = others-of zs x k (λ e. h (omega (arith, e)))
 -- one task more, which sleeps until its timer rings
 pub added-agrees : (end task : ℕ) (c : TaskProgress) (a b : Accounts) (x y : List ℕ)
     → task ≡ length a.by_task → c.task_state ≡ Asleep → b.by_task ≡ a.by_task ++ c ∷ [] → b.by_processor ≡ a.by_processor
-    → IsPlanned end (Wake task) c.timer x y → Agrees end a x
-    → Agrees end b y
+    → IsPlanned end (Wake task) c.timer x y → QueueAgrees end a x
+    → QueueAgrees end b y
 added-agrees end task c a b x y number asleep by_task by_processor plan h =
     let d = both (a.by_task ++ c ∷ []) a.by_processor in
     let is : b ≡ d =
@@ -294,8 +294,8 @@ added-agrees end task c a b x y number asleep by_task by_processor plan h =
       looks = λ q. agrees_if_kept end a d x y (Pull q) refl (λ small. plan.others (1152 + q) (omega arith) (omega arith)) (h.all (Pull q));
       homes = homes;
     } in
-    let whole : Agrees end d y = record { all = with_end end 64 d y rest (ends 64); homes = homes } in
-    subst (λ (z : Accounts). Agrees end z y) (sym is) whole
+    let whole : QueueAgrees end d y = record { all = with_end end 64 d y rest (ends 64); homes = homes } in
+    subst (λ (z : Accounts). QueueAgrees end z y) (sym is) whole
 
 -- accounts of the same tasks' progress and processors are the same
 pub same-accounts : (cs ds : List TaskProgress) (ls ms : List ProcessorState) → cs ≡ ds → ls ≡ ms → both cs ls ≡ both ds ms
@@ -314,12 +314,12 @@ both-ok P Q (Err e) p q = p
 -- a roster whose event queue and periods are as they were, and whose accounts have changed so
 pub resized-agreed : (p : ℕ) (f : ProcessorState → ProcessorState) (r s : Roster)
     → ((l : ProcessorState) → (f l).run ≡ l.run)
-    → ((cs : List TaskProgress) (l : ProcessorState) → ends_at r.periods.end cs (f l) ≡ ends_at r.periods.end cs l)
+    → ((cs : List TaskProgress) (l : ProcessorState) → phase_ends_at r.periods.end cs (f l) ≡ phase_ends_at r.periods.end cs l)
     → ((l : ProcessorState) → (f l).tick ≡ l.tick) → ((l : ProcessorState) → (f l).look ≡ l.look)
     → accounts_of s ≡ of_processor f p (accounts_of r) → s.event_queue ≡ r.event_queue → s.periods ≡ r.periods
     → StaysAgreed r s
 resized-agreed p f r s run ends tick look is event_queue periods h =
-    subst (λ (k : Periods). Agrees k.end (accounts_of s) s.event_queue) (sym periods)
+    subst (λ (k : Periods). QueueAgrees k.end (accounts_of s) s.event_queue) (sym periods)
     (agrees_if_times_same r.periods.end p f (accounts_of r) (accounts_of s) r.event_queue s.event_queue run ends tick
     look is event_queue h)
 
@@ -341,19 +341,19 @@ grown-agreed p count r s is event_queue periods =
 
 -- a roster once the time of a processor is counted
 pub charged-agreed : (p now : ℕ) (processor_state : ProcessorState) (r s : Roster)
-    → slice_get r.by_processor.items p ≡ Some processor_state → accounts_of s ≡ charged p now (accounts_of r)
+    → slice_get r.by_processor.items p ≡ Some processor_state → accounts_of s ≡ accounts_charged p now (accounts_of r)
     → s.event_queue ≡ r.event_queue → s.periods ≡ r.periods → IsAgreed r
     → AgreesBut s.periods.end p (accounts_of s) s.event_queue
 charged-agreed p now processor_state r s at is event_queue periods h =
     let end = r.periods.end in
-    let but : AgreesBut end p (charged p now (accounts_of r)) r.event_queue =
+    let but : AgreesBut end p (accounts_charged p now (accounts_of r)) r.event_queue =
     charged-agrees end p now processor_state (accounts_of r) r.event_queue at h in
     subst (λ (k : Periods). AgreesBut k.end p (accounts_of s) s.event_queue) (sym periods)
     (subst (λ (l : List ℕ). AgreesBut end p (accounts_of s) l) (sym event_queue)
     (subst (λ (a : Accounts). AgreesBut end p a r.event_queue) (sym is) but))
 
 -- places of what is due, and what is due at a place
-place-low : (due : Due) → IsDue due → place_of due < 1216
+place-low : (due : Due) → IsDue due → due_place due < 1216
 place-low (End p) h = omega (arith, h)
 place-low (Wake k) h = omega (arith, h)
 place-low (Tick p) h = omega (arith, h)
@@ -361,7 +361,7 @@ place-low (Pull p) h = omega (arith, h)
 
 -- what is at a place is due, and has that place
 abbrev Stands : ℕ → Due → Type 0
-Stands n due = IsDue due × (place_of due ≡ n)
+Stands n due = IsDue due × (due_place due ≡ n)
 
 stands-by : (n : ℕ) (due : Due) (a b c d : Bool) → nat_lt n 64 ≡ a → nat_lt n 1088 ≡ b → nat_lt n 1152 ≡ c → nat_lt n 1216 ≡ d
     → (if a then Some (End n) else if b then Some (Wake (n - 64)) else if c then Some (Tick (n - 1088))
@@ -387,41 +387,41 @@ stands : (n : ℕ) (due : Due) → due_at n ≡ Some due → Stands n due
 stands n due is = stands-by n due (nat_lt n 64) (nat_lt n 1088) (nat_lt n 1152) (nat_lt n 1216) refl refl refl refl is
 
 -- a number below a place that is never due says when it is due
-number-is : (p time : ℕ) (o : Option ℕ) → p < 1216 → number_of p o ≡ time * 2048 + p → o ≡ Some time
+number-is : (p time : ℕ) (o : Option ℕ) → p < 1216 → due_number p o ≡ time * 2048 + p → o ≡ Some time
 number-is p time None low is = absurd (omega (arith, low, is))
 number-is p time (Some t) low is = ap (λ (n : ℕ). Some n) (let e : t ≡ time = omega (arith, is) in e)
 
 -- what is first in the event queue comes first by the accounts
 pub first-next : (end : ℕ) (a : Accounts) (x : List ℕ) (time place : ℕ) (due : Due)
-    → IsFirst x time place → due_at place ≡ Some due → Agrees end a x → IsNext end a due time
+    → IsFirstDue x time place → due_at place ≡ Some due → QueueAgrees end a x → IsNextDue end a due time
 first-next end a x time place due first at h =
     let stand : Stands place due = stands place due at in
-    let low : place_of due < 1216 = place-low due stand.0 in
-    let taken : at_place x (place_of due) ≡ time * 2048 + place_of due =
+    let low : due_place due < 1216 = place-low due stand.0 in
+    let taken : at_place x (due_place due) ≡ time * 2048 + due_place due =
     subst (λ (n : ℕ). at_place x n ≡ time * 2048 + n) (sym stand.1) first.taken in
-    let bound : (other : Due) → IsDue other → time * 2048 + place_of due ≤ at_place x (place_of other) =
+    let bound : (other : Due) → IsDue other → time * 2048 + due_place due ≤ at_place x (due_place other) =
     λ other there.
-    let few : place_of other < 1216 = place-low other there in
-    subst (λ (n : ℕ). time * 2048 + n ≤ at_place x (place_of other)) (sym stand.1)
-    (first.bound (place_of other) (omega arith)) in
+    let few : due_place other < 1216 = place-low other there in
+    subst (λ (n : ℕ). time * 2048 + n ≤ at_place x (due_place other)) (sym stand.1)
+    (first.bound (due_place other) (omega arith)) in
     let least : (other : Due) (t : ℕ) → comes_at end a other ≡ Some t → IsBefore t other time due → ⊥ =
     λ other t comes before.
     let there : IsDue other = (h.all other).there t comes in
-    let few : place_of other < 1216 = place-low other there in
-    let stood : at_place x (place_of other) ≡ t * 2048 + place_of other = (h.all other).at there ∙ ap (number_of (place_of other)) comes in
-    let more : time * 2048 + place_of due ≤ at_place x (place_of other) = bound other there in
+    let few : due_place other < 1216 = place-low other there in
+    let stood : at_place x (due_place other) ≡ t * 2048 + due_place other = (h.all other).at there ∙ ap (due_number (due_place other)) comes in
+    let more : time * 2048 + due_place due ≤ at_place x (due_place other) = bound other there in
     elim before [ inl early ↦ omega arith | inr same ↦ omega (arith, same.0, same.1) ] in
-    record { comes = number-is (place_of due) time (comes_at end a due) low (sym ((h.all due).at stand.0) ∙ taken); first = least }
+    record { comes = number-is (due_place due) time (comes_at end a due) low (sym ((h.all due).at stand.0) ∙ taken); first = least }
 
 -- where nothing is due in the event queue nothing comes by the accounts
-pub none-next : (end : ℕ) (a : Accounts) (x : List ℕ) → AreNever x → Agrees end a x → NothingComes end a
+pub none-next : (end : ℕ) (a : Accounts) (x : List ℕ) → AreNever x → QueueAgrees end a x → NothingComes end a
 none-next end a x none h due = elim (some_or_none (comes_at end a due)) [
   | inl nothing ↦ nothing
   | inr (t, comes) ↦
       let there : IsDue due = (h.all due).there t comes in
-      let few : place_of due < 1216 = place-low due there in
-      let stood : at_place x (place_of due) ≡ t * 2048 + place_of due = (h.all due).at there ∙ ap (number_of (place_of due)) comes in
-      let at : at_place x (place_of due) ≡ never = none (place_of due) (omega arith) in
+      let few : due_place due < 1216 = place-low due there in
+      let stood : at_place x (due_place due) ≡ t * 2048 + due_place due = (h.all due).at there ∙ ap (due_number (due_place due)) comes in
+      let at : at_place x (due_place due) ≡ never_due = none (due_place due) (omega arith) in
       absurd (omega (arith, few, stood, at))
 ]
 
@@ -458,8 +458,8 @@ beaten-agreed p now next processor_state r m s at is plan by_task by_processor p
     ∙ sym (changed_at-is f r.by_processor.items p processor_state at) in
     let whole : accounts_of s ≡ beaten p now r.periods.tick (accounts_of r) =
     same-accounts _ _ _ _ (ap (λ v. v.items) (by_task' ∙ by_task)) new in
-    subst (λ (k : Periods). Agrees k.end (accounts_of s) s.event_queue) (sym (periods' ∙ periods))
-    (subst (λ (l : List ℕ). Agrees end (accounts_of s) l) (sym event_queue)
+    subst (λ (k : Periods). QueueAgrees k.end (accounts_of s) s.event_queue) (sym (periods' ∙ periods))
+    (subst (λ (l : List ℕ). QueueAgrees end (accounts_of s) l) (sym event_queue)
     (beaten-agrees end p now r.periods.tick (accounts_of r) (accounts_of s) r.event_queue m.event_queue processor_state at whole plan h))
 
 -- a roster whose processor looks next then
@@ -481,8 +481,8 @@ looked-agreed p now next processor_state r m s at is plan by_task by_processor p
     same-accounts _ _ _ _ (ap (λ v. v.items) (by_task' ∙ by_task)) new in
     let put : IsPlanned end (Pull p) (next_multiple r.periods.balance now) r.event_queue m.event_queue =
     subst (λ (n : ℕ). IsPlanned end (Pull p) n r.event_queue m.event_queue) is plan in
-    subst (λ (k : Periods). Agrees k.end (accounts_of s) s.event_queue) (sym (periods' ∙ periods))
-    (subst (λ (l : List ℕ). Agrees end (accounts_of s) l) (sym event_queue)
+    subst (λ (k : Periods). QueueAgrees k.end (accounts_of s) s.event_queue) (sym (periods' ∙ periods))
+    (subst (λ (l : List ℕ). QueueAgrees end (accounts_of s) l) (sym event_queue)
     (looked-agrees end p now r.periods.balance (accounts_of r) (accounts_of s) r.event_queue
     m.event_queue processor_state at whole put h))
 
@@ -512,33 +512,33 @@ look-within count time q low =
 
 -- what does not come at the opening
 quiet : (end count : ℕ) (time : Option ℕ) (a : Accounts) (x : List ℕ) (due : Due)
-    → AreLooks count time x → (IsDue due → place_of due < 1152) → comes_at end a due ≡ None
+    → AreLooks count time x → (IsDue due → due_place due < 1152) → comes_at end a due ≡ None
     → AgreesAt end a x due
 quiet end count time a x due looks low none = record {
   at = λ there.
-      let few : place_of due < 1152 = low there in
-      looks (place_of due) (omega arith) ∙ ap (number_of (place_of due)) (look-past count time (place_of due) few)
-      ∙ ap (number_of (place_of due)) (sym none);
+      let few : due_place due < 1152 = low there in
+      looks (due_place due) (omega arith) ∙ ap (due_number (due_place due)) (look-past count time (due_place due) few)
+      ∙ ap (due_number (due_place due)) (sym none);
   there = λ t some. absurd (none-some t (sym none ∙ some));
 }
 
 -- at the opening, where the event queue has the first looks, it agrees
 pub opening-agrees : (end processors balance : ℕ) (x : List ℕ)
     → processors ≤ 64 → AreLooks (min processors 64) (option_and_then (until end) (first_look processors balance)) x
-    → Agrees end (opening processors balance) x
+    → QueueAgrees end (opening_accounts processors balance) x
 opening-agrees end processors balance x few looks =
-    let processor_state : ProcessorState = at_rest (first_look processors balance) in
+    let processor_state : ProcessorState = processor_at_rest (first_look processors balance) in
     let time = option_and_then (until end) (first_look processors balance) in
     let count = min processors 64 in
     let all : count ≡ processors = omega arith in
-    let a : Accounts = opening processors balance in
+    let a : Accounts = opening_accounts processors balance in
     let look : (q : ℕ) → AgreesAt end a x (Pull q) = λ q. elim (cases_lt q processors) [
       | inl low ↦
           let comes : comes_at end a (Pull q) ≡ time = look-of end q a processor_state (there-replicate processors q processor_state low) in
           record {
             at = λ there.
-                looks (1152 + q) (omega arith) ∙ ap (number_of (1152 + q)) (look-within count time q (omega arith))
-                ∙ ap (number_of (1152 + q)) (sym comes);
+                looks (1152 + q) (omega arith) ∙ ap (due_number (1152 + q)) (look-within count time q (omega arith))
+                ∙ ap (due_number (1152 + q)) (sym comes);
             there = λ t some. omega arith;
           }
       | inr high ↦
@@ -547,8 +547,8 @@ opening-agrees end processors balance x few looks =
           (past-replicate processors q processor_state high) in
           record {
             at = λ there.
-                looks (1152 + q) (omega arith) ∙ ap (number_of (1152 + q)) (look-after count time q (omega arith))
-                ∙ ap (number_of (1152 + q)) (sym comes);
+                looks (1152 + q) (omega arith) ∙ ap (due_number (1152 + q)) (look-after count time q (omega arith))
+                ∙ ap (due_number (1152 + q)) (sym comes);
             there = λ t some. absurd (none-some t (sym comes ∙ some));
           }
     ] in
@@ -557,7 +557,7 @@ opening-agrees end processors balance x few looks =
     let rest : AgreesBut end 64 a x = record {
       ends = λ q other.
           quiet end count time a x (End q) looks (λ there. omega arith)
-          (nothing-read (ends_at end []) processors q processor_state refl);
+          (nothing-read (phase_ends_at end []) processors q processor_state refl);
       wakes = λ k. quiet end count time a x (Wake k) looks (λ there. omega arith) refl;
       ticks = λ q.
           quiet end count time a x (Tick q) looks (λ there. omega arith)
@@ -568,7 +568,7 @@ opening-agrees end processors balance x few looks =
     record {
       all =
           with_end end 64 a x rest (quiet end count time a x (End 64) looks (λ there. omega arith)
-          (nothing-read (ends_at end []) processors 64 processor_state refl));
+          (nothing-read (phase_ends_at end []) processors 64 processor_state refl));
       homes = homes;
     }
 
@@ -587,15 +587,15 @@ added-agreed task start progress r m s number asleep timer by_task by_processor 
     let put : IsPlanned end (Wake task) progress.timer r.event_queue s.event_queue =
     subst (λ (n : ℕ). IsPlanned end (Wake task) n r.event_queue s.event_queue) (sym timer)
     (subst Q event_queue (subst P periods plan)) in
-    subst (λ (k : Periods). Agrees k.end (accounts_of s) s.event_queue) (sym (periods' ∙ periods))
+    subst (λ (k : Periods). QueueAgrees k.end (accounts_of s) s.event_queue) (sym (periods' ∙ periods))
     (added-agrees end task progress (accounts_of r) (accounts_of s) r.event_queue s.event_queue number asleep
     (ap (λ v. v.items) by_task' ∙ by_task) (ap (λ v. v.items) (by_processor' ∙ by_processor)) put h)
 
 -- a roster at its opening
 pub opening-agreed : (processors balance end : ℕ) (r : Roster)
-    → processors ≤ 64 → accounts_of r ≡ opening processors balance → r.periods.end ≡ end
+    → processors ≤ 64 → accounts_of r ≡ opening_accounts processors balance → r.periods.end ≡ end
     → AreLooks (min processors 64) (option_and_then (until end) (first_look processors balance)) r.event_queue
     → IsAgreed r
 opening-agreed processors balance end r few is periods looks =
-    subst (λ (n : ℕ). Agrees n (accounts_of r) r.event_queue) (sym periods)
-    (subst (λ (a : Accounts). Agrees end a r.event_queue) (sym is) (opening-agrees end processors balance r.event_queue few looks))
+    subst (λ (n : ℕ). QueueAgrees n (accounts_of r) r.event_queue) (sym periods)
+    (subst (λ (a : Accounts). QueueAgrees end a r.event_queue) (sym is) (opening-agrees end processors balance r.event_queue few looks))

@@ -12,7 +12,7 @@ use Rattle.bq_workload.specs.declared.due.Due.TheVariants.{End, Wake, Tick, Pull
 use Rattle.bq_workload.specs.declared.processor_state.ProcessorState.{ProcessorState}
 use Rattle.bq_workload.specs.Accounts.{Accounts, is_over, is_past, rests_past, runs_past}
 use Rattle.bq_workload.specs.TaskProgress.{keeps_phase, keeps_time, lacks_more, rings_past, sleeps_past}
-use Rattle.bq_workload.specs.Dues.{end_of, until}
+use Rattle.bq_workload.specs.Dues.{phase_end, until}
 use Rattle.bq_workload.specs.Next.{HasHome, HaveHomes, NothingComes, rings_at}
 use Rattle.bq_workload.proofs.AgreeLemmas.{some_or_none}
 use Rattle.bq_workload.proofs.AgreedLemmas.{end-of, look-of, tick-of}
@@ -74,8 +74,8 @@ runs-of end k a l low homes none keeps at =
           let home : HasHome a task k = homes k task l at runs in
           let c = home.progress in
           let kept : c.got ≤ c.due = leb-true c.got c.due (keeps task c home.there) in
-          let late : end < end_of l.since c =
-          until-past end (end_of l.since c) low (sym (end-of end k task a l c at runs home.there) ∙ none (End k)) in
+          let late : end < phase_end l.since c =
+          until-past end (phase_end l.since c) low (sym (end-of end k task a l c at runs home.there) ∙ none (End k)) in
           ap past runs ∙ ap (λ (o : Option TaskProgress). option_map_or (lacks_more l.since end) o false) home.there
           ∙ lt-ltb (end + c.got) (l.since + c.due) (omega (arith, kept, late))
     ]

@@ -3,7 +3,7 @@ use Rattle.std.proofs.Common.{◌≡◌, ◌≢◌, ℕ, zero, suc, ◌+◌, ◌
 use Rattle.std.proofs.lemmas.Grind.{get_or_default_zero, get_or-set_at}
 use Rattle.std.proofs.lemmas.List.{get_or-replicate, get_or-set_other}
 use Rattle.std.proofs.lemmas.Bool.{cases_lt, cases_eq}
-use Rattle.bq_workload.specs.Minima.{IsLess, HasMinima, HasOtherMinima, HasPlaces, HasSpareLeaves, IsFirst, AreNever, never}
+use Rattle.bq_workload.specs.Minima.{IsLess, HasMinima, HasOtherMinima, AreLeavesPlaced, HasSpareLeaves, IsFirstDue, AreNever, never_due}
 
 -- a number is one of the two below its half
 pub below-half : (k : ℕ) → (k ≡ 2 * (k / 2)) ⊎ (k ≡ 2 * (k / 2) + 1)
@@ -55,30 +55,30 @@ leaf-of (suc n) k xs m h low high =
     ]
 
 -- where all numbers are never due each of them is
-pub all-never : (xs : List ℕ) → xs ≡ replicate 4096 never → (k : ℕ) → k < 4096 → get_or xs k 0 ≡ never
-all-never xs is k h = rw is (get_or-replicate 4096 k never 0 h)
+pub all-never : (xs : List ℕ) → xs ≡ replicate 4096 never_due → (k : ℕ) → k < 4096 → get_or xs k 0 ≡ never_due
+all-never xs is k h = rw is (get_or-replicate 4096 k never_due 0 h)
 
 -- where all numbers are never due each is less than or equal to the two below it
-pub never-minima : (xs : List ℕ) → xs ≡ replicate 4096 never → HasMinima xs
+pub never-minima : (xs : List ℕ) → xs ≡ replicate 4096 never_due → HasMinima xs
 never-minima xs is k low high =
-    let here : get_or xs k 0 ≡ never = all-never xs is k (omega arith) in
-    let left : get_or xs (2 * k) 0 ≡ never = all-never xs is (2 * k) (omega arith) in
-    let right : get_or xs (2 * k + 1) 0 ≡ never = all-never xs is (2 * k + 1) (omega arith) in
+    let here : get_or xs k 0 ≡ never_due = all-never xs is k (omega arith) in
+    let left : get_or xs (2 * k) 0 ≡ never_due = all-never xs is (2 * k) (omega arith) in
+    let right : get_or xs (2 * k + 1) 0 ≡ never_due = all-never xs is (2 * k + 1) (omega arith) in
     omega (arith, here, left, right)
 
 -- where all numbers are never due no place is due
-pub never-places : (xs : List ℕ) → xs ≡ replicate 4096 never → AreNever xs
+pub never-places : (xs : List ℕ) → xs ≡ replicate 4096 never_due → AreNever xs
 never-places xs is place h = all-never xs is (2048 + place) (omega arith)
 
 -- where the root is never due no place is
-pub nothing-due : (xs : List ℕ) → HasMinima xs → HasPlaces xs → get_or xs 1 0 ≡ never → AreNever xs
+pub nothing-due : (xs : List ℕ) → HasMinima xs → AreLeavesPlaced xs → get_or xs 1 0 ≡ never_due → AreNever xs
 nothing-due xs m places root place h =
     let up : get_or xs 1 0 ≤ get_or xs (2048 + place) 0 = root-bounds 4096 (2048 + place) xs m (omega arith) (omega arith) (omega arith) in
     elim (places place h) [ inl none ↦ none | inr (stand, small) ↦ absurd (omega (arith, up, root, small)) ]
 
 -- where the root is due, it has the time and the place of what is due first
-pub first-due : (xs : List ℕ) → HasMinima xs → HasPlaces xs → get_or xs 1 0 ≢ never
-    → IsFirst xs (get_or xs 1 0 / 2048) (get_or xs 1 0 % 2048)
+pub first-due : (xs : List ℕ) → HasMinima xs → AreLeavesPlaced xs → get_or xs 1 0 ≢ never_due
+    → IsFirstDue xs (get_or xs 1 0 / 2048) (get_or xs 1 0 % 2048)
 first-due xs m places due =
     let leaf : (place : ℕ) × (place < 2048) × (get_or xs (2048 + place) 0 ≡ get_or xs 1 0) =
     leaf-of 4096 1 xs m (omega arith) (omega arith) (omega arith) in
@@ -99,8 +99,8 @@ first-due xs m places due =
     }
 
 -- what is due first has a place, and no spare leaf
-pub first-place : (xs : List ℕ) (time place : ℕ) → HasPlaces xs → HasSpareLeaves xs → time * 2048 + place ≢ never
-    → IsFirst xs time place
+pub first-place : (xs : List ℕ) (time place : ℕ) → AreLeavesPlaced xs → HasSpareLeaves xs → time * 2048 + place ≢ never_due
+    → IsFirstDue xs time place
     → place < 1216
 first-place xs time place places spare due first = elim (cases_lt place 1216) [
   | inl low ↦ low

@@ -19,16 +19,16 @@ abbrev pub accounts_of : Roster → Accounts
 accounts_of r = record { by_task = r.by_task.items; by_processor = r.by_processor.items }
 
 -- a processor that runs nothing and does not tick; it looks for a task to pull at this instant, if it looks at all
-abbrev pub at_rest : Option ℕ → ProcessorState
-at_rest look = record { run = None; since = 0; size = 0; tick = None; look = look }
+abbrev pub processor_at_rest : Option ℕ → ProcessorState
+processor_at_rest look = record { run = None; since = 0; size = 0; tick = None; look = look }
 
 -- when each of this many processors looks first, by the time between two looks; a single one never looks
 abbrev pub first_look : ℕ → ℕ → Option ℕ
 first_look processors balance = if nat_lt processors 2 then None else Some (next_multiple balance 0)
 
 -- no task is there, and this many processors run nothing
-abbrev pub opening : ℕ → ℕ → Accounts
-opening processors balance = record { by_task = []; by_processor = replicate processors (at_rest (first_look processors balance)) }
+abbrev pub opening_accounts : ℕ → ℕ → Accounts
+opening_accounts processors balance = record { by_task = []; by_processor = replicate processors (processor_at_rest (first_look processors balance)) }
 
 -- what is at a place is changed
 abbrev pub changed_at : {A : Type 0} → (A → A) → List A → ℕ → List A
@@ -43,17 +43,17 @@ abbrev pub of_processor : (ProcessorState → ProcessorState) → ℕ → Accoun
 of_processor f processor a = record a { by_processor = changed_at f a.by_processor processor }
 
 -- the task that runs there, if one does, has run since its time was counted last
-abbrev pub charged_by : ProcessorState → ℕ → Accounts → Accounts
-charged_by processor_state now a = option_map_or (λ task. of_task (run_for (now - processor_state.since)) task a) processor_state.run a
+abbrev pub runner_charged : ProcessorState → ℕ → Accounts → Accounts
+runner_charged processor_state now a = option_map_or (λ task. of_task (run_for (now - processor_state.since)) task a) processor_state.run a
 
 -- the time of the task that runs at a processor, if one does, is counted up to now
-abbrev pub charged : ℕ → ℕ → Accounts → Accounts
-charged processor now a =
-    option_map_or (λ (processor_state : ProcessorState). of_processor (λ l. record l { since = now }) processor (charged_by processor_state now a))
+abbrev pub accounts_charged : ℕ → ℕ → Accounts → Accounts
+accounts_charged processor now a =
+    option_map_or (λ (processor_state : ProcessorState). of_processor (λ l. record l { since = now }) processor (runner_charged processor_state now a))
     (slice_get a.by_processor processor) a
 
 -- the task runs at this processor, and has got exactly what its phase takes
-pub record IsDone (a : Accounts) (processor task : ℕ) (c : TaskProgress) : Type 0 where
+pub record IsPhaseDone (a : Accounts) (processor task : ℕ) (c : TaskProgress) : Type 0 where
   pub processor_state : ProcessorState
   pub at : slice_get a.by_processor processor ≡ Some processor_state
   pub runs : processor_state.run ≡ Some task
@@ -80,9 +80,9 @@ is_same (Some m) (Some n) = m == n
 is_same m n = false
 
 -- this task runs at a processor from now on, or none; if another ran there before, its time is counted first
-abbrev pub switched : ℕ → Option ℕ → ℕ → Periods → Accounts → Accounts
-switched processor run now periods a =
-    option_map_or (λ (processor_state : ProcessorState). if is_same processor_state.run run then a else taken_over processor run now periods (charged processor now a))
+abbrev pub accounts_switched : ℕ → Option ℕ → ℕ → Periods → Accounts → Accounts
+accounts_switched processor run now periods a =
+    option_map_or (λ (processor_state : ProcessorState). if is_same processor_state.run run then a else taken_over processor run now periods (accounts_charged processor now a))
     (slice_get a.by_processor processor) a
 
 -- a processor has one task less
@@ -95,15 +95,15 @@ grown processor count a = of_processor (λ l. record l { size = l.size + count }
 
 -- the task that ran has gone from the queue, and another runs, or none
 abbrev pub left_by : ℕ → Option ℕ → ℕ → Periods → Accounts → Accounts
-left_by processor run now periods a = switched processor run now periods (shrunk processor a)
+left_by processor run now periods a = accounts_switched processor run now periods (shrunk processor a)
 
 -- this many tasks have entered a queue
-abbrev pub entered_by : ℕ → ℕ → Option ℕ → ℕ → Periods → Accounts → Accounts
-entered_by processor count run now periods a = switched processor run now periods (grown processor count a)
+abbrev pub accounts_entered : ℕ → ℕ → Option ℕ → ℕ → Periods → Accounts → Accounts
+accounts_entered processor count run now periods a = accounts_switched processor run now periods (grown processor count a)
 
 -- a task has gone from one queue to another
-abbrev pub passed : ℕ → ℕ → Accounts → Accounts
-passed from to a = grown to 1 (shrunk from a)
+abbrev pub accounts_passed : ℕ → ℕ → Accounts → Accounts
+accounts_passed from to a = grown to 1 (shrunk from a)
 
 -- a processor ticks next at this instant
 pub record TicksAt (a : Accounts) (processor now : ℕ) : Type 0 where

@@ -5,11 +5,11 @@ use Rattle.bq_workload.specs.declared.action.Action.TheVariants.{Wake}
 use Rattle.bq_workload.specs.declared.workload.TaskKind.{TaskKind}
 use Rattle.bq_workload.specs.declared.workload.Workload.{Workload}
 use Rattle.bq_words.specs.Sizes.{processors_in}
-use Rattle.bq_workload.specs.Kinds.{count_of, tasks_in}
+use Rattle.bq_workload.specs.Kinds.{kind_count, tasks_in}
 
 -- the steps of one action: a wake takes a step for each task that it comes to
 abbrev pub steps_for : List TaskKind → Action → ℕ
-steps_for kinds (Wake kind) = count_of kinds kind
+steps_for kinds (Wake kind) = kind_count kinds kind
 steps_for kinds action = 1
 
 -- the steps of one round of a task's actions, and one step for the task's end

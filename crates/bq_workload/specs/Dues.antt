@@ -6,7 +6,7 @@ use Rattle.bq_workload.specs.declared.progress.TaskProgress.{TaskProgress}
 use Rattle.bq_workload.specs.declared.due.Due.{Due}
 use Rattle.bq_workload.specs.declared.due.Due.TheVariants.{End, Wake, Tick, Pull}
 use Rattle.bq_workload.specs.declared.processor_state.ProcessorState.{ProcessorState}
-use Rattle.bq_workload.specs.Minima.{at_place, never, number_of, ChangesOnly}
+use Rattle.bq_workload.specs.Minima.{at_place, never_due, due_number, ChangesOnly}
 
 -- processors have numbers below 64, and tasks below 1024
 abbrev pub IsDue : Due → Type 0
@@ -16,11 +16,11 @@ IsDue (Tick processor) = processor < PROCESSORS
 IsDue (Pull processor) = processor < PROCESSORS
 
 -- the place of a thing in the order of one instant: phase ends first, then wakes, ticks and looks
-abbrev pub place_of : Due → ℕ
-place_of (End processor) = processor
-place_of (Wake task) = 64 + task
-place_of (Tick processor) = 1088 + processor
-place_of (Pull processor) = 1152 + processor
+abbrev pub due_place : Due → ℕ
+due_place (End processor) = processor
+due_place (Wake task) = 64 + task
+due_place (Tick processor) = 1088 + processor
+due_place (Pull processor) = 1152 + processor
 
 -- the thing at a place, if the place is below 1216
 abbrev pub due_at : ℕ → Option Due
@@ -42,26 +42,26 @@ until end time = if nat_le time end && nat_lt time (2 ^ 48) then Some time else 
 -- this thing is due at a time, or never if that is after the end; nothing else changes in the event queue
 pub record IsPlanned (end : ℕ) (due : Due) (time : ℕ) (old new : List ℕ) : Type 0 where
   pub there : IsDue due
-  pub at : at_place new (place_of due) ≡ number_of (place_of due) (until end time)
-  pub others : ChangesOnly (place_of due) old new
+  pub at : at_place new (due_place due) ≡ due_number (due_place due) (until end time)
+  pub others : ChangesOnly (due_place due) old new
 
 -- this thing is never due; nothing else changes in the event queue
 pub record IsDropped (due : Due) (old new : List ℕ) : Type 0 where
   pub there : IsDue due
-  pub at : at_place new (place_of due) ≡ never
-  pub others : ChangesOnly (place_of due) old new
+  pub at : at_place new (due_place due) ≡ never_due
+  pub others : ChangesOnly (due_place due) old new
 
 -- when the thing at a place comes due, if each of this many processors looks at this time and nothing else comes
 abbrev pub look_of : ℕ → Option ℕ → ℕ → Option ℕ
-look_of processors time place = if nat_le (place_of (Pull 0)) place && nat_lt place (place_of (Pull processors)) then time else None
+look_of processors time place = if nat_le (due_place (Pull 0)) place && nat_lt place (due_place (Pull processors)) then time else None
 
 -- each of this many processors looks for a task then, if ever, and nothing else comes due
 abbrev pub AreLooks : ℕ → Option ℕ → List ℕ → Type 0
-AreLooks processors time event_queue = (place : ℕ) → place < 2048 → at_place event_queue place ≡ number_of place (look_of processors time place)
+AreLooks processors time event_queue = (place : ℕ) → place < 2048 → at_place event_queue place ≡ due_number place (look_of processors time place)
 
 -- when a task that runs from now on has got what its phase takes, as far as 64 bits count
-abbrev pub end_of : ℕ → TaskProgress → ℕ
-end_of now c = min (now + (c.due - c.got)) (2 ^ 64 - 1)
+abbrev pub phase_end : ℕ → TaskProgress → ℕ
+phase_end now c = min (now + (c.due - c.got)) (2 ^ 64 - 1)
 
 -- how many tasks a processor has; 0 if there is no such processor
 abbrev pub size_at : List ProcessorState → ℕ → ℕ

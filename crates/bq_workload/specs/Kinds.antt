@@ -4,8 +4,8 @@ use Rattle.std.specs.Option.{option_map_or}
 use Rattle.bq_workload.specs.declared.workload.TaskKind.{TaskKind}
 
 -- how many tasks the kind of this number has; 0 if there is no such kind
-abbrev pub count_of : List TaskKind → ℕ → ℕ
-count_of kinds number = option_map_or (λ (kind : TaskKind). kind.count) (slice_get kinds number) 0
+abbrev pub kind_count : List TaskKind → ℕ → ℕ
+kind_count kinds number = option_map_or (λ (kind : TaskKind). kind.count) (slice_get kinds number) 0
 
 -- how many tasks all of these kinds have
 abbrev pub tasks_in : List TaskKind → ℕ

@@ -9,12 +9,12 @@ use Rattle.bq_workload.specs.declared.due.Due.TheVariants.{End, Wake, Tick, Pull
 use Rattle.bq_workload.specs.declared.processor_state.ProcessorState.{ProcessorState}
 use Rattle.bq_workload.specs.declared.roster.Roster.{Roster}
 use Rattle.bq_workload.specs.Accounts.{Accounts, accounts_of, is_same}
-use Rattle.bq_workload.specs.Dues.{IsDue, end_of, place_of, until}
-use Rattle.bq_workload.specs.Minima.{at_place, number_of}
+use Rattle.bq_workload.specs.Dues.{IsDue, phase_end, due_place, until}
+use Rattle.bq_workload.specs.Minima.{at_place, due_number}
 
 -- when a phase ends: when the task that runs there, if one does, has got what is left of it
-abbrev pub ends_at : ℕ → List TaskProgress → ProcessorState → Option ℕ
-ends_at end by_task processor_state = option_and_then (λ task. option_and_then (λ c. until end (end_of processor_state.since c)) (slice_get by_task task)) processor_state.run
+abbrev pub phase_ends_at : ℕ → List TaskProgress → ProcessorState → Option ℕ
+phase_ends_at end by_task processor_state = option_and_then (λ task. option_and_then (λ c. until end (phase_end processor_state.since c)) (slice_get by_task task)) processor_state.run
 
 -- when the timer of a task rings: only if the task sleeps until its timer wakes it
 abbrev pub rings_at : ℕ → TaskState → ℕ → Option ℕ
@@ -23,17 +23,17 @@ rings_at end task_state timer = None
 
 -- when this comes by the accounts, if it does until the end
 abbrev pub comes_at : ℕ → Accounts → Due → Option ℕ
-comes_at end a (End processor) = option_and_then (ends_at end a.by_task) (slice_get a.by_processor processor)
+comes_at end a (End processor) = option_and_then (phase_ends_at end a.by_task) (slice_get a.by_processor processor)
 comes_at end a (Wake task) = option_and_then (λ c. rings_at end c.task_state c.timer) (slice_get a.by_task task)
 comes_at end a (Tick processor) = option_and_then (λ processor_state. option_and_then (until end) processor_state.tick) (slice_get a.by_processor processor)
 comes_at end a (Pull processor) = option_and_then (λ processor_state. option_and_then (until end) processor_state.look) (slice_get a.by_processor processor)
 
 -- one thing is before another: it comes earlier, or at one instant with it and at a lesser place
 abbrev pub IsBefore : ℕ → Due → ℕ → Due → Type 0
-IsBefore time due later other = (time < later) ⊎ ((time ≡ later) × (place_of due < place_of other))
+IsBefore time due later other = (time < later) ⊎ ((time ≡ later) × (due_place due < due_place other))
 
 -- by the accounts this thing comes at this time, and nothing else that comes until the end is before it
-pub record IsNext (end : ℕ) (a : Accounts) (due : Due) (time : ℕ) : Type 0 where
+pub record IsNextDue (end : ℕ) (a : Accounts) (due : Due) (time : ℕ) : Type 0 where
   pub comes : comes_at end a due ≡ Some time
   pub first : (other : Due) (t : ℕ) → comes_at end a other ≡ Some t → IsBefore t other time due → ⊥
 
@@ -43,7 +43,7 @@ NothingComes end a = (due : Due) → comes_at end a due ≡ None
 
 -- an event queue says of this thing when it comes by the accounts; and a thing that comes may be due
 pub record AgreesAt (end : ℕ) (a : Accounts) (event_queue : List ℕ) (due : Due) : Type 0 where
-  pub at : IsDue due → at_place event_queue (place_of due) ≡ number_of (place_of due) (comes_at end a due)
+  pub at : IsDue due → at_place event_queue (due_place due) ≡ due_number (due_place due) (comes_at end a due)
   pub there : (time : ℕ) → comes_at end a due ≡ Some time → IsDue due
 
 -- a task that runs at a processor ran there last
@@ -59,13 +59,13 @@ HaveHomes a =
     processor_state.run ≡ Some task → HasHome a task processor
 
 -- an event queue says of each thing when it comes by the accounts, in which no task runs at two processors
-pub record Agrees (end : ℕ) (a : Accounts) (event_queue : List ℕ) : Type 0 where
+pub record QueueAgrees (end : ℕ) (a : Accounts) (event_queue : List ℕ) : Type 0 where
   pub all : (due : Due) → AgreesAt end a event_queue due
   pub homes : HaveHomes a
 
 -- the event queue of a roster agrees with its accounts
 abbrev pub IsAgreed : Roster → Type 0
-IsAgreed r = Agrees r.periods.end (accounts_of r) r.event_queue
+IsAgreed r = QueueAgrees r.periods.end (accounts_of r) r.event_queue
 
 -- if the old roster agrees with its accounts, the new one agrees with its own
 abbrev pub StaysAgreed : Roster → Roster → Type 0
@@ -76,7 +76,7 @@ abbrev pub runs_at : List ProcessorState → ℕ → ℕ → Bool
 runs_at by_processor processor task = option_map_or (λ (processor_state : ProcessorState). is_same processor_state.run (Some task)) (slice_get by_processor processor) false
 
 -- a task does not run at the processor where it ran last
-pub record Rests (a : Accounts) (task : ℕ) : Type 0 where
+pub record TaskRests (a : Accounts) (task : ℕ) : Type 0 where
   pub progress : TaskProgress
   pub there : slice_get a.by_task task ≡ Some progress
   pub still : runs_at a.by_processor progress.home task ≡ false

@@ -8,7 +8,7 @@ use Rattle.bq_workload.specs.declared.processor_state.ProcessorState.{ProcessorS
 use Rattle.bq_workload.specs.declared.roster.Periods.{Periods}
 use Rattle.bq_workload.specs.declared.roster.Roster.{Roster}
 use Rattle.bq_workload.specs.Accounts.{Accounts, is_same}
-use Rattle.bq_workload.specs.Dues.{IsDropped, IsPlanned, end_of, next_multiple}
+use Rattle.bq_workload.specs.Dues.{IsDropped, IsPlanned, phase_end, next_multiple}
 
 -- a processor that has no tick ticks next at the next multiple of the time between two; with one it keeps that
 abbrev pub PlansTick : Periods → ℕ → ℕ → Option ℕ → List ℕ → List ℕ → Type 0
@@ -19,7 +19,7 @@ PlansTick periods processor now (Some time) old new = new ≡ old
 pub record PlansTask (periods : Periods) (processor now : ℕ) (tick : Option ℕ) (c : TaskProgress) (old new : List ℕ) : Type 0 where
   pub mid : List ℕ
   pub ticks : PlansTick periods processor now tick old mid
-  pub ends : IsPlanned periods.end (End processor) (end_of now c) mid new
+  pub ends : IsPlanned periods.end (End processor) (phase_end now c) mid new
 
 -- a processor that looks for tasks looks at once
 abbrev pub PlansLook : Periods → ℕ → ℕ → Option ℕ → List ℕ → List ℕ → Type 0
@@ -72,7 +72,7 @@ pub record PlansProgress (end processor task : ℕ) (processor_state : Processor
   pub runs : processor_state.run ≡ Some task
   pub home : c.home ≡ processor
   pub timer : PlansTimer end task c.task_state c.timer old mid
-  pub ends : IsPlanned end (End processor) (end_of processor_state.since c) mid new
+  pub ends : IsPlanned end (End processor) (phase_end processor_state.since c) mid new
 
 -- the plans of a roster in which the task that runs at a processor has this progress
 abbrev pub ProgressIsPlanned : ℕ → ℕ → TaskProgress → Roster → Roster → Type 0

@@ -4,9 +4,9 @@ use Rattle.bq_disc.specs.declared.limits.TheConstants.{PROCESSORS, TASKS}
 use Rattle.bq_workload.specs.declared.processor_state.ProcessorState.{ProcessorState}
 use Rattle.bq_workload.specs.declared.progress.TaskProgress.{TaskProgress}
 use Rattle.bq_workload.specs.declared.roster.Periods.{Periods}
-use Rattle.bq_workload.specs.Accounts.{Accounts, IsDone, LooksAt, TicksAt, charged, grown, is_same, shrunk}
+use Rattle.bq_workload.specs.Accounts.{Accounts, IsPhaseDone, LooksAt, TicksAt, accounts_charged, grown, is_same, shrunk}
 use Rattle.bq_workload.specs.Dues.{next_multiple, size_at}
-use Rattle.bq_workload.specs.Next.{Rests, runs_at}
+use Rattle.bq_workload.specs.Next.{TaskRests, runs_at}
 
 -- a number names no processor, or none at which anything may come due
 abbrev pub IsStrayProcessor : ℕ → Accounts → Type 0
@@ -52,7 +52,7 @@ pub record HasOverrun (task : ℕ) (a : Accounts) : Type 0 where
 
 -- a task does not begin to run at a processor: it does not rest, or has run past its phase, or the processor has no next tick
 abbrev pub IsStrayStart : Periods → ℕ → ℕ → ℕ → Accounts → Type 0
-IsStrayStart periods processor task now a = (Rests a task → ⊥) ⊎ HasOverrun task a ⊎ HasNoNext periods.tick now ⊎ IsStrayProcessor processor a
+IsStrayStart periods processor task now a = (TaskRests a task → ⊥) ⊎ HasOverrun task a ⊎ HasNoNext periods.tick now ⊎ IsStrayProcessor processor a
 
 -- the named task does not begin to run at a processor; or without a task, there is no such processor to fall idle
 abbrev pub IsStrayTakeover : Periods → ℕ → Option ℕ → ℕ → Accounts → Type 0
@@ -64,7 +64,7 @@ pub record SwitchesAstray (periods : Periods) (processor : ℕ) (run : Option �
   pub processor_state : ProcessorState
   pub at : slice_get a.by_processor processor ≡ Some processor_state
   pub other : is_same processor_state.run run ≡ false
-  pub astray : IsStrayCharge processor now a ⊎ IsStrayTakeover periods processor run now (charged processor now a)
+  pub astray : IsStrayCharge processor now a ⊎ IsStrayTakeover periods processor run now (accounts_charged processor now a)
 
 -- a switch fails: there is no such processor, or it fails on the way
 abbrev pub IsStraySwitch : Periods → ℕ → Option ℕ → ℕ → Accounts → Type 0
@@ -96,7 +96,7 @@ IsStrayLook processor now balance a = (LooksAt a processor now → ⊥) ⊎ (PRO
 
 -- a task to be woken does not rest, or no timer may wake it
 abbrev pub IsStrayWake : ℕ → Accounts → Type 0
-IsStrayWake task a = (Rests a task → ⊥) ⊎ (TASKS ≤ task)
+IsStrayWake task a = (TaskRests a task → ⊥) ⊎ (TASKS ≤ task)
 
 -- a task with this progress does not run at a processor, did not run there last, or has run past its phase
 abbrev pub IsStrayProgress : ℕ → ℕ → TaskProgress → Accounts → Type 0
@@ -104,8 +104,8 @@ IsStrayProgress processor task c a = (runs_at a.by_processor processor task ≡ 
 
 -- no task runs at this processor that has got exactly what its phase takes
 abbrev pub NoneIsDone : ℕ → Accounts → Type 0
-NoneIsDone processor a = (task : ℕ) (c : TaskProgress) → IsDone a processor task c → ⊥
+NoneIsDone processor a = (task : ℕ) (c : TaskProgress) → IsPhaseDone a processor task c → ⊥
 
 -- no phase ends at this processor now
 abbrev pub IsStrayEnd : ℕ → ℕ → Accounts → Type 0
-IsStrayEnd processor now a = IsStrayCharge processor now a ⊎ NoneIsDone processor (charged processor now a)
+IsStrayEnd processor now a = IsStrayCharge processor now a ⊎ NoneIsDone processor (accounts_charged processor now a)

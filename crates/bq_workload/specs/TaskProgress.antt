@@ -5,8 +5,8 @@ use Rattle.bq_workload.specs.declared.progress.TaskState.{TaskState}
 use Rattle.bq_workload.specs.declared.progress.TaskState.TheVariants.{Asleep, Runnable}
 
 -- a task that has done nothing, and sleeps until its timer wakes it first
-abbrev pub fresh : ℕ → ℕ → ℕ → TaskProgress
-fresh kind home start = record { kind = kind; action = 0; woken = 0; loops = 0; task_state = Asleep; timer = start; due = 0; got = 0; home = home; has_run = false }
+abbrev pub fresh_task : ℕ → ℕ → ℕ → TaskProgress
+fresh_task kind home start = record { kind = kind; action = 0; woken = 0; loops = 0; task_state = Asleep; timer = start; due = 0; got = 0; home = home; has_run = false }
 
 -- a task has done one of this many actions, and comes to the next; after the last it comes to the first again, and its rounds
 -- are counted as far as 64 bits count
@@ -15,8 +15,8 @@ advanced actions c =
     if nat_le actions (c.action + 1) then record c { action = 0; woken = 0; loops = min (c.loops + 1) 18446744073709551615 } else record c { action = c.action + 1; woken = 0 }
 
 -- a phase of this length begins
-abbrev pub begun : ℕ → TaskProgress → TaskProgress
-begun length c = record c { due = length; got = 0 }
+abbrev pub phase_begun : ℕ → TaskProgress → TaskProgress
+phase_begun length c = record c { due = length; got = 0 }
 
 -- a task has run for this long; a task that stops running keeps the rest of its phase
 abbrev pub run_for : ℕ → TaskProgress → TaskProgress
@@ -35,8 +35,8 @@ abbrev pub moved_to : ℕ → ℕ → TaskProgress → TaskProgress
 moved_to processor cost c = record c { due = (if migrates_to processor c && nat_le c.got c.due then lengthened cost c.due else c.due); home = processor; has_run = true }
 
 -- a task is woken, and has no phase yet
-abbrev pub woken : TaskProgress → TaskProgress
-woken c = record c { task_state = Runnable; due = 0; got = 0 }
+abbrev pub progress_woken : TaskProgress → TaskProgress
+progress_woken c = record c { task_state = Runnable; due = 0; got = 0 }
 
 -- a task has got exactly what its phase takes
 abbrev pub is_done : TaskProgress → Bool

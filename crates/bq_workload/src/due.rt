@@ -1,6 +1,6 @@
 //! The kinds of things that come due.
 ghost use Rattle.std.specs.Prelude.{◌≡◌, ◌<◌, Some};
-ghost use Rattle.bq_workload.specs.Dues.{IsDue, place_of, due_at};
+ghost use Rattle.bq_workload.specs.Dues.{IsDue, due_place, due_at};
 
 use bq_disc::limits::{PROCESSORS, TASKS};
 
@@ -31,7 +31,7 @@ impl Due {
     /// Its place in the order of one instant, below 1,216.
     pub fn place(self) -> u16
         requires { IsDue self }
-        ensures place { result ≡ place_of self }
+        ensures place { result ≡ due_place self }
         ensures few { result < 1216 }
         ensures back { due_at result ≡ Some self }
     {

@@ -1,6 +1,6 @@
 //! When each thing is due.
 ghost use Rattle.std.specs.Prelude.{◌≡◌, ℕ, ◌+◌, ◌/◌, ◌<◌, ◌≤◌, ◌^◌, length, IfOk, IfSome, IfNone, slice_index};
-ghost use Rattle.bq_workload.specs.Minima.{number_of, at_place, AreNever, ChangesOnly, IsFirst, HasMinima, HasOtherMinima};
+ghost use Rattle.bq_workload.specs.Minima.{due_number, at_place, AreNever, ChangesOnly, IsFirstDue, HasMinima, HasOtherMinima};
 
 use std::alloc::{AllocError, Global};
 use std::marker::Model;
@@ -12,7 +12,7 @@ const LEAVES: usize = 2048;
 const NEVER: u64 = u64::MAX;
 
 /// The time at which the thing at each of 1,216 places is due, if it is. Contracts see one number for each place: the time and
-/// the place together, or `never`.
+/// the place together, or `never_due`.
 ///
 /// The numbers are the leaves of a tree, in which each node has the less of the two below it. So the root has the first. The
 /// leaves after the places are never due.
@@ -23,13 +23,13 @@ pub struct EventQueue {
 
 impl Model for EventQueue {
     ghost use Rattle.std.specs.Prelude.{◌≡◌, List, ℕ, length};
-    ghost use Rattle.bq_workload.specs.Minima.{HasMinima, HasPlaces, HasSpareLeaves};
+    ghost use Rattle.bq_workload.specs.Minima.{HasMinima, AreLeavesPlaced, HasSpareLeaves};
 
     ghost Value = { List ℕ };
 
     ghost view = { λ a. a.numbers.items };
 
-    ghost invariant = { λ a. (length a.numbers.items ≡ 4096) × HasMinima a.numbers.items × HasPlaces a.numbers.items × HasSpareLeaves a.numbers.items };
+    ghost invariant = { λ a. (length a.numbers.items ≡ 4096) × HasMinima a.numbers.items × AreLeavesPlaced a.numbers.items × HasSpareLeaves a.numbers.items };
 }
 
 impl EventQueue {
@@ -46,7 +46,7 @@ impl EventQueue {
     pub fn set(&mut self, place: u16, time: Option<u64>)
         requires place { place < 1216 }
         requires time { IfSome time (λ t. t < 2 ^ 48) }
-        ensures due { at_place self.new place ≡ number_of place time }
+        ensures due { at_place self.new place ≡ due_number place time }
         ensures others { ChangesOnly place self.old self.new }
     {
         let leaf = LEAVES + usize::from(place);
@@ -61,7 +61,7 @@ impl EventQueue {
     /// Answers the time at which something is due first, and its place: the least place if several are due then.
     pub fn first(&self) -> Option<(u64, u16)>
         ensures none { IfNone result (AreNever self.now) }
-        ensures first { IfSome result (λ due. IsFirst self.now due.0 due.1) }
+        ensures first { IfSome result (λ due. IsFirstDue self.now due.0 due.1) }
         ensures place { IfSome result (λ due. due.1 < 1216) }
     {
         let number = self.numbers[1];
@@ -72,11 +72,11 @@ impl EventQueue {
     }
 }
 
-/// The number that orders a place in the tree, by its time; `never` without one.
+/// The number that orders a place in the tree, by its time; `never_due` without one.
 fn number_of(place: u16, time: Option<u64>) -> u64
     requires place { place < 2048 }
     requires time { IfSome time (λ t. t < 2 ^ 48) }
-    ensures { result ≡ number_of place time }
+    ensures { result ≡ due_number place time }
 {
     match time {
         None => NEVER,

@@ -1,6 +1,6 @@
 //! A processor as a simulation keeps it.
 ghost use Rattle.std.specs.Prelude.{◌≡◌};
-ghost use Rattle.bq_workload.specs.Accounts.{at_rest, is_past, rests_past};
+ghost use Rattle.bq_workload.specs.Accounts.{processor_at_rest, is_past, rests_past};
 
 /// What a simulation knows of a processor: what runs there and since when, how many tasks it has, when it ticks and when it looks
 /// for a task next.
@@ -21,7 +21,7 @@ pub struct ProcessorState {
 impl ProcessorState {
     /// A processor that runs nothing, and looks next for a task to pull at this instant, if it looks at all.
     pub fn new(look: Option<u64>) -> ProcessorState
-        ensures { result ≡ at_rest look }
+        ensures { result ≡ processor_at_rest look }
     {
         ProcessorState {
             run: None,

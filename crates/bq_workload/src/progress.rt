@@ -39,11 +39,11 @@ pub struct TaskProgress {
 }
 
 impl TaskProgress {
-    ghost use Rattle.bq_workload.specs.TaskProgress.{advanced, begun, fresh, run_for, moved_to, woken, is_done, keeps_time, lacks_more, sleeps_past};
+    ghost use Rattle.bq_workload.specs.TaskProgress.{advanced, phase_begun, fresh_task, run_for, moved_to, progress_woken, is_done, keeps_time, lacks_more, sleeps_past};
 
     /// A task that has done nothing, and sleeps until its timer wakes it first.
     pub fn new(kind: usize, home: u8, start: u64) -> TaskProgress
-        ensures { result ≡ fresh kind home start }
+        ensures { result ≡ fresh_task kind home start }
     {
         TaskProgress {
             kind,
@@ -61,7 +61,7 @@ impl TaskProgress {
 
     /// A run phase of this length begins.
     pub fn begin(&mut self, length: u64)
-        ensures { self.new ≡ begun length self.old }
+        ensures { self.new ≡ phase_begun length self.old }
     {
         self.due = length;
         self.got = 0;
@@ -94,7 +94,7 @@ impl TaskProgress {
 
     /// Wakes the task, which has no run phase yet.
     pub fn wake(&mut self)
-        ensures { self.new ≡ woken self.old }
+        ensures { self.new ≡ progress_woken self.old }
     {
         self.task_state = TaskState::Runnable;
         self.due = 0;

@@ -1,11 +1,11 @@
 //! All tasks and processors of a simulation.
 ghost use Rattle.std.specs.Prelude.{◌≡◌, ◌<◌, ◌≤◌, ◌⊎◌, ◌^◌, ◌++◌, [], ◌∷◌, min, None, Some, IfOk, IfErr, IfSome, MatchOption, OnOk, option_and_then, slice_get, slice_set, length};
 ghost use Rattle.std.specs.List.{list_all};
-ghost use Rattle.bq_workload.specs.TaskProgress.{keeps_phase, keeps_time, woken};
-ghost use Rattle.bq_workload.specs.Accounts.{accounts_of, charged, first_look, IsDone, is_over, of_task, opening, rests_past, runs_past};
-ghost use Rattle.bq_workload.specs.Dues.{AreLooks, IsDropped, IsDue, IsPlanned, end_of, place_of, until};
-ghost use Rattle.bq_workload.specs.Minima.{AreNever, IsFirst};
-ghost use Rattle.bq_workload.specs.Next.{HaveHomes, IsAgreed, IsNext, NothingComes, Rests, StaysAgreed, runs_at};
+ghost use Rattle.bq_workload.specs.TaskProgress.{keeps_phase, keeps_time, progress_woken};
+ghost use Rattle.bq_workload.specs.Accounts.{accounts_of, accounts_charged, first_look, IsPhaseDone, is_over, of_task, opening_accounts, rests_past, runs_past};
+ghost use Rattle.bq_workload.specs.Dues.{AreLooks, IsDropped, IsDue, IsPlanned, phase_end, due_place, until};
+ghost use Rattle.bq_workload.specs.Minima.{AreNever, IsFirstDue};
+ghost use Rattle.bq_workload.specs.Next.{HaveHomes, IsAgreed, IsNextDue, NothingComes, TaskRests, StaysAgreed, runs_at};
 ghost use Rattle.bq_workload.specs.Plans.{PlansTimer, ProgressIsPlanned};
 ghost use Rattle.bq_workload.specs.Strays.{IsStrayEnd, IsStrayProgress, IsStrayWake, NoneIsDone};
 
@@ -44,7 +44,7 @@ impl Roster {
     /// A roster of this many processors that run nothing, and of no task. If there are at least two processors, each looks for a
     /// task to pull at the first multiple of the time between two looks.
     pub fn new(alloc: Global, processors: u8, periods: Periods) -> Result<Roster, AllocError>
-        ensures accounts { IfOk result (λ roster. accounts_of roster ≡ opening processors periods.balance) }
+        ensures accounts { IfOk result (λ roster. accounts_of roster ≡ opening_accounts processors periods.balance) }
         ensures periods { IfOk result (λ roster. roster.periods ≡ periods) }
         ensures looks { IfOk result (λ roster. AreLooks (min processors 64) (option_and_then (until periods.end) (first_look processors periods.balance)) roster.event_queue) }
     {
@@ -130,8 +130,8 @@ impl Roster {
 
     /// What comes due first, and when.
     pub fn first(&self) -> Option<(u64, Due)>
-        ensures first { MatchOption result (AreNever self.now.event_queue) (λ d. IsFirst self.now.event_queue d.0 (place_of d.1)) }
-        ensures next { IsAgreed self.now → MatchOption result (NothingComes self.now.periods.end (accounts_of self.now)) (λ d. IsNext self.now.periods.end (accounts_of self.now) d.1 d.0) }
+        ensures first { MatchOption result (AreNever self.now.event_queue) (λ d. IsFirstDue self.now.event_queue d.0 (due_place d.1)) }
+        ensures next { IsAgreed self.now → MatchOption result (NothingComes self.now.periods.end (accounts_of self.now)) (λ d. IsNextDue self.now.periods.end (accounts_of self.now) d.1 d.0) }
     {
         match self.event_queue.first() {
             None => None,
@@ -189,7 +189,7 @@ fn plan_looks(event_queue: &mut EventQueue, processors: u8, time: Option<u64>)
 
 /// The place of what comes due.
 fn place_of(due: Due) -> Result<u16, BrokenInvariant>
-    ensures place { IfOk result (λ place. place ≡ place_of due) }
+    ensures place { IfOk result (λ place. place ≡ due_place due) }
     ensures few { IfOk result (λ place. place < 1216) }
     ensures due { OnOk result (IsDue due) }
     ensures stray { IfErr result (λ _. IsDue due → ⊥) }
@@ -207,8 +207,8 @@ fn place_of(due: Due) -> Result<u16, BrokenInvariant>
 impl Roster {
     /// Checks that a task does not run at the processor where it ran last, by what is kept; so it runs nowhere.
     pub(crate) fn find_at_rest(&self, task: u16) -> Result<(), BrokenInvariant>
-        ensures rests { OnOk result (Rests (accounts_of self.now) task) }
-        ensures stray { IfErr result (λ _. Rests (accounts_of self.now) task → ⊥) }
+        ensures rests { OnOk result (TaskRests (accounts_of self.now) task) }
+        ensures stray { IfErr result (λ _. TaskRests (accounts_of self.now) task → ⊥) }
     {
         let progress = self.progress(task)?;
         if self.runs_at(progress.home, task) {
@@ -234,7 +234,7 @@ impl Roster {
         progress: &TaskProgress,
         now: u64,
     ) -> Result<(), BrokenInvariant>
-        ensures planned { OnOk result (IsPlanned self.old.periods.end (Due.End processor) (end_of now progress.now) self.old.event_queue self.new.event_queue) }
+        ensures planned { OnOk result (IsPlanned self.old.periods.end (Due.End processor) (phase_end now progress.now) self.old.event_queue self.new.event_queue) }
         ensures stray { IfErr result (λ _. (progress.now.due < progress.now.got) ⊎ (64 ≤ processor)) }
         ensures by_task { self.new.by_task ≡ self.old.by_task }
         ensures by_processor { self.new.by_processor ≡ self.old.by_processor }
@@ -248,7 +248,7 @@ impl Roster {
 
     /// A task that runs nowhere is woken, and has no phase yet; no timer wakes it.
     pub fn wake(&mut self, task: u16) -> Result<(), BrokenInvariant>
-        ensures accounts { OnOk result (accounts_of self.new ≡ of_task woken task (accounts_of self.old)) }
+        ensures accounts { OnOk result (accounts_of self.new ≡ of_task progress_woken task (accounts_of self.old)) }
         ensures dropped { OnOk result (IsDropped (Due.Wake task) self.old.event_queue self.new.event_queue) }
         ensures agrees { OnOk result (StaysAgreed self.old self.new) }
         ensures periods { self.new.periods ≡ self.old.periods }
@@ -263,7 +263,7 @@ impl Roster {
     /// A task has no phase yet, and can run.
     fn rouse(&mut self, task: u16)
         requires there { task < length self.old.by_task.items }
-        ensures accounts { accounts_of self.new ≡ of_task woken task (accounts_of self.old) }
+        ensures accounts { accounts_of self.new ≡ of_task progress_woken task (accounts_of self.old) }
         ensures event_queue { self.new.event_queue ≡ self.old.event_queue }
         ensures periods { self.new.periods ≡ self.old.periods }
     {
@@ -332,8 +332,8 @@ impl Roster {
         processor: u8,
         now: u64,
     ) -> Result<(u16, TaskProgress), BrokenInvariant>
-        ensures done { IfOk result (λ ended. IsDone (accounts_of self.new) processor ended.0 ended.1) }
-        ensures accounts { OnOk result (accounts_of self.new ≡ charged processor now (accounts_of self.old)) }
+        ensures done { IfOk result (λ ended. IsPhaseDone (accounts_of self.new) processor ended.0 ended.1) }
+        ensures accounts { OnOk result (accounts_of self.new ≡ accounts_charged processor now (accounts_of self.old)) }
         ensures event_queue { self.new.event_queue ≡ self.old.event_queue }
         ensures agrees { OnOk result (StaysAgreed self.old self.new) }
         ensures periods { self.new.periods ≡ self.old.periods }
@@ -345,7 +345,7 @@ impl Roster {
 
     /// Answers the task that runs at a processor and its progress, if it has got exactly what its phase takes.
     fn done_at(&self, processor: u8) -> Result<(u16, TaskProgress), BrokenInvariant>
-        ensures done { IfOk result (λ ended. IsDone (accounts_of self.now) processor ended.0 ended.1) }
+        ensures done { IfOk result (λ ended. IsPhaseDone (accounts_of self.now) processor ended.0 ended.1) }
         ensures stray { IfErr result (λ _. NoneIsDone processor (accounts_of self.now)) }
     {
         let Some(task) = self.processor_state(processor)?.run else {

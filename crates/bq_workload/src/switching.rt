@@ -2,9 +2,9 @@
 ghost use Rattle.std.specs.Prelude.{◌≡◌, ◌<◌, ◌≤◌, ◌-◌, None, Some, IfErr, IfSome, OnOk, length, slice_get};
 ghost use Rattle.bq_workload.specs.declared.processor_state.ProcessorState.{ProcessorState};
 ghost use Rattle.bq_workload.specs.TaskProgress.{moved_to, run_for};
-ghost use Rattle.bq_workload.specs.Accounts.{accounts_of, charged, entered_by, grown, left_by, of_task, passed, shrunk, switched, taken_over};
+ghost use Rattle.bq_workload.specs.Accounts.{accounts_of, accounts_charged, accounts_entered, grown, left_by, of_task, accounts_passed, shrunk, accounts_switched, taken_over};
 ghost use Rattle.bq_workload.specs.Dues.{size_at};
-ghost use Rattle.bq_workload.specs.Next.{Rests, StaysAgreed};
+ghost use Rattle.bq_workload.specs.Next.{TaskRests, StaysAgreed};
 ghost use Rattle.bq_workload.specs.Plans.{SwitchIsPlanned, TakeoverIsPlanned};
 ghost use Rattle.bq_workload.specs.Strays.{IsStrayCharge, IsStrayEntry, IsStrayGrowth, IsStrayLeave, IsStrayPass, IsStrayProcessor, IsStrayRun, IsStrayStart, IsStraySwitch};
 
@@ -20,7 +20,7 @@ impl Roster {
         run: Option<u16>,
         now: u64,
     ) -> Result<(), BrokenInvariant>
-        ensures accounts { OnOk result (accounts_of self.new ≡ switched processor run now self.old.periods (accounts_of self.old)) }
+        ensures accounts { OnOk result (accounts_of self.new ≡ accounts_switched processor run now self.old.periods (accounts_of self.old)) }
         ensures plans { OnOk result (SwitchIsPlanned processor run now (accounts_of self.old) self.old self.new) }
         ensures agrees { OnOk result (StaysAgreed self.old self.new) }
         ensures periods { self.new.periods ≡ self.old.periods }
@@ -39,7 +39,7 @@ impl Roster {
 
     /// The task that runs at a processor has run until now.
     pub(crate) fn charge(&mut self, processor: u8, now: u64) -> Result<(), BrokenInvariant>
-        ensures accounts { OnOk result (accounts_of self.new ≡ charged processor now (accounts_of self.old)) }
+        ensures accounts { OnOk result (accounts_of self.new ≡ accounts_charged processor now (accounts_of self.old)) }
         ensures since { OnOk result ((state : ProcessorState) × (slice_get self.old.by_processor.items processor ≡ Some state) × IfSome state.run (λ _. state.since ≤ now)) }
         ensures event_queue { self.new.event_queue ≡ self.old.event_queue }
         ensures periods { self.new.periods ≡ self.old.periods }
@@ -74,7 +74,7 @@ impl Roster {
     /// A task runs at a processor from now on.
     fn start(&mut self, processor: u8, task: u16, now: u64) -> Result<(), BrokenInvariant>
         ensures accounts { OnOk result (accounts_of self.new ≡ taken_over processor (Some task) now self.old.periods (accounts_of self.old)) }
-        ensures rests { OnOk result (Rests (accounts_of self.old) task) }
+        ensures rests { OnOk result (TaskRests (accounts_of self.old) task) }
         ensures plans { OnOk result (TakeoverIsPlanned processor (Some task) now self.old self.new) }
         ensures periods { self.new.periods ≡ self.old.periods }
         ensures stray { IfErr result (λ _. IsStrayStart self.old.periods processor task now (accounts_of self.old)) }
@@ -147,7 +147,7 @@ impl Roster {
         run: Option<u16>,
         now: u64,
     ) -> Result<(), BrokenInvariant>
-        ensures accounts { OnOk result (accounts_of self.new ≡ entered_by processor count run now self.old.periods (accounts_of self.old)) }
+        ensures accounts { OnOk result (accounts_of self.new ≡ accounts_entered processor count run now self.old.periods (accounts_of self.old)) }
         ensures plans { OnOk result (SwitchIsPlanned processor run now (grown processor count (accounts_of self.old)) self.old self.new) }
         ensures agrees { OnOk result (StaysAgreed self.old self.new) }
         ensures periods { self.new.periods ≡ self.old.periods }
@@ -159,7 +159,7 @@ impl Roster {
 
     /// A task has gone from the queue of one processor to another.
     pub fn pass(&mut self, from: u8, to: u8) -> Result<(), BrokenInvariant>
-        ensures accounts { OnOk result (accounts_of self.new ≡ passed from to (accounts_of self.old)) }
+        ensures accounts { OnOk result (accounts_of self.new ≡ accounts_passed from to (accounts_of self.old)) }
         ensures event_queue { self.new.event_queue ≡ self.old.event_queue }
         ensures agrees { OnOk result (StaysAgreed self.old self.new) }
         ensures periods { self.new.periods ≡ self.old.periods }

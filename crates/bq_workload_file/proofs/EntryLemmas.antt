@@ -5,11 +5,11 @@ use Rattle.toml.specs.Data.{Members, as_table}
 use Rattle.toml.specs.View.{view, items_view, members_view}
 use Rattle.toml.proofs.Views.{Entry, items_view-drop}
 use Rattle.bq_workload.specs.declared.action.Action.{Action}
-use Rattle.bq_workload_file.specs.Actions.{action_of, actions_of, named_at}
+use Rattle.bq_workload_file.specs.Actions.{action_of, actions_with, named_at}
 use Rattle.bq_workload_file.specs.Lengths.{ends_of}
 use Rattle.bq_workload.specs.declared.workload.TaskKind.{TaskKind}
 use Rattle.bq_workload_file.specs.Tables.{only_of}
-use Rattle.bq_workload_file.specs.Workloads.{AreKinds, AreNames, AreOthers, IsKind, name_in}
+use Rattle.bq_workload_file.specs.Workloads.{AreKinds, AreTableNames, AreOthers, IsKind, name_in_table}
 
 -- where there is no one entry
 pub only-none : (es : List Entry) → length es ≢ 1 → None ≡ only_of (members_view es)
@@ -35,10 +35,10 @@ ends-none (v ∷ w ∷ x ∷ vs) h = refl
 -- the next value of a list is an action, and the others are read behind it
 pub actions-more : (names : List (String Global)) (acts : List Action) (vs : List Value) (i : ℕ) (v : Value) (a : Action)
     → i < length vs → v ≡ get_or vs i v → Some a ≡ action_of names (view v)
-    → actions_of names acts (items_view (drop i vs)) ≡ actions_of names (acts ++ a ∷ []) (items_view (drop (i + 1) vs))
+    → actions_with names acts (items_view (drop i vs)) ≡ actions_with names (acts ++ a ∷ []) (items_view (drop (i + 1) vs))
 actions-more names acts vs i v a h e f =
-    ap (actions_of names acts) (items_view-drop vs i v h)
-    ∙ ap (option_and_then (λ (b : Action). actions_of names (acts ++ b ∷ []) (items_view (drop (i + 1) vs))))
+    ap (actions_with names acts) (items_view-drop vs i v h)
+    ∙ ap (option_and_then (λ (b : Action). actions_with names (acts ++ b ∷ []) (items_view (drop (i + 1) vs))))
     (ap (λ (w : Value). action_of names (view w)) (sym e) ∙ sym f)
 
 -- some values that are kinds of tasks, and one more, are the kinds and one more
@@ -59,8 +59,8 @@ some-kinds names all (v ∷ vs) (k ∷ ks) h some = omega arith
 
 -- some values that are names, and one more, are the names and one more
 pub AreNames-more : (vs : List Value) (ns : List (String Global)) (v : Value) (n : String Global)
-    → AreNames (items_view vs) ns → name_in (view v) ≡ Some (string_bytes n)
-    → AreNames (items_view (vs ++ v ∷ [])) (ns ++ n ∷ [])
+    → AreTableNames (items_view vs) ns → name_in_table (view v) ≡ Some (string_bytes n)
+    → AreTableNames (items_view (vs ++ v ∷ [])) (ns ++ n ∷ [])
 AreNames-more [] [] v n h e = (e, tt)
 AreNames-more [] (m ∷ ns) v n h e = absurd h
 AreNames-more (w ∷ vs) [] v n h e = absurd h

@@ -23,29 +23,29 @@ use Rattle.bq_workload.specs.declared.sound.Unsound.TheVariants as flaw
 use Rattle.bq_workload.specs.declared.workload.TaskKind.{TaskKind}
 use Rattle.bq_workload.specs.declared.workload.Workload.{Workload}
 use Rattle.bq_workload_file.specs.declared.changes.Changes.{Changes}
-use Rattle.bq_workload_file.specs.Actions.{action_of, actions_of, entry_of, named_at, waits}
+use Rattle.bq_workload_file.specs.Actions.{action_of, actions_with, action_of_entry, named_at, waits}
 use Rattle.bq_workload.specs.Durations.{duration_with_unit}
-use Rattle.bq_workload_file.specs.Fields.{loops_of, mask_of, name_of, nice_of, number_in, or_default, some_of, span_in, whole, within}
-use Rattle.bq_workload_file.specs.Lengths.{drawn_by, ends_of, fixed_or_drawn, length_of, time_of, uniform_of}
+use Rattle.bq_workload_file.specs.Fields.{loops_of, read_mask, read_name, read_nice, number_in, or_default, some_of, span_in, whole, read_within}
+use Rattle.bq_workload_file.specs.Lengths.{drawn_by, ends_of, fixed_or_drawn, read_length, read_time, uniform_of}
 use Rattle.bq_workload_file.specs.Tables.{only_of}
-use Rattle.bq_workload_file.specs.Workloads.{AreKinds, AreNames, HasNumbers, IsKind, IsSetup, IsWorkload, all_of, changed_by, doing, machine_table, short_of}
+use Rattle.bq_workload_file.specs.Workloads.{AreKinds, AreTableNames, HasNumbers, IsKind, IsSetup, IsWorkload, all_of, changed_by, doing, machine_table, short_of}
 use Rattle.bq_workload_file.proofs.EachLemmas.{each-at, each-cond, each-if, each-map, each-of, each-then, each-unless}
 use Rattle.bq_workload_file.proofs.MaskLemmas.{all-allowed, one-allowed}
 
 abbrev IsIn : ℕ → ℕ → ℕ → Type 0
 IsIn least greatest n = (nat_le least n && nat_le n greatest) ≡ true
 
-within_each : (least greatest n : ℕ) → IfSome (within least greatest n) (IsIn least greatest)
+within_each : (least greatest n : ℕ) → IfSome (read_within least greatest n) (IsIn least greatest)
 within_each least greatest n = each-if (nat_le least n && nat_le n greatest) n (IsIn least greatest) (λ e. e)
 
 span_each : (least greatest : ℕ) (d : Data) → IfSome (span_in least greatest d) (IsIn least greatest)
 span_each least greatest d =
-    each-of (option_and_then duration_with_unit (as_str d)) (within least greatest) (IsIn least greatest)
+    each-of (option_and_then duration_with_unit (as_str d)) (read_within least greatest) (IsIn least greatest)
     (within_each least greatest)
 
 number_each : (least greatest : ℕ) (d : Data) → IfSome (number_in least greatest d) (IsIn least greatest)
 number_each least greatest d =
-    each-of (option_and_then whole (as_integer d)) (within least greatest) (IsIn least greatest) (within_each least greatest)
+    each-of (option_and_then whole (as_integer d)) (read_within least greatest) (IsIn least greatest) (within_each least greatest)
 
 default_each : {A : Type 0} (a : A) (read : Data → Option A) (Q : A → Type 0) (o : Option Data)
     → Q a → ((d : Data) → IfSome (read d) Q) → IfSome (or_default a read o) Q
@@ -78,13 +78,13 @@ machine_sound c ms s long is =
 abbrev IsName : List ℕ → Type 0
 IsName name = nat_le (length name) 1024 ≡ true
 
-name_each : (d : Data) → IfSome (name_of d) IsName
+name_each : (d : Data) → IfSome (read_name d) IsName
 name_each d =
     each-of (as_str d) _ IsName (λ (s : List ℕ).
     each-if (nat_lt 0 (length s) && nat_le (length s) 1024) s IsName
     (λ e. (and_parts (nat_lt 0 (length s)) (nat_le (length s) 1024) e).1))
 
-nice_each : (d : Data) → IfSome (nice_of d) (λ n. is_nice n ≡ true)
+nice_each : (d : Data) → IfSome (read_nice d) (λ n. is_nice n ≡ true)
 nice_each d = each-of (as_integer d) _ (λ n. is_nice n ≡ true) (λ (n : ℤ). each-if (is_nice n) n (λ m. is_nice m ≡ true) (λ e. e))
 
 loops_each : (o : Option Data) → IfSome (loops_of o) (λ l. goes_round l ≡ true)
@@ -101,8 +101,8 @@ numbers_sound all ms k is =
     (default_each 1 (number_in 1 1024) (IsIn 1 1024) (get_member (codes "count") ms) refl (number_each 1 1024)) is.count_is in
     let counts = and_parts (nat_le 1 k.count) (nat_le k.count 1024) count in
     let nice : is_nice k.nice ≡ true =
-    each-at (or_default (pos 0) nice_of (get_member (codes "nice") ms)) k.nice (λ n. is_nice n ≡ true)
-    (default_each (pos 0) nice_of (λ n. is_nice n ≡ true) (get_member (codes "nice") ms) refl nice_each) is.nice_is in
+    each-at (or_default (pos 0) read_nice (get_member (codes "nice") ms)) k.nice (λ n. is_nice n ≡ true)
+    (default_each (pos 0) read_nice (λ n. is_nice n ≡ true) (get_member (codes "nice") ms) refl nice_each) is.nice_is in
     let slice : IsIn 100000 100000000 k.slice =
     span_read 100000 100000000 3000000 (get_member (codes "slice") ms) k.slice refl is.slice_is in
     let slices = and_parts (nat_le 100000 k.slice) (nat_le k.slice 100000000) slice in
@@ -116,16 +116,16 @@ numbers_sound all ms k is =
 abbrev Allows : ProcessorCount → ℕ → Type 0
 Allows size mask = allows_one (processors_in size) mask ≡ true
 
-mask_each : (size : ProcessorCount) (d : Data) → IfSome (mask_of (all_of size) d) (Allows size)
+mask_each : (size : ProcessorCount) (d : Data) → IfSome (read_mask (all_of size) d) (Allows size)
 mask_each size d =
     each-of (option_and_then processors_of (as_str d)) (some_of (all_of size)) (Allows size)
     (λ (m : ℕ). each-unless _ m (Allows size) (λ e. one-allowed m (processors_in size) e))
 
 mask_sound : (size : ProcessorCount) (o : Option Data) (mask : ℕ)
-    → or_default (all_of size) (mask_of (all_of size)) o ≡ Some mask → Allows size mask
+    → or_default (all_of size) (read_mask (all_of size)) o ≡ Some mask → Allows size mask
 mask_sound size o mask =
-    each-at (or_default (all_of size) (mask_of (all_of size)) o) mask (Allows size)
-    (default_each (all_of size) (mask_of (all_of size)) (Allows size) o (all-allowed size) (mask_each size))
+    each-at (or_default (all_of size) (read_mask (all_of size)) o) mask (Allows size)
+    (default_each (all_of size) (read_mask (all_of size)) (Allows size) o (all-allowed size) (mask_each size))
 
 abbrev IsLength : Length → Type 0
 IsLength l = is_length l ≡ true
@@ -134,8 +134,8 @@ ends_each : (items : Items) → IfSome (ends_of items) IsLength
 ends_each no_items = tt
 ends_each (item first no_items) = tt
 ends_each (item first (item last no_items)) =
-    each-then (time_of first) (IsIn 1 longest) _ IsLength (span_each 1 longest first) (λ least low.
-    each-then (time_of last) (IsIn 1 longest) _ IsLength (span_each 1 longest last) (λ greatest high.
+    each-then (read_time first) (IsIn 1 longest) _ IsLength (span_each 1 longest first) (λ least low.
+    each-then (read_time last) (IsIn 1 longest) _ IsLength (span_each 1 longest last) (λ greatest high.
     each-if (nat_le least greatest) (Uniform least greatest) IsLength (λ order.
     and_from _ _ (and_from _ _ (and_parts (nat_le 1 least) (nat_le least longest) low).0 order)
     (and_parts (nat_le 1 greatest) (nat_le greatest longest) high).1)))
@@ -144,14 +144,14 @@ ends_each (item first (item second (item third more))) = tt
 drawn_each : (entry : List ℕ × Data) → IfSome (drawn_by entry) IsLength
 drawn_each (key, d) =
     each-cond (bytes_eq key (codes "uniform")) (uniform_of d) _ IsLength (each-of (as_array d) ends_of IsLength ends_each)
-    (each-cond (bytes_eq key (codes "exponential")) (option_map (λ mean. Exponential mean) (time_of d)) None IsLength
-    (each-map (time_of d) (IsIn 1 longest) (λ mean. Exponential mean) IsLength (span_each 1 longest d) (λ mean e. e)) tt)
+    (each-cond (bytes_eq key (codes "exponential")) (option_map (λ mean. Exponential mean) (read_time d)) None IsLength
+    (each-map (read_time d) (IsIn 1 longest) (λ mean. Exponential mean) IsLength (span_each 1 longest d) (λ mean e. e)) tt)
 
-length_each : (d : Data) → IfSome (length_of d) IsLength
+length_each : (d : Data) → IfSome (read_length d) IsLength
 length_each d = of (as_table d)
   where
     of : (o : Option Members) → IfSome (fixed_or_drawn d o) IsLength
-    of None = each-map (time_of d) (IsIn 1 longest) (λ n. Fixed n) IsLength (span_each 1 longest d) (λ n e. e)
+    of None = each-map (read_time d) (IsIn 1 longest) (λ n. Fixed n) IsLength (span_each 1 longest d) (λ n e. e)
     of (Some ms) = each-of (only_of ms) drawn_by IsLength drawn_each
 
 abbrev IsAction : ℕ → Action → Type 0
@@ -164,12 +164,12 @@ waits_each kinds false = tt
 named_each : (names : List (String Global)) (name : List ℕ) → IfSome (named_at names name) (λ i. nat_lt i (length names) ≡ true)
 named_each names name = each-if _ _ (λ i. nat_lt i (length names) ≡ true) (λ e. e)
 
-entry_each : (names : List (String Global)) (key : List ℕ) (d : Data) → IfSome (entry_of names key d) (IsAction (length names))
+entry_each : (names : List (String Global)) (key : List ℕ) (d : Data) → IfSome (action_of_entry names key d) (IsAction (length names))
 entry_each names key d =
     let Q : Action → Type 0 = IsAction (length names) in
-    each-cond (bytes_eq key (codes "run")) _ _ Q (each-map (length_of d) IsLength (λ l. Run l) Q (length_each d) (λ l e. e))
+    each-cond (bytes_eq key (codes "run")) _ _ Q (each-map (read_length d) IsLength (λ l. Run l) Q (length_each d) (λ l e. e))
     (each-cond (bytes_eq key (codes "sleep")) _ _ Q
-    (each-map (length_of d) IsLength (λ l. Sleep l) Q (length_each d) (λ l e. e))
+    (each-map (read_length d) IsLength (λ l. Sleep l) Q (length_each d) (λ l e. e))
     (each-cond (bytes_eq key (codes "wait")) _ _ Q (each-of (as_bool d) waits Q (waits_each (length names)))
     (each-cond (bytes_eq key (codes "wake")) _ None Q
     (each-map (option_and_then (named_at names) (as_str d)) (λ i. nat_lt i (length names) ≡ true) (λ kind. Wake kind) Q
@@ -186,7 +186,7 @@ all_more {A} P (y ∷ ys) x h p = (h.0, all_more P ys x h.1 p)
 
 actions_each : (names : List (String Global)) (done : List Action) (items : Items)
     → AllByRecursion (IsAction (length names)) done
-    → IfSome (actions_of names done items) (AllByRecursion (IsAction (length names)))
+    → IfSome (actions_with names done items) (AllByRecursion (IsAction (length names)))
 actions_each names done no_items h = h
 actions_each names done (item d ds) h =
     each-then (action_of names d) (IsAction (length names)) _ (AllByRecursion (IsAction (length names))) (action_each names d)
@@ -195,17 +195,17 @@ actions_each names done (item d ds) h =
 short_each : (kinds : ℕ) (run sleep : Option Data) → IfSome (short_of run sleep) (AllByRecursion (IsAction kinds))
 short_each kinds None sleep = tt
 short_each kinds (Some run) None =
-    each-map (length_of run) IsLength (λ r. Run r ∷ []) (AllByRecursion (IsAction kinds)) (length_each run) (λ r e. (e, tt))
+    each-map (read_length run) IsLength (λ r. Run r ∷ []) (AllByRecursion (IsAction kinds)) (length_each run) (λ r e. (e, tt))
 short_each kinds (Some run) (Some sleep) =
-    each-then (length_of run) IsLength _ (AllByRecursion (IsAction kinds)) (length_each run) (λ r e.
-    each-map (length_of sleep) IsLength (λ s. Run r ∷ Sleep s ∷ []) (AllByRecursion (IsAction kinds))
+    each-then (read_length run) IsLength _ (AllByRecursion (IsAction kinds)) (length_each run) (λ r e.
+    each-map (read_length sleep) IsLength (λ s. Run r ∷ Sleep s ∷ []) (AllByRecursion (IsAction kinds))
     (length_each sleep) (λ s f. (e, (f, tt))))
 
 doing_each : (names : List (String Global)) (list run sleep : Option Data)
     → IfSome (doing names list run sleep) (AllByRecursion (IsAction (length names)))
 doing_each names None run sleep = short_each (length names) run sleep
 doing_each names (Some list) None None =
-    each-of (as_array list) (actions_of names []) (AllByRecursion (IsAction (length names)))
+    each-of (as_array list) (actions_with names []) (AllByRecursion (IsAction (length names)))
     (λ (items : Items). actions_each names [] items tt)
 doing_each names (Some list) None (Some sleep) = tt
 doing_each names (Some list) (Some run) sleep = tt
@@ -227,8 +227,8 @@ kind_sound : (names : List (String Global)) (size : ProcessorCount) (ms : Member
     → IsKind names (all_of size) ms k → flaws_of_kind (processors_in size) (length names) number k ≡ []
 kind_sound names size ms k number is =
     let named : has_name k ≡ true =
-    each-at (option_and_then name_of (get_member (codes "name") ms)) (string_bytes k.name) IsName
-    (each-of (get_member (codes "name") ms) name_of IsName name_each) is.name in
+    each-at (option_and_then read_name (get_member (codes "name") ms)) (string_bytes k.name) IsName
+    (each-of (get_member (codes "name") ms) read_name IsName name_each) is.name in
     let list = get_member (codes "do") ms in
     let run = get_member (codes "run") ms in
     let sleep = get_member (codes "sleep") ms in
@@ -254,7 +254,7 @@ kinds_sound names size (item d ds) (k ∷ ks) number h =
     no_flaws _ _ (kind_sound names size h.0.0 k number h.0.2) (kinds_sound names size ds ks (number + 1) h.1)
 
 as_many : (names all_names : List (String Global)) (all : ℕ) (items : Items) (ks : List TaskKind)
-    → AreNames items names → AreKinds all_names all items ks → length names ≡ length ks
+    → AreTableNames items names → AreKinds all_names all items ks → length names ≡ length ks
 as_many [] all_names all no_items [] n h = refl
 as_many [] all_names all no_items (k ∷ ks) n h = absurd h
 as_many (name ∷ names) all_names all no_items ks n h = absurd n

@@ -19,5 +19,5 @@ abbrev pub column_after : List ℕ → ℕ
 column_after before = count_by is_char_start (last_line before) + 1
 
 -- the line and the column of a byte of the text, or of its end
-abbrev pub IsPlace : List ℕ → ℕ → ℕ → Type 0
-IsPlace text line column = (at : ℕ) × (at ≤ length text) × (line ≡ line_after (take at text)) × (column ≡ column_after (take at text))
+abbrev pub IsTextPlace : List ℕ → ℕ → ℕ → Type 0
+IsTextPlace text line column = (at : ℕ) × (at ≤ length text) × (line ≡ line_after (take at text)) × (column ≡ column_after (take at text))

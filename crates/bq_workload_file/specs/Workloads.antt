@@ -19,24 +19,24 @@ use Rattle.bq_workload.specs.declared.workload.Workload.{Workload}
 use Rattle.bq_workload_file.specs.declared.changes.Changes.{Changes}
 use Rattle.bq_workload_file.specs.declared.fault.Fault.{Fault}
 use Rattle.bq_workload_file.specs.declared.fault.Fault.TheVariants.{Syntax, Meaning, OutOfMemory}
-use Rattle.bq_workload_file.specs.Fields.{or_default, span_in, number_in, rule_in, size_in, loops_of, nice_of, mask_of, name_at}
+use Rattle.bq_workload_file.specs.Fields.{or_default, span_in, number_in, rule_in, size_in, loops_of, read_nice, read_mask, name_in_members}
 use Rattle.bq_workload_file.specs.Keys.{document_keys, first_unknown, machine_keys, task_keys}
-use Rattle.bq_workload_file.specs.Lengths.{length_of}
-use Rattle.bq_workload_file.specs.Actions.{actions_of, named_at}
-use Rattle.bq_workload_file.specs.Positions.{IsPlace}
+use Rattle.bq_workload_file.specs.Lengths.{read_length}
+use Rattle.bq_workload_file.specs.Actions.{actions_with, named_at}
+use Rattle.bq_workload_file.specs.Positions.{IsTextPlace}
 
 -- a duration that takes time, at a key or else the default
-abbrev pub time_at : ℕ → List ℕ → Members → Option ℕ
-time_at default key ms = or_default default (span_in 1 longest) (get_member key ms)
+abbrev pub time_at_key : ℕ → List ℕ → Members → Option ℕ
+time_at_key default key ms = or_default default (span_in 1 longest) (get_member key ms)
 
 -- the machine that a table describes, each of whose keys means something
 pub record IsSetup (ms : Members) (s : Setup) : Type 0 where
   pub known : first_unknown machine_keys ms ≡ None
   pub rule : or_default Cfs rule_in (get_member (codes "discipline") ms) ≡ Some s.rule
   pub size : or_default One size_in (get_member (codes "processors") ms) ≡ Some s.size
-  pub duration : time_at 100000000 (codes "duration") ms ≡ Some s.duration
-  pub tick : time_at 4000000 (codes "tick") ms ≡ Some s.tick
-  pub balance : time_at 16000000 (codes "balance") ms ≡ Some s.balance
+  pub duration : time_at_key 100000000 (codes "duration") ms ≡ Some s.duration
+  pub tick : time_at_key 4000000 (codes "tick") ms ≡ Some s.tick
+  pub balance : time_at_key 16000000 (codes "balance") ms ≡ Some s.balance
   pub migration_cost : or_default 0 (span_in 0 longest) (get_member (codes "migration_cost") ms) ≡ Some s.migration_cost
   pub seed : or_default 1 (number_in 0 9223372036854775807) (get_member (codes "seed") ms) ≡ Some s.seed
 
@@ -52,24 +52,24 @@ changed_by c s = record s {
 -- a run, and a sleep if there is one
 abbrev pub short_of : Option Data → Option Data → Option (List Action)
 short_of None sleep = None
-short_of (Some run) None = option_map (λ r. Run r ∷ []) (length_of run)
-short_of (Some run) (Some sleep) = option_and_then (λ r. option_map (λ s. Run r ∷ Sleep s ∷ []) (length_of sleep)) (length_of run)
+short_of (Some run) None = option_map (λ r. Run r ∷ []) (read_length run)
+short_of (Some run) (Some sleep) = option_and_then (λ r. option_map (λ s. Run r ∷ Sleep s ∷ []) (read_length sleep)) (read_length run)
 
 -- what a task does: only its `do`, or `run` and `sleep`
 abbrev pub doing : List (String Global) → Option Data → Option Data → Option Data → Option (List Action)
 doing names None run sleep = short_of run sleep
-doing names (Some list) None None = option_and_then (actions_of names []) (as_array list)
+doing names (Some list) None None = option_and_then (actions_with names []) (as_array list)
 doing names (Some list) run sleep = None
 
 -- the actions of the tasks of a kind, by the kind's table
-abbrev pub actions_in : List (String Global) → Members → Option (List Action)
-actions_in names ms = doing names (get_member (codes "do") ms) (get_member (codes "run") ms) (get_member (codes "sleep") ms)
+abbrev pub table_actions : List (String Global) → Members → Option (List Action)
+table_actions names ms = doing names (get_member (codes "do") ms) (get_member (codes "run") ms) (get_member (codes "sleep") ms)
 
 -- the numbers of a kind, on a machine with all these processors
 pub record HasNumbers (all : ℕ) (ms : Members) (count : ℕ) (nice : ℤ) (mask slice start : ℕ) (loops : Option ℕ) : Type 0 where
   pub count_is : or_default 1 (number_in 1 TASKS) (get_member (codes "count") ms) ≡ Some count
-  pub nice_is : or_default (pos 0) nice_of (get_member (codes "nice") ms) ≡ Some nice
-  pub mask_is : or_default all (mask_of all) (get_member (codes "cpus") ms) ≡ Some mask
+  pub nice_is : or_default (pos 0) read_nice (get_member (codes "nice") ms) ≡ Some nice
+  pub mask_is : or_default all (read_mask all) (get_member (codes "cpus") ms) ≡ Some mask
   pub slice_is : or_default DEFAULT_SLICE (span_in LEAST_SLICE GREATEST_SLICE) (get_member (codes "slice") ms) ≡ Some slice
   pub start_is : or_default 0 (span_in 0 longest) (get_member (codes "start") ms) ≡ Some start
   pub loops_is : loops_of (get_member (codes "loops") ms) ≡ Some loops
@@ -77,9 +77,9 @@ pub record HasNumbers (all : ℕ) (ms : Members) (count : ℕ) (nice : ℤ) (mas
 -- the kind of tasks that a table describes, each of whose keys means something
 pub record IsKind (names : List (String Global)) (all : ℕ) (ms : Members) (k : TaskKind) : Type 0 where
   pub known : first_unknown task_keys ms ≡ None
-  pub name : name_at ms ≡ Some (string_bytes k.name)
+  pub name : name_in_members ms ≡ Some (string_bytes k.name)
   pub numbers : HasNumbers all ms k.count k.nice k.mask k.slice k.start k.loops
-  pub actions : actions_in names ms ≡ Some k.actions.items
+  pub actions : table_actions names ms ≡ Some k.actions.items
   pub takes_time : list_any takes_time k.actions.items ≡ true
 
 -- each table describes its kind
@@ -89,14 +89,14 @@ AreKinds names all (item d ds) (k ∷ ks) = ((ms : Members) × (as_table d ≡ S
 AreKinds names all other kinds = ⊥
 
 -- the name that a task's table has
-abbrev pub name_in : Data → Option (List ℕ)
-name_in d = option_and_then name_at (as_table d)
+abbrev pub name_in_table : Data → Option (List ℕ)
+name_in_table d = option_and_then name_in_members (as_table d)
 
 -- each table has its name
-abbrev pub AreNames : Items → List (String Global) → Type 0
-AreNames no_items [] = Unit {0}
-AreNames (item d ds) (name ∷ names) = (name_in d ≡ Some (string_bytes name)) × AreNames ds names
-AreNames other names = ⊥
+abbrev pub AreTableNames : Items → List (String Global) → Type 0
+AreTableNames no_items [] = Unit {0}
+AreTableNames (item d ds) (name ∷ names) = (name_in_table d ≡ Some (string_bytes name)) × AreTableNames ds names
+AreTableNames other names = ⊥
 
 -- no name is one of those before it
 abbrev pub AreOthers : List (String Global) → List (String Global) → Type 0
@@ -113,8 +113,8 @@ abbrev pub IsMachine : Members → Setup → Type 0
 IsMachine document s = IsSomeAnd (machine_table (get_member (codes "machine") document)) (λ ms. IsSetup ms s)
 
 -- the tables of the tasks
-abbrev pub tasks_of : Members → Option Items
-tasks_of document = option_and_then as_array (get_member (codes "task") document)
+abbrev pub task_tables : Members → Option Items
+task_tables document = option_and_then as_array (get_member (codes "task") document)
 
 -- the bits of all processors of a machine
 abbrev pub all_of : ProcessorCount → ℕ
@@ -123,7 +123,7 @@ all_of size = 2 ^ processors_in size - 1
 -- the tasks that a document describes, on a machine of this size; no two kinds have one name
 abbrev pub HasTasks : ProcessorCount → Members → List TaskKind → Type 0
 HasTasks size document kinds =
-    (items : Items) × (names : List (String Global)) × (tasks_of document ≡ Some items) × AreNames items names × AreOthers [] names × AreKinds names (all_of size) items kinds
+    (items : Items) × (names : List (String Global)) × (task_tables document ≡ Some items) × AreTableNames items names × AreOthers [] names × AreKinds names (all_of size) items kinds
 
 -- the workload that a document describes, each of whose keys means something, on its machine with what is put in its place: it has
 -- one task at least, and at most 1,024
@@ -140,7 +140,7 @@ DescribesWorkload text c w = (document : Members) × (parse_document text ≡ So
 
 -- a text is reported as no TOML only if it is not TOML, at the place of one of its bytes or of its end; it is reported as no
 -- workload only if it is TOML
-abbrev pub IsReadFault : List ℕ → Fault → Type 0
-IsReadFault text (Syntax line column message) = (parse_document text ≡ None) × IsPlace text line column
-IsReadFault text (Meaning words) = IsSome (parse_document text)
-IsReadFault text OutOfMemory = Unit {0}
+abbrev pub IsWorkloadFault : List ℕ → Fault → Type 0
+IsWorkloadFault text (Syntax line column message) = (parse_document text ≡ None) × IsTextPlace text line column
+IsWorkloadFault text (Meaning words) = IsSome (parse_document text)
+IsWorkloadFault text OutOfMemory = Unit {0}

@@ -2,8 +2,8 @@
 ghost use Rattle.std.specs.Prelude.{◌≡◌, [], IfOk, option_map};
 ghost use Rattle.std.specs.Result.{result_ok};
 ghost use Rattle.toml.specs.View.{view, items_view};
-ghost use Rattle.bq_workload_file.specs.Lengths.{length_of};
-ghost use Rattle.bq_workload_file.specs.Actions.{action_of, entry_of, wait_of, wake_of, actions_of, named_at};
+ghost use Rattle.bq_workload_file.specs.Lengths.{read_length};
+ghost use Rattle.bq_workload_file.specs.Actions.{action_of, action_of_entry, wait_action, wake_action, actions_with, named_at};
 
 use crate::lengths::length;
 use crate::tables::only;
@@ -35,7 +35,7 @@ pub(crate) fn action<'a>(value: &'a Value, names: &'a [String]) -> Result<Action
 
 /// The action of an entry.
 fn entry<'a>(key: &'a str, value: &'a Value, names: &'a [String]) -> Result<Action, Why<'a>>
-    ensures { result_ok result ≡ entry_of names.now key.now (view value.now) }
+    ensures { result_ok result ≡ action_of_entry names.now key.now (view value.now) }
 {
     match key {
         "run" => Ok(Action::Run(phase("run", value)?)),
@@ -51,7 +51,7 @@ fn entry<'a>(key: &'a str, value: &'a Value, names: &'a [String]) -> Result<Acti
 
 /// A length at this key.
 pub(crate) fn phase<'a>(key: &'static str, value: &'a Value) -> Result<bq_workload::Length, Why<'a>>
-    ensures { result_ok result ≡ length_of (view value.now) }
+    ensures { result_ok result ≡ read_length (view value.now) }
 {
     match length(value) {
         Some(length) => Ok(length),
@@ -65,7 +65,7 @@ pub(crate) fn phase<'a>(key: &'static str, value: &'a Value) -> Result<bq_worklo
 
 /// A task waits if `wait` is true.
 fn waiting<'a>(value: &'a Value) -> Result<Action, Why<'a>>
-    ensures { result_ok result ≡ wait_of (view value.now) }
+    ensures { result_ok result ≡ wait_action (view value.now) }
 {
     match value.as_bool() {
         Some(true) => Ok(Action::Wait),
@@ -79,7 +79,7 @@ fn waiting<'a>(value: &'a Value) -> Result<Action, Why<'a>>
 
 /// A task wakes the tasks of the kind with this name.
 fn waking<'a>(value: &'a Value, names: &'a [String]) -> Result<Action, Why<'a>>
-    ensures { result_ok result ≡ wake_of names.now (view value.now) }
+    ensures { result_ok result ≡ wake_action names.now (view value.now) }
 {
     let name = match value.as_str() {
         Some(name) => name,
@@ -108,7 +108,7 @@ pub(crate) fn actions<'a>(
     values: &'a [Value],
     names: &'a [String],
 ) -> Result<Result<Vec<Action>, (usize, Why<'a>)>, AllocError>
-    ensures { IfOk result (λ read. option_map (λ v. v.items) (result_ok read) ≡ actions_of names.now [] (items_view values.now)) }
+    ensures { IfOk result (λ read. option_map (λ v. v.items) (result_ok read) ≡ actions_with names.now [] (items_view values.now)) }
 {
     let mut actions = Vec::new(alloc);
     for (place, value) in values.iter().enumerate() {

@@ -2,8 +2,8 @@
 ghost use Rattle.std.specs.Prelude.{◌≡◌, [], Some, IfOk, option_map, option_and_then};
 ghost use Rattle.toml.specs.Data.{as_array};
 ghost use Rattle.toml.specs.View.{view, table_view};
-ghost use Rattle.bq_workload_file.specs.Actions.{actions_of};
-ghost use Rattle.bq_workload_file.specs.Workloads.{actions_in, short_of};
+ghost use Rattle.bq_workload_file.specs.Actions.{actions_with};
+ghost use Rattle.bq_workload_file.specs.Workloads.{table_actions, short_of};
 
 use crate::actions::{actions, phase};
 use crate::blame::{Location, Trouble};
@@ -20,7 +20,7 @@ pub(crate) fn all_actions<'a>(
     place: Location<'a>,
     names: &'a [String],
 ) -> Result<Vec<Action>, Trouble<'a>>
-    ensures { IfOk result (λ v. actions_in names.now (table_view table.now) ≡ Some v.items) }
+    ensures { IfOk result (λ v. table_actions names.now (table_view table.now) ≡ Some v.items) }
 {
     let run = at(table, "run");
     let sleep = at(table, "sleep");
@@ -68,7 +68,7 @@ fn long<'a>(
     value: &'a Value,
     names: &'a [String],
 ) -> Result<Vec<Action>, Trouble<'a>>
-    ensures { IfOk result (λ v. option_and_then (actions_of names.now []) (as_array (view value.now)) ≡ Some v.items) }
+    ensures { IfOk result (λ v. option_and_then (actions_with names.now []) (as_array (view value.now)) ≡ Some v.items) }
 {
     let values = match value.as_array() {
         Some(values) => values,

@@ -4,7 +4,7 @@ ghost use Rattle.std.specs.Fmt.{is_char_start};
 ghost use Rattle.toml.specs.Errors.{IsMemory};
 ghost use Rattle.toml.specs.Parse.{parse_document};
 ghost use Rattle.bq_workload_file.specs.Positions.{column_after, line_after};
-ghost use Rattle.bq_workload_file.specs.Workloads.{IsReadFault};
+ghost use Rattle.bq_workload_file.specs.Workloads.{IsWorkloadFault};
 
 use crate::blame::Location;
 use crate::near::{meant_word, nearest_name};
@@ -39,7 +39,7 @@ impl From<AllocError> for Fault {
 /// Answers where a text is no TOML, and why.
 pub(crate) fn syntax(alloc: Global, text: &str, error: &toml::de::Error) -> Fault
     requires { ¬ IsMemory error.now → parse_document text.now ≡ None }
-    ensures { IsReadFault text.now result }
+    ensures { IsWorkloadFault text.now result }
 {
     let at = match error.span() {
         Some(span) => span.start.min(text.len()),
@@ -97,7 +97,7 @@ pub(crate) fn meaning(
     place: &Location<'_>,
     why: &Why<'_>,
 ) -> Result<Fault, AllocError>
-    ensures { IfOk result (λ fault. (text : List ℕ) → IsSome (parse_document text) → IsReadFault text fault) }
+    ensures { IfOk result (λ fault. (text : List ℕ) → IsSome (parse_document text) → IsWorkloadFault text fault) }
 {
     let mut text = String::new(alloc);
     write!(text, "{place}{why}")?;

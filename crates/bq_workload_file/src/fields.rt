@@ -4,7 +4,7 @@ ghost use Rattle.std.specs.Result.{result_ok};
 ghost use Rattle.toml.specs.Data.{as_str, get_member};
 ghost use Rattle.toml.specs.View.{view, table_view};
 ghost use Rattle.bq_words.specs.ProcessorSets.{processors_of};
-ghost use Rattle.bq_workload_file.specs.Fields.{within, span_in, number_in, or_default, nice_of, rule_in, size_in, name_at, mask_of, loops_of};
+ghost use Rattle.bq_workload_file.specs.Fields.{read_within, span_in, number_in, or_default, read_nice, rule_in, size_in, name_in_members, read_mask, loops_of};
 
 use crate::tables::at;
 use crate::why::{Range, Wanted, Why};
@@ -17,7 +17,7 @@ use toml::{Table, Value};
 
 /// The number, if it is in the range.
 fn within(number: u64, range: Range) -> Option<u64>
-    ensures value { result ≡ within range.least range.greatest number }
+    ensures value { result ≡ read_within range.least range.greatest number }
     ensures most { IfSome result (λ n. n ≤ range.greatest) }
 {
     if range.least <= number && number <= range.greatest {
@@ -117,7 +117,7 @@ pub(crate) fn loops(table: &Table) -> Result<Option<u64>, Why<'_>>
 
 /// A nice value.
 fn nice_value(value: &Value) -> Option<i8>
-    ensures { result ≡ nice_of (view value.now) }
+    ensures { result ≡ read_nice (view value.now) }
 {
     let number = value.as_integer()?;
     if is_nice(number) {
@@ -129,7 +129,7 @@ fn nice_value(value: &Value) -> Option<i8>
 
 /// Answers the nice value of a task, 0 if the key is absent.
 pub(crate) fn nice(table: &Table) -> Result<i8, Why<'_>>
-    ensures { result_ok result ≡ or_default (pos 0) nice_of (get_member (codes "nice") (table_view table.now)) }
+    ensures { result_ok result ≡ or_default (pos 0) read_nice (get_member (codes "nice") (table_view table.now)) }
 {
     match at(table, "nice") {
         None => Ok(0),
@@ -146,7 +146,7 @@ pub(crate) fn nice(table: &Table) -> Result<i8, Why<'_>>
 
 /// The processors that a task may use: of the machine's at least one.
 pub(crate) fn mask<'a>(table: &'a Table, all: u64, machine: u8) -> Result<u64, Why<'a>>
-    ensures { result_ok result ≡ or_default all (mask_of all) (get_member (codes "cpus") (table_view table.now)) }
+    ensures { result_ok result ≡ or_default all (read_mask all) (get_member (codes "cpus") (table_view table.now)) }
 {
     let value = match at(table, "cpus") {
         None => return Ok(all),
@@ -232,7 +232,7 @@ fn size_given(value: &Value) -> Option<ProcessorCount>
 
 /// The name of a task.
 pub(crate) fn name(table: &Table) -> Result<&str, Why<'_>>
-    ensures { option_map (λ s. s.now) (result_ok result) ≡ name_at (table_view table.now) }
+    ensures { option_map (λ s. s.now) (result_ok result) ≡ name_in_members (table_view table.now) }
 {
     let value = match at(table, "name") {
         None => return Err(Why::Missing("name")),

@@ -2,7 +2,7 @@
 ghost use Rattle.std.specs.Prelude.{◌≡◌, ℕ, List, Some, None, IfOk, IsSome, option_and_then};
 ghost use Rattle.std.specs.Result.{result_err};
 ghost use Rattle.toml.specs.View.{table_view};
-ghost use Rattle.bq_workload_file.specs.Fields.{name_at};
+ghost use Rattle.bq_workload_file.specs.Fields.{name_in_members};
 ghost use Rattle.bq_workload_file.specs.Keys.{IsRefusedFor, first_unknown, task_keys, unknown_key};
 ghost use Rattle.bq_workload_file.specs.Workloads.{HasNumbers, IsKind, all_of};
 
@@ -99,7 +99,7 @@ pub(crate) fn kind<'a>(
     processors: Processors,
 ) -> Result<TaskKind, Trouble<'a>>
     ensures read { IfOk result (IsKind names.now processors.all (table_view table.now)) }
-    ensures unknown { (key : List ℕ) → IsSome (name_at (table_view table.now)) → first_unknown task_keys (table_view table.now) ≡ Some key → IsRefusedFor key result }
+    ensures unknown { (key : List ℕ) → IsSome (name_in_members (table_view table.now)) → first_unknown task_keys (table_view table.now) ≡ Some key → IsRefusedFor key result }
 {
     let called = name(table);
     let place = Location::Task {

@@ -2,7 +2,7 @@
 ghost use Rattle.std.specs.Prelude.{◌≡◌};
 ghost use Rattle.toml.specs.Data.{no_items, item};
 ghost use Rattle.toml.specs.View.{view, table_view};
-ghost use Rattle.bq_workload_file.specs.Lengths.{length_of, drawn_of, ends_of, uniform_of, time_of};
+ghost use Rattle.bq_workload_file.specs.Lengths.{read_length, drawn_of, ends_of, uniform_of, read_time};
 
 use crate::fields::span;
 use crate::tables::only;
@@ -12,7 +12,7 @@ use toml::{Table, Value};
 
 /// A length: a duration, or a table that says how it is drawn.
 pub(crate) fn length(value: &Value) -> Option<Length>
-    ensures { result ≡ length_of (view value.now) }
+    ensures { result ≡ read_length (view value.now) }
 {
     match value.as_table() {
         Some(table) => drawn(table),
@@ -64,7 +64,7 @@ fn between(first: &Value, last: &Value) -> Option<Length>
 
 /// A duration that takes time.
 fn time(value: &Value) -> Option<u64>
-    ensures { result ≡ time_of (view value.now) }
+    ensures { result ≡ read_time (view value.now) }
 {
     span(value, PHASE)
 }

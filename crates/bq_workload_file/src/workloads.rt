@@ -6,7 +6,7 @@ ghost use Rattle.toml.specs.View.{view, items_view, table_view};
 ghost use Rattle.bq_workload.specs.Lengths.{is_long};
 ghost use Rattle.bq_workload.specs.Soundness.{first_flaw};
 ghost use Rattle.bq_workload_file.specs.Keys.{IsRefusedFor, document_keys, first_unknown};
-ghost use Rattle.bq_workload_file.specs.Workloads.{AreKinds, AreNames, AreOthers, DescribesWorkload, IsMachine, IsReadFault, tasks_of};
+ghost use Rattle.bq_workload_file.specs.Workloads.{AreKinds, AreTableNames, AreOthers, DescribesWorkload, IsMachine, IsWorkloadFault, task_tables};
 
 use crate::actions;
 use crate::blame::{Location, Trouble};
@@ -30,7 +30,7 @@ static DOCUMENT: [&str; 2] = ["machine", "task"];
 pub fn read(alloc: Global, text: &str, changes: Changes) -> Result<Workload, Fault>
     ensures describes { IfOk result (DescribesWorkload text.now changes) }
     ensures sound { IfSome changes.duration (λ d. is_long d ≡ true) → IfOk result (λ w. first_flaw w ≡ None) }
-    ensures fault { IfErr result (IsReadFault text.now) }
+    ensures fault { IfErr result (IsWorkloadFault text.now) }
 {
     let document = match toml::table_from_str(alloc, text) {
         Ok(document) => document,
@@ -58,7 +58,7 @@ pub fn read(alloc: Global, text: &str, changes: Changes) -> Result<Workload, Fau
 
 /// The fault that a trouble is reported as.
 fn reported(alloc: Global, trouble: &Trouble<'_>) -> Fault
-    ensures { (text : List ℕ) → IsSome (parse_document text) → IsReadFault text result }
+    ensures { (text : List ℕ) → IsSome (parse_document text) → IsWorkloadFault text result }
 {
     match trouble {
         Trouble::OutOfMemory => Fault::OutOfMemory,
@@ -74,7 +74,7 @@ fn outline(document: &Table) -> Result<(Setup, &[Value]), Trouble<'_>>
     ensures known { IfOk result (λ _. first_unknown document_keys (table_view document.now) ≡ None) }
     ensures unknown { (key : List ℕ) → first_unknown document_keys (table_view document.now) ≡ Some key → IsRefusedFor key result }
     ensures machine { IfOk result (λ p. IsMachine (table_view document.now) p.0) }
-    ensures tasks { IfOk result (λ p. tasks_of (table_view document.now) ≡ Some (items_view p.1.now)) }
+    ensures tasks { IfOk result (λ p. task_tables (table_view document.now) ≡ Some (items_view p.1.now)) }
     ensures some { IfOk result (λ p. 0 < length p.1.now) }
 {
     Location::Document.locate(all_known(document, &DOCUMENT))?;
@@ -112,7 +112,7 @@ fn table_at<'a>(key: &'static str, value: &'a Value) -> Result<&'a Table, Why<'a
 
 /// The tables of the tasks, at least one.
 fn tables(document: &Table) -> Result<&[Value], Why<'_>>
-    ensures tasks { IfOk result (λ t. tasks_of (table_view document.now) ≡ Some (items_view t.now)) }
+    ensures tasks { IfOk result (λ t. task_tables (table_view document.now) ≡ Some (items_view t.now)) }
     ensures some { IfOk result (λ t. 0 < length t.now) }
 {
     let value = match at(document, "task") {
@@ -132,7 +132,7 @@ fn tables(document: &Table) -> Result<&[Value], Why<'_>>
 
 /// Answers the names of the tasks, no two of which are equal. Each is of one task at least, so there are at most 1,024.
 fn names<'a>(alloc: Global, tables: &'a [Value]) -> Result<Vec<String>, Trouble<'a>>
-    ensures names { IfOk result (λ v. AreNames (items_view tables.now) v.items) }
+    ensures names { IfOk result (λ v. AreTableNames (items_view tables.now) v.items) }
     ensures others { IfOk result (λ v. AreOthers [] v.items) }
 {
     let mut names = Vec::new(alloc);

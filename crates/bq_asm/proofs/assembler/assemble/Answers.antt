@@ -7,7 +7,7 @@ use Rattle.std.proofs.lemmas.Iterator.Consumers.{YieldsList-so_far, YieldsList-t
 use Rattle.bq_insn.specs.Spelling.{is_well_formed}
 use Rattle.bq_insn.specs.Laws.{AllFit}
 use Rattle.bq_asm.specs.Lines.{parsed_line, lines_of}
-use Rattle.bq_asm.specs.Faults.{fault_at, cause_at, IsFault}
+use Rattle.bq_asm.specs.Faults.{fault_at, cause_at_line, IsAssemblyFault}
 use Rattle.bq_asm.specs.Assembly.{Assembles}
 use Rattle.bq_asm.specs.Draft.{IsDraftOf}
 use Rattle.bq_asm.proofs.LineByLineLemmas.{parsed_so_far, next_fault, more_clean, first_fault, assembled, unassembled}
@@ -26,7 +26,7 @@ loop-line-preserved c =
     (ap (λ n. n + 1) (count ∙ sym (length-map yielded (λ line. parsed_line line.now)))) in
     let fault =
     next_fault c.args.text.now yielded c.in-Some.line.now so_far turn.0 turn.1
-    ∙ ap (λ line. cause_at (parsed_so_far yielded) (parsed_line line)) (sym c.as_bytes.ensures.value) ∙ taken.0 in
+    ∙ ap (λ line. cause_at_line (parsed_so_far yielded) (parsed_line line)) (sym c.as_bytes.ensures.value) ∙ taken.0 in
     record {
       described =
           subst (λ lines. IsDraftOf lines c.take_line.new.self)
@@ -48,13 +48,13 @@ returns-in_err-take_line-clause-fault c =
     let line = c.as_bytes.ensures.value in
     let fault =
     next_fault c.args.text.now yielded c.in-Some.line.now so_far turn.0 turn.1
-    ∙ ap (λ line. cause_at (parsed_so_far yielded) (parsed_line line)) (sym line) in
+    ∙ ap (λ line. cause_at_line (parsed_so_far yielded) (parsed_line line)) (sym line) in
     let p = err_from_is_err_and c.from_residual.result c.from_residual.ensures.1 in
     let is =
     first_fault c.args.text.now c.loop-line.draft yielded c.loop-line.number c.as_bytes.result.now
     c.in_err-take_line.field-0.0 count c.loop-line.invariant.described c.loop-line.invariant.clean
     fault c.in_err-take_line.ensures.fault in
-    subst (λ r. IfErr r (IsFault c.args.text.now)) (sym p.1) (subst (IsFault c.args.text.now) (sym p.2) is)
+    subst (λ r. IfErr r (IsAssemblyFault c.args.text.now)) (sym p.1) (subst (IsAssemblyFault c.args.text.now) (sym p.2) is)
 
 pub returns-clause-assembles : goal.returns-clause-assembles
 returns-clause-assembles c =

@@ -1,5 +1,5 @@
 use Rattle.std.proofs.Common.{◌≡◌, ℕ, ◌<◌, ◌≤◌, arith}
-use Rattle.bq_parts.specs.Processors.{opening}
+use Rattle.bq_parts.specs.Processors.{new_processor}
 use Rattle.bq_core.proofs.CutListLemmas.{first_part_reads, second_part_reads, written_parts_joined, joined_reversed}
 use Rattle.bq_core.proofs.pulling.pull_between.Goals as goal
 
@@ -16,10 +16,10 @@ pull-requires-clause-once g c =
     let cut = c.split_at_mut-low in
     let less : c.args.processor < c.args.from = omega arith in
     let puller =
-    first_part_reads c.args.cpus.now cut.result.0.now c.args.processor _ c.args.from _ c.index-low-from.result opening
+    first_part_reads c.args.cpus.now cut.result.0.now c.args.processor _ c.args.from _ c.index-low-from.result new_processor
     cut.ensures.front c.from.ensures c.from-then-processor-from.ensures less c.requires.inside in
     let source =
-    second_part_reads c.args.cpus.now cut.result.1.now c.args.from _ c.index-high-0.result opening cut.ensures.back
+    second_part_reads c.args.cpus.now cut.result.1.now c.args.from _ c.index-high-0.result new_processor cut.ensures.back
     c.from.ensures c.requires.inside_from in
     λ id. rw (puller, source) (c.requires.once id)
 
@@ -28,10 +28,10 @@ pull-requires-clause-ids g c =
     let cut = c.split_at_mut-low in
     let less : c.args.processor < c.args.from = omega arith in
     let puller =
-    first_part_reads c.args.cpus.now cut.result.0.now c.args.processor _ c.args.from _ c.index-low-from.result opening
+    first_part_reads c.args.cpus.now cut.result.0.now c.args.processor _ c.args.from _ c.index-low-from.result new_processor
     cut.ensures.front c.from.ensures c.from-then-processor-from.ensures less c.requires.inside in
     let source =
-    second_part_reads c.args.cpus.now cut.result.1.now c.args.from _ c.index-high-0.result opening cut.ensures.back
+    second_part_reads c.args.cpus.now cut.result.1.now c.args.from _ c.index-high-0.result new_processor cut.ensures.back
     c.from.ensures c.requires.inside_from in
     λ id l. rw (puller, source) (c.requires.ids id l)
 
@@ -41,10 +41,10 @@ pull-requires-else-processor-from-clause-once g c =
     let less : c.args.from < c.args.processor = omega (arith, c.requires.apart) in
     let source =
     first_part_reads c.args.cpus.now cut.result.0.now c.args.from _ c.args.processor _
-    c.index-low-from-else-processor-from.result opening cut.ensures.front c.from-else-processor-from.ensures
+    c.index-low-from-else-processor-from.result new_processor cut.ensures.front c.from-else-processor-from.ensures
     c.from-else-processor-from-2.ensures less c.requires.inside_from in
     let puller =
-    second_part_reads c.args.cpus.now cut.result.1.now c.args.processor _ c.index-high-0-else-processor-from.result opening
+    second_part_reads c.args.cpus.now cut.result.1.now c.args.processor _ c.index-high-0-else-processor-from.result new_processor
     cut.ensures.back c.from-else-processor-from.ensures c.requires.inside in
     λ id. rw (puller, source) (c.requires.once id)
 
@@ -54,10 +54,10 @@ pull-requires-else-processor-from-clause-ids g c =
     let less : c.args.from < c.args.processor = omega (arith, c.requires.apart) in
     let source =
     first_part_reads c.args.cpus.now cut.result.0.now c.args.from _ c.args.processor _
-    c.index-low-from-else-processor-from.result opening cut.ensures.front c.from-else-processor-from.ensures
+    c.index-low-from-else-processor-from.result new_processor cut.ensures.front c.from-else-processor-from.ensures
     c.from-else-processor-from-2.ensures less c.requires.inside_from in
     let puller =
-    second_part_reads c.args.cpus.now cut.result.1.now c.args.processor _ c.index-high-0-else-processor-from.result opening
+    second_part_reads c.args.cpus.now cut.result.1.now c.args.processor _ c.index-high-0-else-processor-from.result new_processor
     cut.ensures.back c.from-else-processor-from.ensures c.requires.inside in
     λ id l. rw (puller, source) (c.requires.ids id l)
 
@@ -66,10 +66,10 @@ returns-then-processor-from-clause-share g c =
     let cut = c.split_at_mut-low in
     let less : c.args.processor < c.args.from = omega arith in
     let puller =
-    first_part_reads c.args.cpus.now cut.result.0.now c.args.processor _ c.args.from _ c.index-low-from.result opening
+    first_part_reads c.args.cpus.now cut.result.0.now c.args.processor _ c.args.from _ c.index-low-from.result new_processor
     cut.ensures.front c.from.ensures c.from-then-processor-from.ensures less c.requires.inside in
     let source =
-    second_part_reads c.args.cpus.now cut.result.1.now c.args.from _ c.index-high-0.result opening cut.ensures.back
+    second_part_reads c.args.cpus.now cut.result.1.now c.args.from _ c.index-high-0.result new_processor cut.ensures.back
     c.from.ensures c.requires.inside_from in (
       c.pull.new.self,
       c.pull.new.source,
@@ -85,10 +85,10 @@ returns-else-processor-from-clause-share g c =
     let less : c.args.from < c.args.processor = omega (arith, c.requires.apart) in
     let source =
     first_part_reads c.args.cpus.now cut.result.0.now c.args.from _ c.args.processor _
-    c.index-low-from-else-processor-from.result opening cut.ensures.front c.from-else-processor-from.ensures
+    c.index-low-from-else-processor-from.result new_processor cut.ensures.front c.from-else-processor-from.ensures
     c.from-else-processor-from-2.ensures less c.requires.inside_from in
     let puller =
-    second_part_reads c.args.cpus.now cut.result.1.now c.args.processor _ c.index-high-0-else-processor-from.result opening
+    second_part_reads c.args.cpus.now cut.result.1.now c.args.processor _ c.index-high-0-else-processor-from.result new_processor
     cut.ensures.back c.from-else-processor-from.ensures c.requires.inside in (
       pull.new.self,
       pull.new.source,

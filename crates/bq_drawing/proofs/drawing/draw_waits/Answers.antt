@@ -2,7 +2,7 @@ use Rattle.std.proofs.Common.{◌∙◌, ap, refl, arith}
 use Rattle.std.proofs.lemmas.List.{drop_all}
 use Rattle.bq_disc.specs.Counts.{saturating_sum}
 use Rattle.bq_drawing.specs.declared.lanes.Stretch.{Stretch}
-use Rattle.bq_drawing.specs.Shapes.{setting_of, wait_in}
+use Rattle.bq_drawing.specs.Shapes.{picture_setting, wait_in}
 use Rattle.bq_drawing.proofs.PictureLemmas.{lanes_end, lanes_next}
 use Rattle.bq_drawing.proofs.PlacedLemmas.{lanes_all, lanes_more, left_all, left_more}
 use Rattle.bq_drawing.proofs.drawing.draw_waits.Goals as goal
@@ -12,7 +12,7 @@ loop-wait-preserved c =
     let room = (λ (wait : Stretch). wait) in
     record {
       text =
-          lanes_next room (wait_in (setting_of c.args.frame.now) c.args.top) c.loop-wait.lanes _ c.args.waits.now
+          lanes_next room (wait_in (picture_setting c.args.frame.now) c.args.top) c.loop-wait.lanes _ c.args.waits.now
           c.loop-wait.wait-index _ _ _ _ _ _ c.loop-wait-test.true refl c.in_ok-lane.ensures.lane c.in_ok-lane.ensures.taken
           c.in_ok-write_wait_in.ensures c.loop-wait.invariant.text;
       lanes = lanes_more room c.loop-wait.lanes _ c.args.waits.now c.loop-wait.wait-index _ _ _ _ c.loop-wait-test.true refl
@@ -27,7 +27,7 @@ loop-wait-preserved c =
 
 pub returns-clause-text : goal.returns-clause-text
 returns-clause-text c =
-    lanes_end (λ (wait : Stretch). wait) (wait_in (setting_of c.args.frame.now) c.args.top) c.loop-wait.lanes
+    lanes_end (λ (wait : Stretch). wait) (wait_in (picture_setting c.args.frame.now) c.args.top) c.loop-wait.lanes
     c.args.waits.now c.loop-wait.wait-index _ _ (drop_all c.loop-wait.wait-index c.args.waits.now c.loop-wait-test.false)
     c.loop-wait.invariant.text
 

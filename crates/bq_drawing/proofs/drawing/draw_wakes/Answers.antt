@@ -1,7 +1,7 @@
 use Rattle.std.proofs.Common.{◌∙◌, ap, arith}
 use Rattle.std.proofs.lemmas.List.{drop_all}
 use Rattle.bq_disc.specs.Counts.{saturating_sum}
-use Rattle.bq_drawing.specs.Shapes.{arrow_of, setting_of, wake_in}
+use Rattle.bq_drawing.specs.Shapes.{arrow_of, picture_setting, wake_in}
 use Rattle.bq_drawing.proofs.PictureLemmas.{lanes_end, lanes_next}
 use Rattle.bq_drawing.proofs.PlacedLemmas.{left_all, left_more}
 use Rattle.bq_drawing.proofs.drawing.draw_wakes.Goals as goal
@@ -11,7 +11,7 @@ loop-wake-preserved c =
     let room = (arrow_of c.args.frame.now.scale.extent) in
     record {
       text =
-          lanes_next room (wake_in (setting_of c.args.frame.now) c.args.top) c.loop-wake.lanes _ c.args.wakes.now
+          lanes_next room (wake_in (picture_setting c.args.frame.now) c.args.top) c.loop-wake.lanes _ c.args.wakes.now
           c.loop-wake.wake-index _ _ _ _ _ _ c.loop-wake-test.true c.drawn_wake.ensures c.in_ok-level.ensures.lane
           c.in_ok-level.ensures.taken c.in_ok-write_wake_in.ensures c.loop-wake.invariant.text;
       fits = omega (arith, c.saturating_add-left_out.ensures);
@@ -24,7 +24,7 @@ loop-wake-preserved c =
 
 pub returns-clause-text : goal.returns-clause-text
 returns-clause-text c =
-    lanes_end (arrow_of c.args.frame.now.scale.extent) (wake_in (setting_of c.args.frame.now) c.args.top) c.loop-wake.lanes
+    lanes_end (arrow_of c.args.frame.now.scale.extent) (wake_in (picture_setting c.args.frame.now) c.args.top) c.loop-wake.lanes
     c.args.wakes.now c.loop-wake.wake-index _ _ (drop_all c.loop-wake.wake-index c.args.wakes.now c.loop-wake-test.false)
     c.loop-wake.invariant.text
 

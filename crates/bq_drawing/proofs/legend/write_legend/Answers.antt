@@ -3,19 +3,19 @@ use Rattle.std.proofs.lemmas.List.{drop_all}
 use Rattle.std.proofs.lemmas.Result.{on_ok_weaker}
 use Rattle.bq_disc.specs.Counts.{saturating_sum}
 use Rattle.bq_drawing.specs.Legends.{entries_text, key_text, key_top, leaves_out, left_out_text, line_height, text_if}
-use Rattle.bq_drawing.specs.Shapes.{setting_of}
+use Rattle.bq_drawing.specs.Shapes.{picture_setting}
 use Rattle.bq_drawing.proofs.LegendLemmas.{entries_end, entries_next}
 use Rattle.bq_drawing.proofs.PictureLemmas.{both_added}
 use Rattle.bq_drawing.proofs.legend.write_legend.Goals as goal
 
 pub loop-place-preserved : goal.loop-place-preserved
 loop-place-preserved c =
-    entries_next (setting_of c.args.frame.now) c.args.first c.args.tasks.now c.loop-place.place _ _ _ _ c.loop-place-test.true
+    entries_next (picture_setting c.args.frame.now) c.args.first c.args.tasks.now c.loop-place.place _ _ _ _ c.loop-place-test.true
     c.in_ok-write_entry.ensures c.loop-place.invariant
 
 pub returns : goal.returns
 returns c =
-    let s = setting_of c.args.frame.now in
+    let s = picture_setting c.args.frame.now in
     let tasks = c.args.tasks.now in
     let key = c.args.key.now in
     let old = string_bytes c.args.text.now in

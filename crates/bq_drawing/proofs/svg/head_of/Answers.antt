@@ -1,5 +1,5 @@
 use Rattle.std.proofs.Common.{◌≡◌, List, ℕ, ◌++◌, ◌∙◌, ap, string_bytes}
-use Rattle.bq_drawing.specs.Frames.{hash_of, name_text, root_text, root_title}
+use Rattle.bq_drawing.specs.Frames.{hash_of, picture_name_text, root_text, root_title}
 use Rattle.bq_drawing.specs.Headings.{title_of}
 use Rattle.bq_drawing.proofs.PictureLemmas.{both_added}
 use Rattle.bq_drawing.proofs.svg.head_of.Goals as goal
@@ -11,10 +11,10 @@ returns c =
     let t1 = string_bytes c.write_root.new.text in
     let t2 = string_bytes c.write_root_title.new.text in
     let styles = c.as_str-2.result.now in
-    let root = root_text (name_text (hash_of look.theme (string_bytes drawn.text))) drawn.height in
+    let root = root_text (picture_name_text (hash_of look.theme (string_bytes drawn.text))) drawn.height in
     let begun : t1 ≡ root =
-    c.in_ok-write_root.ensures ∙ ap (λ (t : List ℕ). t ++ root_text (name_text c.of-name.result.0) drawn.height) c.new-text.ensures.bytes
-    ∙ ap (λ hash. root_text (name_text hash) drawn.height)
+    c.in_ok-write_root.ensures ∙ ap (λ (t : List ℕ). t ++ root_text (picture_name_text c.of-name.result.0) drawn.height) c.new-text.ensures.bytes
+    ∙ ap (λ hash. root_text (picture_name_text hash) drawn.height)
     (c.of-name.ensures ∙ ap (λ (t : List ℕ). hash_of look.theme t) c.as_str.ensures.value) in (
       styles,
       both_added t1 t2 (string_bytes c.push_str.new.self) (root_title (title_of look)) styles

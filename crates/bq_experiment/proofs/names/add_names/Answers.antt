@@ -3,12 +3,12 @@ use Rattle.std.proofs.Common.{◌≡◌, ◌++◌, ◌∷◌, ℕ, [], List, Str
 use Rattle.std.specs.List.{range_with_len}
 use Rattle.std.proofs.lemmas.List.{map_push}
 use Rattle.std.proofs.lemmas.List.FromFn.{map-range_with_len_more}
-use Rattle.bq_experiment.specs.Names.{name_in}
+use Rattle.bq_experiment.specs.Names.{name_of_task}
 use Rattle.bq_experiment.proofs.names.add_names.Goals as goal
 
 pub numbers-preserved : goal.numbers-preserved
 numbers-preserved c =
-    let name = name_in c.args.kind.now in
+    let name = name_of_task c.args.kind.now in
     let number = c.numbers.number in
     let before = map string_bytes c.args.names.now.items in
     let pushed : map string_bytes c.push.new.self.items

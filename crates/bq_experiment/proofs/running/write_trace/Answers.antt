@@ -1,7 +1,7 @@
 -- What comes of the run is written, piece by piece and then the rest.
 use Rattle.std.proofs.Common.{◌≡◌}
 use Rattle.bq_simulate.specs.declared.fault.SimulateFault.TheVariants.{Enough}
-use Rattle.bq_streams.specs.Counts.{inner_of}
+use Rattle.bq_streams.specs.Counts.{counted_inner}
 use Rattle.bq_experiment.specs.Faults.{IsNoEnd}
 use Rattle.bq_experiment.specs.Limits.{IsLonger}
 use Rattle.bq_experiment.specs.Standing.{image_for}
@@ -13,7 +13,7 @@ pub returns-in-Ok-write_text-clause-written : goal.returns-in-Ok-write_text-clau
 returns-in-Ok-write_text-clause-written g c =
     let contents = g.W.Write.contents in
     let policies = c.args.policies.now in
-    run_written contents c.args.run.now c.simulate_into.new.sink (contents (inner_of c.write_text.new.self.output))
+    run_written contents c.args.run.now c.simulate_into.new.sink (contents (counted_inner c.write_text.new.self.output))
     c.args.workload.now policies.loaded (image_for policies.images) c.requires.empty c.requires.images
     c.in-Ok.ensures.of_images c.in-Ok.ensures.sound c.in-Ok.ensures.wants c.in-Ok.ensures.reported
     c.in-Ok-write_text.ensures.added

@@ -4,7 +4,7 @@ use Rattle.bq_insn.specs.Slots.{spread}
 use Rattle.bq_verify.specs.Edges.{IsStart}
 use Rattle.bq_verify.proofs.EdgeLemmas.{start_inside}
 use Rattle.bq_policy_file.specs.Subjects.{subject_in}
-use Rattle.bq_explain.specs.Explained.{IsOfState, IsPlace}
+use Rattle.bq_explain.specs.Explained.{IsOfState, IsPlaceOfSlot}
 use Rattle.bq_explain.proofs.ExplainLemmas.{refused_here, refused_faultless, refusal_of_graph, refusal_of_state}
 use Rattle.bq_explain.proofs.refusal.refusal_of.Goals as goal
 
@@ -39,7 +39,7 @@ returns-in-Graph c =
     let same : c.as_slice-2.result.now ≡ spread c.args.policy.now.insns.items =
     c.as_slice-2.ensures.value ∙ c.in_ok-slots.ensures ∙ ap spread c.as_slice.ensures.value in
     rw c.in-Graph.is (refusal_of_graph c.args.policy.now c.args.slot c.in-Graph.named c.in-Some.place c.graph_refusal.result
-    (subst (λ (s : List (Option Insn)). IsPlace s c.args.slot c.in-Some.place) same c.in-Some.ensures.place)
+    (subst (λ (s : List (Option Insn)). IsPlaceOfSlot s c.args.slot c.in-Some.place) same c.in-Some.ensures.place)
     c.graph_refusal.ensures.place c.graph_refusal.ensures.cause c.graph_refusal.ensures.finds c.graph_refusal.ensures.made)
 
 pub returns : goal.returns
@@ -50,5 +50,5 @@ returns c =
     c.as_slice-in-State.ensures.value ∙ c.in_ok-slots.ensures ∙ ap spread c.as_slice.ensures.value in
     refusal_of_state c.args.policy.now c.args.slot c.args.cause
     c.as_slice-in-State.result.now there c.in-Some.place c.state_refusal.result
-    (subst (λ (s : List (Option Insn)). IsPlace s c.args.slot c.in-Some.place) same c.in-Some.ensures.place)
+    (subst (λ (s : List (Option Insn)). IsPlaceOfSlot s c.args.slot c.in-Some.place) same c.in-Some.ensures.place)
     c.state_refusal.ensures.place c.state_refusal.ensures.cause c.state_refusal.ensures.finds c.state_refusal.ensures.made

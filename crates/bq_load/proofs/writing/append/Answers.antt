@@ -2,7 +2,7 @@ use Rattle.bq_insn.specs.Appending.{StartsWith}
 use Rattle.bq_insn.proofs.EncodeLemmas.{on_err, starts_more}
 use Rattle.std.proofs.Common.{ℕ, ◌/◌, ◌∙◌, ap}
 use Rattle.std.specs.Int.{w32, to_le_bytes}
-use Rattle.bq_load.specs.Layout.{opening, shapes_bytes}
+use Rattle.bq_load.specs.Layout.{image_opening, shapes_bytes}
 use Rattle.bq_load.proofs.WritingLemmas.{four_parts}
 use Rattle.bq_load.proofs.writing.append.Goals as goal
 
@@ -33,7 +33,7 @@ returns-clause-ok c =
     c.in_ok-extend_from_slice.ensures.items c.in_ok-append_shapes.ensures.ok c.in_ok-extend_from_slice-2.ensures.items
     c.in_ok-extend_from_slice-3.ensures.items
     (c.opening.ensures
-    ∙ ap (opening c.args.image.now.form.version c.args.image.now.form.hook) (c.len-count.ensures ∙ c.args.image.now.form.shapes.ok.0))
+    ∙ ap (image_opening c.args.image.now.form.version c.args.image.now.form.hook) (c.len-count.ensures ∙ c.args.image.now.form.shapes.ok.0))
     (ap shapes_bytes c.as_slice.ensures.value)
     (c.to_le_bytes.ensures ∙ ap (λ (n : ℕ). to_le_bytes w32 (n / 8)) (c.len.ensures ∙ c.args.image.now.program.ok.0))
     c.as_slice-2.ensures.value

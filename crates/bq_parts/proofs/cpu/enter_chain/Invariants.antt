@@ -1,7 +1,7 @@
 use Rattle.std.proofs.Common.{◌≡◌, ℕ, ◌+◌, ◌≤◌, length}
 use Rattle.bq_disc.specs.Chains.{chain_behind, IsStraightBehind}
 use Rattle.bq_disc.specs.OneProcessor.{entered}
-use Rattle.bq_parts.specs.Processors.{count_of}
+use Rattle.bq_parts.specs.Processors.{count_of_id}
 use Rattle.bq_parts.proofs.cpu.enter_chain.Given as goal
 
 abbrev pub invariant-loop-node : goal.invariant-loop-node
@@ -14,7 +14,7 @@ invariant-loop-node g l =
       same_mark : kept l.queue ≡ kept l.fn.queue;
       goes_on : entered d (kept l.fn.queue) (members l.queue) (chain_behind l.rest)
           ≡ entered d (kept l.fn.queue) (members l.fn.queue) (chain_behind l.fn.tasks);
-      apart : (id : ℕ) → count_of id (members l.queue) + count_of id (chain_behind l.rest) ≤ 1;
+      apart : (id : ℕ) → count_of_id id (members l.queue) + count_of_id id (chain_behind l.rest) ≤ 1;
     }
 
 abbrev pub decreases-loop-node : goal.decreases-loop-node

@@ -1,7 +1,7 @@
 use Rattle.std.proofs.Common.{sym, subst}
 use Rattle.std.specs.Prelude.{IfErr}
 use Rattle.std.proofs.lemmas.Result.{err_from_is_err_and}
-use Rattle.bq_policy_file.specs.Files.{HasHead, IsTextFault, IsWhole}
+use Rattle.bq_policy_file.specs.Files.{HasHead, IsTextFault, IsWholeText}
 use Rattle.bq_policy_file.proofs.HeadLemmas.{bad_program, uncombinable_is_fault}
 use Rattle.bq_policy_file.proofs.reading.from_str.Goals as goal
 
@@ -26,7 +26,7 @@ returns-in_err-insns-clause-fault c =
 
 pub returns-clause-fault : goal.returns-clause-fault
 returns-clause-fault c =
-    let whole : IsWhole c.args.text.now c.in_ok-stated.stated =
+    let whole : IsWholeText c.args.text.now c.in_ok-stated.stated =
     record {
       head = record { text = c.utf8.text; states = c.in_ok-stated.ensures.head };
       insns = c.in_ok-insns.insns.items;

@@ -1,7 +1,7 @@
 use Rattle.std.proofs.Common.{inl, inr, refl}
 use Rattle.std.specs.Prelude.{is_some}
 use Rattle.std.proofs.lemmas.Result.{IfOk-weaker}
-use Rattle.bq_policy_run.specs.Running.{HasInputs, HasRun, IsBefore, RunsProgram}
+use Rattle.bq_policy_run.specs.Running.{HasInputs, HasRun, IsCountBeforeLast, RunsProgram}
 use Rattle.bq_policy_check.specs.Given.{option_bytes}
 use Rattle.bq_policy_run.proofs.NamingLemmas.{named_fits}
 use Rattle.bq_console.proofs.GivenLemmas.{gives_none}
@@ -10,7 +10,7 @@ use Rattle.bq_policy_run.proofs.running.run_verified.Goals as goal
 pub returns-in-Err-Words : goal.returns-in-Err-Words
 returns-in-Err-Words g c = inl (
   (_, refl),
-  gives_none (IsBefore (option_bytes c.args.words.now.report.repeat)) _ _ c.in-Err-Words.field-0-is
+  gives_none (IsCountBeforeLast (option_bytes c.args.words.now.report.repeat)) _ _ c.in-Err-Words.field-0-is
       c.in-Err-Words.ensures.none,
 )
 

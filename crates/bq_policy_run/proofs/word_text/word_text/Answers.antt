@@ -1,7 +1,7 @@
 use Rattle.std.proofs.Common.{◌≡◌, ◌≤◌, length}
 use Rattle.std.specs.Prelude.{◌≢◌, string_bytes}
 use Rattle.std.proofs.lemmas.Result.{IfOk-weaker}
-use Rattle.bq_policy_run.specs.Permitting.{word_of}
+use Rattle.bq_policy_run.specs.Permitting.{permission_word}
 use Rattle.bq_policy_run.specs.declared.permitted.Permission.TheVariants.{NotShown}
 use Rattle.bq_hooks.specs.Hooks.{context_length_of}
 use Rattle.bq_hooks.specs.declared.hook.Version.{Version}
@@ -16,7 +16,7 @@ returns-in-Place c =
     IfOk-weaker c.place_text.result (λ text. 36 ≤ length context → word ≢ NotShown → BeginsWithWord word (string_bytes text))
     (λ text.
     (version : Version) → length context ≡ context_length_of c.args.hook version →
-    BeginsWithWord (word_of c.args.hook context c.args.r0) (string_bytes text))
+    BeginsWithWord (permission_word c.args.hook context c.args.r0) (string_bytes text))
     (λ text reported. judged_place c.args.hook context c.args.r0 word (string_bytes text) c.in-Place.is c.word_on-word.ensures reported)
     c.place_text.ensures
 
@@ -27,7 +27,7 @@ returns-in-Preempt c =
     IfOk-weaker c.from_str.result (λ text. string_bytes text ≡ c.preempt_text.result.now)
     (λ text.
     (version : Version) → length context ≡ context_length_of c.args.hook version →
-    BeginsWithWord (word_of c.args.hook context c.args.r0) (string_bytes text))
+    BeginsWithWord (permission_word c.args.hook context c.args.r0) (string_bytes text))
     (λ text same.
     judged_preempt c.args.hook context c.args.r0 word (string_bytes text) c.preempt_text.result.now c.in-Preempt.is
     c.word_on-word.ensures c.preempt_text.ensures same) c.from_str.ensures.ok
@@ -39,7 +39,7 @@ returns-in-Pull c =
     IfOk-weaker c.from_str-in-Pull.result (λ text. string_bytes text ≡ c.pull_text.result.now)
     (λ text.
     (version : Version) → length context ≡ context_length_of c.args.hook version →
-    BeginsWithWord (word_of c.args.hook context c.args.r0) (string_bytes text))
+    BeginsWithWord (permission_word c.args.hook context c.args.r0) (string_bytes text))
     (λ text same.
     judged_pull c.args.hook context c.args.r0 word (string_bytes text) c.pull_text.result.now c.word_on-word.ensures
     c.pull_text.ensures same) c.from_str-in-Pull.ensures.ok

@@ -1,6 +1,6 @@
 use Rattle.std.proofs.Common.{ℕ, List, [], length, rules, sym, ap, subst, ◌∙◌}
 use Rattle.bq_disc.specs.Tasks.{Task}
-use Rattle.bq_parts.specs.Processors.{Processor, opening}
+use Rattle.bq_parts.specs.Processors.{Processor, new_processor}
 use Rattle.bq_parts.specs.StandsOnce.{IsOrderly}
 use Rattle.bq_shared.specs.declared.cells.NumberedCpu.{NumberedCpu}
 use Rattle.bq_shared.specs.declared.cells.NumberedInbox.{NumberedInbox}
@@ -16,7 +16,7 @@ contents_in_order-cpus-requires-clause-below g c =
     let tasks : NumberedInbox → List Task = λ y. y.state in
     let k = c.requires.world in
     let xs = c.args.contents.cpus.items in
-    below at state opening k.0.processors (length xs) xs (k.2.0 ∙ sym c.args.contents.many.0)
+    below at state new_processor k.0.processors (length xs) xs (k.2.0 ∙ sym c.args.contents.many.0)
     (cpus_there c.args.contents.lobby xs c.args.contents.inboxes.items at state place tasks k.0 k.2.3)
 
 pub contents_in_order-cpus-requires-clause-few : goal.contents_in_order-cpus-requires-clause-few
@@ -58,7 +58,7 @@ from_parts-requires g c =
     let k = c.requires.world in
     let w = k.0 in
     let cpus =
-    c.contents_in_order-cpus.ensures w.processors opening (k.2.0 ∙ sym c.args.contents.many.0)
+    c.contents_in_order-cpus.ensures w.processors new_processor (k.2.0 ∙ sym c.args.contents.many.0)
     (cpus_there s xs ys at state place tasks w k.2.3) in
     let inboxes =
     c.contents_in_order-inboxes.ensures w.inboxes [] (k.2.1 ∙ sym c.args.contents.many.1)
@@ -80,7 +80,7 @@ returns g c = λ w is.
     let ys = c.args.contents.inboxes.items in
     let s = c.args.contents.lobby in
     let cpus =
-    c.contents_in_order-cpus.ensures w.processors opening (is.0 ∙ sym c.args.contents.many.0)
+    c.contents_in_order-cpus.ensures w.processors new_processor (is.0 ∙ sym c.args.contents.many.0)
     (cpus_there s xs ys at state place tasks w is.3) in
     let inboxes =
     c.contents_in_order-inboxes.ensures w.inboxes [] (is.1 ∙ sym c.args.contents.many.1)

@@ -1,7 +1,7 @@
 use Rattle.std.proofs.Common.{◌≡◌, ◌-◌, ◌++◌, ◌<◌, ◌∷◌, [], length, sym, rules, ap, ◌∙◌, arith, length-append}
 use Rattle.std.proofs.lemmas.Iterator.Adapters.{YieldsList-from_vec}
 use Rattle.std.proofs.lemmas.Iterator.Consumers.{YieldsList-turn, YieldsList-end}
-use Rattle.bq_history.specs.Whole.{first_of, others_of}
+use Rattle.bq_history.specs.Whole.{first_item, others_of}
 use Rattle.bq_history.specs.Items.{part_item}
 use Rattle.bq_shared.specs.Parts.{cpu_part}
 use Rattle.bq_shared.specs.Opened.{cpu_items}
@@ -42,7 +42,7 @@ open-requires-clause-item g c =
     let r = c.requires.items in
     let n = length c.args.queues.items in
     let b : c.loop-queue.number < n = omega (arith, c.loop-queue.invariant.0, turn.0) in
-    ap first_of (c.loop-queue.invariant.2 r.0 r.1 ∙ cpu_turn c.loop-queue.number n r.0 b)
+    ap first_item (c.loop-queue.invariant.2 r.0 r.1 ∙ cpu_turn c.loop-queue.number n r.0 b)
     ∙ ap (λ x. part_item (cpu_part c.loop-queue.number x) ∷ []) (sym c.over.ensures)
 
 pub overflow_add-number : goal.overflow_add-number

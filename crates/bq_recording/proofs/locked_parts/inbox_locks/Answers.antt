@@ -1,5 +1,5 @@
 use Rattle.std.proofs.Common.{◌≡◌, ◌-◌, ◌++◌, ◌<◌, ◌∷◌, [], sym, rules, ap, ◌∙◌, arith}
-use Rattle.bq_history.specs.Whole.{first_of, others_of}
+use Rattle.bq_history.specs.Whole.{first_item, others_of}
 use Rattle.bq_history.specs.Items.{part_item}
 use Rattle.bq_shared.specs.Parts.{inbox_part}
 use Rattle.bq_shared.specs.Opened.{inbox_items}
@@ -10,7 +10,7 @@ pub open-requires-clause-item : goal.open-requires-clause-item
 open-requires-clause-item g c =
     let r = c.requires in
     let b : c.loop-number.number < c.args.count = omega arith in
-    ap first_of (c.loop-number.invariant.1 r.0 r.1 ∙ inbox_turn c.loop-number.number c.args.count r.0 b)
+    ap first_item (c.loop-number.invariant.1 r.0 r.1 ∙ inbox_turn c.loop-number.number c.args.count r.0 b)
     ∙ ap (λ x. part_item (inbox_part c.loop-number.number x) ∷ []) (sym c.new.ensures)
 
 pub loop-number-preserved : goal.loop-number-preserved

@@ -1,7 +1,7 @@
 use Rattle.std.proofs.Common.{◌≡◌, ◌+◌, ◌<◌, length, get_or, replicate, refl, arith, rules}
 use Rattle.std.proofs.lemmas.List.{get_or-replicate, get_or_default}
 use Rattle.bq_schedule.specs.declared.slice.Slice.{Slice}
-use Rattle.bq_report.specs.Longest.{time_in}
+use Rattle.bq_report.specs.Longest.{time_between}
 use Rattle.bq_report.proofs.LongestLemmas.{other_time, time_counted, bound_kept}
 use Rattle.bq_report.proofs.longest.times_in.Goals as goal
 use Rattle.bq_report.proofs.longest.times_in.Goals.{then-task-len, else-task-len}
@@ -18,7 +18,7 @@ loop-run-init c =
 pub loop-run-preserved : goal.loop-run-preserved
 loop-run-preserved c =
     let none : Slice = record { processor = 0; task = 0; from = 0; to = 0 } in
-    let time : c.saturating_sub-time.result ≡ time_in c.args.from c.args.to (get_or c.args.runs.now c.loop-run.run-index none) =
+    let time : c.saturating_sub-time.result ≡ time_between c.args.from c.args.to (get_or c.args.runs.now c.loop-run.run-index none) =
     omega arith in
     elim c.if-task-len.branch [
       | then-task-len w ↦
@@ -29,7 +29,7 @@ loop-run-preserved c =
           ≡ get_or c.loop-run.times.items c.from-task.result 0 + c.saturating_sub-time.result = omega (arith, before) in
           let counted : w.index-before.result.now + w.from.result
           ≡ get_or c.loop-run.times.items c.from-task.result 0
-          + time_in c.args.from c.args.to (get_or c.args.runs.now c.loop-run.run-index none) = omega (arith, value, time) in
+          + time_between c.args.from c.args.to (get_or c.args.runs.now c.loop-run.run-index none) = omega (arith, value, time) in
           rw w.times-is (record {
             places = c.loop-run.invariant.places;
             times = λ task h.

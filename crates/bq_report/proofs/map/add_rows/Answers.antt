@@ -1,5 +1,5 @@
 use Rattle.std.proofs.Common.{◌≡◌, ◌∙◌, ◌++◌, ap, arith, replicate}
-use Rattle.bq_report.specs.Maps.{empty_row}
+use Rattle.bq_report.specs.Maps.{empty_map_row}
 use Rattle.bq_report.proofs.DrawnLemmas.{rows_more, rows_none}
 use Rattle.bq_report.proofs.map.add_rows.Goals as goal
 
@@ -14,4 +14,4 @@ loop-preserved c =
 pub returns : goal.returns
 returns c =
     let all : c.loop.counter ≡ c.args.count = omega arith in
-    c.loop.invariant ∙ ap (λ n. c.args.rows.now.items ++ replicate n empty_row) all
+    c.loop.invariant ∙ ap (λ n. c.args.rows.now.items ++ replicate n empty_map_row) all

@@ -1,7 +1,7 @@
 use Rattle.std.proofs.Common.{◌≡◌, ◌+◌, ◌<◌, ◌∙◌, ap, arith, length, refl}
 use Rattle.std.specs.Prelude.{string_bytes}
 use Rattle.std.proofs.lemmas.List.{get_or_default}
-use Rattle.bq_report.specs.Maps.{empty_row, row_of}
+use Rattle.bq_report.specs.Maps.{empty_map_row, map_row_of}
 use Rattle.bq_report.proofs.LegendLemmas.{draws_at, draws_more, draws_none, draws_same, rows_behind}
 use Rattle.bq_report.proofs.ReportLemmas.{test_fails}
 use Rattle.bq_report.proofs.map.write_rows.Goals as goal
@@ -23,9 +23,9 @@ loop-number-preserved c =
     elim c.if-shows_row.branch [
       | then-shows_row+in_ok-columns+in_ok-write_row+in_ok-note w ↦
           let inside : c.loop-number.number < length c.loop-number.rows.items = omega (arith, there, c.loop-number.invariant.count) in
-          let row : w.index_mut-row.result.now ≡ row_of c.args.rows.now.items c.loop-number.number =
+          let row : w.index_mut-row.result.now ≡ map_row_of c.args.rows.now.items c.loop-number.number =
           w.index_mut-row.ensures.value
-          ∙ get_or_default c.loop-number.rows.items c.loop-number.number w.index_mut-row.result.now empty_row inside
+          ∙ get_or_default c.loop-number.rows.items c.loop-number.number w.index_mut-row.result.now empty_map_row inside
           ∙ c.loop-number.invariant.rest c.loop-number.number (omega arith) in
           let behind =
           rows_behind c.args.rows.now.items c.loop-number.rows.items c.if-shows_row.rows.items c.loop-number.number _
@@ -46,7 +46,7 @@ loop-number-preserved c =
       | else-shows_row w ↦ record {
         count = ap (λ rows. length rows.items) w.rows-is ∙ c.loop-number.invariant.count;
         within = omega (arith, there);
-        rest = λ p h. ap (λ rows. row_of rows.items p) w.rows-is ∙ c.loop-number.invariant.rest p (omega (arith, h));
+        rest = λ p h. ap (λ rows. map_row_of rows.items p) w.rows-is ∙ c.loop-number.invariant.rest p (omega (arith, h));
         draws =
             draws_at c.args.window.now c.args.rows.now.items c.args.roster.now c.args.grid.now (c.loop-number.number + 1) _
             c.loop-number.legend c.if-shows_row.legend _ _ _ w.legend-is (ap string_bytes w.text-is)

@@ -1,6 +1,6 @@
 use Rattle.std.proofs.Common.{◌≡◌, ◌<◌, Option, length, subst, arith, rules}
 use Rattle.bq_states.specs.declared.abstract_state.StackPart.{StackPart}
-use Rattle.bq_states.specs.Parts.{HasPart}
+use Rattle.bq_states.specs.Parts.{HasStackPart}
 use Rattle.bq_states.proofs.PartLemmas.{part_known, part_number}
 use Rattle.bq_states.proofs.parts.numbers_at.Goals as goal
 
@@ -12,4 +12,4 @@ returns c = λ stack o bytes have within has small.
     let there : c.place_of.result < length c.args.parts.now = omega (arith, c.requires, c.place_of.ensures) in
     let known = part_known c.args.parts.now c.place_of.result _ c.in-Some.part there c.in-Some.is in
     part_number stack c.in-Some.part o c.args.size bytes place same
-    (subst (λ (v : Option StackPart). HasPart stack v) known (have c.place_of.result)) has
+    (subst (λ (v : Option StackPart). HasStackPart stack v) known (have c.place_of.result)) has

@@ -1,15 +1,15 @@
 use Rattle.std.proofs.Common.{◌≡◌, [], subst, refl, rules, arith, take}
 use Rattle.std.specs.Io.KnownBytes.{Consumes, IsAtEnd}
 use Rattle.std.proofs.lemmas.Result.{IfOk-weaker}
-use Rattle.bq_streams.specs.Counts.{inner_of}
+use Rattle.bq_streams.specs.Counts.{counted_inner}
 use Rattle.bq_timeline.proofs.WatchLemmas.{Underway-none, Underway-more, Underway-ends}
 use Rattle.bq_timeline.proofs.showing.show.Goals as goal
 
 pub returns-then-count-eq0-clause-timeline : goal.returns-then-count-eq0-clause-timeline
 returns-then-count-eq0-clause-timeline g c =
     let so_far = c.loop.invariant.so_far in
-    let from = g.R.Read.remaining (inner_of c.loop.input) in
-    let to = g.R.Read.remaining (inner_of c.read.new.self) in
+    let from = g.R.Read.remaining (counted_inner c.loop.input) in
+    let to = g.R.Read.remaining (counted_inner c.read.new.self) in
     let nothing : take c.in_ok-count.count c.read.new.buf ≡ [] = rw c.if-count-eq0.true refl in
     let consumed : Consumes from to [] = subst (Consumes from to) nothing c.in_ok-count.ensures.bytes.0 in
     let at_end : IsAtEnd to = c.in_ok-count.ensures.bytes.1 c.if-count-eq0.true (search rules) in

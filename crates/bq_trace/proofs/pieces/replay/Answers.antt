@@ -2,7 +2,7 @@ use Rattle.std.proofs.Common.{◌≡◌, [], subst, refl, rules, arith, take}
 use Rattle.std.specs.Io.KnownBytes.{Consumes, IsAtEnd}
 use Rattle.std.proofs.KnownBytes.{Keeps-refl}
 use Rattle.std.proofs.lemmas.Result.{IfOk-weaker, on_err_weaker}
-use Rattle.bq_streams.specs.Counts.{inner_of}
+use Rattle.bq_streams.specs.Counts.{counted_inner}
 use Rattle.bq_streams.proofs.ResultLemmas.{OnErr-anyhow}
 use Rattle.bq_trace.proofs.ReplayLemmas.{Underway-none, Underway-more, Underway-ends, Underway-breaks, Underway-stops}
 use Rattle.bq_trace.proofs.pieces.replay.Goals as goal
@@ -13,8 +13,8 @@ returns-in_err-count-clause-part g c = OnErr-anyhow _ (Underway-stops _ _ _ _ _ 
 pub returns-then-count-eq0-clause-ok : goal.returns-then-count-eq0-clause-ok
 returns-then-count-eq0-clause-ok g c =
     let so_far = c.loop.invariant.so_far in
-    let from = g.R.Read.remaining (inner_of c.loop.input) in
-    let to = g.R.Read.remaining (inner_of c.read.new.self) in
+    let from = g.R.Read.remaining (counted_inner c.loop.input) in
+    let to = g.R.Read.remaining (counted_inner c.read.new.self) in
     let nothing : take c.in_ok-count.count c.read.new.buf ≡ [] = rw c.if-count-eq0.true refl in
     let consumed : Consumes from to [] = subst (Consumes from to) nothing c.in_ok-count.ensures.bytes.0 in
     let at_end : IsAtEnd to = c.in_ok-count.ensures.bytes.1 c.if-count-eq0.true (search rules) in
@@ -24,8 +24,8 @@ returns-then-count-eq0-clause-ok g c =
 pub returns-then-count-eq0-clause-part : goal.returns-then-count-eq0-clause-part
 returns-then-count-eq0-clause-part g c =
     let so_far = c.loop.invariant.so_far in
-    let from = g.R.Read.remaining (inner_of c.loop.input) in
-    let to = g.R.Read.remaining (inner_of c.read.new.self) in
+    let from = g.R.Read.remaining (counted_inner c.loop.input) in
+    let to = g.R.Read.remaining (counted_inner c.read.new.self) in
     let nothing : take c.in_ok-count.count c.read.new.buf ≡ [] = rw c.if-count-eq0.true refl in
     let consumed : Consumes from to [] = subst (Consumes from to) nothing c.in_ok-count.ensures.bytes.0 in
     on_err_weaker c.finish.result (λ b. Underway-breaks _ _ _ _ _ _ _ [] so_far consumed (b so_far.rest so_far.stands))

@@ -3,7 +3,7 @@ use Rattle.bq_disc.specs.Queues.{comes_after}
 use Rattle.bq_disc.specs.Chains.{task_of}
 use Rattle.bq_tree.specs.Trees.{StillCounts, in_order_behind}
 use Rattle.bq_disc.specs.declared.node.Node.{Node, out-Node}
-use Rattle.bq_tree.specs.Taking.{Takes, is_at}
+use Rattle.bq_tree.specs.Taking.{TakesOut, is_task_at}
 use Rattle.bq_tree.proofs.NodeLemmas.{IsRootBehind, root_behind, left_side_of, right_side_of, on_left, on_right}
 use Rattle.bq_tree.proofs.RemoveLemmas.{Keeps, Loses, still_left, still_right, loses_left, loses_right, keeps_left, keeps_right}
 use Rattle.bq_tree.proofs.edits.+take_from.Given as given
@@ -20,7 +20,7 @@ stands g t c =
 -- where its left side has no such task, it stays
 kept_left : (g : given.Over) (t : ℕ) (c : After-take_from g t)
     → c.take_from.new.link ≡ (out-Node c.deref_mut-root.result.now).left
-    → Takes c.args.v c.args.id (in_order_behind (out-Node c.deref_mut-root.result.now).left) None (in_order_behind c.take_from.new.link)
+    → TakesOut c.args.v c.args.id (in_order_behind (out-Node c.deref_mut-root.result.now).left) None (in_order_behind c.take_from.new.link)
     → Keeps c.args.link.now c.in-Some.root (on_left c.deref_mut-root.result.now c.take_from.new.link) c.args.v c.args.id
 kept_left g t c same taken =
     let n = c.deref_mut-root.result.now in
@@ -43,14 +43,14 @@ lost_left g t c =
 -- where its right side has no such task, it stays
 kept_right : (g : given.Over) (t : ℕ) (c : After-take_from-2 g t)
     → c.take_from-2.new.link ≡ (out-Node c.deref_mut-root.result.now).right
-    → Takes c.args.v c.args.id (in_order_behind (out-Node c.deref_mut-root.result.now).right) None
+    → TakesOut c.args.v c.args.id (in_order_behind (out-Node c.deref_mut-root.result.now).right) None
     (in_order_behind c.take_from-2.new.link)
     → Keeps c.args.link.now c.in-Some.root (on_right c.deref_mut-root.result.now c.take_from-2.new.link) c.args.v c.args.id
 kept_right g t c same taken =
     let n = c.deref_mut-root.result.now in
     let root = root_behind g.S.Summary.knows c.args.link.now c.in-Some.root n c.in-Some.is c.deref_mut-root.ensures.value c.requires.tree in
     let after : comes_after c.args.v c.args.id (out-Node n).entity ≡ false = sym c.is_after.ensures ∙ c.if-is_after.false in
-    let other : is_at c.args.v c.args.id (out-Node n).entity ≡ false = sym c.is_at.ensures ∙ c.if-is_at.false in
+    let other : is_task_at c.args.v c.args.id (out-Node n).entity ≡ false = sym c.is_at.ensures ∙ c.if-is_at.false in
     keeps_right g.S.Summary.knows c.args.link.now c.in-Some.root n c.take_from-2.new.link c.args.v c.args.id c.in-Some.is
     c.deref_mut-root.ensures.value root c.requires.rising after other same taken
 
@@ -61,7 +61,7 @@ lost_right g t c =
     let n = c.deref_mut-root.result.now in
     let root = root_behind g.S.Summary.knows c.args.link.now c.in-Some.root n c.in-Some.is c.deref_mut-root.ensures.value c.requires.tree in
     let after : comes_after c.args.v c.args.id (out-Node n).entity ≡ false = sym c.is_after.ensures ∙ c.if-is_after.false in
-    let other : is_at c.args.v c.args.id (out-Node n).entity ≡ false = sym c.is_at.ensures ∙ c.if-is_at.false in
+    let other : is_task_at c.args.v c.args.id (out-Node n).entity ≡ false = sym c.is_at.ensures ∙ c.if-is_at.false in
     loses_right g.S.Summary.knows c.args.link.now n c.count_out-2.new.root c.take_from-2.new.link c.args.v c.args.id
     (task_of c.in-Some-take_from-2.taken.value) root c.requires.rising after other c.in-Some-take_from-2.ensures.taken
     c.count_out-2.ensures.sides

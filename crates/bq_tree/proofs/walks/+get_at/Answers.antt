@@ -3,7 +3,7 @@ use Rattle.bq_disc.specs.Queues.{comes_after}
 use Rattle.bq_disc.specs.Chains.{task_of}
 use Rattle.bq_disc.specs.Rising.{IsRising}
 use Rattle.bq_tree.specs.Trees.{in_order_behind}
-use Rattle.bq_tree.specs.Taking.{is_at}
+use Rattle.bq_tree.specs.Taking.{is_task_at}
 use Rattle.bq_tree.proofs.OrderLemmas.{IsRising-left, IsRising-right, Finds-left, Finds-right}
 use Rattle.bq_tree.proofs.walks.+get_at.Goals as goal
 
@@ -49,5 +49,5 @@ returns t c =
     let whole : in_order_behind c.args.link.now ≡ l ++ x ∷ r = rw (c.in-Some.is, ← c.deref.ensures) s.ensures.order in
     let rising = subst IsRising whole c.requires.rising in
     let after : comes_after c.args.v c.args.id x ≡ false = cc in
-    let other : is_at c.args.v c.args.id x ≡ false = cc in
+    let other : is_task_at c.args.v c.args.id x ≡ false = cc in
     rw whole (Finds-right c.args.v c.args.id l x r _ rising after other c.get_at-2.ensures)

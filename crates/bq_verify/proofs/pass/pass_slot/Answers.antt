@@ -2,7 +2,7 @@ use Rattle.std.proofs.Common.{◌+◌, sym}
 use Rattle.bq_verify.specs.Subjects.{subject_of_view}
 use Rattle.bq_verify.specs.Control.{IsKnown}
 use Rattle.bq_states.specs.Certainty.{Fact}
-use Rattle.bq_verify.specs.Sure.{IsDue}
+use Rattle.bq_verify.specs.Sure.{IsFactDue}
 use Rattle.bq_verify.proofs.SureLemmas.{sure_over, sure_on, ready_at}
 use Rattle.bq_verify.proofs.PassLemmas.{passes_by}
 use Rattle.bq_verify.proofs.pass.pass_slot.Goals as goal
@@ -26,7 +26,7 @@ returns-in_default-clause-sure c = λ straight sure.
 pub returns-in-Ok-clause-sure : goal.returns-in-Ok-clause-sure
 returns-in-Ok-clause-sure c = λ straight sure.
     let here = sym c.in-Some.ensures in
-    let has = λ (x : Fact) (due : IsDue c.args.subject.now.slots.now x c.args.slot).
+    let has = λ (x : Fact) (due : IsFactDue c.args.subject.now.slots.now x c.args.slot).
     c.arrive.ensures.has x (sure x c.args.slot due) c.if-not-arrive.false in
     sure_on (subject_of_view c.args.subject.now) c.args.slot c.in-Some.insn c.arrive.new.state
     here straight has c.arrive.new.pending c.visit.new.pending c.visit.new.state c.in-Ok.on
@@ -36,7 +36,7 @@ returns-in-Ok-clause-sure c = λ straight sure.
 pub returns-in-Err-clause-accepts : goal.returns-in-Err-clause-accepts
 returns-in-Err-clause-accepts c = λ straight sure.
     let here = sym c.in-Some.ensures in
-    let has = λ (x : Fact) (due : IsDue c.args.subject.now.slots.now x c.args.slot).
+    let has = λ (x : Fact) (due : IsFactDue c.args.subject.now.slots.now x c.args.slot).
     c.arrive.ensures.has x (sure x c.args.slot due) c.if-not-arrive.false in
     c.refuse.ensures.memory (c.in-Err.ensures.accepts
     (ready_at (subject_of_view c.args.subject.now) c.args.slot c.in-Some.insn c.arrive.new.state here straight has))

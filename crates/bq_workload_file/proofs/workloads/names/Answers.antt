@@ -4,8 +4,8 @@ use Rattle.toml.specs.Data.{Members, as_table, get_member}
 use Rattle.toml.specs.View.{view, table_view}
 use Rattle.toml.specs.declared.value.Value.{Value}
 use Rattle.bq_workload_file.specs.Actions.{named_at}
-use Rattle.bq_workload_file.specs.Fields.{name_of}
-use Rattle.bq_workload_file.specs.Workloads.{name_in}
+use Rattle.bq_workload_file.specs.Fields.{read_name}
+use Rattle.bq_workload_file.specs.Workloads.{name_in_table}
 use Rattle.bq_workload_file.proofs.EntryLemmas.{AreNames-more, AreOthers-more}
 use Rattle.bq_workload_file.proofs.workloads.names.Goals as goal
 
@@ -19,10 +19,10 @@ loop-index-preserved c =
     let more : take (i + 1) vs ≡ take i vs ++ v ∷ [] =
     take_more vs i v c.loop-index-test.true ∙ ap (λ (w : Value). take i vs ++ w ∷ []) (sym c.index-tables-index.is) in
     let table : as_table (view v) ≡ Some ms = search rules in
-    let name : option_and_then name_of (get_member (codes "name") ms) ≡ Some c.in_ok-name.name.now = search rules in
+    let name : option_and_then read_name (get_member (codes "name") ms) ≡ Some c.in_ok-name.name.now = search rules in
     let text : string_bytes n ≡ c.in_ok-name.name.now = search rules in
-    let named : name_in (view v) ≡ Some (string_bytes n) =
-    ap (option_and_then (λ (t : Members). option_and_then name_of (get_member (codes "name") t))) table ∙ name
+    let named : name_in_table (view v) ≡ Some (string_bytes n) =
+    ap (option_and_then (λ (t : Members). option_and_then read_name (get_member (codes "name") t))) table ∙ name
     ∙ ap Some (sym text) in
     let new : named_at c.loop-index.names.items (string_bytes n) ≡ None =
     ap (named_at c.loop-index.names.items) text

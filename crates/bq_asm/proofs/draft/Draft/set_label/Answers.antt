@@ -3,7 +3,7 @@ use Rattle.indexmap.proofs.CallerLemmas.{insert_entry-new}
 use Rattle.bq_asm.specs.declared.fault.Cause.TheVariants.{LabelTwice}
 use Rattle.bq_asm.specs.Draft.{IsDraftOf, RefusesLine}
 use Rattle.bq_asm.specs.Lines.{Line, Label}
-use Rattle.bq_asm.specs.Faults.{labels_in, cause_at}
+use Rattle.bq_asm.specs.Faults.{labels_in, cause_at_line}
 use Rattle.bq_asm.specs.Assembly.{places_from}
 use Rattle.bq_asm.specs.Jumps.{awaited_by}
 use Rattle.bq_asm.proofs.DraftLemmas.{label_known, draft_labels_more, slots_kept, drafts_kept, jumps_kept, cause_of_label-is, none_from_is_some}
@@ -12,7 +12,7 @@ use Rattle.bq_asm.proofs.draft.Draft.set_label.Goals as goal
 pub returns-then-is_some-clause-fault : goal.returns-then-is_some-clause-fault
 returns-then-is_some-clause-fault c =
     let name = c.args.name.now in
-    let twice : (before : List Line) → IsDraftOf before c.args.self.now → cause_at before (Label name) ≡ Some LabelTwice = λ before is.
+    let twice : (before : List Line) → IsDraftOf before c.args.self.now → cause_at_line before (Label name) ≡ Some LabelTwice = λ before is.
     let known = label_known name c.args.self.now.labels.entries (places_from 0 before) is.labels in
     let found = sym (ap is_some c.in_ok-insert.ensures.old) ∙ sym c.is_some.ensures ∙ c.if-is_some.true in
     cause_of_label-is (labels_in before) name true (sym c.is_label.ensures ∙ c.if-not-is_label.false) (sym known ∙ found) in

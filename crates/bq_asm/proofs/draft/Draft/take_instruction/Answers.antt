@@ -4,8 +4,8 @@ use Rattle.bq_insn.specs.Slots.{slots_of}
 use Rattle.bq_asm.specs.declared.fault.Cause.TheVariants.{Slots}
 use Rattle.bq_asm.specs.Draft.{IsDraftOf, RefusesLine}
 use Rattle.bq_asm.specs.Lines.{Line, Instruction}
-use Rattle.bq_asm.specs.Operands.{texts, instruction_of}
-use Rattle.bq_asm.specs.Faults.{slots_in, cause_at, cause_of_insn}
+use Rattle.bq_asm.specs.Operands.{word_texts, instruction_of}
+use Rattle.bq_asm.specs.Faults.{slots_in, cause_at_line, cause_of_insn}
 use Rattle.bq_asm.specs.Assembly.{slots_read}
 use Rattle.bq_asm.specs.Jumps.{awaited_by, awaited_at, insn_read, jump_read, places_of}
 use Rattle.bq_asm.proofs.DraftLemmas.{places_kept, slots_more, drafts_more, jumps_more, insn_fits, insn_over}
@@ -14,7 +14,7 @@ use Rattle.bq_asm.proofs.draft.Draft.take_instruction.Goals as goal
 pub returns-clause-ok : goal.returns-clause-ok
 returns-clause-ok c = λ before is count.
     let old = c.args.self.now in
-    let operands = texts c.args.operands.now in
+    let operands = word_texts c.args.operands.now in
     let line = Instruction c.args.first.now operands in
     let insn = c.in-Ok.insn in
     let read : instruction_of c.args.first.now operands (Some (pos 0)) ≡ Ok insn = sym c.instruction_of.ensures ∙ c.in-Ok.is in
@@ -44,16 +44,16 @@ returns-clause-ok c = λ before is count.
 
 pub returns-in-Err-clause-fault : goal.returns-in-Err-clause-fault
 returns-in-Err-clause-fault c =
-    let line = Instruction c.args.first.now (texts c.args.operands.now) in
-    let faulty : (before : List Line) → IsDraftOf before c.args.self.now → cause_at before line ≡ Some c.in-Err.cause = λ before is.
+    let line = Instruction c.args.first.now (word_texts c.args.operands.now) in
+    let faulty : (before : List Line) → IsDraftOf before c.args.self.now → cause_at_line before line ≡ Some c.in-Err.cause = λ before is.
     ap (cause_of_insn (slots_in before)) (sym c.instruction_of.ensures ∙ c.in-Err.is) in
     subst (RefusesLine c.args.self.now c.args.number line) (sym c.refusal.ensures) (refl, faulty)
 
 pub returns-then-next-gt-SLOTS-clause-fault : goal.returns-then-next-gt-SLOTS-clause-fault
 returns-then-next-gt-SLOTS-clause-fault c =
-    let line = Instruction c.args.first.now (texts c.args.operands.now) in
+    let line = Instruction c.args.first.now (word_texts c.args.operands.now) in
     let insn = c.in-Ok.insn in
-    let full : (before : List Line) → IsDraftOf before c.args.self.now → cause_at before line ≡ Some Slots = λ before is.
+    let full : (before : List Line) → IsDraftOf before c.args.self.now → cause_at_line before line ≡ Some Slots = λ before is.
     let over : 4096 < slots_in before + slots_of insn =
     let same = is.slots in
     let size = c.slots.ensures in let more = c.if-next-gt-SLOTS.true in omega (arith, same, size, more) in

@@ -3,7 +3,7 @@ use Rattle.std.proofs.lemmas.List.{length-replicate, replicate_more}
 use Rattle.bq_disc.specs.Tasks.{Task}
 use Rattle.bq_parts.specs.declared.lobby_entry.LobbyEntry.{LobbyEntry}
 use Rattle.bq_parts.specs.declared.lobby_entry.LobbyEntry.TheVariants.{Absent}
-use Rattle.bq_parts.specs.Processors.{Processor, opening}
+use Rattle.bq_parts.specs.Processors.{Processor, new_processor}
 use Rattle.bq_parts.specs.World.{World}
 use Rattle.bq_core.proofs.parts.Parts.new.Goals as goal
 
@@ -21,9 +21,9 @@ filled xs n p x h e = ap length h ∙ length-replicate n x ∙ e
 
 -- the world of such lists
 opened : (n p many : ℕ) (cpus : List Processor) (boxes : List (List Task)) (lobby : List LobbyEntry)
-    → cpus ≡ replicate n opening → boxes ≡ replicate n [] → lobby ≡ replicate many Absent → n ≡ p
+    → cpus ≡ replicate n new_processor → boxes ≡ replicate n [] → lobby ≡ replicate many Absent → n ≡ p
     → ◌≡◌ {A = World} (record { processors = cpus; inboxes = boxes; lobby = lobby; drawn = 0 })
-    (record { processors = replicate p opening; inboxes = replicate p []; lobby = replicate many Absent; drawn = 0 })
+    (record { processors = replicate p new_processor; inboxes = replicate p []; lobby = replicate many Absent; drawn = 0 })
 opened n p many cpus boxes lobby h k l e = rw (h, k, l, e) refl
 
 pub processors-init : goal.processors-init
@@ -35,7 +35,7 @@ processors-preserved g c =
     let was = c.processors.invariant in
     record {
       processors =
-          one_more n opening c.new.result c.processors.cpus.items c.push.new.self.items c.in_ok-push.ensures.items
+          one_more n new_processor c.new.result c.processors.cpus.items c.push.new.self.items c.in_ok-push.ensures.items
           c.new.ensures was.processors;
       inboxes =
           one_more n [] c.new-in-processors.result c.processors.inboxes.items c.push-in-processors.new.self.items
@@ -46,7 +46,7 @@ pub invariant_of-result : goal.invariant_of-result
 invariant_of-result g c =
     let all = at_end c.processors.counter c.args.count c.processors-test.false c.processors.auto.counter-end in
     let boxes = filled c.processors.inboxes.items c.processors.counter c.args.count [] c.processors.invariant.inboxes all in (
-      filled c.processors.cpus.items c.processors.counter c.args.count opening c.processors.invariant.processors all ∙ sym boxes,
+      filled c.processors.cpus.items c.processors.counter c.args.count new_processor c.processors.invariant.processors all ∙ sym boxes,
       rw boxes c.requires.few,
       filled c.in_ok-lobby.lobby 1024 1024 Absent c.in_ok-lobby.ensures refl,
     )

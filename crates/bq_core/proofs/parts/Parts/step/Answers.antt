@@ -10,7 +10,7 @@ use Rattle.bq_parts.specs.declared.reply.Reply.{Reply}
 use Rattle.bq_parts.specs.declared.refusal.Refusal.{Refusal}
 use Rattle.bq_parts.specs.declared.refusal.Refusal.TheVariants as no
 use Rattle.bq_parts.specs.World.{World, count_in}
-use Rattle.bq_parts.specs.Refusals.{refusal, argument_refusal, state_refusal, either}
+use Rattle.bq_parts.specs.Refusals.{refusal, argument_refusal, state_refusal, either_refusal}
 use Rattle.bq_parts.specs.Choices.{PolicySemantics, by_programs}
 use Rattle.bq_parts.specs.Steps.{WorldStep}
 use Rattle.bq_parts.proofs.RefusalLemmas.{not_refused_is_there, first_refusal_passed}
@@ -26,7 +26,7 @@ none_refused {count} {n} {e} {e'} f g h k =
 one_refused : (w : World) (e : Event) (n : ℕ) (o : Option Refusal) (r : Refusal)
     → o ≡ argument_refusal n e → o ≡ Some r → n ≡ count_in w → refusal w e ≡ Some r
 one_refused w e n o r f g h =
-    ap (λ (x : Option Refusal). either x (state_refusal w e)) (ap (λ (m : ℕ). argument_refusal m e) (sym h) ∙ sym f ∙ g)
+    ap (λ (x : Option Refusal). either_refusal x (state_refusal w e)) (ap (λ (m : ℕ). argument_refusal m e) (sym h) ∙ sym f ∙ g)
 
 -- the task that retires has an entry
 retires_entry : (count id : ℕ) → argument_refusal count (Retire id) ≡ None → id < 1024

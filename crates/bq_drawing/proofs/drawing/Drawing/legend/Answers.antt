@@ -2,13 +2,13 @@ use Rattle.std.proofs.Common.{List, ℕ, ◌++◌, ◌∙◌, ap}
 use Rattle.bq_drawing.specs.declared.legend.Key.{Key}
 use Rattle.bq_drawing.specs.Keys.{tasks_shown}
 use Rattle.bq_drawing.specs.Legends.{legend_text}
-use Rattle.bq_drawing.specs.Shapes.{setting_of}
+use Rattle.bq_drawing.specs.Shapes.{picture_setting}
 use Rattle.bq_drawing.specs.Writing.{key_beside}
 use Rattle.bq_drawing.proofs.drawing.Drawing.legend.Goals as goal
 
 pub returns-clause-text : goal.returns-clause-text
 returns-clause-text c =
-    let s = setting_of c.args.frame.now in
+    let s = picture_setting c.args.frame.now in
     let given = c.as_slice.result.now in
     let tasks = tasks_shown s.tasks c.args.self.now.tasks in
     let key = c.key-key.result in

@@ -5,15 +5,15 @@ use Rattle.std.specs.Ordering.{nat_cmp}
 use Rattle.std.specs.Prelude.{flat_map}
 use Rattle.bq_drawing.specs.declared.drawing.WrittenRows.{WrittenRows}
 use Rattle.bq_drawing.specs.declared.links.Link.{Link}
-use Rattle.bq_drawing.specs.Links.{line_of}
-use Rattle.bq_drawing.specs.Shapes.{setting_of}
+use Rattle.bq_drawing.specs.Links.{link_line}
+use Rattle.bq_drawing.specs.Shapes.{picture_setting}
 use Rattle.bq_drawing.proofs.PictureLemmas.{line_written, shapes_end}
 use Rattle.bq_drawing.proofs.drawing.Drawing.write_links.Goals as goal
 
 pub loop-link-preserved : goal.loop-link-preserved
 loop-link-preserved c =
-    let s = setting_of c.args.frame.now in
-    let draw = line_of c.args.kind s (get nat_cmp c.args.rows.now.bands) in
+    let s = picture_setting c.args.frame.now in
+    let draw = link_line c.args.kind s (get nat_cmp c.args.rows.now.bands) in
     let links = c.args.self.now.links in
     let items = c.deref-link-items.result.now in
     let whole = string_bytes c.args.rows.now.links ++ flat_map draw links in
@@ -36,6 +36,6 @@ pub returns-clause-text : goal.returns-clause-text
 returns-clause-text c =
     let links = c.args.self.now.links in
     let are : c.deref-link-items.result.now ≡ links = search rules in
-    shapes_end (line_of c.args.kind (setting_of c.args.frame.now) (get nat_cmp c.args.rows.now.bands)) links c.loop-link.link-index _ _
+    shapes_end (link_line c.args.kind (picture_setting c.args.frame.now) (get nat_cmp c.args.rows.now.bands)) links c.loop-link.link-index _ _
     (drop_all c.loop-link.link-index links (subst (λ (l : List Link). length l ≤ c.loop-link.link-index) are c.loop-link-test.false))
     c.loop-link.invariant.text

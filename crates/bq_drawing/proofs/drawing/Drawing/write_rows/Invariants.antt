@@ -1,5 +1,5 @@
 use Rattle.std.proofs.Common.{◌≡◌, ◌≤◌, [], string_bytes}
-use Rattle.bq_drawing.specs.Shapes.{setting_of}
+use Rattle.bq_drawing.specs.Shapes.{picture_setting}
 use Rattle.bq_drawing.specs.Writing.{AreWritten}
 use Rattle.bq_drawing.proofs.drawing.Drawing.write_rows.Given as goal
 
@@ -7,6 +7,6 @@ use Rattle.bq_drawing.proofs.drawing.Drawing.write_rows.Given as goal
 abbrev pub invariant-loop-number : goal.invariant-loop-number
 invariant-loop-number l = record {
   within : l.number ≤ 64;
-  rows : AreWritten l.window (setting_of l.frame) l.self.rows l.number l.rows;
+  rows : AreWritten l.window (picture_setting l.frame) l.self.rows l.number l.rows;
   lines : string_bytes l.rows.links ≡ [];
 }

@@ -1,25 +1,25 @@
 use Rattle.std.proofs.Common.{◌≡◌, ℕ, List, ◌++◌, ◌∙◌, ap, nat_lt, string_bytes}
 use Rattle.std.proofs.lemmas.Result.{on_ok_weaker}
-use Rattle.bq_drawing.specs.Links.{ends_at, enters_at, halo_text, leaves_at, line_text, link_title}
-use Rattle.bq_drawing.specs.Places.{place_of}
-use Rattle.bq_drawing.specs.Shapes.{colour_of, setting_of}
+use Rattle.bq_drawing.specs.Links.{link_end, enters_at, halo_text, leaves_at, link_text, link_title}
+use Rattle.bq_drawing.specs.Places.{moment_place}
+use Rattle.bq_drawing.specs.Shapes.{colour_of, picture_setting}
 use Rattle.bq_drawing.proofs.PictureLemmas.{both_added}
 use Rattle.bq_drawing.proofs.links.Link.write.Goals as goal
 
 pub returns : goal.returns
 returns c =
-    let s = setting_of c.args.frame.now in
+    let s = picture_setting c.args.frame.now in
     let link = c.args.self.now in
     let from = c.args.top_from in
     let to = c.args.top_to in
     let old = string_bytes c.args.text.now in
     let first = s.extent.from in
-    let left = place_of s.extent link.from.at in
-    let begin = enters_at link (leaves_at from to) (ends_at from to) first in
-    let right = place_of s.extent link.to.at in
-    let end = ends_at from to in
+    let left = moment_place s.extent link.from.at in
+    let begin = enters_at link (leaves_at from to) (link_end from to) first in
+    let right = moment_place s.extent link.to.at in
+    let end = link_end from to in
     let drawn : ℕ → ℕ → ℕ → ℕ → ℕ → List ℕ
-    = λ a b x y colour. halo_text a b x y ++ line_text link.kind colour a b x y (nat_lt from to) in
+    = λ a b x y colour. halo_text a b x y ++ link_text link.kind colour a b x y (nat_lt from to) in
     let enters : c.enters_at.result ≡ begin
     = c.enters_at.ensures ∙ ap (λ b. enters_at link b c.ends_at-end.result first) c.leaves_at-begin.ensures
     ∙ ap (λ e. enters_at link (leaves_at from to) e first) c.ends_at-end.ensures in

@@ -3,14 +3,14 @@ use Rattle.std.proofs.lemmas.Result.{on_ok_weaker}
 use Rattle.std.specs.Prelude.{codes}
 use Rattle.bq_drawing.specs.declared.unit.Amount.{Amount}
 use Rattle.bq_drawing.specs.Links.{act_text, name_head}
-use Rattle.bq_drawing.specs.Shapes.{setting_of}
+use Rattle.bq_drawing.specs.Shapes.{picture_setting}
 use Rattle.bq_drawing.specs.Titles.{amount_text, unit_name}
 use Rattle.bq_drawing.proofs.PictureLemmas.{both_added, last_added}
 use Rattle.bq_drawing.proofs.links.Link.write_title.Goals as goal
 
 pub returns : goal.returns
 returns c =
-    let s = setting_of c.args.frame.now in
+    let s = picture_setting c.args.frame.now in
     let link = c.args.self.now in
     let reported : Amount → List ℕ → List ℕ
     = λ at name. codes " at " ++ (amount_text at.unit at.time ++ (codes " " ++ (name ++ codes "</title></g>\n"))) in

@@ -1,7 +1,7 @@
 -- Each policy stays that of its image, and so is the one that comes.
 use Rattle.std.proofs.Common.{◌≡◌, ◌∷◌, ◌++◌, [], None, map, take, arith, ap, ◌∙◌}
 use Rattle.std.proofs.lemmas.List.{map-append}
-use Rattle.bq_experiment.specs.Standing.{Standing, image_for, standing, with_bytes}
+use Rattle.bq_experiment.specs.Standing.{Standing, image_for, standing, image_as_bytes}
 use Rattle.bq_experiment.proofs.StandingLemmas.{AreOfTheirImages-adds, front_as_before}
 use Rattle.bq_experiment.proofs.policies.Policies.keep.Goals as goal
 
@@ -22,7 +22,7 @@ invariant_of-self-in_default c =
     let old : Standing = standing inside.loaded.items inside.images.items in
     let new : Standing = standing c.push-2.new.self.items c.push.new.self.items in
     let images : new.images ≡ old.images ++ (c.args.hook, c.args.image.items) ∷ [] =
-    ap (map with_bytes) c.in_ok-push.ensures.items ∙ map-append with_bytes inside.images.items ((c.args.hook, c.args.image) ∷ []) in
+    ap (map image_as_bytes) c.in_ok-push.ensures.items ∙ map-append image_as_bytes inside.images.items ((c.args.hook, c.args.image) ∷ []) in
     let free : image_for old.images c.args.hook ≡ None =
     ap (λ (s : Standing). image_for s.images c.args.hook) c.self.view_is ∙ c.requires.free in
     AreOfTheirImages-adds c.args.hook c.args.image.items c.args.policy old new

@@ -1,6 +1,6 @@
 use Rattle.std.proofs.Common.{ℕ, subst}
 use Rattle.bq_import.specs.Backward.{IsFront}
-use Rattle.bq_import.specs.Search.{IsNext}
+use Rattle.bq_import.specs.Search.{IsNextSlot}
 use Rattle.bq_import.proofs.RunningLemmas.{next_same, run_on}
 use Rattle.bq_import.proofs.backward.Backward.run_end.Goals as goal
 
@@ -14,8 +14,8 @@ loop-next-preserved c =
       run_on old c.args.places.now slot last c.in-Some.next c.requires.linked c.requires.closed before.0 found.0,
       λ next n front.
           let same = before.1 next n front in
-          let here : IsNext c.args.old.now c.args.slot c.in-Some.next =
-          subst (λ (k : ℕ). IsNext c.args.old.now k c.in-Some.next) same found.0 in
+          let here : IsNextSlot c.args.old.now c.args.slot c.in-Some.next =
+          subst (λ (k : ℕ). IsNextSlot c.args.old.now k c.in-Some.next) same found.0 in
           let one = next_same old slot next c.in-Some.next n here in
           absurd (found.1 (subst (λ (k : ℕ). IsFront c.args.self.now.slots.items c.args.self.now.origins.items k) one front)),
     )

@@ -2,8 +2,8 @@ use Rattle.std.proofs.Common.{◌≡◌, ◌<◌, ◌+◌, ◌-◌, ℕ, arith, 
 use Rattle.std.specs.Prelude.{slice_set}
 use Rattle.std.proofs.lemmas.Result.{err_from_is_err_and}
 use Rattle.bq_import.specs.Budgets.{HasBudget}
-use Rattle.bq_import.specs.Lengths.{run_at}
-use Rattle.bq_import.specs.Orders.{share}
+use Rattle.bq_import.specs.Lengths.{run_slots}
+use Rattle.bq_import.specs.Orders.{slots_in_front}
 use Rattle.bq_import.specs.Search.{IsSearching, left_of}
 use Rattle.bq_verify.specs.Edges.{IsStart}
 use Rattle.bq_verify.proofs.EdgeLemmas.{start_inside}
@@ -53,7 +53,7 @@ returns-clause-ok c =
     let longer =
     counted_more old before.copy.slots.items origins places counted c.args.slot start way undone
     c.requires.ready (length back' - 1) (omega (arith, within, room)) back' origins' more.front
-    (c.in_ok-place.ensures.grown (share old c.args.slot counted.order) enough) in
+    (c.in_ok-place.ensures.grown (slots_in_front old c.args.slot counted.order) enough) in
     let at =
     after_leave c.args.maps old before.copy.slots.items origins places opens stack c.requires.at c.args.slot c.requires.top
     c.requires.ready back' origins' more longer in
@@ -81,18 +81,18 @@ returns-in_err-place-clause-err c =
     let places = before.places.items in
     let opens = before.opens.items in
     let stack = before.stack.items in
-    let kept = kept_top old back origins places opens stack (run_at old 0) c.requires.within c.args.slot c.requires.top in
-    let enough = suffices old back origins places opens stack (run_at old 0) c.requires.within c.args.slot c.requires.top in
+    let kept = kept_top old back origins places opens stack (run_slots old 0) c.requires.within c.args.slot c.requires.top in
+    let enough = suffices old back origins places opens stack (run_slots old 0) c.requires.within c.args.slot c.requires.top in
     let all = kept.all in
     let start = top_starts c.args.maps old back origins places opens stack c.requires.at c.args.slot c.requires.top in
     let way = top_comes c.args.maps old back origins places opens stack c.requires.at c.args.slot c.requires.top in
     let undone = top_undone c.args.maps old back origins places opens stack c.requires.at c.args.slot c.requires.top in
     let counted = c.requires.at.ordered.counted in
     let one = share_suffices old back origins places counted c.args.slot start in
-    rw (p.1, p.2) (full_within old back origins places opens stack (run_at old 0) kept.own
+    rw (p.1, p.2) (full_within old back origins places opens stack (run_slots old 0) kept.own
     (length back + kept.own) c.in_err-place.field-0.0 c.requires.linked c.requires.within (omega (arith, all))
-    (omega arith) (c.in_err-place.ensures.full kept.own enough) (length back + share old c.args.slot counted.order)
-    (c.in_err-place.ensures.full (share old c.args.slot counted.order) one)
+    (omega arith) (c.in_err-place.ensures.full kept.own enough) (length back + slots_in_front old c.args.slot counted.order)
+    (c.in_err-place.ensures.full (slots_in_front old c.args.slot counted.order) one)
     (too_long old back origins places counted c.args.slot start way undone c.requires.ready))
 
 pub returns-clause-within : goal.returns-clause-within

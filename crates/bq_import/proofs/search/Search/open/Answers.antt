@@ -2,7 +2,7 @@ use Rattle.std.proofs.Common.{◌≡◌, ◌<◌, ◌+◌, ◌++◌, [], ◌∷�
 use Rattle.std.specs.Prelude.{slice_set}
 use Rattle.bq_verify.proofs.EdgeLemmas.{start_inside}
 use Rattle.bq_import.specs.Budgets.{HasBudget}
-use Rattle.bq_import.specs.Lengths.{run_at}
+use Rattle.bq_import.specs.Lengths.{run_slots}
 use Rattle.bq_import.specs.Search.{IsSearching, left_of}
 use Rattle.bq_import.proofs.BudgetLemmas.{begun_landing, begun_more, begun_next}
 use Rattle.bq_import.proofs.StackLemmas.{after_open, keeps_open, less_open}
@@ -82,5 +82,5 @@ returns-clause-more c =
     λ extra budget.
     subst (λ (s : List ℕ).
     HasBudget c.args.old.now back origins places (slice_set opens c.args.slot true) s
-    (extra + run_at c.args.old.now c.args.slot))
+    (extra + run_slots c.args.old.now c.args.slot))
     (sym stack_is) (begun_more old back origins places opens stack extra budget c.args.slot inside c.requires.edge)

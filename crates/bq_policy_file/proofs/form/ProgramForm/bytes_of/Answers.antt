@@ -1,10 +1,10 @@
 use Rattle.std.proofs.Common.{◌≡◌, true, rules, subst, sym}
 use Rattle.bq_insn.specs.Spelling.{spelling}
-use Rattle.bq_insn.specs.Faults.{is_length}
+use Rattle.bq_insn.specs.Faults.{is_program_length}
 use Rattle.bq_insn.proofs.LengthLemmas.{program_length}
 use Rattle.bq_policy_file.proofs.form.ProgramForm.bytes_of.Goals as goal
 
 pub image_of-requires : goal.image_of-requires
 image_of-requires c =
     let bytes : c.encode.new.out.items ≡ spelling c.args.insns.now = search rules in
-    subst (λ b. is_length b ≡ true) (sym bytes) (program_length c.args.insns.now c.requires)
+    subst (λ b. is_program_length b ≡ true) (sym bytes) (program_length c.args.insns.now c.requires)

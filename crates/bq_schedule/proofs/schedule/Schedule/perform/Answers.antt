@@ -5,7 +5,7 @@ use Rattle.bq_parts.specs.declared.event.Event.TheVariants.{Admit, Retire, Draw,
 use Rattle.bq_parts.specs.declared.reply.Reply.{Reply}
 use Rattle.bq_parts.specs.declared.reply.Reply.TheVariants.{Admitted, Retired, Drawn, Installed, Begun, Placed, Drained, Ticked, Blocked as Went, Pulled}
 use Rattle.bq_schedule.specs.Figures.{Figures}
-use Rattle.bq_schedule.specs.Steps.{emptied, decided, performed, report_of_answer, nothing}
+use Rattle.bq_schedule.specs.Steps.{emptied, figures_decided, performed, report_of_answer, nothing}
 use Rattle.bq_schedule.specs.declared.change.Decision.{Decision}
 use Rattle.bq_schedule.proofs.schedule.Schedule.perform.Goals as goal
 use Rattle.bq_schedule.proofs.schedule.Schedule.perform.Goals.{in_default-via-in-Admit+in_default, in_default-via-in-EndWake+in_default, in_default-via-in-Drain+in_default, in_default-via-in-Tick+in_default, in_default-via-in-Block+in_default, in_default-via-in-Pull+in_default, in_default-via-in_default}
@@ -131,7 +131,7 @@ returns-in-Drain-Drained-clause-figures c =
     let processor = c.in-Drain-Drained.processor in
     rw (c.in-Drain-Drained.is-0, c.in-Drain-Drained.is-1)
     (c.drain.ensures.figures
-    ∙ ap (λ (d : Decision). emptied processor (decided processor c.in-Drain-Drained.now d c.in-Drain-Drained.run' c.args.self.now))
+    ∙ ap (λ (d : Decision). emptied processor (figures_decided processor c.in-Drain-Drained.now d c.in-Drain-Drained.run' c.args.self.now))
     c.new-in-Drain-Drained.ensures)
 
 pub returns-in-Block-Blocked-clause-figures : goal.returns-in-Block-Blocked-clause-figures

@@ -2,7 +2,7 @@ use Rattle.std.proofs.Common.{◌<◌, ◌≤◌, refl, sym, ◌∙◌, arith}
 use Rattle.std.specs.Prelude.{slice_index}
 use Rattle.bq_bpf.specs.declared.board.CounterCall.TheVariants.{Read}
 use Rattle.atomic_table.specs.Table.{keeps}
-use Rattle.bq_shared.specs.Sums.{calling}
+use Rattle.bq_shared.specs.Sums.{account_called}
 use Rattle.bq_shared.proofs.KeepingLemmas.{sums_after_read}
 use Rattle.bq_shared.proofs.counters.Counters.read.Goals as goal
 
@@ -13,7 +13,7 @@ load-requires g c =
       c.tally.invariant.0 ∙ sym c.self.invariant.0,
       omega (arith, low, c.self.invariant.1),
       λ s rule homes at small. (
-        calling c.tally.inside.seat.me.0 (Read c.from.result (slice_index s.words c.from.result)),
+        account_called c.tally.inside.seat.me.0 (Read c.from.result (slice_index s.words c.from.result)),
         keeps,
         tt,
         sums_after_read c.self.inside.table.shared.key s.words s.views c.tally.inside.seat.id c.from.result

@@ -4,7 +4,7 @@ use Rattle.bq_workload.specs.declared.roster.Roster.{Roster}
 use Rattle.bq_workload.specs.declared.workload.TaskKind.{TaskKind}
 use Rattle.bq_workload.specs.Kinds.{tasks_in}
 use Rattle.bq_words.specs.Sizes.{processors_in}
-use Rattle.bq_simulate.specs.Actions.{first_of}
+use Rattle.bq_simulate.specs.Actions.{first_task_of}
 use Rattle.bq_simulate.specs.Chronicles.{Deed}
 use Rattle.bq_simulate.specs.Order.{OpensWell}
 use Rattle.bq_simulate.specs.Steps.{AreAdmitted, AreAllAdmitted, AreJust}
@@ -51,7 +51,7 @@ kinds-preserved g c =
     let there =
     slice_get_read kinds _ number kind (ap length same) c.kinds-test.true
     (c.kind-item.is ∙ ap (λ l. get_or l number kind) same) in
-    let first = first_of kinds number in
+    let first = first_task_of kinds number in
     let before = AreAllAdmitted all 0 0 (take number kinds) in
     let these = AreAdmitted all number kind first kind.count in
     let after = AreAllAdmitted all 0 0 (take (number + 1) kinds) in
@@ -120,7 +120,7 @@ returns-in_err-admit_kind-clause-ends g c = λ opens none.
     let w = c.args.workload.now in
     let kinds = w.tasks.items in
     let begun =
-    begun-well g.S.Sink.takes w (first_of kinds c.kinds.number) c.kinds.sink _ c.begin_kind.new.self
+    begun-well g.S.Sink.takes w (first_task_of kinds c.kinds.number) c.kinds.sink _ c.begin_kind.new.self
     (c.in_ok-begin_kind.ensures.silent kinds c.kinds.invariant.streams) c.begin_kind.ensures.counts
     (c.kinds.invariant.well opens) in
     let wants = c.in_err-admit_kind.ensures.ends begun in

@@ -1,6 +1,6 @@
 use Rattle.std.proofs.Common.{◌≡◌, ◌+◌, length, take}
 use Rattle.bq_words.specs.Sizes.{processors_in}
-use Rattle.bq_simulate.specs.Actions.{first_of}
+use Rattle.bq_simulate.specs.Actions.{first_task_of}
 use Rattle.bq_simulate.specs.Order.{OpensWell}
 use Rattle.bq_simulate.specs.Simulations.{Lived}
 use Rattle.bq_simulate.specs.Steps.{AreAllAdmitted}
@@ -11,8 +11,8 @@ invariant-kinds g l = record {
   lived : Lived g.S.Sink.takes l.workload.tasks.items
       (AreAllAdmitted (processors_in l.workload.machine.size) 0 0 (take l.number l.workload.tasks.items))
       l.initial.sink l.initial.self l.sink l.self;
-  tasks : length l.self.roster.by_task.items ≡ first_of l.workload.tasks.items l.number;
-  streams : length l.self.streams.items ≡ first_of l.workload.tasks.items l.number;
-  well : OpensWell l.workload 0 l.initial.self → OpensWell l.workload (first_of l.workload.tasks.items l.number) l.self;
+  tasks : length l.self.roster.by_task.items ≡ first_task_of l.workload.tasks.items l.number;
+  streams : length l.self.streams.items ≡ first_task_of l.workload.tasks.items l.number;
+  well : OpensWell l.workload 0 l.initial.self → OpensWell l.workload (first_task_of l.workload.tasks.items l.number) l.self;
   firsts : length l.self.firsts.items ≡ length l.initial.self.firsts.items + l.number;
 }

@@ -6,7 +6,7 @@ use Rattle.bq_workload.specs.declared.roster.Roster.{Roster}
 use Rattle.bq_workload.specs.Soundness.{IsFirstAllowed, allows_one}
 use Rattle.bq_parts.specs.declared.event.Event.TheVariants.{Admit}
 use Rattle.bq_words.specs.Sizes.{processors_in}
-use Rattle.bq_simulate.specs.Actions.{first_of, start_of}
+use Rattle.bq_simulate.specs.Actions.{first_task_of, kind_start}
 use Rattle.bq_simulate.specs.Chronicles.{Deed}
 use Rattle.bq_simulate.specs.Order.{OpensWell}
 use Rattle.bq_simulate.specs.Steps.{AreAdmitted, AreJust, IsAdmission, IsJoin}
@@ -24,7 +24,7 @@ tasks-init g c =
     record {
       lived =
           Lived-same g.S.Sink.takes
-          (AreAdmitted (processors_in w.machine.size) c.args.number c.args.kind.now (first_of w.tasks.items c.args.number) 0)
+          (AreAdmitted (processors_in w.machine.size) c.args.number c.args.kind.now (first_task_of w.tasks.items c.args.number) 0)
           refl _ _ _ (Same-here _) w.tasks.items;
       tasks = omega arith;
       streams = omega arith;
@@ -41,7 +41,7 @@ tasks-preserved g c =
     let number = c.args.number in
     let all = processors_in w.machine.size in
     let count = c.tasks.counter in
-    let first = first_of kinds number in
+    let first = first_task_of kinds number in
     let task = c.tasks.self.counts.tasks in
     let home = c.in_ok-home.home in
     let least : IsFirstAllowed c.processors-processors.result kind.mask home =
@@ -56,7 +56,7 @@ tasks-preserved g c =
     ap (λ v. length v.items) c.in_ok-admit_one.ensures.streams ∙ c.tasks.invariant.streams
     ∙ ap (λ n. n + count) c.requires.streams in
     let of = nth-of-kind kinds kind _ number count c.requires.kind here c.tasks-test.true in
-    let start : kind.start ≡ start_of kinds number =
+    let start : kind.start ≡ kind_start kinds number =
     sym (ap (λ (o : Option TaskKind). option_map_or (λ (k : TaskKind). k.start) o 0) c.requires.kind) in
     let admits = AreJust (Admit task kind.nice kind.mask kind.slice ∷ []) in
     let joins = IsJoin number home in
@@ -93,7 +93,7 @@ returns-clause-well g c = λ opens.
     let w = c.args.workload.now in
     let kind = c.args.kind.now in
     let number = c.args.number in
-    let first = first_of w.tasks.items number in
+    let first = first_task_of w.tasks.items number in
     let count = c.tasks.counter in
     let all : count ≡ kind.count = omega (arith, c.tasks-test.false, c.tasks.auto.counter-end) in
     subst (λ (n : ℕ). OpensWell w (first + n) c.tasks.self) all
@@ -116,7 +116,7 @@ returns-in_err-admit_one-clause-ends g c = λ opens.
     let w = c.args.workload.now in
     let kind = c.args.kind.now in
     let number = c.args.number in
-    let first = first_of w.tasks.items number in
+    let first = first_task_of w.tasks.items number in
     let count = c.tasks.counter in
     let task = c.tasks.self.counts.tasks in
     let home = c.in_ok-home.home in
@@ -141,7 +141,7 @@ returns-in_err-join-clause-ends g c = λ opens.
     let w = c.args.workload.now in
     let kind = c.args.kind.now in
     let number = c.args.number in
-    let first = first_of w.tasks.items number in
+    let first = first_task_of w.tasks.items number in
     let count = c.tasks.counter in
     let task = c.tasks.self.counts.tasks in
     let here : task ≡ first + count = c.tasks.invariant.counted opens in

@@ -2,7 +2,7 @@ use Rattle.std.proofs.Common.{◌≡◌, ◌≤◌, inl, inr, refl, sym, subst, 
 use Rattle.std.proofs.lemmas.Option.{MatchOption-at_none, MatchOption-at_some}
 use Rattle.bq_workload.specs.declared.roster.Periods.{Periods}
 use Rattle.bq_workload.specs.Accounts.{accounts_of}
-use Rattle.bq_workload.specs.Next.{IsAgreed, IsNext, NothingComes}
+use Rattle.bq_workload.specs.Next.{IsAgreed, IsNextDue, NothingComes}
 use Rattle.bq_simulate.specs.Simulations.{book_of}
 use Rattle.bq_simulate.specs.Steps.{AreAllMet}
 use Rattle.bq_simulate.proofs.BoundLemmas.{bound-passed, counted-well, none-came}
@@ -22,10 +22,10 @@ steps-preserved g c =
     let now = c.in-Some.now in
     let later : last ≤ now = omega (arith, c.if-now-last.false) in
     let here = c.steps.self.roster in
-    let next : IsAgreed here → IsNext here.periods.end (accounts_of here) due now =
+    let next : IsAgreed here → IsNextDue here.periods.end (accounts_of here) due now =
     λ agreed.
     MatchOption-at_some (NothingComes here.periods.end (accounts_of here))
-    (λ d. IsNext here.periods.end (accounts_of here) d.1 d.0) (now, due) c.in-Some.is (c.first.ensures.next agreed) in
+    (λ d. IsNextDue here.periods.end (accounts_of here) d.1 d.0) (now, due) c.in-Some.is (c.first.ensures.next agreed) in
     record {
       lived =
           met-more g.S.Sink.takes c.args.workload.now.tasks.items count last now due _ _ _ _ _ _ later next
@@ -62,7 +62,7 @@ returns-in_default-clause-none g c =
     let here = c.steps.self.roster in
     λ wants agreed.
     MatchOption-at_none (NothingComes here.periods.end (accounts_of here))
-    (λ d. IsNext here.periods.end (accounts_of here) d.1 d.0) c.in_default.is (c.first.ensures.next agreed)
+    (λ d. IsNextDue here.periods.end (accounts_of here) d.1 d.0) c.in_default.is (c.first.ensures.next agreed)
 
 pub returns-in_default-clause-lived : goal.returns-in_default-clause-lived
 returns-in_default-clause-lived g c =
@@ -88,10 +88,10 @@ returns-in_err-meet-clause-ends g c = λ begins many bound.
     let well = c.steps.invariant.well begins in
     let next =
     MatchOption-at_some (NothingComes here.periods.end (accounts_of here))
-    (λ d. IsNext here.periods.end (accounts_of here) d.1 d.0) (now, due) c.in-Some.is (c.first.ensures.next well.agreed) in
+    (λ d. IsNextDue here.periods.end (accounts_of here) d.1 d.0) (now, due) c.in-Some.is (c.first.ensures.next well.agreed) in
     let wants =
     c.in_err-meet.ensures.ends (comes-well w c.steps.last now due c.steps.self well next).2
-    (subst (λ (p : Periods). IsNext p.end (accounts_of here) due now) well.periods next) in
+    (subst (λ (p : Periods). IsNextDue p.end (accounts_of here) due now) well.periods next) in
     err-by c.from_residual.result c.from_residual.ensures.1 (λ e is. inl (is ∙ wants))
 
 pub returns-then-now-last-clause-ends : goal.returns-then-now-last-clause-ends
@@ -103,7 +103,7 @@ returns-then-now-last-clause-ends g c = λ begins many bound.
     let well = c.steps.invariant.well begins in
     let next =
     MatchOption-at_some (NothingComes here.periods.end (accounts_of here))
-    (λ d. IsNext here.periods.end (accounts_of here) d.1 d.0) (now, due) c.in-Some.is (c.first.ensures.next well.agreed) in
+    (λ d. IsNextDue here.periods.end (accounts_of here) d.1 d.0) (now, due) c.in-Some.is (c.first.ensures.next well.agreed) in
     let comes = comes-well w c.steps.last now due c.steps.self well next in
     absurd (elim c.then-now-last.branch [
       | then-now-last-via-then-now-last v ↦ omega (arith, v.if-now-last.true, comes.0)
@@ -132,10 +132,10 @@ returns-in_err-meet-clause-endless g c = λ begins.
     let well = c.steps.invariant.well begins in
     let next =
     MatchOption-at_some (NothingComes here.periods.end (accounts_of here))
-    (λ d. IsNext here.periods.end (accounts_of here) d.1 d.0) (now, due) c.in-Some.is (c.first.ensures.next well.agreed) in
+    (λ d. IsNextDue here.periods.end (accounts_of here) d.1 d.0) (now, due) c.in-Some.is (c.first.ensures.next well.agreed) in
     let wants =
     c.in_err-meet.ensures.ends (comes-well w c.steps.last now due c.steps.self well next).2
-    (subst (λ (p : Periods). IsNext p.end (accounts_of here) due now) well.periods next) in
+    (subst (λ (p : Periods). IsNextDue p.end (accounts_of here) due now) well.periods next) in
     err-by c.from_residual.result c.from_residual.ensures.1 (λ e is ends. absurd (wants-no-end (sym (is ∙ wants) ∙ ends)))
 
 pub returns-clause-endless : goal.returns-clause-endless

@@ -1,6 +1,6 @@
 use Rattle.std.proofs.Common.{◌≤◌}
 use Rattle.bq_workload.specs.Accounts.{accounts_of}
-use Rattle.bq_simulate.specs.Order.{GoesWell, HasProcessors}
+use Rattle.bq_simulate.specs.Order.{SimulationGoesWell, HasProcessors}
 use Rattle.bq_simulate.specs.Simulations.{LivedFrom}
 use Rattle.bq_simulate.specs.Steps.{AreAllMet}
 use Rattle.bq_simulate.proofs.BoundLemmas.{IsCounted}
@@ -12,7 +12,7 @@ invariant-steps g l = record {
       (AreAllMet l.workload.tasks.items l.initial.self.seed l.initial.self.roster.periods l.counter l.last)
       l.initial.sink l.initial.self l.sink l.self;
   within : l.last ≤ l.end;
-  well : GoesWell l.workload 0 l.initial.self → GoesWell l.workload l.last l.self;
-  counted : GoesWell l.workload 0 l.initial.self → HasProcessors l.workload l.initial.self →
+  well : SimulationGoesWell l.workload 0 l.initial.self → SimulationGoesWell l.workload l.last l.self;
+  counted : SimulationGoesWell l.workload 0 l.initial.self → HasProcessors l.workload l.initial.self →
       HasProcessors l.workload l.self × IsCounted l.workload l.counter l.last (accounts_of l.self.roster);
 }

@@ -3,7 +3,7 @@ use Rattle.rand_pcg.specs.Lcg.{Lcg}
 use Rattle.bq_workload.specs.Streams.{stream_of_task}
 use Rattle.bq_workload.specs.declared.progress.TaskProgress.{TaskProgress}
 use Rattle.bq_workload.specs.declared.roster.Roster.{Roster}
-use Rattle.bq_workload.specs.TaskProgress.{fresh}
+use Rattle.bq_workload.specs.TaskProgress.{fresh_task}
 use Rattle.bq_workload.specs.Next.{StaysAgreed}
 use Rattle.bq_workload.proofs.DueLemmas.{added-agreed}
 use Rattle.bq_simulate.proofs.DeedLemmas.{Silent-joins}
@@ -28,6 +28,6 @@ returns-in-Ok-clause-silent c =
     λ kinds of first equal.
     Silent-joins kinds _ _ c.args.kind c.args.home (agrees equal) (plan.periods ∙ added.periods) refl refl refl
     (ap (λ l. l.items) plan.by_task ∙ added.by_task
-    ∙ ap (λ (k : TaskProgress). was.roster.by_task.items ++ k ∷ []) (c.new.ensures ∙ ap (fresh c.args.kind c.args.home) first))
+    ∙ ap (λ (k : TaskProgress). was.roster.by_task.items ++ k ∷ []) (c.new.ensures ∙ ap (fresh_task c.args.kind c.args.home) first))
     (ap (λ l. l.items) (plan.by_processor ∙ added.by_processor))
     (c.in-Ok.ensures.items ∙ ap (λ (g : Lcg). was.streams.items ++ g ∷ []) stream) of

@@ -2,7 +2,7 @@ use Rattle.std.proofs.Common.{refl, sym, ap, ◌∙◌, subst, Option, arith}
 use Rattle.bq_workload.specs.declared.action.Action.{Action}
 use Rattle.bq_workload.specs.declared.action.Length.{Length}
 use Rattle.bq_workload.specs.declared.roster.Roster.{Roster}
-use Rattle.bq_workload.specs.Accounts.{IsDone, accounts_of}
+use Rattle.bq_workload.specs.Accounts.{IsPhaseDone, accounts_of}
 use Rattle.bq_simulate.specs.Actions.{acted, asked_by}
 use Rattle.bq_simulate.specs.Simulations.{DrawsFor}
 use Rattle.bq_simulate.proofs.DeedLemmas.{Silent-acts}
@@ -76,7 +76,7 @@ returns-in_err-take_up-clause-ends c = λ well next.
     let same =
     kept_roster task (asked_by c.in_ok-action.action) (record c.args.self.now { roster = c.end_phase.new.self })
     c.in_ok-length.length c.length_for.new.self (subst P c.asked_by.ensures c.in_ok-length.ensures.drawn) in
-    let done = subst (λ (r : Roster). IsDone (accounts_of r) c.args.processor task before) (sym same) ended.done in
+    let done = subst (λ (r : Roster). IsPhaseDone (accounts_of r) c.args.processor task before) (sym same) ended.done in
     absurd (no_stray_progress c.args.workload.now c.in_ok-action.action c.args.processor task c.in_ok-length.length
     c.args.now before c.in_ok-after.after c.args.self.now (accounts_of c.length_for.new.self.roster) e done
     c.in_ok-after.ensures.next c.in_err-take_up.ensures.stray)

@@ -2,7 +2,7 @@ use Rattle.std.proofs.Common.{[], ◌∷◌, ℕ, Option, refl, ap, sym, ◌∙�
 use Rattle.std.proofs.lemmas.Result.{err_from_is_err_and}
 use Rattle.std.specs.Prelude.{slice_get}
 use Rattle.bq_parts.specs.declared.event.Event.TheVariants.{Tick}
-use Rattle.bq_workload.specs.Accounts.{Accounts, accounts_of, switched}
+use Rattle.bq_workload.specs.Accounts.{Accounts, accounts_of, accounts_switched}
 use Rattle.bq_simulate.specs.Steps.{AreJust}
 use Rattle.bq_simulate.proofs.DeedLemmas.{Lived-event}
 use Rattle.bq_simulate.proofs.ProcessorStateLemmas.{switched-others}
@@ -16,7 +16,7 @@ returns-clause-befell g c =
     let event = Tick c.args.processor c.args.now in
     let accounts =
     c.in_ok-switch.ensures.accounts
-    ∙ ap (λ (r : Option ℕ). switched c.args.processor r c.args.now was.periods (accounts_of was)) (sym stated.1) in
+    ∙ ap (λ (r : Option ℕ). accounts_switched c.args.processor r c.args.now was.periods (accounts_of was)) (sym stated.1) in
     Lived-event g.S.Sink.takes (AreJust (event ∷ [])) _ _ _ _ event stated.0 (stated.0, [], refl, refl) c.requires
     (record {
       agrees = c.in_ok-switch.ensures.agrees;

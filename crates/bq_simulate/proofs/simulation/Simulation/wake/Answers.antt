@@ -4,8 +4,8 @@ use Rattle.bq_parts.specs.declared.event.Event.TheVariants.{BeginWake, EndWake, 
 use Rattle.bq_simulate.specs.Drives.{runs_now}
 use Rattle.bq_simulate.proofs.DriveLemmas.{Drove-join, Drove-one, Drove-places}
 use Rattle.bq_workload.specs.declared.roster.Periods.{Periods}
-use Rattle.bq_workload.specs.Accounts.{Accounts, accounts_of, entered_by, of_task}
-use Rattle.bq_workload.specs.TaskProgress.{woken}
+use Rattle.bq_workload.specs.Accounts.{Accounts, accounts_of, accounts_entered, of_task}
+use Rattle.bq_workload.specs.TaskProgress.{progress_woken}
 use Rattle.bq_simulate.proofs.DeedLemmas.{Lived-wakes}
 use Rattle.bq_simulate.proofs.WellStepLemmas.{drain_fails, wake_enters, wake_fails, wake_rests}
 use Rattle.bq_simulate.proofs.simulation.Simulation.wake.Goals as goal
@@ -29,11 +29,11 @@ returns-clause-lived g c =
     let was = c.args.self.now.roster in
     let woke = c.wake.new.self in
     let entered = c.in_ok-entered.entered in
-    let rest = of_task woken c.args.task (accounts_of was) in
-    let costs = ap (λ (p : Periods). entered_by to entered.count entered.run now p (accounts_of woke)) c.in_ok-wake.ensures.periods in
-    let rises = ap (λ (a : Accounts). entered_by to entered.count entered.run now was.periods a) c.in_ok-wake.ensures.accounts in
-    let runs = ap (λ (r : Option ℕ). entered_by to entered.count r now was.periods rest) (sym stated.1) in
-    let counts = ap (λ (n : ℕ). entered_by to n (runs_now stated.0) now was.periods rest) (sym stated.2) in
+    let rest = of_task progress_woken c.args.task (accounts_of was) in
+    let costs = ap (λ (p : Periods). accounts_entered to entered.count entered.run now p (accounts_of woke)) c.in_ok-wake.ensures.periods in
+    let rises = ap (λ (a : Accounts). accounts_entered to entered.count entered.run now was.periods a) c.in_ok-wake.ensures.accounts in
+    let runs = ap (λ (r : Option ℕ). accounts_entered to entered.count r now was.periods rest) (sym stated.1) in
+    let counts = ap (λ (n : ℕ). accounts_entered to n (runs_now stated.0) now was.periods rest) (sym stated.2) in
     Lived-wakes g.S.Sink.takes _ _ _ _ _ c.wake-2.new.self c.args.from c.args.task to now stated.0 c.requires
     (record {
       agrees = λ h. c.in_ok-enter.ensures.agrees (c.in_ok-wake.ensures.agrees h);

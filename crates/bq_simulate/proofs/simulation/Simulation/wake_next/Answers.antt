@@ -3,10 +3,10 @@ use Rattle.std.specs.Prelude.{slice_get}
 use Rattle.std.proofs.lemmas.Result.{on_ok_weaker}
 use Rattle.bq_workload.specs.declared.workload.TaskKind.{TaskKind}
 use Rattle.bq_trace.specs.TraceEvents.{TraceEvent}
-use Rattle.bq_simulate.specs.Actions.{first_of}
+use Rattle.bq_simulate.specs.Actions.{first_task_of}
 use Rattle.bq_simulate.specs.Chronicles.{Deed, Misses, Reaches}
 use Rattle.bq_simulate.specs.Simulations.{Befell, GoesByDeeds, Lived}
-use Rattle.bq_simulate.specs.Steps.{AreJust, AreWake, Wakes}
+use Rattle.bq_simulate.specs.Steps.{AreJust, AreWake, WakesTask}
 use Rattle.bq_simulate.specs.declared.simulation.Simulation.{Simulation}
 use Rattle.bq_simulate.proofs.AimLemmas.{aim_counted, aim_there, first_kept}
 use Rattle.bq_simulate.proofs.DeedLemmas.{Befell-first, Lived-same, Stays-here}
@@ -15,11 +15,11 @@ use Rattle.bq_simulate.proofs.simulation.Simulation.wake_next.Goals as goal
 -- the task that is found by the first of its kind is the one at which the wake aims
 aimed-at : {S : Type 0} (takes : S → ℕ → TraceEvent → S → Type 0) (kinds : List TaskKind)
     (kind woken first target processor now : ℕ) (x y : S) (s t : Simulation)
-    → slice_get s.firsts.items kind ≡ Some first → target ≡ first + woken → Befell takes (Wakes target processor now) x s y t
-    → Lived takes kinds (Wakes (first_of kinds kind + woken) processor now) x s y t
+    → slice_get s.firsts.items kind ≡ Some first → target ≡ first + woken → Befell takes (WakesTask target processor now) x s y t
+    → Lived takes kinds (WakesTask (first_task_of kinds kind + woken) processor now) x s y t
 aimed-at takes kinds kind woken first target processor now x y s t there is befell drawn had firsts =
-    let at : target ≡ first_of kinds kind + woken = is ∙ ap (λ n. n + woken) (firsts kind first there) in
-    subst (λ (n : ℕ). GoesByDeeds takes kinds (Wakes n processor now) x s drawn y t) at (befell kinds drawn had firsts)
+    let at : target ≡ first_task_of kinds kind + woken = is ∙ ap (λ n. n + woken) (firsts kind first there) in
+    subst (λ (n : ℕ). GoesByDeeds takes kinds (WakesTask n processor now) x s drawn y t) at (befell kinds drawn had firsts)
 
 pub returns-in-Waiting-clause-lived : goal.returns-in-Waiting-clause-lived
 returns-in-Waiting-clause-lived g c =
@@ -27,7 +27,7 @@ returns-in-Waiting-clause-lived g c =
     let target = c.in_ok-target.target in
     let processor = c.args.processor in
     let now = c.args.now in
-    let wakes = Wakes target processor now in
+    let wakes = WakesTask target processor now in
     on_ok_weaker c.wake.result (λ h kinds.
     aimed-at takes kinds c.args.kind c.args.woken c.in_ok-first.first target processor now _ _ _ _ c.in_ok-first.ensures.there
     (rw c.in_ok-target.ensures.ok_part at c.checked_add.ensures).1
@@ -45,7 +45,7 @@ returns-in_default-task_state-clause-lived g c =
     λ kinds.
     aimed-at takes kinds c.args.kind c.args.woken c.in_ok-first.first target processor now _ _ _ _ c.in_ok-first.ensures.there
     (rw c.in_ok-target.ensures.ok_part at c.checked_add.ensures).1
-    (Befell-first takes (AreJust []) (Wakes target processor now) _ _
+    (Befell-first takes (AreJust []) (WakesTask target processor now) _ _
     c.args.self.now c.args.self.now _ (Misses target) (Stays-here c.args.self.now)
     (λ kinds drawn. (c.in_ok-progress.progress, c.in_ok-progress.ensures.there, c.in_default-task_state.not-Waiting, (refl, refl, refl)))
     (λ deeds none. inl (ap (λ (l : List Deed). Misses target ∷ l) none))

@@ -3,7 +3,7 @@ use Rattle.std.proofs.Common.{◌≡◌, refl, string_bytes, sym, subst, ap, ◌
 use Rattle.std.specs.Prelude.{OnOk}
 use Rattle.std.proofs.lemmas.Result.{on_ok_weaker}
 use Rattle.bq_trace.specs.Borrowed.{event_of}
-use Rattle.bq_simulate.specs.Texts.{Writes, image_at}
+use Rattle.bq_simulate.specs.Texts.{WritesEvent, image_at}
 use Rattle.bq_simulate.proofs.TextLemmas.{writes_line, writes_none}
 use Rattle.bq_simulate.proofs.trace_writer.TraceWriterSink.take.Goals as goal
 
@@ -13,7 +13,7 @@ returns-in-Ok c =
     let old = string_bytes c.args.self.now.text in
     subst (λ e.
     OnOk c.write.result
-    ((c.args.self.now.images ≡ c.args.self.now.images) × Writes images old (event_of e) (string_bytes c.write.new.self)))
+    ((c.args.self.now.images ≡ c.args.self.now.images) × WritesEvent images old (event_of e) (string_bytes c.write.new.self)))
     (sym c.in-Skipped.is) (on_ok_weaker c.write.result
     (λ e. (
       refl,
@@ -26,5 +26,5 @@ pub returns-in-Err : goal.returns-in-Err
 returns-in-Err c =
     let images = image_at c.args.self.now.images in
     let old = string_bytes c.args.self.now.text in
-    subst (λ e. (c.args.self.now.images ≡ c.args.self.now.images) × Writes images old (event_of e) old) (sym c.in-Skipped.is)
+    subst (λ e. (c.args.self.now.images ≡ c.args.self.now.images) × WritesEvent images old (event_of e) old) (sym c.in-Skipped.is)
     (refl, writes_none images old c.in-Skipped.line.now c.in-Err.ensures.cases.0)

@@ -3,7 +3,7 @@ use Rattle.std.proofs.lemmas.Result.{IfErr-weaker, IfOk-weaker}
 use Rattle.bq_workload.specs.declared.roster.Periods.{Periods}
 use Rattle.bq_workload.specs.declared.roster.Roster.{Roster}
 use Rattle.bq_workload.specs.Accounts.{Accounts, accounts_of}
-use Rattle.bq_workload.specs.Next.{Agrees}
+use Rattle.bq_workload.specs.Next.{QueueAgrees}
 use Rattle.bq_workload.specs.Strays.{NoneIsDone}
 use Rattle.bq_workload.proofs.DueLemmas.{done-agrees}
 use Rattle.bq_workload.proofs.roster.Roster.end_phase.Goals as goal
@@ -16,7 +16,7 @@ returns-clause-agrees c =
     let since = charge.since in
     IfOk-weaker c.done_at.result _ _
     (λ ended done h.
-    subst (λ (k : Periods). Agrees k.end (accounts_of new) new.event_queue) (sym charge.periods)
+    subst (λ (k : Periods). QueueAgrees k.end (accounts_of new) new.event_queue) (sym charge.periods)
     (done-agrees old.periods.end c.args.processor c.args.now ended.0 since.0 ended.1 (accounts_of old) (accounts_of new)
     old.event_queue new.event_queue since.1 since.2 c.ranges.now.fits charge.accounts charge.event_queue done h))
     c.done_at.ensures.done

@@ -3,7 +3,7 @@ use Rattle.std.proofs.lemmas.Result.{IfErr-weaker, on_ok_weaker}
 use Rattle.bq_workload.specs.declared.roster.Periods.{Periods}
 use Rattle.bq_workload.specs.declared.roster.Roster.{Roster}
 use Rattle.bq_workload.specs.Accounts.{accounts_of, is_same}
-use Rattle.bq_workload.specs.Next.{Agrees}
+use Rattle.bq_workload.specs.Next.{QueueAgrees}
 use Rattle.bq_workload.proofs.AgreedLemmas.{idled-agrees, started-agrees}
 use Rattle.bq_workload.proofs.DueLemmas.{both-ok, charged-agreed}
 use Rattle.bq_workload.proofs.StrayLemmas.{idled-plans, switched-astray}
@@ -20,7 +20,7 @@ returns-in-Some-clause-agrees c =
     let start = c.start.ensures in
     on_ok_weaker c.start.result (λ w h.
     let plans = w.1 in
-    subst (λ (k : Periods). Agrees k.end (accounts_of new) new.event_queue) (sym start.periods)
+    subst (λ (k : Periods). QueueAgrees k.end (accounts_of new) new.event_queue) (sym start.periods)
     (started-agrees mid.periods p c.in-Some.task now plans.0 plans.2.0 (accounts_of mid)
     (accounts_of new) mid.event_queue new.event_queue
     (charged-agreed p now c.in_ok-processor_state.processor_state old mid c.in_ok-processor_state.ensures.there
@@ -38,7 +38,7 @@ returns-in-None-clause-agrees c =
     let idle = c.idle.ensures in
     on_ok_weaker c.idle.result (λ w h.
     let plans = w.1 in
-    subst (λ (k : Periods). Agrees k.end (accounts_of new) new.event_queue) (sym idle.periods)
+    subst (λ (k : Periods). QueueAgrees k.end (accounts_of new) new.event_queue) (sym idle.periods)
     (idled-agrees mid.periods p now plans.0 (accounts_of mid) (accounts_of new) mid.event_queue new.event_queue
     (charged-agreed p now c.in_ok-processor_state.processor_state old mid c.in_ok-processor_state.ensures.there
     charge.accounts charge.event_queue charge.periods h) plans.1 w.0 plans.2))

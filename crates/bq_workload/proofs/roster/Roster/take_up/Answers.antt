@@ -5,7 +5,7 @@ use Rattle.bq_workload.specs.declared.processor_state.ProcessorState.{ProcessorS
 use Rattle.bq_workload.specs.declared.roster.Periods.{Periods}
 use Rattle.bq_workload.specs.declared.roster.Roster.{Roster}
 use Rattle.bq_workload.specs.Accounts.{accounts_of}
-use Rattle.bq_workload.specs.Next.{Agrees}
+use Rattle.bq_workload.specs.Next.{QueueAgrees}
 use Rattle.bq_workload.specs.Plans.{PlansProgress}
 use Rattle.bq_workload.proofs.DueLemmas.{taken_up-agrees}
 use Rattle.bq_workload.proofs.roster.Roster.take_up.Goals as goal
@@ -28,7 +28,7 @@ returns-clause-agrees c =
     set.periods p) in
     on_ok_weaker c.plan_progress.result
     (λ w h.
-    subst (λ (k : Periods). Agrees k.end (accounts_of new) new.event_queue) (sym (plan.periods ∙ set.periods))
+    subst (λ (k : Periods). QueueAgrees k.end (accounts_of new) new.event_queue) (sym (plan.periods ∙ set.periods))
     (taken_up-agrees end c.args.processor c.args.task w.0 c.args.progress (accounts_of old) (accounts_of new)
     old.event_queue new.event_queue (ap (λ v. slice_get v.items c.args.processor) (sym set.by_processor) ∙ w.1)
     (ap (λ v. v.items) plan.by_task ∙ set.by_task) (ap (λ v. v.items) (plan.by_processor ∙ set.by_processor))

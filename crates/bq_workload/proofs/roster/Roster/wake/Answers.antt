@@ -2,8 +2,8 @@ use Rattle.std.proofs.Common.{ap, ◌∙◌, sym, subst, List, ℕ}
 use Rattle.bq_workload.specs.declared.roster.Periods.{Periods}
 use Rattle.bq_workload.specs.declared.roster.Roster.{Roster}
 use Rattle.bq_workload.specs.Accounts.{accounts_of, of_task}
-use Rattle.bq_workload.specs.TaskProgress.{woken}
-use Rattle.bq_workload.specs.Next.{Agrees}
+use Rattle.bq_workload.specs.TaskProgress.{progress_woken}
+use Rattle.bq_workload.specs.Next.{QueueAgrees}
 use Rattle.bq_workload.proofs.DueLemmas.{same-accounts, woken-agrees}
 use Rattle.bq_workload.proofs.roster.Roster.wake.Goals as goal
 
@@ -15,7 +15,7 @@ returns-clause-agrees c h =
     let plan = c.in_ok-drop_plan.ensures in
     let here = same-accounts _ _ _ _ (ap (λ v. v.items) plan.by_task) (ap (λ v. v.items) plan.by_processor) in
     let end = old.periods.end in
-    subst (λ (p : Periods). Agrees p.end (accounts_of new) new.event_queue) (sym (c.rouse.ensures.periods ∙ plan.periods))
-    (subst (λ (l : List ℕ). Agrees end (accounts_of new) l) (sym c.rouse.ensures.event_queue)
+    subst (λ (p : Periods). QueueAgrees p.end (accounts_of new) new.event_queue) (sym (c.rouse.ensures.periods ∙ plan.periods))
+    (subst (λ (l : List ℕ). QueueAgrees end (accounts_of new) l) (sym c.rouse.ensures.event_queue)
     (woken-agrees end c.args.task (accounts_of old) (accounts_of new) old.event_queue mid.event_queue
-    c.in_ok-find_at_rest.ensures.rests (c.rouse.ensures.accounts ∙ ap (of_task woken c.args.task) here) plan.dropped h))
+    c.in_ok-find_at_rest.ensures.rests (c.rouse.ensures.accounts ∙ ap (of_task progress_woken c.args.task) here) plan.dropped h))
