@@ -51,7 +51,7 @@ impl Lanes {
     /// are taken. Stretches must come in the order in which they begin.
     pub fn take(&mut self, stretch: &Stretch) -> Result<Option<usize>, AllocError>
         ensures lane { IfOk result (λ lane. lane ≡ lane_of stretch.now self.old) }
-        ensures lanes_taken { IfOk result (λ lane. self.new ≡ lanes_taken lane stretch.now.to self.old) }
+        ensures taken { IfOk result (λ lane. self.new ≡ lanes_taken lane stretch.now.to self.old) }
     {
         if let Some(place) = self.first_free(stretch.from) {
             if let Some(free) = self.free.get_mut(place) {
