@@ -24,8 +24,14 @@ pub(crate) fn form_of(alloc: Global, word: &str, mnemonic: Mnemonic) -> Result<S
 /// bits or a map.
 fn memory_form(alloc: Global, word: &str, mnemonic: Mnemonic) -> Result<String, AllocError> {
     match mnemonic {
-        Mnemonic::StoreImm(_) => format!(in alloc; "{word} [r10-8], 0"),
-        Mnemonic::StoreReg(_) => format!(in alloc; "{word} [r10-8], r4"),
+        Mnemonic::StoreImm(_) => {
+            let size = word.strip_prefix("st").unwrap_or("");
+            format!(in alloc; "{word} [r10-8], 0, or stx{size} [r10-8], r4 to store a register")
+        }
+        Mnemonic::StoreReg(_) => {
+            let size = word.strip_prefix("stx").unwrap_or("");
+            format!(in alloc; "{word} [r10-8], r4, or st{size} [r10-8], 0 to store a number")
+        }
         Mnemonic::Imm64 => format!(in alloc; "{word} r1, 4294967295"),
         Mnemonic::MapRef => {
             format!(in alloc; "{word} r1, 0; maps go by their numbers, and the first is 0")
