@@ -7,7 +7,7 @@ use std::alloc::Global;
 use std::test::Fail;
 
 /// A text, and what is said of it after the name of its file.
-static REFUSED: [(&str, &str); 38] = [
+static REFUSED: [(&str, &str); 39] = [
     // no task
     ("", ": [[task]] is missing"),
     // no task beside a machine
@@ -20,12 +20,17 @@ static REFUSED: [(&str, &str); 38] = [
     // a key that is near none
     (
         "[machine]\ncolour = 1\n[[task]]\nname = \"a\"\nrun = \"1ms\"\n",
-        ": machine: unknown key \"colour\"",
+        ": machine: unknown key \"colour\"; the keys are discipline, processors, duration, tick, balance, migration_cost, seed",
     ),
     // a key of a task
     (
         "[[task]]\nname = \"batch\"\nnise = 5\nrun = \"1ms\"\n",
         ": [[task]] 1 (batch): unknown key \"nise\", did you mean \"nice\"?",
+    ),
+    // a key that another scheduler has
+    (
+        "[[task]]\nname = \"a\"\nweight = 5\nrun = \"1ms\"\n",
+        ": [[task]] 1 (a): unknown key \"weight\", did you mean \"nice\"?",
     ),
     // no name
     ("[[task]]\nrun = \"1ms\"\n", ": [[task]] 1: name is missing"),

@@ -106,8 +106,20 @@ pub(crate) fn meaning(
         Why::UnknownTask { name, names } => nearest_name(alloc, name, names)?,
         _ => None,
     };
-    if let Some(near) = near {
-        write!(text, ", did you mean {near:?}?")?;
+    match (near, why) {
+        (Some(near), _) => write!(text, ", did you mean {near:?}?")?,
+        (None, Why::UnknownKey { known, .. }) => add_keys(&mut text, known)?,
+        (None, _) => {}
     }
     Ok(Fault::Meaning(text))
+}
+
+/// Adds which keys there are.
+fn add_keys(text: &mut String, keys: &[&str]) -> Result<(), AllocError> {
+    let mut before = "; the keys are ";
+    for key in keys {
+        write!(text, "{before}{key}")?;
+        before = ", ";
+    }
+    Ok(())
 }

@@ -7,11 +7,12 @@ use std::alloc::{AllocError, Global};
 const SHORT: usize = 40;
 
 /// Keys that are often written for another.
-const FOREIGN: [(&str, &str); 10] = [
+const FOREIGN: [(&str, &str); 11] = [
     ("period", "sleep"),
     ("burst", "run"),
     ("compute", "run"),
     ("priority", "nice"),
+    ("weight", "nice"),
     ("affinity", "cpus"),
     ("cpus", "processors"),
     ("cores", "processors"),
