@@ -96,12 +96,12 @@ static REFUSED: [(&str, &str); 15] = [
     // an address that is still 0, as that of a global
     (
         "b400000000000000\n1801000000000000\n0000000000000000\n9500000000000000",
-        "slot 1: an address that a linker fills in: a global, a table of constants, or a map of a section; for a map write BQ_MAP(k), in place of the others an entry of a map, or tests",
+        "slot 1: an address that a linker fills in: a global, a constant table or a map in a section; keep state in an entry of BQ_MAP(k)",
     ),
     // the distance of a global from its section's start, behind a wide load: slot 2
     (
         "1801000000000000\n0000000000400000\n1802000008000000\n0000000000000000\n9500000000000000",
-        "slot 2: an address that a linker fills in: a global, a table of constants, or a map of a section; for a map write BQ_MAP(k), in place of the others an entry of a map, or tests",
+        "slot 2: an address that a linker fills in: a global, a constant table or a map in a section; keep state in an entry of BQ_MAP(k)",
     ),
     // a map by a number of a file, which has 1 in the source's field
     (

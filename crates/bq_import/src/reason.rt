@@ -78,7 +78,7 @@ impl Reason {
             Reason::Register => "a call through a register; call helpers by their names of bqsim.h",
             Reason::Atomic => "an atomic operation; write a plain one, or use a counter",
             Reason::Address => {
-                "an address that a linker fills in: a global, a table of constants, or a map of a section; for a map write BQ_MAP(k), in place of the others an entry of a map, or tests"
+                "an address that a linker fills in: a global, a constant table or a map in a section; keep state in an entry of BQ_MAP(k)"
             }
             Reason::Filled => "a number that a loader fills in; for a map write BQ_MAP(k)",
             Reason::Opcode => {

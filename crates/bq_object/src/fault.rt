@@ -27,7 +27,7 @@ pub enum Piece {
 pub enum Filled {
     #[error("the address of a function; put BQ_INLINE before that function, so that it is copied in")]
     Function,
-    #[error("an address of a global, a table of constants, or a map of a section; for a map write BQ_MAP(k), in place of the others an entry of a map, or tests")]
+    #[error("the address of a global, a constant table or a map in a section; keep state in an entry of BQ_MAP(k)")]
     Data,
 }
 
