@@ -6,6 +6,7 @@ ghost use Rattle.bq_cli.specs.Words.{ArePolicyWords};
 ghost use Rattle.bq_cli.specs.Importing.{AskToImport};
 
 use crate::policy_words::{most_bytes, policy_words};
+use bq_bpf::with_program_bytes;
 use bq_complain::{TextKind, kind_of_text};
 use bq_console::status::BAD_INPUT;
 use bq_console::{
@@ -13,7 +14,7 @@ use bq_console::{
 };
 use bq_explain::{Limits, explain, explanation_text};
 use bq_hooks::Version;
-use bq_import::{ImportRefusal, ImportSettings, ImportedText, imported_text};
+use bq_import::{ImportFault, ImportRefusal, ImportSettings, ImportedText, Reason, imported_text};
 use bq_object::{SourceLine, is_object, others, source_lines};
 use bq_policy_check::{PolicyWords, given_head};
 use bq_policy_file::{Head, read_policy};
@@ -72,6 +73,12 @@ pub(crate) fn do_import(rt: &HostRuntime, words: &PolicyWords) -> Result<ExitCod
     }
 }
 
+/// What is said of an input that is no object file, and too short, too long or no multiple of eight bytes.
+const NO_SECTION: &str = with_program_bytes!(
+    "neither an object file nor a text section, which has ",
+    " bytes, a multiple of 8"
+);
+
 /// Writes the text of a program, or says why it has none.
 fn import_bytes(rt: &HostRuntime, name: &str, settings: &ImportSettings, bytes: &[u8]) -> ExitCode {
     match imported_text(rt.alloc(), settings, bytes) {
@@ -87,6 +94,11 @@ fn import_bytes(rt: &HostRuntime, name: &str, settings: &ImportSettings, bytes: 
             );
             ExitCode::from(BAD_INPUT)
         }
+        Err(refusal) if is_of_wrong_length(&refusal) && !is_object(bytes) => {
+            let name = Name(name);
+            let _ = eprintln!(rt; "{name}: {NO_SECTION}");
+            ExitCode::from(BAD_INPUT)
+        }
         Err(refusal) => {
             let name = Name(name);
             let _ = match source_of(rt.alloc(), &refusal, bytes) {
@@ -97,6 +109,14 @@ fn import_bytes(rt: &HostRuntime, name: &str, settings: &ImportSettings, bytes: 
             };
             ExitCode::from(BAD_INPUT)
         }
+    }
+}
+
+/// Answers whether the program is refused for the number of its bytes.
+fn is_of_wrong_length(refusal: &ImportRefusal) -> bool {
+    match refusal {
+        ImportRefusal::Import(ImportFault::At { reason, .. }) => matches!(reason, Reason::Length),
+        _ => false,
     }
 }
 
