@@ -48,25 +48,25 @@ abbrev pub simulate_rules : List Rule
 simulate_rules =
     option_rule (codes "place") ∷ option_rule (codes "preempt") ∷ option_rule (codes "pull") ∷ often_rule (codes "against") ∷ option_rule (codes "as") ∷ []
 
--- the commands on programs
-abbrev pub program_commands : List Shape
-program_commands = command (codes "asm") policy_rules ∷ command (codes "import") import_rules ∷ []
+-- the commands that show schedules
+abbrev pub schedule_commands : List Shape
+schedule_commands =
+    command (codes "simulate") (workload_rules ++ (option_rule (codes "max-bytes") ∷ option_rule (codes "max-events") ∷ simulate_rules) ++ part_rules)
+    ∷ command (codes "timeline") (word_rule (codes "file") ∷ option_rule (codes "as") ∷ option_rule (codes "max-bytes") ∷ part_rules) ∷ []
 
--- the commands on policies
+-- the commands that try policies
 abbrev pub policy_commands : List Shape
-policy_commands =
-    command (codes "check") check_rules
-    ∷ command (codes "dis") (policy_rules ++ flag_rule (codes "slots") ∷ [])
-    ∷ command (codes "run") (policy_rules ++ run_rules) ∷ []
+policy_commands = command (codes "check") check_rules ∷ command (codes "run") (policy_rules ++ run_rules) ∷ []
 
--- the commands on machines and their traces
-abbrev pub machine_commands : List Shape
-machine_commands =
-    command (codes "par") par_rules
-    ∷ command (codes "replay") (word_rule (codes "file") ∷ option_rule (codes "max-bytes") ∷ [])
-    ∷ command (codes "timeline") (word_rule (codes "file") ∷ option_rule (codes "as") ∷ option_rule (codes "max-bytes") ∷ part_rules)
-    ∷ command (codes "simulate") (workload_rules ++ (option_rule (codes "max-bytes") ∷ option_rule (codes "max-events") ∷ simulate_rules) ++ part_rules) ∷ []
+-- the commands that answer a trace, turn one form of a policy into another, or run threads
+abbrev pub other_commands : List Shape
+other_commands =
+    command (codes "replay") (word_rule (codes "file") ∷ option_rule (codes "max-bytes") ∷ [])
+    ∷ command (codes "asm") policy_rules
+    ∷ command (codes "dis") (policy_rules ++ flag_rule (codes "slots") ∷ [])
+    ∷ command (codes "import") import_rules
+    ∷ command (codes "par") par_rules ∷ []
 
 -- the program with its nine commands
 abbrev pub bqsim_app : App
-bqsim_app = with_commands (with_commands (with_commands empty_program program_commands) policy_commands) machine_commands
+bqsim_app = with_commands (with_commands (with_commands empty_program schedule_commands) policy_commands) other_commands

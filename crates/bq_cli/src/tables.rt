@@ -1,8 +1,9 @@
-//! The commands and all their options: what clap takes, and what the help pages, the man page and the completion say.
+//! The commands and all their options: what clap takes, and what the help pages, the man page and the completion say. Help lists the
+//! commands in this order: first those that a newcomer needs.
 ghost use Rattle.std.specs.Prelude.{◌≡◌, IfOk};
 ghost use Rattle.clap.specs.Words.{app_of};
 ghost use Rattle.bq_console.specs.Tables.{with_commands};
-ghost use Rattle.bq_cli.specs.BqsimApp.{bqsim_app, machine_commands, policy_commands, program_commands};
+ghost use Rattle.bq_cli.specs.BqsimApp.{bqsim_app, other_commands, policy_commands, schedule_commands};
 
 use crate::with_ticks;
 use bq_bpf::with_helper;
@@ -49,14 +50,14 @@ const RUN_FILE: &[OptionText] = options! {
     ("file", Alone("FILE"), "The policy: an image, its hex, or assembler text with ;@ lines that describe it; standard input without it, or as -")
 };
 
-/// The file of the policy that is listed. With no word at all, `dis` reads only hex.
+/// The file of the policy that is listed.
 const DIS_FILE: &[OptionText] = options! {
-    ("file", Alone("FILE"), "The policy: an image, its hex, or assembler text with ;@ lines that describe it; standard input as -, or with options alone")
+    ("file", Alone("FILE"), "The policy: an image, its hex, or assembler text with ;@ lines that describe it; standard input as -, or with options alone. With neither a file nor an option, dis reads the hex of a program and writes its listing")
 };
 
-/// The files of the policies that are judged. With no word at all, `check` reads only hex.
+/// The files of the policies that are judged.
 const CHECK_FILES: &[OptionText] = options! {
-    ("file", Several("FILE"), "The policies, each an image, its hex, or assembler text with ;@ lines that describe it; standard input as -, or with options alone")
+    ("file", Several("FILE"), "The policies, each an image, its hex, or assembler text with ;@ lines that describe it; standard input as -, or with options alone. With neither a file nor an option, check reads the hex of an image and writes its hook and budget")
 };
 
 /// How much is read.
@@ -97,7 +98,7 @@ const DIS_OPTIONS: &[OptionText] = options! {
 /// What a run begins with.
 const INPUT_OPTIONS: &[OptionText] = options! {
     ("ctx", Once("HEX"), "The bytes of the context; all 0 without it"),
-    ("set", Often("FIELDS"), "Fields of the context by their names, as in task=3,mask=0x6,previous=none; other fields keep their bytes"),
+    ("set", Often("FIELDS"), "Fields of the context by their names, as in task=3,mask=0x6,previous=none; other fields keep their bytes. docs/CONTEXTS.md has the names; a wrong one lists them"),
     ("map", Often("ENTRY"), "An entry of a map by the map's number and its own, as in 0:0=0a00; bytes that are left out are 0"),
     ("time", Once("T"), with_helper!(NOW, "The time that helper ", " answers, as 1500us, 1.5ms or 2s; 0 without it")),
     ("processor", Once("P"), with_helper!(PROCESSOR, "The processor that helper ", " answers; 0 without it")),
@@ -112,7 +113,7 @@ const RUN_OPTIONS: &[OptionText] = options! {
 
 /// The program of `import`, and the image that it is for.
 const IMPORT_OPTIONS: &[OptionText] = options! {
-    ("file", Alone("FILE"), "The object file or the text section; standard input without it, or as -"),
+    ("file", Alone("FILE"), "The object file, or the bytes or the hex of its text section; standard input without it, or as -"),
     ("hook", Needed("HOOK"), with_hooks!("The policy's hook: ")),
     ("maps", Once("MAPS"), "The value size and the entries of each map, as in 8:2,16:4"),
     ("format", Once("FORMAT"), with_versions!("The version of the image: ", "; 1 is the default"))
@@ -159,7 +160,7 @@ const WORKLOAD_OPTIONS: &[OptionText] = options! {
 
 /// What help says of the policy at a hook.
 const HOOK_HELP: &str =
-    "The policy at this hook of every processor: the file of an image, of its hex or of assembler text with ;@ lines; or none, the default";
+    "The policy for this hook of every processor: a file that bqsim check reads, or none, the default";
 
 /// The policies of `simulate`, and its form.
 const SIMULATE_OPTIONS: &[OptionText] = options! {
@@ -170,33 +171,41 @@ const SIMULATE_OPTIONS: &[OptionText] = options! {
     ("as", Once("FORM"), with_forms!("report (the default), trace, "))
 };
 
-/// The commands on programs.
-static PROGRAM_COMMANDS: [CommandText<'static>; 2] = [
+/// The commands that show schedules.
+static SCHEDULE_COMMANDS: [CommandText<'static>; 2] = [
     CommandText {
-        name: "asm",
-        about: "Reads an assembler text and writes the hex of its program",
-        options: &[ASM_OPTIONS, READING_OPTIONS],
+        name: "simulate",
+        about: "Runs a workload and shows its schedule, or writes it as a trace",
+        options: &[
+            WORKLOAD_OPTIONS,
+            READING_OPTIONS,
+            LIMIT_OPTIONS,
+            SIMULATE_OPTIONS,
+            PART_OPTIONS,
+        ],
         examples: examples![
-            "bqsim asm policies/heaviest.s",
-            "bqsim asm --hook place --format 2 policies/keep_home.s"
+            "bqsim simulate workloads/desktop.toml",
+            "bqsim simulate --discipline eevdf --as map --to 100ms workloads/desktop.toml",
+            "bqsim simulate --seeds 10 --preempt policies/heavier_first.s --against none workloads/desktop.toml"
         ],
     },
     CommandText {
-        name: "import",
-        about: "Writes a compiled policy as an assembler text, from an object file or from the bytes or the hex of its text section",
-        options: &[IMPORT_OPTIONS, READING_OPTIONS],
+        name: "timeline",
+        about: "Shows the schedule of a trace",
+        options: &[TIMELINE_OPTIONS, READING_OPTIONS, PART_OPTIONS],
         examples: examples![
-            "bqsim asm policies/keep_home.s | bqsim import --hook place",
-            "bqsim asm policies/every_fourth_tick.s | bqsim import --hook preempt --maps 8:1"
+            "bqsim timeline examples/four_tasks_cfs.trace",
+            "bqsim timeline --as map --width 60 examples/four_tasks_eevdf.trace",
+            "bqsim timeline --as why --tasks 1-2 examples/why.trace"
         ],
     },
 ];
 
-/// The commands on policies.
-static POLICY_COMMANDS: [CommandText<'static>; 3] = [
+/// The commands that try policies.
+static POLICY_COMMANDS: [CommandText<'static>; 2] = [
     CommandText {
         name: "check",
-        about: "Judges policies: accepted, or refused and why. Without a file and options it reads the hex of an image and writes its hook and budget",
+        about: "Judges policies: accepted, or refused and why",
         options: &[CHECK_FILES, POLICY_OPTIONS, READING_OPTIONS, CHECK_OPTIONS],
         examples: examples![
             "bqsim check --explain policies/keep_home.s",
@@ -204,17 +213,8 @@ static POLICY_COMMANDS: [CommandText<'static>; 3] = [
         ],
     },
     CommandText {
-        name: "dis",
-        about: "Lists a policy under the ;@ lines that describe it. Without a file and options it reads the hex of a program and writes its listing",
-        options: &[DIS_FILE, POLICY_OPTIONS, READING_OPTIONS, DIS_OPTIONS],
-        examples: examples![
-            "bqsim dis policies/keep_home.s",
-            "bqsim dis --slots policies/heaviest.s"
-        ],
-    },
-    CommandText {
         name: "run",
-        about: "Runs an accepted policy once: its answer, whether that is permitted, its instructions, and the maps and counters that it changed",
+        about: "Runs a policy once: its answer, whether that is permitted, and what it changed",
         options: &[
             RUN_FILE,
             POLICY_OPTIONS,
@@ -230,17 +230,8 @@ static POLICY_COMMANDS: [CommandText<'static>; 3] = [
     },
 ];
 
-/// The commands on machines and their traces.
-static MACHINE_COMMANDS: [CommandText<'static>; 4] = [
-    CommandText {
-        name: "par",
-        about: "Runs each processor in a thread of its own, and reports their one history",
-        options: &[PAR_OPTIONS],
-        examples: examples![
-            "bqsim par --rule cfs --processors 4 --ticks 1000",
-            "bqsim par --rule eevdf --processors 2 --ticks 10"
-        ],
-    },
+/// The commands that answer a trace, turn one form of a policy into another, or run threads.
+static OTHER_COMMANDS: [CommandText<'static>; 5] = [
     CommandText {
         name: "replay",
         about: "Reads a trace and writes the reply to each line",
@@ -251,29 +242,39 @@ static MACHINE_COMMANDS: [CommandText<'static>; 4] = [
         ],
     },
     CommandText {
-        name: "timeline",
-        about: "Shows the schedule of a trace",
-        options: &[TIMELINE_OPTIONS, READING_OPTIONS, PART_OPTIONS],
+        name: "asm",
+        about: "Assembles a text to the hex of its program",
+        options: &[ASM_OPTIONS, READING_OPTIONS],
         examples: examples![
-            "bqsim timeline examples/four_tasks_cfs.trace",
-            "bqsim timeline --as map --width 60 examples/four_tasks_eevdf.trace",
-            "bqsim timeline --as why --tasks 1-2 examples/why.trace"
+            "bqsim asm policies/heaviest.s",
+            "bqsim asm --hook place --format 2 policies/keep_home.s"
         ],
     },
     CommandText {
-        name: "simulate",
-        about: "Runs a workload and shows its schedule, or writes it as a trace",
-        options: &[
-            WORKLOAD_OPTIONS,
-            READING_OPTIONS,
-            LIMIT_OPTIONS,
-            SIMULATE_OPTIONS,
-            PART_OPTIONS,
-        ],
+        name: "dis",
+        about: "Lists a policy as assembler text",
+        options: &[DIS_FILE, POLICY_OPTIONS, READING_OPTIONS, DIS_OPTIONS],
         examples: examples![
-            "bqsim simulate workloads/desktop.toml",
-            "bqsim simulate --discipline eevdf --as map --to 100ms workloads/desktop.toml",
-            "bqsim simulate --seeds 10 --preempt policies/heavier_first.s --against none workloads/desktop.toml"
+            "bqsim dis policies/keep_home.s",
+            "bqsim dis --slots policies/heaviest.s"
+        ],
+    },
+    CommandText {
+        name: "import",
+        about: "Writes a compiled policy as assembler text",
+        options: &[IMPORT_OPTIONS, READING_OPTIONS],
+        examples: examples![
+            "bqsim asm policies/keep_home.s | bqsim import --hook place",
+            "bqsim asm policies/every_fourth_tick.s | bqsim import --hook preempt --maps 8:1"
+        ],
+    },
+    CommandText {
+        name: "par",
+        about: "Runs each processor in a thread of its own, and reports their one history",
+        options: &[PAR_OPTIONS],
+        examples: examples![
+            "bqsim par --rule cfs --processors 4 --ticks 1000",
+            "bqsim par --rule eevdf --processors 2 --ticks 10"
         ],
     },
 ];
@@ -292,15 +293,18 @@ pub fn program<'a>(alloc: Global) -> Result<Command<'a>, AllocError>
             "bqsim check --explain policies/keep_home.s"
         ],
     )?;
-    let program = with_program_commands(alloc, program)?;
+    let program = with_schedule_commands(alloc, program)?;
     let program = with_policy_commands(alloc, program)?;
-    with_machine_commands(alloc, program)
+    with_other_commands(alloc, program)
 }
 
-fn with_program_commands<'a>(alloc: Global, program: Command<'a>) -> Result<Command<'a>, AllocError>
-    ensures { IfOk result (λ c. app_of c ≡ with_commands (app_of program.entry) program_commands) }
+fn with_schedule_commands<'a>(
+    alloc: Global,
+    program: Command<'a>,
+) -> Result<Command<'a>, AllocError>
+    ensures { IfOk result (λ c. app_of c ≡ with_commands (app_of program.entry) schedule_commands) }
 {
-    with_commands(alloc, program, &PROGRAM_COMMANDS)
+    with_commands(alloc, program, &SCHEDULE_COMMANDS)
 }
 
 fn with_policy_commands<'a>(alloc: Global, program: Command<'a>) -> Result<Command<'a>, AllocError>
@@ -309,8 +313,8 @@ fn with_policy_commands<'a>(alloc: Global, program: Command<'a>) -> Result<Comma
     with_commands(alloc, program, &POLICY_COMMANDS)
 }
 
-fn with_machine_commands<'a>(alloc: Global, program: Command<'a>) -> Result<Command<'a>, AllocError>
-    ensures { IfOk result (λ c. app_of c ≡ with_commands (app_of program.entry) machine_commands) }
+fn with_other_commands<'a>(alloc: Global, program: Command<'a>) -> Result<Command<'a>, AllocError>
+    ensures { IfOk result (λ c. app_of c ≡ with_commands (app_of program.entry) other_commands) }
 {
-    with_commands(alloc, program, &MACHINE_COMMANDS)
+    with_commands(alloc, program, &OTHER_COMMANDS)
 }
