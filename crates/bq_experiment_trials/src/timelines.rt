@@ -278,7 +278,7 @@ ninth is pulled: 10 >= 0 + 2, and of those that may go it has the greatest (v, i
         trace: FAULTY,
         text: Text::Parts(&[
             "line 2: block 0: nothing runs there\nline 3: 300 does not fit a processor's number (0 to 255)\n",
-            "line 6: begin 0 9: no such task is admitted\nline 7: show 4: the machine has no such processor\n",
+            "line 6: wake of 9 at cpu 0: no such task is admitted\nline 7: show 4: the machine has no such processor\n",
         ]),
         notes: Some(
             "task 1 was placed on processor 0, which was never drained after\nlines bad or refused: 4\n",

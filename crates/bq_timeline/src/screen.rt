@@ -21,7 +21,7 @@ use bq_report::Names;
 use bq_schedule::{Change, Schedule};
 use bq_trace::AnyCore;
 use bq_why::faults::{Fault, NOT_READ_ON, meant_keyword, why_bad};
-use bq_why::{Because, InWords, Occurrence};
+use bq_why::{Because, Occurrence, Refused};
 use bq_words::Rule;
 use std::alloc::{AllocError, Global};
 
@@ -200,9 +200,11 @@ impl Screen {
         let reply = match answer {
             Ok(reply) => reply,
             Err(refusal) => {
-                let event = InWords(event);
-                let because = Because(*refusal);
-                return write!(self.notes(), "line {number}: {event}: {because}\n");
+                let refused = Refused {
+                    event,
+                    refusal: *refusal,
+                };
+                return write!(self.notes(), "line {number}: {refused}\n");
             }
         };
         if let Some(reading) = &change.reading {

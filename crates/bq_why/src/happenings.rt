@@ -1,17 +1,21 @@
 //! Events and refusals in words.
 
+use bq_disc::limits::TASKS;
 use bq_disc::with_slices;
 use bq_lines::Keyword;
 use bq_parts::{Event, Refusal};
 use bq_weights::with_nice_values;
 use std::fmt;
 
-/// An event as the trace names it, without its time.
+/// An event as the trace names it, without its time. The beginning of a wake, which `wake` and `begin` both ask for, is named as a wake.
 #[derive(Clone, Copy)]
 pub struct InWords<'a>(pub &'a Event);
 
 impl fmt::Display for InWords<'_> {
     fn fmt<W: fmt::Write>(&self, f: &mut fmt::Formatter<W>) -> fmt::Result {
+        if let Event::BeginWake { processor, task } = self.0 {
+            return write!(f, "wake of {task} at cpu {processor}");
+        }
         f.write_str(Keyword::of_event(self.0).word())?;
         let (first, second) = numbers_of(self.0);
         if let Some(first) = first {
@@ -46,6 +50,35 @@ fn numbers_of(event: &Event) -> (Option<u16>, Option<u16>) {
             from,
             ..
         } => (Some(u16::from(*processor)), Some(u16::from(*from))),
+    }
+}
+
+/// A refused event, and why it was refused, in words.
+#[derive(Clone, Copy)]
+pub struct Refused<'a> {
+    pub event: &'a Event,
+    pub refusal: Refusal,
+}
+
+impl fmt::Display for Refused<'_> {
+    fn fmt<W: fmt::Write>(&self, f: &mut fmt::Formatter<W>) -> fmt::Result {
+        let event = InWords(self.event);
+        if matches!(self.refusal, Refusal::NoTask) && !is_task(self.event) {
+            let greatest = TASKS - 1;
+            return write!(f, "{event}: a task's number is at most {greatest}");
+        }
+        let because = Because(self.refusal);
+        write!(f, "{event}: {because}")
+    }
+}
+
+/// Answers whether the task that an event names is one that there may be.
+fn is_task(event: &Event) -> bool {
+    match event {
+        Event::Admit { task, .. } | Event::Retire { task } | Event::BeginWake { task, .. } => {
+            *task < TASKS
+        }
+        _ => true,
     }
 }
 

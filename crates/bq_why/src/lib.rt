@@ -25,7 +25,7 @@ pub mod words_of;
 
 pub use answers::answer;
 pub use choices::choice;
-pub use happenings::{Because, InWords};
+pub use happenings::{Because, Refused};
 pub use presence::{present, waiting};
 pub use pulling::{OwnPull, PullSight, sight};
 pub use reasons::{Reason, why};
