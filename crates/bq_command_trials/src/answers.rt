@@ -106,7 +106,7 @@ static CHECKED: [CheckRow; 13] = [
         "",
         "",
         "e",
-        "R refused hook\np.s: --hook says another hook than the file\n",
+        "R refused hook\np.s: the file says the hook place, and --hook says another\n",
     ),
     (
         KEEP_HOME,

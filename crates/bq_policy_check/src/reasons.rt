@@ -13,7 +13,7 @@ use bq_complain::{assembly_words, with_nul_shown};
 use bq_console::{Lines, Name, Quoted};
 use bq_hooks::hook::{NO_HOOK, NO_VERSION};
 use bq_insn::fault::Cause as Spelling;
-use bq_policy_file::{HeadCause, Key, PolicyFault, SHAPES_FORM};
+use bq_policy_file::{Head, HeadCause, Key, PolicyFault, SHAPES_FORM, read_policy};
 use bq_words::Near;
 use serde_json::{Map, Value, put};
 use std::alloc::{AllocError, Global};
@@ -94,7 +94,7 @@ pub(crate) fn reason_of(
                 why,
             })
         }
-        PolicyFault::Disagrees(key) => Ok(whole(difference_words(alloc, key)?)),
+        PolicyFault::Disagrees(key) => Ok(whole(difference_words(alloc, bytes, key)?)),
         PolicyFault::NoHook => Ok(whole(format!(in alloc;
             "{HOOK_UNNAMED}, or give --hook place"
         )?)),
@@ -197,14 +197,23 @@ fn stage_of(fault: PolicyFault) -> &'static str
     }
 }
 
-/// What is wrong with words that say another thing than the file.
-fn difference_words(alloc: Global, key: Key) -> Result<String, AllocError> {
+/// What is wrong with words that say another thing than the file of these bytes.
+fn difference_words(alloc: Global, bytes: &[u8], key: Key) -> Result<String, AllocError> {
     match key {
+        Key::Hook => hook_difference(alloc, bytes),
         Key::Maps => String::from_str(alloc, "--maps says other maps than the file"),
-        Key::Hook | Key::Format => {
-            let key = key.word();
-            format!(in alloc; "--{key} says another {key} than the file")
+        Key::Format => String::from_str(alloc, "--format says another format than the file"),
+    }
+}
+
+/// Says that `--hook` says another hook than the file of these bytes, and which one the file says.
+fn hook_difference(alloc: Global, bytes: &[u8]) -> Result<String, AllocError> {
+    match read_policy(alloc, bytes, &Head::nothing()) {
+        Ok(policy) => {
+            let own = policy.form.hook.word();
+            format!(in alloc; "the file says the hook {own}, and --hook says another")
         }
+        Err(_) => String::from_str(alloc, "--hook says another hook than the file"),
     }
 }
 
