@@ -15,6 +15,10 @@ use Rattle.bq_policy_run.specs.Judging.{BeginsWithWord, word_begins}
 pub text_begins_with_word : (word w : Permission) (why : List ℕ) → word ≡ w → BeginsWithWord word (word_begins w ++ why)
 text_begins_with_word word w why e = (why, ap (λ (x : Permission). word_begins x ++ why) (sym e))
 
+-- a text that is the word, and then the reason
+pub text_is_word_and_why : (word w : Permission) (why text : List ℕ) → word ≡ w → text ≡ word_begins w ++ why → BeginsWithWord word text
+text_is_word_and_why word w why text e same = (why, same ∙ ap (λ (x : Permission). word_begins x ++ why) (sym e))
+
 -- of two words it is the one that it may be
 pub not_permitted_is_left : (word : Permission) → (word ≡ NotPermitted) ⊎ (word ≡ NotShown) → word ≢ NotShown → word ≡ NotPermitted
 not_permitted_is_left word (inl e) other = e
@@ -55,10 +59,8 @@ judged_preempt hook context r0 word text shown at is reported same v h =
     (reported (subst (λ (w : Permission). w ≢ NotShown) (sym asked) (by_test (nat_lt r0 2)))))
 
 -- on a task to take
-pub judged_pull : (hook : Hook) (context : List ℕ) (r0 : ℕ) (word : Permission) (text shown : List ℕ)
-    → ((v : Version) → length context ≡ context_length_of hook v → word ≡ permission_word hook context r0) → BeginsWithWord word shown
-    → text ≡ shown → (v : Version) → length context ≡ context_length_of hook v
+pub judged_pull : (hook : Hook) (context : List ℕ) (r0 : ℕ) (word : Permission) (text : List ℕ)
+    → ((v : Version) → length context ≡ context_length_of hook v → word ≡ permission_word hook context r0) → BeginsWithWord word text
+    → (v : Version) → length context ≡ context_length_of hook v
     → BeginsWithWord (permission_word hook context r0) text
-judged_pull hook context r0 word text shown is reported same v h =
-    subst (λ (t : List ℕ). BeginsWithWord (permission_word hook context r0) t) (sym same)
-    (subst (λ (w : Permission). BeginsWithWord w shown) (is v h) reported)
+judged_pull hook context r0 word text is reported v h = subst (λ (w : Permission). BeginsWithWord w text) (is v h) reported

@@ -13,7 +13,7 @@ use bq_hooks::{Hook, PULL_LENGTH};
 use byteorder::{ByteOrder, LittleEndian};
 
 /// The answer of a pull policy that takes no task.
-const NOBODY: u64 = bq_hooks::NOBODY as u64;
+pub(crate) const NOBODY: u64 = bq_hooks::NOBODY as u64;
 
 /// The number of movable tasks for which a pull context has room.
 const SHOWN: u32 = bq_hooks::SHOWN as u32;

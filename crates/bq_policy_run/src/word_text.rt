@@ -6,6 +6,7 @@ ghost use Rattle.bq_policy_run.specs.Judging.{BeginsWithWord};
 ghost use Rattle.bq_hooks.specs.Hooks.{context_length_of};
 ghost use Rattle.bq_hooks.specs.declared.hook.Version.{Version};
 
+use crate::permitted::NOBODY;
 use crate::{PLACE_SHOWN, Permission, place_shown, word_on};
 use bq_hooks::Hook;
 use std::alloc::{AllocError, Global};
@@ -23,7 +24,7 @@ pub(crate) fn word_text(
     match hook {
         Hook::Place => place_text(alloc, context, r0, word),
         Hook::Preempt => String::from_str(alloc, preempt_text(word)),
-        Hook::Pull => String::from_str(alloc, pull_text(word)),
+        Hook::Pull => pull_text(alloc, r0, word),
     }
 }
 
@@ -58,9 +59,18 @@ fn no_place_text(alloc: Global, r0: u64, count: u32, mask: u64) -> Result<String
     ensures { IfOk result (λ text. BeginsWithWord NotPermitted (string_bytes text)) }
 {
     if r0 >= u64::from(count) {
-        return format!(in alloc; "not permitted: the machine has {count} processors");
+        let advice = count_advice(count);
+        return format!(in alloc; "not permitted: the machine has {count} processors{advice}");
     }
     format!(in alloc; "not permitted: processor {r0} is not in mask 0x{mask:x}")
+}
+
+/// What to give if the context shows no processors; empty if it shows some.
+fn count_advice(count: u32) -> &'static str {
+    match count {
+        0 => "; give --set processors=4,mask=0xf",
+        _ => "",
+    }
 }
 
 fn preempt_text(word: Permission) -> &'static str
@@ -72,13 +82,28 @@ fn preempt_text(word: Permission) -> &'static str
     }
 }
 
-fn pull_text(word: Permission) -> &'static str
-    ensures { BeginsWithWord word result.now }
+/// Says what the rule says of the task that a pull is to take.
+fn pull_text(alloc: Global, r0: u64, word: Permission) -> Result<String, AllocError>
+    ensures { IfOk result (λ text. BeginsWithWord word (string_bytes text)) }
 {
     match word {
-        Permission::Permitted => "permitted: none, or a movable task that is shown",
-        Permission::NotShown =>
+        Permission::Permitted => taken_text(alloc, r0),
+        Permission::NotShown => String::from_str(
+            alloc,
             "permitted only if it is a movable task that the context does not show",
-        Permission::NotPermitted => "not permitted: no movable task",
+        ),
+        Permission::NotPermitted => {
+            format!(in alloc; "not permitted: {r0} is no movable task; none is {NOBODY}")
+        }
     }
+}
+
+/// Says that no task, or a task that the context shows, may be taken.
+fn taken_text(alloc: Global, r0: u64) -> Result<String, AllocError>
+    ensures { IfOk result (λ text. BeginsWithWord Permitted (string_bytes text)) }
+{
+    if r0 == NOBODY {
+        return String::from_str(alloc, "permitted: none is taken");
+    }
+    format!(in alloc; "permitted: {r0} is a movable task that is shown")
 }

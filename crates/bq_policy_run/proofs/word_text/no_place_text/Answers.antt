@@ -9,7 +9,7 @@ use Rattle.bq_policy_run.proofs.word_text.no_place_text.Goals as goal
 
 pub returns-then-r0-from : goal.returns-then-r0-from
 returns-then-r0-from c =
-    let why = codes "the machine has " ++ (decimal c.args.count ++ codes " processors") in
+    let why = codes "the machine has " ++ (decimal c.args.count ++ (codes " processors" ++ c.count_advice-advice.result.now)) in
     let plain : IfOk c.format.result (λ text. string_bytes text ≡ codes "not permitted: " ++ why) = grind (arith, common_steps) in
     IfOk-weaker c.format.result (λ text. string_bytes text ≡ codes "not permitted: " ++ why)
     (λ text. BeginsWithWord NotPermitted (string_bytes text)) (λ text is. (why, is)) plain

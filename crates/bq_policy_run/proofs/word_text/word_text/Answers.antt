@@ -36,10 +36,8 @@ pub returns-in-Pull : goal.returns-in-Pull
 returns-in-Pull c =
     let context = c.args.context.now in
     let word = c.word_on-word.result in
-    IfOk-weaker c.from_str-in-Pull.result (λ text. string_bytes text ≡ c.pull_text.result.now)
+    IfOk-weaker c.pull_text.result (λ text. BeginsWithWord word (string_bytes text))
     (λ text.
     (version : Version) → length context ≡ context_length_of c.args.hook version →
     BeginsWithWord (permission_word c.args.hook context c.args.r0) (string_bytes text))
-    (λ text same.
-    judged_pull c.args.hook context c.args.r0 word (string_bytes text) c.pull_text.result.now c.word_on-word.ensures
-    c.pull_text.ensures same) c.from_str-in-Pull.ensures.ok
+    (λ text reported. judged_pull c.args.hook context c.args.r0 word (string_bytes text) c.word_on-word.ensures reported) c.pull_text.ensures
