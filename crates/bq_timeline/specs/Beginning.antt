@@ -13,14 +13,14 @@ use Rattle.bq_timeline.specs.declared.viewer.Viewer.{Viewer}
 pub record BeginsForm (s : Settings) (old new : Screen) : Type 0 where
   pub shown : ShowsAsked s old.names new.shown
   pub tasks : new.tasks.items ≡ s.window.tasks.items ++ tasks_for old.names s.names.items
-  pub processors : new.processors ≡ old.processors
+  pub part : new.part ≡ old.part
   pub notes : string_bytes new.notes ≡ string_bytes old.notes ++ uncalled_notes old.names s.names.items
 
 -- The form does not begin, and nothing changes.
 pub record FormStays (old new : Screen) : Type 0 where
   pub shown : new.shown ≡ old.shown
   pub tasks : new.tasks ≡ old.tasks
-  pub processors : new.processors ≡ old.processors
+  pub part : new.part ≡ old.part
   pub notes : new.notes ≡ old.notes
 
 -- The form begins if there is a machine and the form has not begun: then its settings are still there.
@@ -42,4 +42,4 @@ pub record TraceEnds (old new : Viewer) : Type 0 where
   pub begun : Screen
   pub begins : FormBeginsWith old.schedule old.screen begun
   pub notes : string_bytes new.screen.notes
-      ≡ (string_bytes begun.notes ++ absent_notes old.schedule begun.tasks.items begun.processors) ++ last_notes old.schedule old.troubles
+      ≡ (string_bytes begun.notes ++ absent_notes old.schedule begun.tasks.items begun.part) ++ last_notes old.schedule old.troubles

@@ -1,10 +1,11 @@
 -- What goes to standard error once a trace is over.
-use Rattle.std.specs.Prelude.{ℕ, zero, suc, ◌==◌, ◌%◌, ◌-◌, ◌^◌, nat_lt, ◌&&◌, not, Bool, List, [], ◌++◌, length, Option, Some, None, if◌then◌else◌, codes}
+use Rattle.std.specs.Prelude.{ℕ, zero, suc, ◌==◌, ◌%◌, ◌-◌, ◌^◌, nat_le, nat_lt, ◌&&◌, ◌||◌, not, Bool, false, List, [], ◌++◌, length, Option, Some, None, if◌then◌else◌, codes}
 use Rattle.std.specs.Fmt.{decimal}
 use Rattle.std.specs.List.{list_any}
 use Rattle.bq_disc.specs.declared.limits.TheConstants.{PROCESSORS, TASKS}
-use Rattle.bq_schedule.specs.Figures.{Figures, task_in_figures}
+use Rattle.bq_schedule.specs.Figures.{Figures, processor_in_figures, task_in_figures}
 use Rattle.bq_schedule.specs.Runnable.{undrained}
+use Rattle.bq_timeline.specs.declared.screen.Part.{Part}
 
 -- the note on a task that was placed on a processor that was never drained after, if there is such a processor
 abbrev pub waiting_note : ℕ → Option ℕ → List ℕ
@@ -38,10 +39,19 @@ abbrev pub processors_note : ℕ → ℕ → List ℕ
 processors_note count processors =
     if lacks_processors count processors then codes "--cpus: the machine has none of these processors; how many it has: " ++ (decimal count ++ codes "\n") else []
 
--- the notes on tasks and processors that are named but do not exist, if there is a machine
-abbrev pub absent_notes : Option Figures → List ℕ → ℕ → List ℕ
-absent_notes None tasks processors = []
-absent_notes (Some s) tasks processors = tasks_note s tasks ++ processors_note (length s.processors) processors
+-- the clock of a processor below a number reaches a moment
+unfoldable pub reaches : Figures → ℕ → ℕ → Bool
+reaches s from zero = false
+reaches s from (suc p) = reaches s from p || nat_le from (processor_in_figures s p).last
+
+-- the note that the trace ends before the moment from which on it is to be shown: no clock reaches it
+abbrev pub past_note : Figures → ℕ → List ℕ
+past_note s from = if reaches s from PROCESSORS then [] else codes "--from: the trace ends before that time\n"
+
+-- the notes on tasks, processors and times that are asked for but do not exist, if there is a machine
+abbrev pub absent_notes : Option Figures → List ℕ → Part → List ℕ
+absent_notes None tasks part = []
+absent_notes (Some s) tasks part = tasks_note s tasks ++ (processors_note (length s.processors) part.processors ++ past_note s part.from)
 
 -- the note that no line made a machine, if no line was bad or refused
 abbrev pub unmade_note : ℕ → List ℕ

@@ -4,7 +4,7 @@ ghost use Rattle.std.specs.List.{list_any};
 ghost use Rattle.bq_report.specs.Names.{Learns, name_of};
 ghost use Rattle.bq_timeline.specs.Called.{tasks_for};
 ghost use Rattle.bq_timeline.specs.Beginning.{FormBegins, BeginsForm};
-ghost use Rattle.bq_timeline.specs.Notes.{absent_notes, is_number, lacks_processors, lacks_tasks, last_notes, processors_note, tasks_note, trouble_note, unmade_note, waiting_note, waiting_notes};
+ghost use Rattle.bq_timeline.specs.Notes.{absent_notes, is_number, lacks_processors, lacks_tasks, last_notes, past_note, processors_note, reaches, tasks_note, trouble_note, unmade_note, waiting_note, waiting_notes};
 ghost use Rattle.bq_schedule.specs.Figures.{task_in_figures};
 ghost use Rattle.bq_timeline.specs.Shown.{IsAskedFor, is_read_by_lines};
 
@@ -25,6 +25,15 @@ use bq_why::{Because, Occurrence, Refused};
 use bq_words::Rule;
 use std::alloc::{AllocError, Global};
 
+/// The part of a schedule that is asked for, apart from its tasks.
+#[derive(Clone, Copy)]
+pub struct Part {
+    /// The processors, by bits.
+    pub processors: u64,
+    /// The moment from which on it is shown.
+    pub from: u64,
+}
+
 /// What is written of a trace so far.
 #[derive(Drop)]
 pub struct Screen {
@@ -38,8 +47,7 @@ pub struct Screen {
     has_notes: bool,
     /// How near the bounds of the rule are, once the form has begun, if it is the report.
     near: Option<BoundsTable>,
-    /// The processors that are shown, by bits.
-    processors: u64,
+    part: Part,
     /// The tasks that are shown, once the form has begun. Empty if all are shown.
     tasks: Vec<u16>,
     /// What goes to the output, since the text was cleared last.
@@ -54,11 +62,14 @@ impl Screen {
         ensures asked { result.asked ≡ Some settings }
         ensures names { (task : ℕ) → name_of result.names task ≡ None }
         ensures notes { result.has_notes ≡ is_read_by_lines settings.form }
-        ensures processors { result.processors ≡ settings.window.processors }
+        ensures part { (result.part.processors ≡ settings.window.processors) × (result.part.from ≡ settings.window.from) }
     {
         Screen {
             near: None,
-            processors: settings.window.processors,
+            part: Part {
+                processors: settings.window.processors,
+                from: settings.window.from,
+            },
             has_notes: settings.form.has_notes(),
             tasks: Vec::new(alloc),
             names: Names::new(alloc),
@@ -131,7 +142,7 @@ impl Screen {
     ) -> Result<(), AllocError>
         ensures names { self.new.names ≡ self.old.names }
         ensures tasks { self.new.tasks ≡ self.old.tasks }
-        ensures processors { self.new.processors ≡ self.old.processors }
+        ensures part { self.new.part ≡ self.old.part }
         ensures notes { self.new.notes ≡ self.old.notes }
     {
         match shown {
@@ -149,7 +160,7 @@ impl Screen {
         ensures tasks { OnOk result (self.new.tasks.items ≡ settings.window.tasks.items ++ tasks_for self.old.names settings.names.items) }
         ensures names { self.new.names ≡ self.old.names }
         ensures notes { self.new.notes ≡ self.old.notes }
-        ensures processors { self.new.processors ≡ self.old.processors }
+        ensures part { self.new.part ≡ self.old.part }
     {
         let Settings {
             form,
@@ -287,7 +298,7 @@ impl Screen {
     /// Notes how many wakes did nothing because their task did not wait. No trace shows these wakes.
     pub fn count_missed(&mut self, wakes: u64)
         ensures notes { self.new.notes ≡ self.old.notes }
-        ensures named { (self.new.tasks ≡ self.old.tasks) × (self.new.processors ≡ self.old.processors) }
+        ensures named { (self.new.tasks ≡ self.old.tasks) × (self.new.part ≡ self.old.part) }
     {
         if let Some(shown) = &mut self.shown {
             shown.count_missed(wakes);
@@ -296,19 +307,14 @@ impl Screen {
 
     /// The trace is over. `troubles` is how many lines were bad or refused.
     pub fn end(&mut self, schedule: &Schedule, troubles: u64) -> Result<(), AllocError>
-        ensures { OnOk result (string_bytes self.new.notes ≡ (string_bytes self.old.notes ++ absent_notes (Some schedule.now) self.old.tasks.items self.old.processors)
+        ensures { OnOk result (string_bytes self.new.notes ≡ (string_bytes self.old.notes ++ absent_notes (Some schedule.now) self.old.tasks.items self.old.part)
             ++ last_notes (Some schedule.now) troubles) }
     {
         self.end_form(schedule)?;
         if let Some(near) = &self.near {
-            near.write(self.processors, &mut self.text)?;
+            near.write(self.part.processors, &mut self.text)?;
         }
-        note_absent(
-            &mut self.notes,
-            schedule,
-            self.tasks.as_slice(),
-            self.processors,
-        )?;
+        note_absent(&mut self.notes, schedule, self.tasks.as_slice(), self.part)?;
         note_waiting(&mut self.notes, schedule)?;
         note_troubles(&mut self.notes, troubles)
     }
@@ -316,7 +322,7 @@ impl Screen {
     /// Ends the form, if it has begun.
     fn end_form(&mut self, schedule: &Schedule) -> Result<(), AllocError>
         ensures tasks { self.new.tasks ≡ self.old.tasks }
-        ensures processors { self.new.processors ≡ self.old.processors }
+        ensures part { self.new.part ≡ self.old.part }
         ensures notes { self.new.notes ≡ self.old.notes }
     {
         match &mut self.shown {
@@ -334,17 +340,40 @@ impl Screen {
     }
 }
 
-/// Notes if none of the named tasks, or none of the named processors, exists.
+/// Notes if none of the named tasks, or none of the named processors, exists, and if the trace ends before what is asked for.
 fn note_absent(
     notes: &mut String,
     schedule: &Schedule,
     tasks: &[u16],
-    processors: u64,
+    part: Part,
 ) -> Result<(), AllocError>
-    ensures { OnOk result (string_bytes notes.new ≡ string_bytes notes.old ++ absent_notes (Some schedule.now) tasks.now processors) }
+    ensures { OnOk result (string_bytes notes.new ≡ string_bytes notes.old ++ absent_notes (Some schedule.now) tasks.now part) }
 {
     note_tasks(notes, schedule, tasks)?;
-    note_processors(notes, schedule.processors(), processors)
+    note_processors(notes, schedule.processors(), part.processors)?;
+    note_past(notes, schedule, part.from)
+}
+
+/// Notes if no clock of the trace reaches the moment from which on it is to be shown.
+fn note_past(notes: &mut String, schedule: &Schedule, from: u64) -> Result<(), AllocError>
+    ensures { OnOk result (string_bytes notes.new ≡ string_bytes notes.old ++ past_note schedule.now from) }
+{
+    if reaches(schedule, from) {
+        return Ok(());
+    }
+    notes.push_str("--from: the trace ends before that time\n")
+}
+
+/// Whether the clock of a processor reaches a moment.
+#[tactic(auto, using(crate::proofs::NoteLemmas::reaches_none, crate::proofs::NoteLemmas::reaches_more))]
+fn reaches(schedule: &Schedule, from: u64) -> bool
+    ensures { result ≡ reaches schedule.now from PROCESSORS }
+{
+    let mut is_reached = false;
+    for number in 0..PROCESSORS {
+        is_reached = is_reached || from <= schedule.processor(number).last;
+    }
+    is_reached
 }
 
 /// Notes if tasks are asked for by number and none of those that are asked for exists.

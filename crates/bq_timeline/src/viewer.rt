@@ -87,7 +87,7 @@ impl Viewer {
         ensures schedule { self.new.schedule ≡ self.old.schedule }
         ensures troubles { self.new.troubles ≡ self.old.troubles }
         ensures notes { OnOk result (string_bytes self.new.screen.notes
-            ≡ (string_bytes self.old.screen.notes ++ absent_notes self.old.schedule self.old.screen.tasks.items self.old.screen.processors)
+            ≡ (string_bytes self.old.screen.notes ++ absent_notes self.old.schedule self.old.screen.tasks.items self.old.screen.part)
             ++ last_notes self.old.schedule self.old.troubles) }
     {
         match &self.schedule {

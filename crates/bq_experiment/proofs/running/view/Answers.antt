@@ -8,7 +8,7 @@ returns-clause-notes g c =
     let viewer = c.feed_viewer.new.run.sink.sink.viewer in
     let viewed = c.in_ok-feed_viewer.ensures.viewed in
     let ends = c.in_ok-end.ensures.notes in
-    let before = string_bytes ends.begun.notes ++ absent_notes viewer.schedule ends.begun.tasks.items ends.begun.processors in
+    let before = string_bytes ends.begun.notes ++ absent_notes viewer.schedule ends.begun.tasks.items ends.begun.part in
     record {
       viewer = viewer;
       viewed = viewed;

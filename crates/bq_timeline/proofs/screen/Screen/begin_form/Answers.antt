@@ -10,7 +10,7 @@ returns c =
     record {
       shown = stays_asked c.args.settings old.names _ _ c.in_ok-shown.ensures.form c.begin.ensures;
       tasks = cc (c.begin_near.ensures.tasks, c.in_ok-shown.ensures.tasks);
-      processors = c.begin_near.ensures.processors ∙ c.form_of.ensures.processors;
+      part = c.begin_near.ensures.part ∙ c.form_of.ensures.part;
       notes =
           ap (λ (notes : String Global). string_bytes notes) (c.begin_near.ensures.notes ∙ c.form_of.ensures.notes)
           ∙ c.in_ok-note_uncalled.ensures

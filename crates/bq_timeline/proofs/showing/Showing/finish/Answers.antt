@@ -17,7 +17,7 @@ returns-clause-reported g c = λ begun stands.
     watches_what_it_gets old.viewer new new (λ reported. Story old.position.progress (lines begun) reported c.end.new.self.progress)
     (c.in_ok-end.ensures begun stands) refl refl in
     let ends = c.in_ok-end-2.ensures.notes in
-    let before = string_bytes ends.begun.notes ++ absent_notes new.schedule ends.begun.tasks.items ends.begun.processors in
+    let before = string_bytes ends.begun.notes ++ absent_notes new.schedule ends.begun.tasks.items ends.begun.part in
     record {
       reported = w.reported;
       final = c.end.new.self.progress;

@@ -9,7 +9,7 @@ returns-clause-notes c =
     let begun = c.begin.new.self in
     let screen = begun.screen in
     let notes = λ (s : Option Figures) (n : ℕ).
-    (string_bytes screen.notes ++ absent_notes s screen.tasks.items screen.processors) ++ last_notes s n in
+    (string_bytes screen.notes ++ absent_notes s screen.tasks.items screen.part) ++ last_notes s n in
     record {
       begun = screen;
       begins = c.in_ok-begin.ensures.form;
