@@ -176,15 +176,32 @@ name_length names task = unwrap_or (option_map (λ name. length (chars name)) (n
 abbrev pub label_width : NamedTasks → ℕ → ℕ
 label_width names task = saturating_sum (min (name_length names task * 1000) (2 ^ 64 - 1)) 1000
 
+-- the width that the number of a task needs, in hundredths: ten units for each digit, and ten more
+abbrev pub number_width : ℕ → ℕ
+number_width task = if nat_lt task 10 then 2000 else if nat_lt task 100 then 3000 else if nat_lt task 1000 then 4000 else 5000
+
+-- the beginning of a label of a task, around this place, in the band whose upper edge is at `top`
+abbrev pub label_start : PictureSetting → ℕ → ℕ → ℕ → List ℕ
+label_start s task middle top =
+    codes "<text class=\"in l" ++ (decimal (colour_of s.tasks task) ++ (codes "\" x=\"" ++ (hundredths middle
+    ++ (codes "\" y=\"" ++ (decimal (saturating_sum top 24) ++ codes "\">")))))
+
 -- the name of a run's task, around this place, in the band whose upper edge is at `top`
 abbrev pub name_upon : PictureSetting → ℕ → ℕ → ℕ → List ℕ
-name_upon s task middle top =
-    (codes "<text class=\"in l" ++ (decimal (colour_of s.tasks task) ++ (codes "\" x=\"" ++ (hundredths middle
-    ++ (codes "\" y=\"" ++ (decimal (saturating_sum top 24) ++ codes "\">"))))))
-    ++ (whole_name s task ++ codes "</text>\n")
+name_upon s task middle top = label_start s task middle top ++ (whole_name s task ++ codes "</text>\n")
 
--- the name in the middle of a run, if the run is wide enough
+-- the number of a run's task, around this place, if that much width has room for it
+abbrev pub number_within : PictureSetting → ℕ → ℕ → ℕ → ℕ → List ℕ
+number_within s width task middle top =
+    if nat_lt width (number_width task) then [] else label_start s task middle top ++ (decimal task ++ codes "</text>\n")
+
+-- the label around a place of a run of that width: the name of the task, or its number if the name does not fit, or nothing
+abbrev pub label_around : PictureSetting → ℕ → ℕ → ℕ → ℕ → List ℕ
+label_around s width task middle top =
+    if nat_lt width (label_width s.names task) then number_within s width task middle top else name_upon s task middle top
+
+-- the label in the middle of a run
 abbrev pub label_text : PictureSetting → ℕ → DrawnRun → List ℕ
 label_text s top run =
-    if nat_lt (drawn_width s.extent run.from run.to) (label_width s.names run.task) then []
-    else name_upon s run.task (saturating_sum (moment_place s.extent run.from) (drawn_width s.extent run.from run.to / 2)) top
+    label_around s (drawn_width s.extent run.from run.to) run.task
+    (saturating_sum (moment_place s.extent run.from) (drawn_width s.extent run.from run.to / 2)) top

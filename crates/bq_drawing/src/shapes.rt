@@ -1,6 +1,6 @@
 //! The shapes of a row: its name, its runs, the waits below them, and the wakes above.
 ghost use Rattle.std.specs.Prelude.{◌≡◌, ◌++◌, IfOk, OnOk, codes, string_bytes};
-ghost use Rattle.bq_drawing.specs.Shapes.{arrow_text, band_text, hatched_text, label_text, latency_text, name_upon, rectangle_text, row_name, drawn_run_text, run_times, run_title, run_waits, picture_setting, wait_height, wait_text, wait_times, wake_height, drawn_wake_text, wake_time};
+ghost use Rattle.bq_drawing.specs.Shapes.{arrow_text, band_text, hatched_text, label_start, label_text, latency_text, name_upon, number_within, number_width, rectangle_text, row_name, drawn_run_text, run_times, run_title, run_waits, picture_setting, wait_height, wait_text, wait_times, wake_height, drawn_wake_text, wake_time};
 
 use crate::frame::Frame;
 use crate::lanes::Stretch;
@@ -99,7 +99,8 @@ fn write_title(title: &str, text: &mut String) -> Result<(), AllocError>
     write!(text, "{title}</g>\n")
 }
 
-/// Adds the name of a run's task on the run, if there is room.
+/// Adds the name of a run's task on the run, or the task's number if there is no room for the name. Adds nothing if there is room for
+/// neither.
 pub fn write_label(
     run: &DrawnRun,
     top: usize,
@@ -110,10 +111,10 @@ pub fn write_label(
 {
     let place = frame.scale.place(run.from);
     let width = frame.scale.width(run.from, run.to);
-    if width.0 < frame.label_width(run.task) {
-        return Ok(());
-    }
     let middle = Hundredths(place.0.saturating_add(width.0 / 2));
+    if width.0 < frame.label_width(run.task) {
+        return write_number_within(width, run.task, middle, top, frame, labels);
+    }
     write_run_name(run.task, middle, top, frame, labels)
 }
 
@@ -127,14 +128,60 @@ fn write_run_name(
 ) -> Result<(), AllocError>
     ensures { OnOk result (string_bytes text.new ≡ string_bytes text.old ++ name_upon (picture_setting frame.now) task middle.0 top) }
 {
+    write_label_start(task, middle, top, frame, text)?;
+    frame.write_name(task, usize::MAX, text)?;
+    text.push_str("</text>\n")
+}
+
+/// The width that a task's number needs: ten units for each digit, and ten more.
+fn number_width(task: u16) -> u64
+    ensures { result ≡ number_width task }
+{
+    if task < 10 {
+        2_000
+    } else if task < 100 {
+        3_000
+    } else if task < 1_000 {
+        4_000
+    } else {
+        5_000
+    }
+}
+
+/// Adds a task's number around this place, if that much width has room for it.
+fn write_number_within(
+    width: Hundredths,
+    task: u16,
+    middle: Hundredths,
+    top: usize,
+    frame: &Frame<'_>,
+    text: &mut String,
+) -> Result<(), AllocError>
+    ensures { OnOk result (string_bytes text.new ≡ string_bytes text.old ++ number_within (picture_setting frame.now) width.0 task middle.0 top) }
+{
+    if width.0 < number_width(task) {
+        return Ok(());
+    }
+    write_label_start(task, middle, top, frame, text)?;
+    write!(text, "{task}</text>\n")
+}
+
+/// Adds the beginning of a label of this task, around this place.
+fn write_label_start(
+    task: u16,
+    middle: Hundredths,
+    top: usize,
+    frame: &Frame<'_>,
+    text: &mut String,
+) -> Result<(), AllocError>
+    ensures { OnOk result (string_bytes text.new ≡ string_bytes text.old ++ label_start (picture_setting frame.now) task middle.0 top) }
+{
     let line = top.saturating_add(24);
     let colour = frame.colour(task);
     write!(
         text,
         "<text class=\"in l{colour}\" x=\"{middle}\" y=\"{line}\">"
-    )?;
-    frame.write_name(task, usize::MAX, text)?;
-    text.push_str("</text>\n")
+    )
 }
 
 /// The tooltip of a run.

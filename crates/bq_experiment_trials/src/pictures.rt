@@ -87,6 +87,7 @@ const PICTURE: &str = concat!(
     "<text class=\"in l0\" x=\"207.00\" y=\"125\">task 1</text>\n",
     "<text class=\"in l1\" x=\"544.50\" y=\"125\">task 2</text>\n",
     "<text class=\"in l0\" x=\"814.50\" y=\"125\">task 1</text>\n",
+    "<text class=\"in l2\" x=\"1084.50\" y=\"214\">3</text>\n",
     "<rect class=\"run c0\" x=\"72\" y=\"334\" width=\"18\" height=\"18\" rx=\"2\"/><text x=\"98\" y=\"349\">task 1</text>\n",
     "<rect class=\"run c1\" x=\"342\" y=\"334\" width=\"18\" height=\"18\" rx=\"2\"/><text x=\"368\" y=\"349\">task 2</text>\n",
     "<rect class=\"run c2\" x=\"612\" y=\"334\" width=\"18\" height=\"18\" rx=\"2\"/><text x=\"638\" y=\"349\">&lt;server&gt; &quot;a&amp;b&quot; (3)</text>\n",
