@@ -72,6 +72,9 @@ fn write_row(alloc: Global, fields: &[&[u8]], text: &mut String) -> Result<(), A
 }
 
 /// A row of these fields.
+///
+/// A writer has a large buffer on the stack, so this is kept out of the path of a change without a row.
+#[inline(never)]
 fn row(alloc: Global, fields: &[&[u8]]) -> Result<Vec<u8>, Error>
     ensures { IfOk result (λ v. v.items ≡ row_text default_writer (map (λ f. f.now) fields.now)) }
 {

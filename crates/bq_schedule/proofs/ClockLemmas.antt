@@ -187,11 +187,6 @@ works-read_at processor now j s inside false (inr other) =
     ap (λ l. get_or l j unread) (processors-read_at processor now s)
     ∙ get_or-set_other s.processors processor j (processor_read processor (processor_in_figures s processor) now) unread (λ e. other.1 (sym e))
 
--- the processor that was read
-pub read_there : (processor now : ℕ) (s : Figures) → processor < length s.processors
-    → processor_in_figures (figures_read processor now s) processor ≡ processor_read processor (processor_in_figures s processor) now
-read_there processor now s inside = works-read_at processor now processor s inside true (inl (refl, refl))
-
 -- after a reading its processor has what the reading makes of it, and each other what it had
 pub processor-read_at : (processor now j : ℕ) (s : Figures) → j < length s.processors
     → processor_in_figures (figures_read processor now s) j

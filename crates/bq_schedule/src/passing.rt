@@ -1,20 +1,26 @@
 //! A clock is read: the running task is charged, and its time is shared out among the tasks that are runnable there.
 ghost use Rattle.std.specs.Prelude.{◌≡◌, ◌<◌, length};
-ghost use Rattle.bq_schedule.specs.Passing.{reading_at, slice_between, slice_length, joined_run, ended_run, passed, task_charged, with_charged, figures_read, continues_run};
-ghost use Rattle.bq_schedule.specs.Steps.{report_of_reading};
+ghost use Rattle.bq_schedule.specs.Figures.{processor_in_figures};
+ghost use Rattle.bq_schedule.specs.Passing.{reading_at, slice_at, slice_between, slice_length, joined_run, ended_run, passed, task_charged, with_charged, figures_read, continues_run};
 
-use crate::change::{Change, ClockReading, Start};
+use crate::change::{ClockReading, Start};
 use crate::figures::{ProcessorFigures, TaskFigures};
 use crate::schedule::{PARTS, Schedule};
 use crate::slice::Slice;
 use bq_disc::clock::LATEST;
 
 impl Schedule {
-    /// The clock of a processor is read.
-    pub(crate) fn read(&mut self, processor: u8, now: u64) -> Change
+    /// The clock of a processor is read. Gives the reading, the slice that is charged, and the run that ends.
+    pub(crate) fn read(
+        &mut self,
+        processor: u8,
+        now: u64,
+    ) -> (ClockReading, Option<Slice>, Option<Slice>)
         requires { processor < length self.old.processors }
         ensures figures { self.new ≡ figures_read processor now self.old }
-        ensures change { result ≡ report_of_reading processor now self.old }
+        ensures reading { result.0 ≡ reading_at processor (processor_in_figures self.old processor) now }
+        ensures slice { result.1 ≡ slice_at processor (processor_in_figures self.old processor) now }
+        ensures run { result.2 ≡ ended_run (processor_in_figures self.old processor).run (slice_at processor (processor_in_figures self.old processor) now) }
     {
         let figures = &mut self.processors[usize::from(processor)];
         let reading = figures.reading(processor, now);
@@ -22,12 +28,7 @@ impl Schedule {
         let run = ended_run(figures.run, slice);
         figures.pass(reading.to, slice);
         self.charge(slice);
-        Change {
-            reading: Some(reading),
-            slice,
-            run,
-            ..Change::nothing()
-        }
+        (reading, slice, run)
     }
 
     /// Adds a slice to the time of its task.

@@ -108,12 +108,15 @@ impl Schedule {
         ensures figures { self.new ≡ placed processor now decision id to self.old }
         ensures change { result ≡ report_of_placement processor now decision id to self.old }
     {
-        let read = self.read(processor, now);
-        let at = self.processor(processor).last;
+        let (reading, slice, ended) = self.read(processor, now);
+        let at = reading.to;
         self.ask(processor, &decision);
         self.come(id, to, at);
         self.wake(id, to, at);
         Change {
+            reading: Some(reading),
+            slice,
+            run: ended,
             decision: Some(decision),
             wake: Some(Wake {
                 task: id,
@@ -121,7 +124,7 @@ impl Schedule {
                 to,
                 at,
             }),
-            ..read
+            ..Change::nothing()
         }
     }
 
@@ -144,15 +147,18 @@ impl Schedule {
         ensures figures { self.new ≡ figures_decided processor now decision run self.old }
         ensures change { result ≡ report_of_decision processor now decision run self.old }
     {
-        let read = self.read(processor, now);
-        let at = self.processor(processor).last;
+        let (reading, slice, ended) = self.read(processor, now);
+        let at = reading.to;
         self.ask(processor, &decision);
         let (stop, start) = self.switch(Left::Preempted, processor, at, run);
         Change {
+            reading: Some(reading),
+            slice,
+            run: ended,
             decision: Some(decision),
             stop,
             start,
-            ..read
+            ..Change::nothing()
         }
     }
 
@@ -162,14 +168,17 @@ impl Schedule {
         ensures figures { self.new ≡ blocked processor now id run self.old }
         ensures change { result ≡ report_of_block processor now id run self.old }
     {
-        let read = self.read(processor, now);
-        let at = self.processor(processor).last;
+        let (reading, slice, ended) = self.read(processor, now);
+        let at = reading.to;
         self.leave(id);
         let (stop, start) = self.switch(Left::Blocked, processor, at, run);
         Change {
+            reading: Some(reading),
+            slice,
+            run: ended,
             stop,
             start,
-            ..read
+            ..Change::nothing()
         }
     }
 
@@ -187,17 +196,20 @@ impl Schedule {
         ensures figures { self.new ≡ figures_pulled processor now decision task run self.old }
         ensures change { result ≡ report_of_pull processor from now decision task run self.old }
     {
-        let read = self.read(processor, now);
-        let at = self.processor(processor).last;
+        let (reading, slice, ended) = self.read(processor, now);
+        let at = reading.to;
         self.ask(processor, &decision);
         let pull = self.take_over(task, from, processor, at);
         let (stop, start) = self.switch(Left::Preempted, processor, at, run);
         Change {
+            reading: Some(reading),
+            slice,
+            run: ended,
             decision: Some(decision),
             pull,
             stop,
             start,
-            ..read
+            ..Change::nothing()
         }
     }
 
