@@ -18,7 +18,7 @@ use bq_lines::with_first_line;
 use bq_load::{FaultInWords, LoadFault};
 use bq_parts::{Event, Refusal, Reply};
 use bq_report::Names;
-use bq_schedule::{Change, Schedule};
+use bq_schedule::{Change, ClockReading, Schedule};
 use bq_trace::AnyCore;
 use bq_why::faults::{Fault, NOT_READ_ON, meant_keyword, why_bad};
 use bq_why::{Because, Occurrence, Refused};
@@ -106,6 +106,10 @@ impl Screen {
         let Some(rule) = self.rule else {
             return Ok(());
         };
+        // Each event asks this, and settings are large: they are moved only if they are still there.
+        if self.asked.is_none() {
+            return Ok(());
+        }
         match self.asked.take() {
             Some(settings) => self.begin_form(alloc, rule, settings, schedule),
             None => Ok(()),
@@ -210,22 +214,11 @@ impl Screen {
     ) -> Result<(), AllocError> {
         let reply = match answer {
             Ok(reply) => reply,
-            Err(refusal) => {
-                let refused = Refused {
-                    event,
-                    refusal: *refusal,
-                };
-                return write!(self.notes(), "line {number}: {refused}\n");
-            }
+            Err(refusal) => return self.refused(number, event, *refusal),
         };
         if let Some(reading) = &change.reading {
             if reading.is_back {
-                let processor = reading.processor;
-                let last = reading.to;
-                write!(
-                    self.notes(),
-                    "line {number}: the clock of processor {processor} goes back; the reading counts as {last}\n"
-                )?;
+                self.goes_back(number, reading)?;
             }
         }
         if let Some(Shown::Why(form)) = &self.shown {
@@ -247,6 +240,22 @@ impl Screen {
             shown.admit(*task)?;
         }
         shown.take(change, schedule, &self.names, &mut self.text)
+    }
+
+    /// An event was refused.
+    fn refused(&mut self, number: u64, event: &Event, refusal: Refusal) -> Result<(), AllocError> {
+        let refused = Refused { event, refusal };
+        write!(self.notes(), "line {number}: {refused}\n")
+    }
+
+    /// The clock of a processor was read, and had gone back.
+    fn goes_back(&mut self, number: u64, reading: &ClockReading) -> Result<(), AllocError> {
+        let processor = reading.processor;
+        let last = reading.to;
+        write!(
+            self.notes(),
+            "line {number}: the clock of processor {processor} goes back; the reading counts as {last}\n"
+        )
     }
 
     /// The word of an image is not hex.

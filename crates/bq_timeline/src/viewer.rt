@@ -6,12 +6,14 @@ ghost use Rattle.bq_timeline.specs.Beginning.{FormBeginsWith, TraceEnds};
 ghost use Rattle.bq_timeline.specs.Timelines.{TakesEvent};
 ghost use Rattle.bq_timeline.specs.Comments.{ReadsComment, IsSkipped, ViewerRests};
 ghost use Rattle.bq_trace.specs.Borrowed.{event_of};
+ghost use Rattle.bq_trace.specs.TraceEvents.{Answered};
 ghost use Rattle.std.specs.Prelude.{◌≡◌, ◌++◌, ℕ, OnOk, string_bytes};
 
 use crate::screen::Screen;
 use crate::settings::Settings;
+use bq_parts::{Event, Refusal, Reply};
 use bq_schedule::Schedule;
-use bq_trace::{Sink, TraceEvent};
+use bq_trace::{AnyCore, Sink, TraceEvent};
 use std::alloc::{AllocError, Global};
 
 /// A trace so far: its schedule, once it has a machine, and how many of its lines were bad or refused.
@@ -71,6 +73,30 @@ impl Viewer {
         Ok(())
     }
 
+    /// An event was done, or refused.
+    ///
+    /// A change is large and is built on the stack here, so this is kept out of the path of all else that comes.
+    #[inline(never)]
+    fn answered(
+        &mut self,
+        number: u64,
+        event: &Event,
+        answer: &Result<Reply, Refusal>,
+        machine: &AnyCore,
+    ) -> Result<(), AllocError>
+        ensures { OnOk result (TakesEvent self.old (Answered event.now answer.now machine.now) self.new) }
+    {
+        if answer.is_err() {
+            self.troubles = self.troubles.saturating_add(1);
+        }
+        let Some(schedule) = &mut self.schedule else {
+            return Ok(());
+        };
+        let change = schedule.take(event, answer);
+        self.screen
+            .answered(number, event, answer, machine, &change, schedule)
+    }
+
     /// The trace is over.
     pub fn end(&mut self) -> Result<(), AllocError>
         ensures schedule { self.new.schedule ≡ self.old.schedule }
@@ -123,17 +149,7 @@ impl Sink for Viewer {
                 event,
                 answer,
                 machine,
-            } => {
-                if answer.is_err() {
-                    self.troubles = self.troubles.saturating_add(1);
-                }
-                if let Some(schedule) = &mut self.schedule {
-                    let change = schedule.take(event, answer);
-                    self.screen
-                        .answered(number, event, answer, machine, &change, schedule)?;
-                }
-                Ok(())
-            }
+            } => self.answered(number, event, answer, machine),
             TraceEvent::NotHex => {
                 self.begin_trouble()?;
                 self.screen.unspelled(number)
