@@ -6,6 +6,7 @@
 BQSIM is the path of the program. What is checked, each in a file of tests/checks/:
 - kept: the replies to each trace of examples/, each report in workloads/reports, each picture in docs/pictures;
 - documents: each command that README.md and the other pages show, with what they show of its output;
+- sessions: each command of tests/sessions, with all that it writes and its exit status;
 - links: the relative links of the pages;
 - scripts: the comparisons with the models, on fixed seeds, and the scripts that read the sources.
 
@@ -23,7 +24,7 @@ from functools import partial
 
 sys.dont_write_bytecode = True
 
-from checks import documents, kept, links, scripts
+from checks import documents, kept, links, scripts, sessions
 from checks.board import Board
 from checks.runs import TOP, Answer, Failed, Runner
 from checks.work import Job, Work
@@ -49,6 +50,7 @@ def all_jobs(runner, program):
     return [
         *each("models", scripts.MODELS, scripts.check_script, runner, program),
         *each("pages", documents.with_commands(), documents.check_page, runner, program, count=documents.count),
+        *each("sessions", sessions.sessions(), sessions.check_session, runner, program, count=sessions.count),
         *each("reports", kept.reports(), kept.check_report, runner, program),
         *(sources if has_sources else []),
         *each("pictures", kept.pictures(), kept.check_picture, runner, program),
