@@ -103,15 +103,13 @@ fn slip_at(first: &str, place: usize, word: &str) -> Option<Slip> {
 
 /// What is wrong with a word that begins as a number does, and is not one.
 fn no_number(kind: NumberKind, word: &str) -> Slip {
-    match duration(word.as_bytes()) {
-        Some(time) if word.ends_with('s') => {
-            if matches!(kind, NumberKind::Wide) || fits(time, false, 0x8000_0000) {
-                Slip::Time(time)
-            } else {
-                Slip::LongTime(time)
-            }
-        }
-        _ => Slip::NoNumber,
+    let Some(time) = duration(word.as_bytes()) else {
+        return Slip::NoNumber;
+    };
+    if matches!(kind, NumberKind::Wide) || fits(time, false, 0x8000_0000) {
+        Slip::Time(time)
+    } else {
+        Slip::LongTime(time)
     }
 }
 

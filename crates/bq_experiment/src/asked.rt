@@ -9,8 +9,7 @@ ghost use Rattle.bq_experiment.specs.Asking.{AskForChanges, AskToShow, IsNoChang
 use crate::words::StudyWords;
 use bq_timeline::{RefusedWord, Settings, SettingsFault, Words, with_forms, word_after};
 use bq_words::quantities::{decimal, size};
-use bq_words::{ProcessorCount, Rule, with_rules, with_sizes, with_units};
-use bq_workload::duration_with_unit;
+use bq_words::{ProcessorCount, Rule, duration, with_rules, with_sizes, with_units};
 use bq_workload::limits::LONGEST;
 use bq_workload_file::Changes;
 use std::alloc::Global;
@@ -188,7 +187,7 @@ fn seed_asked(word: &Option<String>) -> Option<Option<u64>>
 fn time(word: &[u8]) -> Option<u64>
     ensures { result ≡ simulable_time word.now }
 {
-    let time = duration_with_unit(word)?;
+    let time = duration(word)?;
     if 1 <= time && time <= LONGEST {
         Some(time)
     } else {

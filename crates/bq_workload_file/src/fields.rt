@@ -10,8 +10,7 @@ use crate::tables::at;
 use crate::why::{Range, Wanted, Why};
 use bq_weights::is_nice;
 use bq_words::processor_sets::processors;
-use bq_words::{ProcessorCount, Rule};
-use bq_workload::duration_with_unit;
+use bq_words::{ProcessorCount, Rule, duration};
 use bq_workload::limits::LONGEST_NAME;
 use toml::{Table, Value};
 
@@ -32,7 +31,7 @@ pub(crate) fn span(value: &Value, range: Range) -> Option<u64>
     ensures { result ≡ span_in range.least range.greatest (view value.now) }
 {
     let word = value.as_str()?;
-    let span = duration_with_unit(word.as_bytes())?;
+    let span = duration(word.as_bytes())?;
     within(span, range)
 }
 
