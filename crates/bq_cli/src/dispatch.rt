@@ -12,7 +12,7 @@ use crate::simulate::do_simulate;
 use crate::tables::VERSION;
 use crate::timeline::do_timeline;
 use bq_console::{
-    Bounded, ErasingWriter, MOST_BYTES, Progress, ShowingReader, WordsFault, as_texts, ended,
+    Bounded, ErasingWriter, MOST_BYTES, ProgressLine, ShowingReader, WordsFault, as_texts, ended,
     given_words, joined_words, report_out_of_memory, waiting_input, written,
 };
 use bq_lines::with_first_line;
@@ -80,7 +80,7 @@ pub(crate) fn perform_from<T: Threads + Wait + Sync, R: Read + Drop>(
     name: Option<&str>,
     reader: R,
 ) -> ExitCode {
-    let progress = Progress::new(rt);
+    let progress = ProgressLine::new(rt);
     let mut input = Counted::new(Kept::new(ShowingReader::new(reader, &progress)));
     let mut output = Counted::new(Kept::new(ErasingWriter::new(rt.stdout(), &progress)));
     let outcome = perform(threads, rt.alloc(), command, &mut input, &mut output);

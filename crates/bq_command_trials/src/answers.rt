@@ -3,7 +3,7 @@
 use crate::done::holds;
 use bq_console::file_named;
 use bq_policy_check::{
-    Answered, CheckWords, LimitWords, ListWords, PolicyWords, ReportWords, RunWords, check, list,
+    Answered, CheckWords, LimitWords, DisWords, PolicyWords, ReportWords, RunWords, check, list,
 };
 use bq_policy_run::run;
 use std::alloc::{AllocError, Global};
@@ -557,14 +557,14 @@ fn runs_report_what_came_of_them(rt: HostRuntime) -> Result<(), Fail> {
 }
 
 /// What `dis` tells of a policy.
-fn listed(alloc: Global, words: &ListWords, policy: &str) -> Result<String, AllocError> {
+fn listed(alloc: Global, words: &DisWords, policy: &str) -> Result<String, AllocError> {
     let answer = list(alloc, words, policy.as_bytes())?;
     reported(alloc, &answer)
 }
 
 /// What `dis` tells of a policy on standard input.
 fn listed_alone(alloc: Global, policy: &str) -> Result<String, AllocError> {
-    let words = ListWords {
+    let words = DisWords {
         policy: policy_words(alloc, "-", "")?,
         has_slots: false,
     };

@@ -83,7 +83,7 @@ impl AskedFault {
 }
 
 impl ShownAs {
-    /// Answers the form that the words ask for: a report, unless they say otherwise.
+    /// The form that the words ask for: a report, unless they say otherwise.
     pub fn of(alloc: Global, words: &StudyWords) -> Result<ShownAs, AskedFault>
         ensures asked { IfOk result (AskToShow words.now) }
         ensures fault { IfErr result (IsNotShown words.now) }
@@ -102,7 +102,7 @@ impl ShownAs {
     }
 }
 
-/// Answers whether a form is `trace`.
+/// Whether a form is `trace`.
 fn names_trace(form: &Option<String>) -> bool
     ensures { IsTrue result ↔ (option_bytes form.now ≡ Some (codes "trace")) }
 {
@@ -112,7 +112,7 @@ fn names_trace(form: &Option<String>) -> bool
     }
 }
 
-/// Answers whether the words choose what is shown, and how: a stretch of time, processors, tasks, a width, a theme or a title.
+/// Whether the words choose what is shown, and how: a stretch of time, processors, tasks, a width, a theme or a title.
 fn chooses_part(words: &Words) -> bool
     ensures { result ≡ chooses_part words.now }
 {

@@ -3,7 +3,7 @@
 use crate::cases::holds;
 use crate::timelines::text_of;
 use bq_comparison::{RunPlan, SeedsFault, compare};
-use bq_console::Progress;
+use bq_console::ProgressLine;
 use bq_experiment::{Policies, Ran, RunFault, ShownAs, Streams, run_as};
 use bq_workload::Workload;
 use bq_workload_file::{Changes, read};
@@ -29,7 +29,7 @@ fn workload(alloc: Global) -> Result<Workload, Fail> {
 /// The trace of at most this many events, written to that.
 fn traced<W: Write + Drop>(alloc: Global, most: u64, output: W) -> Result<Ran<W>, Fail> {
     let workload = workload(alloc)?;
-    let progress = Progress::none();
+    let progress = ProgressLine::none();
     let streams = Streams {
         output,
         errors: Vec::new(alloc),
@@ -82,7 +82,7 @@ fn ends_at_a_failed_write(rt: HostRuntime) -> Result<(), Fail> {
 fn a_comparison_is_cut_too(rt: HostRuntime) -> Result<(), Fail> {
     let workload = workload(rt.alloc())?;
     let none = Policies::new(rt.alloc());
-    let progress = Progress::none();
+    let progress = ProgressLine::none();
     let plan = RunPlan {
         seeds: 2,
         most: 2,

@@ -2,7 +2,7 @@
 
 use crate::cases::holds;
 use crate::timelines::{settings_of, text_of};
-use bq_console::Progress;
+use bq_console::ProgressLine;
 use bq_experiment::{Policies, ShownAs, Streams, run_as};
 use bq_workload::Workload;
 use bq_workload_file::{Changes, read};
@@ -29,7 +29,7 @@ fn workload(alloc: Global) -> Result<Workload, Fail> {
 /// What is written of the run in that form.
 fn written(alloc: Global, shown: ShownAs) -> Result<String, Fail> {
     let workload = workload(alloc)?;
-    let progress = Progress::none();
+    let progress = ProgressLine::none();
     let streams = Streams {
         output: Vec::new(alloc),
         errors: Vec::new(alloc),

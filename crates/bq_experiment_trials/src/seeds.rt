@@ -11,7 +11,7 @@ use bq_cli::{Command, job};
 use bq_comparison::{
     Comparing, ComparingFault, RunPlan, asked_comparison, compare, comparison_text,
 };
-use bq_console::Progress;
+use bq_console::ProgressLine;
 use bq_experiment::{Policies, ShownAs, StudyWords};
 use bq_workload::Workload;
 use bq_workload_file::{Changes, read};
@@ -204,7 +204,7 @@ fn compared<T: Threads + Sync>(
 ) -> Result<String, Fail> {
     let none = Policies::new(alloc);
     let _notes = asked.add_called(alloc, workload)?;
-    let progress = Progress::none();
+    let progress = ProgressLine::none();
     let plan = RunPlan {
         seeds: asked.seeds,
         most: u64::MAX,
