@@ -1,6 +1,6 @@
 //! Streams that fail, and what is said of errors: the system's words for them are those of errno's manual.
 
-use crate::done::holds;
+use crate::asserting::holds;
 use bq_console::reason;
 use bq_streams::Kept;
 use std::io;

@@ -1,4 +1,4 @@
-use Rattle.bq_command_trials.proofs.one_verdict.the_machine_agrees.Given as goal
+use Rattle.bq_trials.proofs.one_verdict.the_machine_agrees.Given as goal
 
 abbrev pub ghosts-are_loaded-N-Naming : goal.ghosts-are_loaded-N-Naming
 ghosts-are_loaded-N-Naming g a = record { table = a.prepared.0 }

@@ -1,11 +1,10 @@
-// One program, one verdict. Each drawn program goes the five ways by which a program comes to the verifier: `check` of its hex, `check` and
-// `run` of its file, a trace's install, and `load_all` of the locked machine. Each must answer what `verify` itself answers: that it
-// is accepted, or the same cause at the same slot.
+// One program, one verdict. Each drawn program is loaded by `load_all` of the locked machine, which must answer what `verify` itself answers: that
+// it is accepted, or the same cause at the same slot. `tests/one_verdict.py` draws the same programs, and compares the four other ways by which a
+// program comes to the verifier: `check` of its hex, `check` and `run` of its file, and a trace's install.
 
 ghost use Rattle.std.specs.Prelude.{◌≡◌};
 
-use crate::answers::{check_reports, run_reports};
-use crate::done::{Performed, done_by, holds};
+use crate::asserting::holds;
 use bq_cfs::CfsQueue;
 use bq_history::Naming;
 use bq_hooks::Hook;
@@ -18,7 +17,6 @@ use std::alloc::{AllocError, Global};
 use std::marker::Brand;
 use std::process::Abort;
 use std::sync::Wait;
-use std::thread::Threads;
 
 /// How many programs are drawn.
 const PROGRAMS: u32 = 400;
@@ -85,11 +83,9 @@ struct Refusal {
     slot: usize,
 }
 
-/// A program as it goes the ways.
+/// A drawn program.
 #[derive(Drop)]
 struct Sample {
-    /// The policy's file.
-    text: String,
     /// The policy's image.
     image: Vec<u8>,
     /// How `verify` refuses it; none where it is accepted.
@@ -138,11 +134,7 @@ fn next_sample(rt: &impl Abort, alloc: Global, number: &mut u64) -> Sample {
     let policy = read_policy(alloc, text.as_bytes(), &Head::nothing()).expect(rt, "a policy");
     let image = policy.image(alloc).expect(rt, "memory");
     let refusal = judged(rt, alloc, &policy);
-    Sample {
-        text,
-        image,
-        refusal,
-    }
+    Sample { image, refusal }
 }
 
 /// The first line that is told is the one that refuses the program; of one that is accepted, it begins so.
@@ -160,110 +152,6 @@ fn agrees(
     };
     let wanted = format!(in alloc; "refused L8 V{cause} {slot}").expect(rt, "memory");
     holds(rt, line == wanted.as_str(), line, wanted.as_str());
-}
-
-/// What the command of these words does.
-fn performed<R: Abort + Threads + Wait + Sync>(
-    rt: &R,
-    alloc: Global,
-    line: &str,
-    input: &[u8],
-) -> Performed {
-    match done_by(rt, alloc, line, input) {
-        Ok(done) => done,
-        Err(_) => panic!(rt; "its words are refused: {line}"),
-    }
-}
-
-/// What a command tells of this input, where it tells `accepted` of a program that is accepted.
-fn reports<R: Abort + Threads + Wait + Sync>(
-    rt: &R,
-    alloc: Global,
-    line: &str,
-    input: &[u8],
-    refusal: Option<Refusal>,
-    accepted: &str,
-) {
-    let done = performed(rt, alloc, line, input);
-    agrees(rt, alloc, done.text(), refusal, accepted);
-}
-
-/// What a trace that installs the image is answered, after the line of its draw.
-fn replays<R: Abort + Threads + Wait + Sync>(
-    rt: &R,
-    alloc: Global,
-    hex: &str,
-    refusal: Option<Refusal>,
-) {
-    let trace = format!(in alloc; "machine cfs 1\ndraw\ninstall 0 1 preempt {hex}\n").expect(
-        rt, "memory",
-    );
-    let done = performed(rt, alloc, "replay", trace.as_bytes());
-    let reported = done.text().strip_prefix("draw 1\n").unwrap_or("no draw");
-    agrees(rt, alloc, reported, refusal, "install ok");
-}
-
-/// Two commands on one program.
-fn commands_report<R: Abort + Threads + Wait + Sync>(rt: &R, alloc: Global, sample: &Sample) {
-    let hex = hex::encode(alloc, sample.image.as_slice()).expect(rt, "memory");
-    let refusal = sample.refusal;
-    reports(
-        rt,
-        alloc,
-        "check",
-        hex.as_bytes(),
-        refusal,
-        "accepted preempt budget ",
-    );
-    replays(rt, alloc, hex.as_str(), refusal);
-}
-
-/// By its hex, and in a trace.
-#[test]
-fn commands_agree(rt: HostRuntime) {
-    let alloc = rt.alloc();
-    let mut number = SEED;
-    for _ in 0..PROGRAMS {
-        let sample = next_sample(&rt, alloc, &mut number);
-        commands_report(&rt, alloc, &sample);
-    }
-}
-
-/// What is told of the program's file: a refusal is told as one.
-fn file_reports(
-    rt: &impl Abort,
-    alloc: Global,
-    reported: Result<String, AllocError>,
-    refusal: Option<Refusal>,
-    accepted: &str,
-) {
-    let reported = reported.expect(rt, "memory");
-    let kind = if refusal.is_some() { "R " } else { "D " };
-    let reported = reported
-        .as_str()
-        .strip_prefix(kind)
-        .unwrap_or("another kind");
-    agrees(rt, alloc, reported, refusal, accepted);
-}
-
-/// Two commands on one program's file.
-fn files_report(rt: &impl Abort, alloc: Global, sample: &Sample) {
-    let policy = sample.text.as_str();
-    let refusal = sample.refusal;
-    let checked = check_reports(alloc, policy);
-    file_reports(rt, alloc, checked, refusal, "accepted preempt budget ");
-    file_reports(rt, alloc, run_reports(alloc, policy), refusal, "r0 ");
-}
-
-/// By its file, checked and run.
-#[test]
-fn files_agree(rt: HostRuntime) {
-    let alloc = rt.alloc();
-    let mut number = SEED;
-    for _ in 0..PROGRAMS {
-        let sample = next_sample(&rt, alloc, &mut number);
-        files_report(&rt, alloc, &sample);
-    }
 }
 
 /// A clock that stands still.
@@ -328,20 +216,4 @@ fn the_machine_agrees(rt: HostRuntime) {
         panic!(&rt; "memory")
     };
     are_loaded::<Brand, _>(&rt, alloc, prepared, unnamed);
-}
-
-/// Some of the drawn programs are accepted, which counts as 0 here, and some are refused for each of these causes.
-#[test]
-fn verdicts_are_many(rt: HostRuntime) {
-    let alloc = rt.alloc();
-    let mut number = SEED;
-    let mut seen = [false; 12];
-    for _ in 0..PROGRAMS {
-        let sample = next_sample(&rt, alloc, &mut number);
-        let cause = sample.refusal.map_or(0, |refusal| refusal.cause);
-        seen[usize::from(cause) % 12] = true;
-    }
-    for cause in [0, 1, 3, 4, 5, 6, 7, 8, 9, 10] {
-        assert!(&rt; seen[cause], "none of {cause}");
-    }
 }
