@@ -1,7 +1,8 @@
 //! Tests that need crates side by side. Run queues under drawn commands: the queue on the tree is given the same commands
 //! as the plain list, and must answer alike; what policies are shown of such queues, which of their answers are taken, and what
-//! they answer; runs of a core over worked events; the table of weights and worked rows of virtual time; and the examples of the
-//! calls that a user of the library starts with. All of it is for the tests; the library itself is empty.
+//! they answer; runs of a core over worked events; the table of weights and worked rows of virtual time; what simulations count;
+//! and the examples of the calls that a user of the library starts with. All of it is for the tests; the library itself is
+//! empty.
 #![tactic(auto)]
 
 #[cfg(test)]
@@ -18,6 +19,8 @@ mod core_runs;
 mod examples;
 #[cfg(test)]
 mod hex_text;
+#[cfg(test)]
+mod phases;
 #[cfg(test)]
 mod places;
 #[cfg(test)]
