@@ -24,6 +24,7 @@ MODELS = [
     "tests/received.py BQSIM",
     "tests/long_work.py BQSIM",
     "tests/compare_with_model.py BQSIM tests/every_line.trace",
+    "tests/pieces.py BQSIM",
     "tests/pages.py BQSIM",
 ]
 SOURCES = [
