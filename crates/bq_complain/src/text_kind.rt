@@ -79,7 +79,12 @@ fn kind_of_line(line: &str) -> TextKind {
         return TextKind::Workload;
     }
     if line.starts_with("machine ") {
-        return TextKind::Trace;
+        // A line such as `machine = { discipline = "eevdf" }` sets a key of a workload.
+        return if line.contains("=") {
+            TextKind::Workload
+        } else {
+            TextKind::Trace
+        };
     }
     if line.starts_with(";") || line.starts_with(IMAGE_IN_HEX) || begins_instruction(line) {
         return TextKind::Policy;
