@@ -23,7 +23,7 @@ pub(crate) fn cell(
     }
 }
 
-/// Answers a difference with its sign, if there is one; otherwise another text.
+/// A difference with its sign, if there is one; otherwise another text.
 pub(crate) fn signed(
     alloc: Global,
     difference: Option<Difference>,
@@ -38,7 +38,7 @@ pub(crate) fn signed(
     format!(in alloc; "{sign}{size}")
 }
 
-/// Answers how many runs have the value of a row, if there is a row.
+/// How many runs have the value of a row, if there is a row.
 pub(crate) fn runs_of(row: Option<FigureRow>) -> Option<u128> {
     let row = row?;
     Some(row.runs as u128)

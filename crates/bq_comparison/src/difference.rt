@@ -10,7 +10,7 @@ pub enum Difference {
 }
 
 impl Difference {
-    /// Answers how much more or less their mean is than ours, if both are there.
+    /// How much more or less their mean is than ours, if both are there.
     pub fn of(ours: Option<u128>, theirs: Option<u128>) -> Option<Difference>
         ensures value { IfSome result (IsDifference ours theirs) }
         ensures none { IfNone result ((ours ≡ None) ⊎ (theirs ≡ None)) }

@@ -87,7 +87,7 @@ pub(crate) fn label_on(file: &[u8], line: Option<usize>) -> Option<&str> {
     Some(label)
 }
 
-/// Answers whether the letter separates words of the assembler's language.
+/// Whether the letter separates words of the assembler's language.
 fn is_between(letter: char) -> bool {
     letter == ' ' || letter == '\t' || letter == ','
 }

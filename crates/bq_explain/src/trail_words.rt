@@ -12,7 +12,7 @@ use bq_policy_file::instruction_text;
 use bq_states::abstract_state::AbstractValue;
 use std::alloc::{AllocError, Global};
 
-/// Answers a line for each instruction that made a register, for each register that is unset on some way, and for each place
+/// A line for each instruction that made a register, for each register that is unset on some way, and for each place
 /// where ways meet.
 pub(crate) fn trail_text(
     alloc: Global,
