@@ -48,7 +48,7 @@ fn processor_value(schedule: &Schedule, processor: u8, figure: ProcessorFigure) 
     let figures = schedule.processor(processor);
     match figure {
         ProcessorFigure::Busy => figures.busy,
-        ProcessorFigure::Idle => figures.idle(),
+        ProcessorFigure::Idle => figures.idle(schedule.observed_time()),
         ProcessorFigure::Switches => figures.switches,
     }
 }
