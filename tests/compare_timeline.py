@@ -5,8 +5,9 @@
     tests/compare_timeline.py BQSIM --near [TRACES [SEED]]   drawn histories of the discipline alone, and how near they come
 
 BQSIM is the path of the program. Of each trace `csv` must have the model's slices, `json` its figures of tasks and
-processors (times, waits, latencies, fair times and counts, to the nanosecond), and `report` its tables of latencies, of processors and of
-bounds. The second form draws ticks, wakes and blocks at processors where no policy stands, and says how much of the bounds was reached.
+processors (times, waits, latencies, fair times and counts, to the nanosecond), `report` its tables of latencies, of processors and of
+bounds, and `map` its columns and its legend: of all tasks and of half of them, to the end and to the middle. The second form draws ticks,
+wakes and blocks at processors where no policy stands, and says how much of the bounds was reached.
 
 `tests/quick.py` compares some of these. Last seen: 300 traces, 39,873 slices alike, the figures of `json` and the table of bounds too; of the second form 200 histories.
 """
@@ -22,6 +23,9 @@ from model.replies import Bad, cut, machine, said
 from model.scheduler import Eevdf, vdelta
 
 PARTS = 10**12
+
+LETTERS = "ABCDEFGHIJKLMNOPQRSTUVWXYZabcdefghijklmnopqrstuvwxyz0123456789"
+ROUND_STEPS = [digit * 10**power for power in range(15) for digit in (1, 2, 5)]
 
 
 def millis(time):
@@ -289,6 +293,44 @@ class Watched:
             rows[-1] += [] if still is None else ["still", "waiting", millis(still), "ms"]
         return rows
 
+    def map(self, shown, to, width):
+        """The map of these tasks up to a moment, so many columns wide."""
+        read = [(place.first, here.last) for place, here in zip(self.places, self.world.processors) if place.first is not None]
+        first, last = min((one for one, _ in read), default=0), min(to, max((other for _, other in read), default=0))
+        if first >= last:
+            return "no time passes in what is shown\n"
+        step = next(step for step in ROUND_STEPS if last - first <= step * (width - 8))
+        count, thousand, unit = -(-(last - first) // step), *((1, "us") if step < 1000 else (1000, "ms"))
+
+        def moment(time):
+            return f"{time // thousand // 1000}.{time // thousand % 1000:03} {unit}"
+
+        marks = [f"|{moment(min(first + at * step, last))}" for at in range(0, count, 20)]
+        lines = [" " * 8 + "".join(mark.ljust(20) for mark in marks[:-1]) + marks[-1]]
+        letters = {number: (LETTERS + "*" * len(self.tasks))[place] for place, number in enumerate(self.tasks)}
+        seen = set()
+        for cpu in range(len(self.places)):
+            columns = [self.column(cpu, shown, first + at * step, min(first + (at + 1) * step, last)) for at in range(count)]
+            seen.update(columns)
+            lines.append(f"cpu {cpu:<4}" + "".join(letters.get(column, column) for column in columns))
+        lines += ["", f"a column is {moment(step)}; . is idle" + "; - runs a task that is not shown" * ("-" in seen)]
+        ran = {task for _, task, start, _ in self.slices if task in shown and start < last}
+        lines += [f"{letters[task]}  task {task}" + "  (in no column)" * (task not in seen) for task in self.tasks if task in ran]
+        return "".join(f"{line}\n" for line in lines)
+
+    def column(self, cpu, shown, begin, end):
+        """The task that a column shows, or its sign: `-` or `.`."""
+        ran = {}
+        for here, task, start, stop in self.slices:
+            if here == cpu and start < end and begin < stop:
+                ran[task] = ran.get(task, 0) + min(stop, end) - max(start, begin)
+        idle = end - begin - sum(ran.values())
+        times = [(time, -task) for task, time in ran.items() if task in shown]
+        if times:
+            time, task = max(times)
+            return -task if idle <= time else "."
+        return "-" if idle <= sum(ran.values()) else "."
+
     def bounds(self):
         """The rows of the table, as words."""
         rows = []
@@ -354,8 +396,8 @@ def watched(lines):
     return seen
 
 
-def timeline(program, form, text):
-    done = subprocess.run([program, "timeline", "--as", form], input=text, capture_output=True, text=True, timeout=600)
+def timeline(program, form, text, *options):
+    done = subprocess.run([program, "timeline", "--as", form, *options], input=text, capture_output=True, text=True, timeout=600)
     return done.stdout
 
 
@@ -385,6 +427,12 @@ def compare(program, lines):
     for head, rows in tables:
         if table(report, head) != rows:
             raise SystemExit(leave(lines, f"the table{head}differs: the model has\n{rows}\nthe program\n{table(report, head)}"))
+    half = sorted(to for _, _, _, to in ours.slices)[len(ours.slices) // 2] if ours.slices else 0
+    for some, to in (list(ours.tasks), 2**64 - 1), (list(ours.tasks), half), (list(ours.tasks)[::2], half):
+        options = ["--to", f"{to}ns", *(["--tasks", ",".join(map(str, some))] if some else [])]
+        drawn, wanted = timeline(program, "map", text, *options), ours.map(some, to, 80)
+        if not f"\n{drawn}".endswith(f"\n{wanted}"):
+            raise SystemExit(leave(lines, f"the map with {options} differs: the model has\n{wanted}\nthe program\n{drawn[drawn.find(' ' * 8 + '|') :]}"))
     return len(ours.slices), ours
 
 

@@ -2,6 +2,7 @@
 use Rattle.std.proofs.Common.{◌≡◌, ◌∙◌, ℕ, ◌+◌, ◌-◌, ◌≤◌, List, [], ◌∷◌, ◌++◌, length, replicate, Option, Some, None, refl, sym, ap, subst, append_assoc, append-nil, inl, inr}
 use Rattle.std.specs.Prelude.{OnOk, Result, Ok, Err, codes, find, if◌then◌else◌, is_ok}
 use Rattle.std.proofs.lemmas.List.{replicate_more}
+use Rattle.bq_schedule.specs.declared.slice.Slice.{Slice}
 use Rattle.bq_schedule.specs.Figures.{Figures}
 use Rattle.bq_report.specs.declared.extent.Extent.{Extent}
 use Rattle.bq_report.specs.declared.grid.Grid.{Grid}
@@ -11,7 +12,7 @@ use Rattle.bq_report.specs.declared.window.Window.{Window}
 use Rattle.bq_report.specs.Extents.{IsInWindow, SpansReadings}
 use Rattle.bq_report.specs.Legends.{DrawsRows, Notes}
 use Rattle.bq_report.specs.MapRows.{RunsRow}
-use Rattle.bq_report.specs.Maps.{IsDrawn, IsDrawnBy, IsLegend, IsMap, all_columns, columns_in, empty_map_row, grid_over, rows_text, ruler_text, step_over}
+use Rattle.bq_report.specs.Maps.{IsDrawn, IsDrawnBy, IsLegend, IsMap, all_columns, all_runs, columns_in, empty_map_row, grid_over, rows_text, ruler_text, step_over}
 use Rattle.bq_report.specs.Names.{NamedTasks}
 use Rattle.bq_report.specs.Reports.{GrowsByPart}
 use Rattle.bq_report.specs.Steps.{covers, round_steps}
@@ -61,11 +62,12 @@ regroup old a b c = simp append_assoc
 -- the ruler, the rows and the legend, in order, are a map
 pub map_added : (w : Window) (names : NamedTasks) (tasks : List ℕ) (rows : List RunsRow) (g : Grid) (first last : Legend)
     (old ruled drawn next : List ℕ)
-    → ruled ≡ old ++ ruler_text g → Notes [] first → DrawsRows w rows tasks g (length rows) first last ruled drawn
-    → ((columns : List Column) → Notes columns last → GrowsByPart (IsLegend names tasks g.step columns) drawn next)
+    → ruled ≡ old ++ ruler_text g → ((e : Extent) → Notes e [] [] first) → DrawsRows w rows tasks g (length rows) first last ruled drawn
+    → ((runs : List Slice) → (columns : List Column) → Notes g.extent runs columns last
+    → GrowsByPart (IsLegend names tasks g runs columns) drawn next)
     → GrowsByPart (IsDrawn w names tasks rows g) old next
 map_added w names tasks rows g first last old ruled drawn next ruler none draws below =
-    let legend = below (all_columns draws.drawn) (draws.noted [] none) in (
+    let legend = below (all_runs draws.drawn) (all_columns draws.drawn) (draws.noted [] [] (none g.extent)) in (
       _,
       record { drawn = draws.drawn; legend = legend.0; shown = draws.shown; below = legend.1; whole = refl },
       legend.2 ∙ ap (λ t. t ++ legend.0) (draws.added ∙ ap (λ t. t ++ rows_text tasks draws.drawn) ruler)

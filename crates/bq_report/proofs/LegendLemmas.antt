@@ -12,6 +12,7 @@ use Rattle.std.proofs.lemmas.List.Elements.{Contains-append_left, Contains-push,
 use Rattle.bq_schedule.specs.declared.slice.Slice.{Slice}
 use Rattle.bq_schedule.specs.Figures.{Figures, processor_in_figures}
 use Rattle.bq_report.specs.declared.amounts.Unit.{Unit}
+use Rattle.bq_report.specs.declared.extent.Extent.{Extent}
 use Rattle.bq_report.specs.declared.grid.Grid.{Grid}
 use Rattle.bq_report.specs.declared.legend.Legend.{Legend}
 use Rattle.bq_report.specs.declared.map_row.Column.{Column}
@@ -19,11 +20,13 @@ use Rattle.bq_report.specs.declared.map_row.Column.TheVariants.{Task, Hidden, Id
 use Rattle.bq_report.specs.declared.window.Window.{Window}
 use Rattle.bq_report.specs.Amounts.{moment_text}
 use Rattle.bq_report.specs.Legends.{DrawsRows, Notes, NotesMore}
+use Rattle.bq_report.specs.Longest.{time_between}
 use Rattle.bq_report.specs.MapRows.{RunsRow}
-use Rattle.bq_report.specs.Maps.{AreColumns, DrawnRow, RowsHold, HoldsLast, IsDrawnRow, IsHiddenNote, IsLegend, IsLegendLine, all_columns, empty_map_row, letter_at, letters, map_row_of, map_row_text, rows_text, unit_for}
+use Rattle.bq_report.specs.Maps.{AreColumns, DrawnRow, RowsHold, HoldsLast, IsColumnNote, IsDrawnRow, IsHiddenNote, IsLegend, IsLegendLine, IsLineOfTask, RunsIn, all_columns, all_runs, drawn_row, empty_map_row, letter_at, letters, map_row_of, map_row_text, rows_text, lettered_task, unit_for}
 use Rattle.bq_report.specs.Names.{NamedTasks}
 use Rattle.bq_report.specs.Reports.{GrowsByPart, AreParts}
 use Rattle.bq_report.specs.Windows.{ShowsProcessor}
+use Rattle.bq_report.proofs.LongestLemmas.{time_pushed, time_pushed_other}
 use Rattle.bq_report.proofs.ReportLemmas.{AreParts-more, AreParts-none, AreParts-same, part_missing, part_there}
 
 abbrev are_ascii : List ℕ → Bool
@@ -39,27 +42,44 @@ ascii_at (letter ∷ rest) h (suc place) = ascii_at rest (and_parts (nat_lt lett
 pub letter_ascii : (place : ℕ) → letter_at place < 128
 letter_ascii place = ascii_at letters refl place
 
+-- these runs and columns are noted, by equal lists
+notes_as : (e : Extent) (runs others : List Slice) (columns rest : List Column) (l : Legend)
+    → runs ≡ others → columns ≡ rest → Notes e runs columns l → Notes e others rest l
+notes_as e runs others columns rest l same alike known =
+    subst (λ rs. Notes e rs rest l) same (subst (λ cs. Notes e runs cs l) alike known)
+
 -- nothing more is known
-pub notes_none : (l : Legend) → NotesMore [] l l
-notes_none l before known = subst (λ columns. Notes columns l) (sym (append-nil before)) known
+pub notes_none : (e : Extent) (l : Legend) → NotesMore e [] [] l l
+notes_none e l ran before known = notes_as e ran (ran ++ []) before (before ++ []) l (sym (append-nil ran)) (sym (append-nil before)) known
 
--- columns are noted, and then others
-pub notes_joined : (a b : List Column) (first then last : Legend)
-    → NotesMore a first then → NotesMore b then last → NotesMore (a ++ b) first last
-notes_joined a b first then last one two before known =
-    subst (λ columns. Notes columns last) (append_assoc before a b) (two (before ++ a) (one before known))
+-- runs and columns are noted, and then others
+pub notes_joined : (e : Extent) (ra rb : List Slice) (a b : List Column) (first then last : Legend)
+    → NotesMore e ra a first then → NotesMore e rb b then last → NotesMore e (ra ++ rb) (a ++ b) first last
+notes_joined e ra rb a b first then last one two ran before known =
+    notes_as e ((ran ++ ra) ++ rb) (ran ++ (ra ++ rb)) ((before ++ a) ++ b) (before ++ (a ++ b)) last
+    (append_assoc ran ra rb) (append_assoc before a b) (two (ran ++ ra) (before ++ a) (one ran before known))
 
--- columns that are equal are noted alike
-pub notes_of : (a b : List Column) (old new : Legend) → a ≡ b → NotesMore a old new → NotesMore b old new
-notes_of a b old new same noted = subst (λ columns. NotesMore columns old new) same noted
+-- runs and columns that are equal are noted alike
+pub notes_of : (e : Extent) (ra rb : List Slice) (a b : List Column) (old new : Legend)
+    → ra ≡ rb → a ≡ b → NotesMore e ra a old new → NotesMore e rb b old new
+notes_of e ra rb a b old new same alike noted =
+    subst (λ runs. NotesMore e runs b old new) same (subst (λ columns. NotesMore e ra columns old new) alike noted)
 
 -- one more column is noted
-pub notes_next : (columns : List Column) (i : ℕ) (d : Column) (first then last : Legend)
-    → i < length columns → NotesMore (take i columns) first then → NotesMore (get_or columns i d ∷ []) then last
-    → NotesMore (take (i + 1) columns) first last
-notes_next columns i d first then last lt before one =
-    notes_of (take i columns ++ (get_or columns i d ∷ [])) (take (i + 1) columns) first last (sym (take_more columns i d lt))
-    (notes_joined (take i columns) (get_or columns i d ∷ []) first then last before one)
+pub notes_next : (e : Extent) (columns : List Column) (i : ℕ) (d : Column) (first then last : Legend)
+    → i < length columns → NotesMore e [] (take i columns) first then → NotesMore e [] (get_or columns i d ∷ []) then last
+    → NotesMore e [] (take (i + 1) columns) first last
+notes_next e columns i d first then last lt before one =
+    notes_of e [] [] (take i columns ++ (get_or columns i d ∷ [])) (take (i + 1) columns) first last refl (sym (take_more columns i d lt))
+    (notes_joined e [] [] (take i columns) (get_or columns i d ∷ []) first then last before one)
+
+-- one more run is noted
+pub runs_next : (e : Extent) (runs : List Slice) (i : ℕ) (d : Slice) (first then last : Legend)
+    → i < length runs → NotesMore e (take i runs) [] first then → NotesMore e (get_or runs i d ∷ []) [] then last
+    → NotesMore e (take (i + 1) runs) [] first last
+runs_next e runs i d first then last lt before one =
+    notes_of e (take i runs ++ (get_or runs i d ∷ [])) (take (i + 1) runs) [] [] first last (sym (take_more runs i d lt)) refl
+    (notes_joined e (take i runs) (get_or runs i d ∷ []) [] [] first then last before one)
 
 here : (a b : ℕ) → a ≡ b → is_at (nat_cmp a) b ≡ true
 here a b is = grind (arith, nat_tests)
@@ -92,54 +112,118 @@ task_of (Task task) = task
 task_of Hidden = 0
 task_of Idle = 0
 
+same_ran : (e : Extent) (ran : List Slice) (old new : Legend) → new.ran ≡ old.ran
+    → ((task : ℕ) → IsTrue (contains nat_cmp old.ran task) ↔ RunsIn e ran task)
+    → (task : ℕ) → IsTrue (contains nat_cmp new.ran task) ↔ RunsIn e (ran ++ []) task
+same_ran e ran old new is known =
+    subst (λ runs. (task : ℕ) → IsTrue (contains nat_cmp new.ran task) ↔ RunsIn e runs task) (sym (append-nil ran))
+    (subst (λ set. (task : ℕ) → IsTrue (contains nat_cmp set task) ↔ RunsIn e ran task) (sym is) known)
+
 -- the column of a task is noted
-pub notes_task : (old new : Legend) (column : Column) (task : ℕ) → column ≡ Task task
+pub notes_task : (e : Extent) (old new : Legend) (column : Column) (task : ℕ) → column ≡ Task task
     → ((q : ℕ) → contains nat_cmp new.tasks q ≡ cond (is_at (nat_cmp task) q) true (contains nat_cmp old.tasks q))
-    → new.has_hidden ≡ old.has_hidden → NotesMore (column ∷ []) old new
-notes_task old new column task is sets rest before known = subst (λ own. Notes (before ++ (own ∷ [])) new) (sym is) (record {
-  tasks = λ q. elim (cases_eq task q) [
-    | inl is ↦ subst (λ u. IsTrue (contains nat_cmp new.tasks u) ↔ Contains (before ++ (Task task ∷ [])) (Task u)) is
-        (now_known (contains nat_cmp new.tasks task) before (Task task)
-        (sets task ∙ ap (λ b. cond b true (contains nat_cmp old.tasks task)) (here task task refl)))
-    | inr not ↦ same_known (contains nat_cmp old.tasks q) (contains nat_cmp new.tasks q) before (Task task) (Task q)
-        (sets q ∙ ap (λ b. cond b true (contains nat_cmp old.tasks q)) (apart task q not)) (λ e. not (cc)) (known.tasks q)
-  ];
-  hidden = same_known old.has_hidden new.has_hidden before (Task task) Hidden rest (λ e. cc) known.hidden;
-})
+    → new.ran ≡ old.ran → new.has_hidden ≡ old.has_hidden → NotesMore e [] (column ∷ []) old new
+notes_task e old new column task is sets same rest ran before known =
+    subst (λ own. Notes e (ran ++ []) (before ++ (own ∷ [])) new) (sym is) (record {
+      ran = same_ran e ran old new same known.ran;
+      tasks = λ q. elim (cases_eq task q) [
+        | inl is ↦ subst (λ u. IsTrue (contains nat_cmp new.tasks u) ↔ Contains (before ++ (Task task ∷ [])) (Task u)) is
+            (now_known (contains nat_cmp new.tasks task) before (Task task)
+            (sets task ∙ ap (λ b. cond b true (contains nat_cmp old.tasks task)) (here task task refl)))
+        | inr not ↦ same_known (contains nat_cmp old.tasks q) (contains nat_cmp new.tasks q) before (Task task) (Task q)
+            (sets q ∙ ap (λ b. cond b true (contains nat_cmp old.tasks q)) (apart task q not)) (λ e. not (cc)) (known.tasks q)
+      ];
+      hidden = same_known old.has_hidden new.has_hidden before (Task task) Hidden rest (λ e. cc) known.hidden;
+    })
 
 -- a column of hidden tasks is noted
-pub notes_hidden : (old new : Legend) (column : Column) → column ≡ Hidden → new.tasks ≡ old.tasks → new.has_hidden ≡ true
-    → NotesMore (column ∷ []) old new
-notes_hidden old new column is rest has before known = subst (λ own. Notes (before ++ (own ∷ [])) new) (sym is) (record {
-  tasks = λ q. same_known (contains nat_cmp old.tasks q) (contains nat_cmp new.tasks q) before Hidden (Task q)
-      (ap (λ t. contains nat_cmp t q) rest) (λ e. cc) (known.tasks q);
-  hidden = now_known new.has_hidden before Hidden has;
-})
+pub notes_hidden : (e : Extent) (old new : Legend) (column : Column) → column ≡ Hidden → new.ran ≡ old.ran → new.tasks ≡ old.tasks
+    → new.has_hidden ≡ true → NotesMore e [] (column ∷ []) old new
+notes_hidden e old new column is same rest has ran before known =
+    subst (λ own. Notes e (ran ++ []) (before ++ (own ∷ [])) new) (sym is) (record {
+      ran = same_ran e ran old new same known.ran;
+      tasks = λ q. same_known (contains nat_cmp old.tasks q) (contains nat_cmp new.tasks q) before Hidden (Task q)
+          (ap (λ t. contains nat_cmp t q) rest) (λ e. cc) (known.tasks q);
+      hidden = now_known new.has_hidden before Hidden has;
+    })
+
+-- a column of no task is noted
+pub notes_idle : (e : Extent) (l : Legend) (column : Column) → column ≡ Idle → NotesMore e [] (column ∷ []) l l
+notes_idle e l column is ran before known =
+    subst (λ own. Notes e (ran ++ []) (before ++ (own ∷ [])) l) (sym is) (record {
+      ran = same_ran e ran l l refl known.ran;
+      tasks = λ q. same_known (contains nat_cmp l.tasks q) (contains nat_cmp l.tasks q) before Idle (Task q) refl (λ e. cc) (known.tasks q);
+      hidden = same_known l.has_hidden l.has_hidden before Idle Hidden refl (λ e. cc) known.hidden;
+    })
+
+-- what is known of the runs, with one more, tells what is known with it
+noted_run : (e : Extent) (ran : List Slice) (run : Slice) (old new : Legend)
+    → ((task : ℕ) → IsTrue (contains nat_cmp new.ran task) ↔ RunsIn e (ran ++ (run ∷ [])) task)
+    → new.tasks ≡ old.tasks → new.has_hidden ≡ old.has_hidden
+    → (before : List Column) → Notes e ran before old → Notes e (ran ++ (run ∷ [])) (before ++ []) new
+noted_run e ran run old new told tasks hidden before known =
+    subst (λ columns. Notes e (ran ++ (run ∷ [])) columns new) (sym (append-nil before)) (record {
+      ran = told;
+      tasks = subst (λ set. (task : ℕ) → IsTrue (contains nat_cmp set task) ↔ Contains before (Task task)) (sym tasks) known.tasks;
+      hidden = subst (λ has. IsTrue has ↔ Contains before Hidden) (sym hidden) known.hidden;
+    })
+
+-- the task of a run in the extent is noted
+pub notes_run : (e : Extent) (old new : Legend) (run : Slice) → 0 < time_between e.from e.to run
+    → ((q : ℕ) → contains nat_cmp new.ran q ≡ cond (is_at (nat_cmp run.task) q) true (contains nat_cmp old.ran q))
+    → new.tasks ≡ old.tasks → new.has_hidden ≡ old.has_hidden → NotesMore e (run ∷ []) [] old new
+notes_run e old new run lasts sets tasks hidden ran before known =
+    noted_run e ran run old new
+    (λ q. elim (cases_eq run.task q) [
+      | inl is ↦ (
+        λ h. omega (arith, time_pushed e.from e.to ran run q is),
+        λ h. sets q ∙ ap (λ b. cond b true (contains nat_cmp old.ran q)) (here run.task q is),
+      )
+      | inr not ↦
+          let same : contains nat_cmp new.ran q ≡ contains nat_cmp old.ran q
+          = sets q ∙ ap (λ b. cond b true (contains nat_cmp old.ran q)) (apart run.task q not) in (
+            λ h. omega (arith, time_pushed_other e.from e.to ran run q not, (known.ran q).0 (sym same ∙ h)),
+            λ h. same ∙ (known.ran q).1 (omega (arith, h, time_pushed_other e.from e.to ran run q not)),
+          )
+    ])
+    tasks hidden before known
+
+-- a task with its note, if there is one, is a line
+pub line_added : (names : NamedTasks) (columns : List Column) (place task : ℕ) (old written noted ended : List ℕ)
+    → written ≡ old ++ lettered_task names place task → GrowsByPart (IsColumnNote columns task) written noted → ended ≡ noted ++ codes "\n"
+    → GrowsByPart (IsLineOfTask names columns place task) old ended
+line_added names columns place task old written noted ended write note end = (
+  lettered_task names place task ++ (note.0 ++ codes "\n"),
+  (note.0, note.1, refl),
+  end ∙ ap (λ t. t ++ codes "\n") (note.2 ∙ ap (λ t. t ++ note.0) write)
+      ∙ append_assoc (old ++ lettered_task names place task) note.0 (codes "\n")
+      ∙ append_assoc old (lettered_task names place task) (note.0 ++ codes "\n"),
+)
 
 regroup : (old a m b n e l : List ℕ) → (((old ++ (a ++ (m ++ b))) ++ n) ++ e) ++ l ≡ old ++ (a ++ (m ++ (b ++ (n ++ (e ++ l)))))
 regroup old a m b n e l = simp append_assoc
 
 -- the parts of a legend, in order, are a legend
-pub legend_added : (names : NamedTasks) (tasks own : List ℕ) (step : ℕ) (unit : Unit) (old headed noted ended next : List ℕ)
-    (columns : List Column)
-    → own ≡ tasks → unit ≡ unit_for step → headed ≡ old ++ (codes "\na column is " ++ (moment_text step unit ++ codes "; . is idle"))
+pub legend_added : (names : NamedTasks) (tasks own : List ℕ) (g : Grid) (unit : Unit) (old headed noted ended next : List ℕ)
+    (runs : List Slice) (columns : List Column)
+    → own ≡ tasks → unit ≡ unit_for g.step → headed ≡ old ++ (codes "\na column is " ++ (moment_text g.step unit ++ codes "; . is idle"))
     → GrowsByPart (IsHiddenNote columns) headed noted → ended ≡ noted ++ codes "\n"
-    → GrowsByPart (AreParts (IsLegendLine names own columns) (length own)) ended next
-    → GrowsByPart (IsLegend names tasks step columns) old next
-legend_added names tasks own step unit old headed noted ended next columns are is head note end lines =
+    → GrowsByPart (AreParts (IsLegendLine names own g.extent runs columns) (length own)) ended next
+    → GrowsByPart (IsLegend names tasks g runs columns) old next
+legend_added names tasks own g unit old headed noted ended next runs columns are is head note end lines =
     let all : next
-    ≡ (((old ++ (codes "\na column is " ++ (moment_text step (unit_for step) ++ codes "; . is idle"))) ++ note.0) ++ codes "\n")
+    ≡ (((old ++ (codes "\na column is " ++ (moment_text g.step (unit_for g.step) ++ codes "; . is idle"))) ++ note.0) ++ codes "\n")
     ++ lines.0 = lines.2 ∙ ap (λ t. t ++ lines.0) (end ∙ ap (λ t. t ++ codes "\n") (note.2 ∙ ap (λ t. t ++ note.0)
-    (head ∙ ap (λ u. old ++ (codes "\na column is " ++ (moment_text step u ++ codes "; . is idle"))) is))) in (
+    (head ∙ ap (λ u. old ++ (codes "\na column is " ++ (moment_text g.step u ++ codes "; . is idle"))) is))) in (
       _,
       record {
         note = note.0;
         lines = lines.0;
         hidden = note.1;
-        each = subst (λ ts. AreParts (IsLegendLine names ts columns) (length ts) lines.0) are lines.1;
+        each = subst (λ ts. AreParts (IsLegendLine names ts g.extent runs columns) (length ts) lines.0) are lines.1;
         whole = refl;
       },
-      all ∙ regroup old (codes "\na column is ") (moment_text step (unit_for step)) (codes "; . is idle") note.0 (codes "\n") lines.0,
+      all ∙ regroup old (codes "\na column is ") (moment_text g.step (unit_for g.step)) (codes "; . is idle") note.0 (codes "\n") lines.0,
     )
 
 -- no row is drawn yet
@@ -148,7 +232,7 @@ pub draws_none : (w : Window) (rows : List RunsRow) (tasks : List ℕ) (g : Grid
 draws_none w rows tasks g l text = record {
   drawn = [];
   shown = AreParts-none (IsDrawnRow w rows g);
-  noted = notes_none l;
+  noted = notes_none g.extent l;
   added = sym (append-nil text);
 }
 
@@ -162,32 +246,39 @@ draws_at w rows tasks g number first last next old now then is reads draws =
     (subst (λ t. DrawsRows w rows tasks g number first last old t) (sym reads) draws)
 
 -- a row that is shown is drawn
-pub draws_more : (w : Window) (rows : List RunsRow) (tasks : List ℕ) (g : Grid) (number : ℕ) (first l last : Legend)
-    (old now next : List ℕ) (row : RunsRow) (columns a b : List Column)
+pub draws_more : (w : Window) (rows : List RunsRow) (tasks : List ℕ) (g : Grid) (number : ℕ) (first l ran last : Legend)
+    (old now next : List ℕ) (row : RunsRow) (runs : List Slice) (columns a b : List Column)
     → DrawsRows w rows tasks g number first l old now → ShowsProcessor w number
-    → row ≡ map_row_of rows number → AreColumns row g columns → a ≡ columns → b ≡ columns
-    → next ≡ now ++ map_row_text tasks (record { number = number; columns = a }) → NotesMore b l last
+    → row ≡ map_row_of rows number → runs ≡ row.shown → AreColumns row g columns → a ≡ columns → b ≡ columns
+    → NotesMore g.extent runs [] l ran → next ≡ now ++ map_row_text tasks number a
+    → ((e : Extent) → NotesMore e [] b ran last)
     → DrawsRows w rows tasks g (number + 1) first last old next
-draws_more w rows tasks g number first l last old now next row columns a b draws shown is are written read line noted =
-    let own : DrawnRow = record { number = number; columns = columns } in
-    let part : IsDrawnRow w rows g number (own ∷ []) =
+draws_more w rows tasks g number first l ran last old now next row runs columns a b draws shown is own are written read noted line more =
+    let drawn : DrawnRow = drawn_row rows number columns in
+    let part : IsDrawnRow w rows g number (drawn ∷ []) =
     part_there (ShowsProcessor w number)
-    (λ part. (cs : List Column) × AreColumns (map_row_of rows number) g cs × (part ≡ record { number = number; columns = cs } ∷ []))
-    (own ∷ []) shown (columns, subst (λ r. AreColumns r g columns) is are, refl) in
+    (λ part. (cs : List Column) × AreColumns (map_row_of rows number) g cs × (part ≡ drawn_row rows number cs ∷ []))
+    (drawn ∷ []) shown (columns, subst (λ r. AreColumns r g columns) is are, refl) in
+    let more_noted : NotesMore g.extent (all_runs (drawn ∷ [])) (all_columns (drawn ∷ [])) l last =
+    notes_of g.extent (runs ++ []) (all_runs (drawn ∷ [])) b (all_columns (drawn ∷ [])) l last
+    (ap (λ rs. rs ++ []) (own ∙ ap (λ r. r.shown) is)) (read ∙ sym (append-nil columns))
+    (notes_joined g.extent runs [] [] b l ran last noted (more g.extent)) in
     record {
-      drawn = draws.drawn ++ (own ∷ []);
-      shown = AreParts-more (IsDrawnRow w rows g) number draws.drawn (own ∷ []) draws.shown part;
+      drawn = draws.drawn ++ (drawn ∷ []);
+      shown = AreParts-more (IsDrawnRow w rows g) number draws.drawn (drawn ∷ []) draws.shown part;
       noted =
-          notes_of (all_columns draws.drawn ++ columns) (all_columns (draws.drawn ++ (own ∷ []))) first last
-          (ap (λ cs. all_columns draws.drawn ++ cs) (sym (append-nil columns))
-          ∙ sym (flat_map-append (λ (r : DrawnRow). r.columns) draws.drawn (own ∷ [])))
-          (notes_joined (all_columns draws.drawn) columns first l last draws.noted (notes_of b columns l last read noted));
+          notes_of g.extent (all_runs draws.drawn ++ all_runs (drawn ∷ [])) (all_runs (draws.drawn ++ (drawn ∷ [])))
+          (all_columns draws.drawn ++ all_columns (drawn ∷ [])) (all_columns (draws.drawn ++ (drawn ∷ []))) first last
+          (sym (flat_map-append (λ (r : DrawnRow). r.runs) draws.drawn (drawn ∷ [])))
+          (sym (flat_map-append (λ (r : DrawnRow). r.columns) draws.drawn (drawn ∷ [])))
+          (notes_joined g.extent (all_runs draws.drawn) (all_runs (drawn ∷ [])) (all_columns draws.drawn) (all_columns (drawn ∷ []))
+          first l last draws.noted more_noted);
       added =
-          line ∙ ap (λ cs. now ++ map_row_text tasks (record { number = number; columns = cs })) written
-          ∙ ap (λ t. t ++ map_row_text tasks own) draws.added
-          ∙ append_assoc old (rows_text tasks draws.drawn) (map_row_text tasks own)
-          ∙ ap (λ t. old ++ t) (ap (λ t. rows_text tasks draws.drawn ++ t) (sym (append-nil (map_row_text tasks own)))
-          ∙ sym (flat_map-append (map_row_text tasks) draws.drawn (own ∷ [])));
+          line ∙ ap (λ cs. now ++ map_row_text tasks number cs) written
+          ∙ ap (λ t. t ++ map_row_text tasks number columns) draws.added
+          ∙ append_assoc old (rows_text tasks draws.drawn) (map_row_text tasks number columns)
+          ∙ ap (λ t. old ++ t) (ap (λ t. rows_text tasks draws.drawn ++ t) (sym (append-nil (map_row_text tasks number columns)))
+          ∙ sym (flat_map-append (λ (r : DrawnRow). map_row_text tasks r.number r.columns) draws.drawn (drawn ∷ [])));
     }
 
 -- a row that is not shown is not drawn
@@ -198,7 +289,7 @@ draws_same w rows tasks g number first last old now draws not = record {
   shown =
       AreParts-same (IsDrawnRow w rows g) number draws.drawn draws.shown
       (part_missing (ShowsProcessor w number)
-      (λ part. (cs : List Column) × AreColumns (map_row_of rows number) g cs × (part ≡ record { number = number; columns = cs } ∷ [])) not);
+      (λ part. (cs : List Column) × AreColumns (map_row_of rows number) g cs × (part ≡ drawn_row rows number cs ∷ [])) not);
   noted = draws.noted;
   added = draws.added;
 }

@@ -1,12 +1,16 @@
 -- The times of tasks, one run more at a time.
-use Rattle.std.proofs.Common.{◌≡◌, ◌≢◌, ℕ, ◌+◌, ◌*◌, ◌^◌, ◌<◌, ◌≤◌, List, length, get_or, set, take, ap, sym, arith, inl, inr}
+use Rattle.std.proofs.Common.{◌≡◌, ◌≢◌, ℕ, ◌+◌, ◌*◌, ◌^◌, ◌<◌, ◌≤◌, List, [], ◌∷◌, ◌++◌, length, get_or, set, take, ap, sym, arith, inl, inr}
 use Rattle.std.specs.Prelude.{◌==◌, if◌then◌else◌}
 use Rattle.std.proofs.lemmas.Bool.Decides.{nat_tests, eqb_tells}
 use Rattle.std.proofs.lemmas.Grind.{get_or-set_at}
 use Rattle.std.proofs.lemmas.List.{get_or-set_other}
-use Rattle.std.proofs.lemmas.List.Sums.{sum_by_more}
+use Rattle.std.proofs.lemmas.List.Sums.{sum_by_more, sum_by_push}
 use Rattle.bq_schedule.specs.declared.slice.Slice.{Slice}
 use Rattle.bq_report.specs.Longest.{time_between, task_time_between}
+
+-- what a run counts for a task
+abbrev share : ℕ → ℕ → ℕ → Slice → ℕ
+share from to task run = if run.task == task then time_between from to run else 0
 
 -- what a run counts for its own task, and for another
 counts : (run task time : ℕ) → run ≡ task → (if run == task then time else 0) ≡ time
@@ -46,6 +50,18 @@ time_counted from to runs i d times k value task lt there own is known = elim (e
     other_time from to runs i d task lt (omega (arith, h.1)),
   )
 ]
+
+-- one more run counts for its task
+pub time_pushed : (from to : ℕ) (runs : List Slice) (run : Slice) (task : ℕ) → run.task ≡ task
+    → task_time_between from to (runs ++ (run ∷ [])) task ≡ task_time_between from to runs task + time_between from to run
+time_pushed from to runs run task is =
+    omega (arith, sum_by_push (share from to task) runs run, counts run.task task (time_between from to run) is)
+
+-- one more run counts for no other task
+pub time_pushed_other : (from to : ℕ) (runs : List Slice) (run : Slice) (task : ℕ) → run.task ≢ task
+    → task_time_between from to (runs ++ (run ∷ [])) task ≡ task_time_between from to runs task
+time_pushed_other from to runs run task not =
+    omega (arith, sum_by_push (share from to task) runs run, counts_not run.task task (time_between from to run) not)
 
 -- a run raises the place of its task by less than 2^64
 pub bound_kept : (times : List ℕ) (k value time i task : ℕ) → k < length times → value ≡ get_or times k 0 + time → time < 2 ^ 64

@@ -12,17 +12,13 @@ use Rattle.std.proofs.lemmas.List.Sums.{prefix_len_passes, prefix_len_stops, pre
 use Rattle.bq_schedule.specs.declared.slice.Slice.{Slice}
 use Rattle.bq_report.specs.declared.map_row.Column.{Column}
 use Rattle.bq_report.specs.declared.map_row.Column.TheVariants.{Task, Hidden, Idle}
-use Rattle.bq_report.specs.Longest.{IsLongest, time_between, task_time_between}
+use Rattle.bq_report.specs.Longest.{IsLongest, LastAsLong, task_time_between, time_between}
 use Rattle.bq_report.specs.declared.grid.Grid.{Grid}
-use Rattle.bq_report.specs.Maps.{AreColumns, IsColumn, RunsNone, moment_at}
+use Rattle.bq_report.specs.Maps.{AreColumns, IsColumn, RunsNone, idle_between, moment_at}
 
 -- runs in the order in which they begin
 abbrev pub InOrder : List Slice → Type 0
 InOrder runs = IsNonDecreasingBy (λ (run : Slice). run.from) runs
-
--- a task runs as long between two moments, of these runs and of those
-abbrev pub SameTimes : ℕ → ℕ → List Slice → List Slice → Type 0
-SameTimes from to a b = (task : ℕ) → task_time_between from to a task ≡ task_time_between from to b task
 
 -- what a run counts for a task
 abbrev share : ℕ → ℕ → ℕ → Slice → ℕ
@@ -51,29 +47,45 @@ later_zero from to run h = omega arith
 over_zero : (from to : ℕ) (run : Slice) → run.to ≤ from → time_between from to run ≡ 0
 over_zero from to run h = omega arith
 
--- of runs in order those that begin before a moment count as all do, up to that moment
-pub begun_times : (runs : List Slice) (to n : ℕ) → n ≡ prefix_len (λ (run : Slice). nat_lt run.from to) runs → InOrder runs
-    → (from task : ℕ) → task_time_between from to (take n runs) task ≡ task_time_between from to runs task
-begun_times runs to n is order from task =
-    let later : (k : ℕ) (d : Slice) → k < length (drop n runs) → share from to task (get_or (drop n runs) k d) ≡ 0 = λ k d lt.
+-- of runs in order those that begin before a moment count as all do, where one that begins later counts for nothing
+begun_sum : (count : Slice → ℕ) (runs : List Slice) (to n : ℕ) → n ≡ prefix_len (λ (run : Slice). nat_lt run.from to) runs → InOrder runs
+    → ((run : Slice) → to ≤ run.from → count run ≡ 0) → sum_by count (take n runs) ≡ sum_by count runs
+begun_sum count runs to n is order none =
+    let later : (k : ℕ) (d : Slice) → k < length (drop n runs) → count (get_or (drop n runs) k d) ≡ 0 = λ k d lt.
     let there : n + k < length runs = omega (arith, lt, length-drop n runs) in
     let first : n < length runs = omega (arith, there) in
     let stops : to ≤ (get_or runs n d).from = lt_false _ to (subst (λ m. nat_lt (get_or runs m d).from to ≡ false) (sym is)
     (prefix_len_stops (λ (run : Slice). nat_lt run.from to) runs d (subst (λ m. m < length runs) is first))) in
     let behind : (get_or runs n d).from ≤ (get_or runs (n + k) d).from = order n (n + k) d (omega arith) there in
-    rw (get_or-drop n runs k d) (if_zero _ _ (later_zero from to (get_or runs (n + k) d) (omega (arith, stops, behind)))) in
-    omega (arith, sum_by-take-drop (share from to task) runs n, all_zero (share from to task) (drop n runs) later)
+    rw (get_or-drop n runs k d) (none (get_or runs (n + k) d) (omega (arith, stops, behind))) in
+    omega (arith, sum_by-take-drop count runs n, all_zero count (drop n runs) later)
 
--- runs at the head that are over at a moment count for nothing after it
-pub left_times : (runs : List Slice) (at n : ℕ) → n ≡ prefix_len (λ (run : Slice). nat_le run.to at) runs
-    → (from to task : ℕ) → at ≤ from → task_time_between from to (drop n runs) task ≡ task_time_between from to runs task
-left_times runs at n is from to task after =
-    let past : (k : ℕ) (d : Slice) → k < length (take n runs) → share from to task (get_or (take n runs) k d) ≡ 0 = λ k d lt.
+-- of runs in order those that begin before a moment last as long as all do, up to that moment
+pub begun_times : (runs : List Slice) (to n : ℕ) → n ≡ prefix_len (λ (run : Slice). nat_lt run.from to) runs → InOrder runs
+    → (from : ℕ) → LastAsLong from to (take n runs) runs
+begun_times runs to n is order from = record {
+  each = λ task. begun_sum (share from to task) runs to n is order (λ run h. if_zero _ _ (later_zero from to run h));
+  all = begun_sum (time_between from to) runs to n is order (later_zero from to);
+}
+
+-- runs at the head that are over at a moment count for nothing, where one that is over then does not
+left_sum : (count : Slice → ℕ) (runs : List Slice) (at n : ℕ) → n ≡ prefix_len (λ (run : Slice). nat_le run.to at) runs
+    → ((run : Slice) → run.to ≤ at → count run ≡ 0) → sum_by count (drop n runs) ≡ sum_by count runs
+left_sum count runs at n is none =
+    let past : (k : ℕ) (d : Slice) → k < length (take n runs) → count (get_or (take n runs) k d) ≡ 0 = λ k d lt.
     let under : k < n = omega (arith, lt, length-take n runs) in
     let ends : (get_or runs k d).to ≤ at =
     le_true _ at (prefix_len_passes (λ (run : Slice). nat_le run.to at) runs k d (subst (λ m. k < m) is under)) in
-    rw (get_or-take n runs k d under) (if_zero _ _ (over_zero from to (get_or runs k d) (omega (arith, ends, after)))) in
-    omega (arith, sum_by-take-drop (share from to task) runs n, all_zero (share from to task) (take n runs) past)
+    rw (get_or-take n runs k d under) (none (get_or runs k d) ends) in
+    omega (arith, sum_by-take-drop count runs n, all_zero count (take n runs) past)
+
+-- runs without those at the head that are over at a moment last as long after it
+pub left_times : (runs : List Slice) (at n : ℕ) → n ≡ prefix_len (λ (run : Slice). nat_le run.to at) runs
+    → (from to : ℕ) → at ≤ from → LastAsLong from to (drop n runs) runs
+left_times runs at n is from to after = record {
+  each = λ task. left_sum (share from to task) runs at n is (λ run h. if_zero _ _ (over_zero from to run (omega (arith, h, after))));
+  all = left_sum (time_between from to) runs at n is (λ run h. over_zero from to run (omega (arith, h, after)));
+}
 
 -- no more runs are over than there are
 pub within_runs : (runs : List Slice) (at n : ℕ) → n ≡ prefix_len (λ (run : Slice). nat_le run.to at) runs → n ≤ length runs
@@ -85,27 +97,53 @@ left_order runs n order i j d le lt =
     rw (get_or-drop n runs i d, get_or-drop n runs j d) (order (n + i) (n + j) d (omega arith) (omega (arith, lt, length-drop n runs)))
 
 -- the order of runs makes no time longer
-pub sorted_times : (old new : List Slice) → IsPermutation old new → (from to : ℕ) → SameTimes from to new old
-sorted_times old new same from to task = sum_by-IsPermutation (share from to task) old new same
-
-longest_as : (from to : ℕ) (a b : List Slice) (task : ℕ) → SameTimes from to a b → IsLongest from to a task → IsLongest from to b task
-longest_as from to a b task same l = record {
-  there = l.there;
-  some = omega (arith, same task, l.some);
-  most = λ other h. omega (arith, same task, same other, l.most other h);
-  first = λ other h. omega (arith, same task, same other, l.first other h);
+pub sorted_times : (old new : List Slice) → IsPermutation old new → (from to : ℕ) → LastAsLong from to new old
+sorted_times old new same from to = record {
+  each = λ task. sum_by-IsPermutation (share from to task) old new same;
+  all = sum_by-IsPermutation (time_between from to) old new same;
 }
 
-none_as : (from to : ℕ) (a b : List Slice) → SameTimes from to a b → RunsNone from to a → RunsNone from to b
-none_as from to a b same none task h = sym (same task) ∙ none task h
+longest_as : (from to : ℕ) (a b : List Slice) (task : ℕ) → LastAsLong from to a b → IsLongest from to a task → IsLongest from to b task
+longest_as from to a b task same l = record {
+  there = l.there;
+  some = omega (arith, same.each task, l.some);
+  most = λ other h. omega (arith, same.each task, same.each other, l.most other h);
+  first = λ other h. omega (arith, same.each task, same.each other, l.first other h);
+}
+
+none_as : (from to : ℕ) (a b : List Slice) → LastAsLong from to a b → RunsNone from to a → RunsNone from to b
+none_as from to a b same none task h = sym (same.each task) ∙ none task h
+
+-- runs that last as long as runs that last as long
+last_through : (from to : ℕ) (a b c : List Slice) → LastAsLong from to a b → LastAsLong from to b c → LastAsLong from to a c
+last_through from to a b c one two = record { each = λ task. one.each task ∙ two.each task; all = one.all ∙ two.all }
+
+last_turned : (from to : ℕ) (a b : List Slice) → LastAsLong from to a b → LastAsLong from to b a
+last_turned from to a b same = record { each = λ task. sym (same.each task); all = sym same.all }
+
+-- nothing runs for as long
+idle_as : (from to : ℕ) (a b a' b' : List Slice) → LastAsLong from to a a' → LastAsLong from to b b'
+    → idle_between from to (record { shown = a; hidden = b }) ≡ idle_between from to (record { shown = a'; hidden = b' })
+idle_as from to a b a' b' shown hidden = omega (arith, shown.all, hidden.all)
 
 -- a column is the same by runs that last as long
-pub column_as : (from to : ℕ) (a b a' b' : List Slice) (c : Column) → SameTimes from to a a' → SameTimes from to b b'
+pub column_as : (from to : ℕ) (a b a' b' : List Slice) (c : Column) → LastAsLong from to a a' → LastAsLong from to b b'
     → IsColumn (record { shown = a; hidden = b }) from to c → IsColumn (record { shown = a'; hidden = b' }) from to c
-column_as from to a b a' b' (Task task) shown hidden is = longest_as from to a a' task shown is
+column_as from to a b a' b' (Task task) shown hidden is = (
+  longest_as from to a a' task shown is.0,
+  omega (arith, is.1, idle_as from to a b a' b' shown hidden, shown.each task),
+)
 column_as from to a b a' b' Hidden shown hidden is =
-    (none_as from to a a' shown is.0, (is.1.0, longest_as from to b b' is.1.0 hidden is.1.1))
-column_as from to a b a' b' Idle shown hidden is = (none_as from to a a' shown is.0, none_as from to b b' hidden is.1)
+    (none_as from to a a' shown is.0, omega (arith, is.1, idle_as from to a b a' b' shown hidden, hidden.all))
+column_as from to a b a' b' Idle shown hidden is = (
+  λ task h. omega (arith, is.0 task h, idle_as from to a b a' b' shown hidden, shown.each task),
+  λ none. omega (
+    arith,
+    is.1 (none_as from to a' a (last_turned from to a a' shown) none),
+    idle_as from to a b a' b' shown hidden,
+    hidden.all,
+  ),
+)
 
 -- one more column stands behind those before it
 pub each_more : (Is : ℕ → Column → Type 0) (columns : List Column) (number : ℕ) (c : Column) → length columns ≡ number
@@ -128,19 +166,20 @@ moments_rise g n =
 -- runs that are left in order, and last as long as all of them between two moments of which the first is no earlier than this one
 pub record IsLeft (at : ℕ) (all left : List Slice) : Type 0 where
   pub order : InOrder left
-  pub times : (from to : ℕ) → at ≤ from → SameTimes from to left all
+  pub times : (from to : ℕ) → at ≤ from → LastAsLong from to left all
 
 -- all of them are left
 pub left_all : (at : ℕ) (all : List Slice) → InOrder all → IsLeft at all all
-left_all at all order = record { order = order; times = λ from to h task. refl }
+left_all at all order = record { order = order; times = λ from to h. record { each = λ task. refl; all = refl } }
 
 -- fewer are left at a later column
-pub left_fewer : (g : Grid) (n : ℕ) (all left next : List Slice) → IsLeft (moment_at g n) all left → InOrder next
-    → ((from to task : ℕ) → moment_at g (n + 1) ≤ from → task_time_between from to next task ≡ task_time_between from to left task)
+pub left_fewer : (g : Grid) (n at : ℕ) (all left next : List Slice) → at ≡ moment_at g (n + 1) → IsLeft (moment_at g n) all left
+    → InOrder next → ((from to : ℕ) → at ≤ from → LastAsLong from to next left)
     → IsLeft (moment_at g (n + 1)) all next
-left_fewer g n all left next are order fewer = record {
+left_fewer g n at all left next is are order fewer = record {
   order = order;
-  times = λ from to h task. fewer from to task h ∙ are.times from to (omega (arith, h, moments_rise g n)) task;
+  times = λ from to h. last_through from to next left all (fewer from to (omega (arith, h, is)))
+      (are.times from to (omega (arith, h, moments_rise g n)));
 }
 
 -- the columns before this one
@@ -154,21 +193,21 @@ pub below_none : (shown hidden : List Slice) (g : Grid) → ColumnsBelow shown h
 below_none shown hidden g = record { count = refl; each = λ n lt. absurd (omega (arith, lt)) }
 
 -- a column by the runs that are left is one by all of them
-pub below_more : (shown hidden : List Slice) (g : Grid) (number : ℕ) (columns : List Column) (left others : List Slice) (c : Column)
+pub below_more : (shown hidden : List Slice) (g : Grid) (number from to : ℕ) (columns next : List Column) (left others : List Slice) (c : Column)
     → ColumnsBelow shown hidden g number columns → IsLeft (moment_at g number) shown left → IsLeft (moment_at g number) hidden others
-    → IsColumn (record { shown = left; hidden = others }) (moment_at g number) (moment_at g (number + 1)) c
-    → ColumnsBelow shown hidden g (number + 1) (columns ++ (c ∷ []))
-below_more shown hidden g number columns left others c below one two is =
-    let from = moment_at g number in
-    let to = moment_at g (number + 1) in
+    → from ≡ moment_at g number → to ≡ moment_at g (number + 1) → IsColumn (record { shown = left; hidden = others }) from to c
+    → next ≡ columns ++ (c ∷ []) → ColumnsBelow shown hidden g (number + 1) next
+below_more shown hidden g number from to columns next left others c below one two begins ends is more =
     let all : IsColumn (record { shown = shown; hidden = hidden }) from to c
-    = column_as from to left others shown hidden c (one.times from to (omega arith)) (two.times from to (omega arith)) is in
-    record {
+    = column_as from to left others shown hidden c (one.times from to (omega (arith, begins))) (two.times from to (omega (arith, begins))) is in
+    subst (λ cs. ColumnsBelow shown hidden g (number + 1) cs) (sym more) (record {
       count = length_push columns c ∙ ap (λ n. n + 1) below.count;
       each =
           each_more (λ n column. IsColumn (record { shown = shown; hidden = hidden }) (moment_at g n) (moment_at g (n + 1)) column)
-          columns number c below.count below.each all;
-    }
+          columns number c below.count below.each
+          (subst (λ m. IsColumn (record { shown = shown; hidden = hidden }) (moment_at g number) m c) ends
+          (subst (λ m. IsColumn (record { shown = shown; hidden = hidden }) m to c) begins all));
+    })
 
 -- as many columns as there are
 pub below_all : (shown hidden : List Slice) (g : Grid) (number : ℕ) (columns : List Column)

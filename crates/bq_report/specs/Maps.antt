@@ -15,7 +15,7 @@ use Rattle.bq_report.specs.declared.map_row.Column.TheVariants.{Task, Hidden, Id
 use Rattle.bq_report.specs.declared.window.Window.{Window}
 use Rattle.bq_report.specs.Amounts.{moment_text}
 use Rattle.bq_report.specs.Extents.{IsInWindow, SpansReadings}
-use Rattle.bq_report.specs.Longest.{IsLongest, task_time_between}
+use Rattle.bq_report.specs.Longest.{IsLongest, task_time_between, time_of_all}
 use Rattle.bq_report.specs.MapRows.{RunsRow}
 use Rattle.bq_report.specs.Names.{NamedTasks, name_of}
 use Rattle.bq_report.specs.Reports.{AreParts, IsPartIf}
@@ -88,32 +88,48 @@ moment_at g column = min (g.extent.from + column * g.step) g.extent.to
 abbrev pub RunsNone : ℕ → ℕ → List Slice → Type 0
 RunsNone from to runs = (task : ℕ) → task < TASKS → task_time_between from to runs task ≡ 0
 
--- what a column shows: the shown task that ran longest, that only hidden tasks ran, or that none ran
+-- how long nothing ran between two moments
+abbrev pub idle_between : ℕ → ℕ → RunsRow → ℕ
+idle_between from to row = (to - from) - (time_of_all from to row.shown + time_of_all from to row.hidden)
+
+-- what a column shows: the shown task that ran longest, unless nothing ran for longer; hidden tasks, if only those ran, unless nothing ran for
+-- longer than all of them; otherwise that the processor was idle
 abbrev pub IsColumn : RunsRow → ℕ → ℕ → Column → Type 0
-IsColumn row from to (Task task) = IsLongest from to row.shown task
-IsColumn row from to Hidden = RunsNone from to row.shown × ((other : ℕ) × IsLongest from to row.hidden other)
-IsColumn row from to Idle = RunsNone from to row.shown × RunsNone from to row.hidden
+IsColumn row from to (Task task) = IsLongest from to row.shown task × (idle_between from to row ≤ task_time_between from to row.shown task)
+IsColumn row from to Hidden = RunsNone from to row.shown × (idle_between from to row ≤ time_of_all from to row.hidden)
+IsColumn row from to Idle =
+    ((task : ℕ) → task < TASKS → task_time_between from to row.shown task < idle_between from to row)
+    × (RunsNone from to row.shown → time_of_all from to row.hidden < idle_between from to row)
 
 -- the columns of a row, each between its two moments
 pub record AreColumns (row : RunsRow) (g : Grid) (columns : List Column) : Type 0 where
   pub count : length columns ≡ g.count
   pub each : (n : ℕ) → n < g.count → IsColumn row (moment_at g n) (moment_at g (n + 1)) (slice_index_or columns n Idle)
 
--- a row that is drawn: the processor's number, and the columns
+-- a row that is drawn: the processor's number, its runs of shown tasks, and the columns
 pub record DrawnRow : Type 0 where
   pub number : ℕ
+  pub runs : List Slice
   pub columns : List Column
+
+-- what is drawn of the row of a processor, with these columns
+abbrev pub drawn_row : List RunsRow → ℕ → List Column → DrawnRow
+drawn_row rows p columns = record { number = p; runs = (map_row_of rows p).shown; columns = columns }
 
 -- the row of a processor, if it is shown
 abbrev pub IsDrawnRow : Window → List RunsRow → Grid → ℕ → List DrawnRow → Type 0
 IsDrawnRow w rows g p drawn =
     IsPartIf DrawnRow (ShowsProcessor w p)
-    (λ own. (columns : List Column) × AreColumns (map_row_of rows p) g columns × (own ≡ record { number = p; columns = columns } ∷ []))
+    (λ own. (columns : List Column) × AreColumns (map_row_of rows p) g columns × (own ≡ drawn_row rows p columns ∷ []))
     drawn
 
 -- the columns of all drawn rows
 abbrev pub all_columns : List DrawnRow → List Column
 all_columns drawn = flat_map (λ (row : DrawnRow). row.columns) drawn
+
+-- the runs of shown tasks in all drawn rows
+abbrev pub all_runs : List DrawnRow → List Slice
+all_runs drawn = flat_map (λ (row : DrawnRow). row.runs) drawn
 
 -- ---- its text
 
@@ -144,13 +160,13 @@ left_aligned_text width text = styled_text (format_spec 32 1 0 width (2 ^ 64 - 1
 abbrev pub left_number : ℕ → ℕ → List ℕ
 left_number width n = styled_decimal (format_spec 32 1 0 width (2 ^ 64 - 1)) n
 
--- the line of a row
-abbrev pub map_row_text : List ℕ → DrawnRow → List ℕ
-map_row_text tasks row = codes "cpu " ++ (left_number 4 row.number ++ (map (column_sign tasks) row.columns ++ codes "\n"))
+-- the line of the row of a processor, with these columns
+abbrev pub map_row_text : List ℕ → ℕ → List Column → List ℕ
+map_row_text tasks p columns = codes "cpu " ++ (left_number 4 p ++ (map (column_sign tasks) columns ++ codes "\n"))
 
 -- the lines of the drawn rows
 abbrev pub rows_text : List ℕ → List DrawnRow → List ℕ
-rows_text tasks drawn = flat_map (map_row_text tasks) drawn
+rows_text tasks drawn = flat_map (λ (row : DrawnRow). map_row_text tasks row.number row.columns) drawn
 
 -- the unit for moments that are this far apart
 abbrev pub unit_for : ℕ → Unit
@@ -178,34 +194,46 @@ abbrev pub behind_task : Option (List ℕ) → List ℕ
 behind_task None = []
 behind_task (Some name) = codes "  " ++ name
 
--- the line of the task at a place of the legend
-abbrev pub legend_line : NamedTasks → ℕ → ℕ → List ℕ
-legend_line names place task =
-    (letter_at place ∷ []) ++ (codes "  task " ++ (decimal task ++ (behind_task (name_of names task) ++ codes "\n")))
+-- the task at a place of the legend: its letter, its number, and its name
+abbrev pub lettered_task : NamedTasks → ℕ → ℕ → List ℕ
+lettered_task names place task = (letter_at place ∷ []) ++ (codes "  task " ++ (decimal task ++ behind_task (name_of names task)))
 
--- the line of the task at a place among all that are admitted, if it appears in a column
-abbrev pub IsLegendLine : NamedTasks → List ℕ → List Column → ℕ → List ℕ → Type 0
-IsLegendLine names tasks columns place line =
-    IsPartIf ℕ (Contains columns (Task (slice_index_or tasks place 0))) (λ own. own ≡ legend_line names place (slice_index_or tasks place 0)) line
+-- the note on a task that appears in no column
+abbrev pub IsColumnNote : List Column → ℕ → List ℕ → Type 0
+IsColumnNote columns task note = IsPartIf ℕ (¬ (Contains columns (Task task))) (λ own. own ≡ codes "  (in no column)") note
+
+-- the line of the task at a place of the legend
+abbrev pub IsLineOfTask : NamedTasks → List Column → ℕ → ℕ → List ℕ → Type 0
+IsLineOfTask names columns place task line =
+    (note : List ℕ) × IsColumnNote columns task note × (line ≡ lettered_task names place task ++ (note ++ codes "\n"))
+
+-- a task runs in the time of an extent, among these runs
+abbrev pub RunsIn : Extent → List Slice → ℕ → Type 0
+RunsIn e runs task = 0 < task_time_between e.from e.to runs task
+
+-- the line of the task at a place among all that are admitted, if it runs in the time that is shown
+abbrev pub IsLegendLine : NamedTasks → List ℕ → Extent → List Slice → List Column → ℕ → List ℕ → Type 0
+IsLegendLine names tasks e runs columns place line =
+    IsPartIf ℕ (RunsIn e runs (slice_index_or tasks place 0)) (IsLineOfTask names columns place (slice_index_or tasks place 0)) line
 
 -- the note on columns in which only hidden tasks ran, if there are any
 abbrev pub IsHiddenNote : List Column → List ℕ → Type 0
 IsHiddenNote columns note = IsPartIf ℕ (Contains columns Hidden) (λ own. own ≡ codes "; - runs a task that is not shown") note
 
--- the legend: how long a column is, the signs of no task and of hidden ones, and the tasks that appear, in the order of their letters
-pub record IsLegend (names : NamedTasks) (tasks : List ℕ) (step : ℕ) (columns : List Column) (text : List ℕ) : Type 0 where
+-- the legend: how long a column is, the signs of no task and of hidden ones, and the tasks that run, in the order of their letters
+pub record IsLegend (names : NamedTasks) (tasks : List ℕ) (g : Grid) (runs : List Slice) (columns : List Column) (text : List ℕ) : Type 0 where
   pub note : List ℕ
   pub lines : List ℕ
   pub hidden : IsHiddenNote columns note
-  pub each : AreParts (IsLegendLine names tasks columns) (length tasks) lines
-  pub whole : text ≡ codes "\na column is " ++ (moment_text step (unit_for step) ++ (codes "; . is idle" ++ (note ++ (codes "\n" ++ lines))))
+  pub each : AreParts (IsLegendLine names tasks g.extent runs columns) (length tasks) lines
+  pub whole : text ≡ codes "\na column is " ++ (moment_text g.step (unit_for g.step) ++ (codes "; . is idle" ++ (note ++ (codes "\n" ++ lines))))
 
 -- a map of these rows: the ruler, the shown rows, and the legend
 pub record IsDrawn (w : Window) (names : NamedTasks) (tasks : List ℕ) (rows : List RunsRow) (g : Grid) (text : List ℕ) : Type 0 where
   pub drawn : List DrawnRow
   pub legend : List ℕ
   pub shown : AreParts (IsDrawnRow w rows g) (length rows) drawn
-  pub below : IsLegend names tasks g.step (all_columns drawn) legend
+  pub below : IsLegend names tasks g (all_runs drawn) (all_columns drawn) legend
   pub whole : text ≡ ruler_text g ++ (rows_text tasks drawn ++ legend)
 
 -- a map with this step; there always is a step, because a round step covers 48 bits

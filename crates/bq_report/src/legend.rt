@@ -1,17 +1,22 @@
 //! The legend below a map's rows, and the signs of its columns.
 ghost use Rattle.std.specs.Prelude.{◌≡◌, ◌<◌, ◌++◌, ◌∷◌, [], ℕ, List, Contains, map, length, option_map, OnOk, string_bytes};
+ghost use Rattle.bq_schedule.specs.declared.slice.Slice.{Slice};
+ghost use Rattle.bq_report.specs.declared.extent.Extent.{Extent};
 ghost use Rattle.bq_report.specs.declared.map_row.Column.{Column};
-ghost use Rattle.bq_report.specs.declared.map_row.Column.TheVariants.{Task};
 ghost use Rattle.bq_report.specs.Legends.{Notes, NotesMore};
-ghost use Rattle.bq_report.specs.Maps.{IsHiddenNote, IsLegend, IsLegendLine, behind_task, legend_line, letter_at, letter_if, column_sign};
+ghost use Rattle.bq_report.specs.Maps.{IsColumnNote, IsHiddenNote, IsLegend, IsLegendLine, IsLineOfTask, RunsIn, behind_task, column_sign, letter_at, letter_if, lettered_task};
 ghost use Rattle.bq_report.specs.Names.{name_of};
 ghost use Rattle.bq_report.specs.Reports.{GrowsByPart, AreParts, IsPartIf};
 ghost use Rattle.bq_report.specs.Rosters.{place_in};
 
 use crate::amounts::{MomentText, Unit};
+use crate::extent::Extent;
+use crate::grid::Grid;
+use crate::longest::time_between;
 use crate::map_row::Column;
 use crate::names::Names;
 use crate::roster::Roster;
+use bq_schedule::Slice;
 use std::alloc::{AllocError, Global};
 use std::collections::BTreeSet;
 
@@ -29,12 +34,14 @@ const BEYOND: char = '*';
 /// The sign of a task that is not shown.
 const HIDDEN: char = '-';
 
-/// The sign of a column in which no task ran.
+/// The sign of a column in which the processor was idle.
 const IDLE: char = '.';
 
-/// What the columns of a map show.
+/// What the rows of a map show.
 #[derive(Drop)]
 pub(crate) struct Legend {
+    /// The tasks that run in the time that is shown.
+    ran: BTreeSet<u16>,
     /// The tasks that appear in a column.
     tasks: BTreeSet<u16>,
     /// Whether a column shows that only hidden tasks ran.
@@ -42,29 +49,50 @@ pub(crate) struct Legend {
 }
 
 impl Legend {
-    /// The legend of no columns yet.
+    /// The legend of no rows yet.
     pub(crate) fn new(alloc: Global) -> Legend
-        ensures { Notes [] result }
+        ensures { (extent : Extent) → Notes extent [] [] result }
     {
         Legend {
+            ran: BTreeSet::new(alloc),
             tasks: BTreeSet::new(alloc),
             has_hidden: false,
         }
     }
 
+    /// Notes which tasks run in an extent, of these runs.
+    pub(crate) fn note_runs(&mut self, runs: &[Slice], extent: &Extent) -> Result<(), AllocError>
+        ensures { OnOk result (NotesMore extent.now runs.now [] self.old self.new) }
+    {
+        for run in runs {
+            self.note_run(run, extent)?;
+        }
+        Ok(())
+    }
+
+    /// Notes the task of a run, if any of the run is in the extent.
+    fn note_run(&mut self, run: &Slice, extent: &Extent) -> Result<(), AllocError>
+        ensures { OnOk result (NotesMore extent.now (run.now ∷ []) [] self.old self.new) }
+    {
+        if time_between(run, extent.from, extent.to) > 0 {
+            self.ran.insert(run.task)?;
+        }
+        Ok(())
+    }
+
     /// Notes what columns show.
-    pub(crate) fn note(&mut self, columns: &[Column]) -> Result<(), AllocError>
-        ensures { OnOk result (NotesMore columns.now self.old self.new) }
+    pub(crate) fn note_columns(&mut self, columns: &[Column]) -> Result<(), AllocError>
+        ensures { OnOk result ((extent : Extent) → NotesMore extent [] columns.now self.old self.new) }
     {
         for column in columns {
-            self.note_one(*column)?;
+            self.note_column(*column)?;
         }
         Ok(())
     }
 
     /// Notes what a column shows.
-    fn note_one(&mut self, column: Column) -> Result<(), AllocError>
-        ensures { OnOk result (NotesMore (column ∷ []) self.old self.new) }
+    fn note_column(&mut self, column: Column) -> Result<(), AllocError>
+        ensures { OnOk result ((extent : Extent) → NotesMore extent [] (column ∷ []) self.old self.new) }
     {
         match column {
             Column::Task(task) => {
@@ -76,19 +104,22 @@ impl Legend {
         Ok(())
     }
 
-    /// Adds the legend of a map whose columns are noted. A column takes `step` ns.
+    /// Adds the legend of a map whose rows are noted.
     pub(crate) fn write(
         &self,
         roster: &Roster,
-        step: u64,
+        grid: &Grid,
         names: &Names,
         text: &mut String,
     ) -> Result<(), AllocError>
-        ensures { OnOk result ((columns : List Column) → Notes columns self.now
-            → GrowsByPart (IsLegend names.now roster.now step columns) (string_bytes text.old) (string_bytes text.new)) }
+        ensures { OnOk result ((runs : List Slice) → (columns : List Column) → Notes grid.now.extent runs columns self.now
+            → GrowsByPart (IsLegend names.now roster.now grid.now runs columns) (string_bytes text.old) (string_bytes text.new)) }
     {
-        let unit = Unit::for_step(step);
-        let length = MomentText { time: step, unit };
+        let unit = Unit::for_step(grid.step);
+        let length = MomentText {
+            time: grid.step,
+            unit,
+        };
         write!(text, "\na column is {length}; {IDLE} is idle")?;
         self.write_hidden(text)?;
         text.push_str("\n")?;
@@ -97,7 +128,7 @@ impl Legend {
 
     /// Adds what the sign of hidden tasks means, if a column has that sign.
     fn write_hidden(&self, text: &mut String) -> Result<(), AllocError>
-        ensures { OnOk result ((columns : List Column) → Notes columns self.now
+        ensures { OnOk result ((extent : Extent) → (runs : List Slice) → (columns : List Column) → Notes extent runs columns self.now
             → GrowsByPart (IsHiddenNote columns) (string_bytes text.old) (string_bytes text.new)) }
     {
         if !self.has_hidden {
@@ -106,10 +137,10 @@ impl Legend {
         write!(text, "; {HIDDEN} runs a task that is not shown")
     }
 
-    /// Adds the lines of the tasks that appear in a column, in the order of their letters.
+    /// Adds the lines of the tasks that run in the time that is shown, in the order of their letters.
     fn write_lines(&self, tasks: &[u16], names: &Names, text: &mut String) -> Result<(), AllocError>
-        ensures { OnOk result ((columns : List Column) → Notes columns self.now
-            → GrowsByPart (AreParts (IsLegendLine names.now tasks.now columns) (length tasks.now)) (string_bytes text.old) (string_bytes text.new)) }
+        ensures { OnOk result ((extent : Extent) → (runs : List Slice) → (columns : List Column) → Notes extent runs columns self.now
+            → GrowsByPart (AreParts (IsLegendLine names.now tasks.now extent runs columns) (length tasks.now)) (string_bytes text.old) (string_bytes text.new)) }
     {
         for place in 0..tasks.len() {
             self.write_line_if(place, tasks[place], names, text)?;
@@ -117,7 +148,7 @@ impl Legend {
         Ok(())
     }
 
-    /// Adds the line of the task at this place among all that are admitted, if it appears in a column.
+    /// Adds the line of the task at this place among all that are admitted, if it runs in the time that is shown.
     fn write_line_if(
         &self,
         place: usize,
@@ -125,24 +156,50 @@ impl Legend {
         names: &Names,
         text: &mut String,
     ) -> Result<(), AllocError>
-        ensures { OnOk result ((columns : List Column) → Notes columns self.now
-            → GrowsByPart (IsPartIf ℕ (Contains columns (Task task)) (λ own. own ≡ legend_line names.now place task)) (string_bytes text.old) (string_bytes text.new)) }
+        ensures { OnOk result ((extent : Extent) → (runs : List Slice) → (columns : List Column) → Notes extent runs columns self.now
+            → GrowsByPart (IsPartIf ℕ (RunsIn extent runs task) (IsLineOfTask names.now columns place task)) (string_bytes text.old) (string_bytes text.new)) }
     {
-        if !self.tasks.contains(&task) {
+        if !self.ran.contains(&task) {
             return Ok(());
         }
-        write_line(place, task, names, text)
+        self.write_line(place, task, names, text)
+    }
+
+    /// Adds the line of a task at this place, with a note if it appears in no column.
+    fn write_line(
+        &self,
+        place: usize,
+        task: u16,
+        names: &Names,
+        text: &mut String,
+    ) -> Result<(), AllocError>
+        ensures { OnOk result ((extent : Extent) → (runs : List Slice) → (columns : List Column) → Notes extent runs columns self.now
+            → GrowsByPart (IsLineOfTask names.now columns place task) (string_bytes text.old) (string_bytes text.new)) }
+    {
+        write_task(place, task, names, text)?;
+        self.write_note(task, text)?;
+        text.push_str("\n")
+    }
+
+    /// Adds a note if a task appears in no column.
+    fn write_note(&self, task: u16, text: &mut String) -> Result<(), AllocError>
+        ensures { OnOk result ((extent : Extent) → (runs : List Slice) → (columns : List Column) → Notes extent runs columns self.now
+            → GrowsByPart (IsColumnNote columns task) (string_bytes text.old) (string_bytes text.new)) }
+    {
+        if self.tasks.contains(&task) {
+            return Ok(());
+        }
+        text.push_str("  (in no column)")
     }
 }
 
-/// Adds the line of a task at this place, with its name if it has one.
-fn write_line(place: usize, task: u16, names: &Names, text: &mut String) -> Result<(), AllocError>
-    ensures { OnOk result (string_bytes text.new ≡ string_bytes text.old ++ legend_line names.now place task) }
+/// Adds the letter of the task at this place, its number, and its name if it has one.
+fn write_task(place: usize, task: u16, names: &Names, text: &mut String) -> Result<(), AllocError>
+    ensures { OnOk result (string_bytes text.new ≡ string_bytes text.old ++ lettered_task names.now place task) }
 {
     let letter = letter_at(place);
     write!(text, "{letter}  task {task}")?;
-    write_name(names.of(task), text)?;
-    text.push_str("\n")
+    write_name(names.of(task), text)
 }
 
 /// Adds a task's name, if it has one.
@@ -155,7 +212,7 @@ fn write_name(name: Option<&str>, text: &mut String) -> Result<(), AllocError>
     }
 }
 
-/// Adds the signs of columns: a task's letter, or the sign of hidden tasks or of no task.
+/// Adds the signs of columns: a task's letter, or the sign of hidden tasks or of an idle processor.
 pub(crate) fn write_signs(
     roster: &Roster,
     columns: &[Column],

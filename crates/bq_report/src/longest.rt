@@ -1,10 +1,17 @@
-//! Which task ran longest between two moments.
-ghost use Rattle.std.specs.Prelude.{◌≡◌, ℕ, ◌<◌, length, slice_index, vec_len, IfOk, IfSome, IfNone};
-ghost use Rattle.bq_report.specs.Longest.{task_time_between, IsFirstGreatest, IsLongest};
+//! Which task ran longest between two moments, and what all runs leave of a time.
+ghost use Rattle.std.specs.Prelude.{◌≡◌, ℕ, ◌-◌, ◌<◌, length, slice_index, vec_len, IfOk, IfSome, IfNone};
+ghost use Rattle.bq_report.specs.Longest.{task_time_between, time_between, time_of_all, IsFirstGreatest, IsLongest};
 
 use bq_disc::limits::TASKS;
 use bq_schedule::Slice;
 use std::alloc::{AllocError, Global};
+
+/// A task, and how long it ran.
+#[derive(Clone, Copy)]
+pub struct TaskTime {
+    pub task: u16,
+    pub time: u128,
+}
 
 /// The task that ran longest from one moment to another, among these runs. Of equal ones it is the task of least number. `None` if no
 /// task ran.
@@ -13,12 +20,37 @@ pub fn longest_in(
     runs: &[Slice],
     from: u64,
     to: u64,
-) -> Result<Option<u16>, AllocError>
-    ensures longest { IfOk result (λ found. IfSome found (IsLongest from to runs.now)) }
+) -> Result<Option<TaskTime>, AllocError>
+    ensures longest { IfOk result (λ found. IfSome found (λ longest. IsLongest from to runs.now longest.task)) }
+    ensures time { IfOk result (λ found. IfSome found (λ longest. longest.time ≡ task_time_between from to runs.now longest.task)) }
     ensures none { IfOk result (λ found. IfNone found ((task : ℕ) → task < TASKS → task_time_between from to runs.now task ≡ 0)) }
 {
     let times = times_in(alloc, runs, from, to)?;
-    Ok(greatest(times.as_slice()))
+    match greatest(times.as_slice()) {
+        Some(task) => {
+            let time = times[usize::from(task)];
+            Ok(Some(TaskTime { task, time }))
+        }
+        None => Ok(None),
+    }
+}
+
+/// What is left of a time without what these runs last from one moment to another. 0 if they last longer.
+pub(crate) fn time_left(time: u64, runs: &[Slice], from: u64, to: u64) -> u64
+    ensures { result ≡ time - time_of_all from to runs.now }
+{
+    let mut left = time;
+    for run in runs {
+        left = left.saturating_sub(time_between(run, from, to));
+    }
+    left
+}
+
+/// How long a run lasts from one moment to another.
+pub(crate) fn time_between(run: &Slice, from: u64, to: u64) -> u64
+    ensures { result ≡ time_between from to run.now }
+{
+    run.to.min(to).saturating_sub(run.from.max(from))
 }
 
 /// How long each task ran from one moment to another, among these runs. A task's time is at the place of its number.
@@ -28,7 +60,7 @@ fn times_in(alloc: Global, runs: &[Slice], from: u64, to: u64) -> Result<Vec<u12
 {
     let mut times = vec![in alloc; 0u128; TASKS as usize]?;
     for run in runs {
-        let time = run.to.min(to).saturating_sub(run.from.max(from));
+        let time = time_between(run, from, to);
         let task = usize::from(run.task);
         if task < times.len() {
             let before = times[task];

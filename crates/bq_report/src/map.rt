@@ -23,7 +23,7 @@ use std::alloc::{AllocError, Global};
 const MARGIN: usize = 8;
 
 /// A row for each processor, a column for each step of time. A column shows the letter of the shown task that ran longest in it, `-`
-/// if only hidden tasks ran, and `.` if none ran. The map holds the runs, because the step depends on where the trace ends.
+/// if only hidden tasks ran, and `.` if nothing ran for longer. The map holds the runs, because the step depends on where the trace ends.
 #[derive(Drop)]
 pub struct Map {
     alloc: Global,
@@ -109,7 +109,7 @@ impl Map {
             &mut legend,
             text,
         )?;
-        legend.write(&self.roster, grid.step, names, text)
+        legend.write(&self.roster, grid, names, text)
     }
 }
 
@@ -153,7 +153,7 @@ fn columns_in(width: usize) -> u16
         .max(1)
 }
 
-/// Adds the lines of the shown rows, and notes what their columns show.
+/// Adds the lines of the shown rows, and notes which tasks run there and what the columns show.
 fn write_rows(
     alloc: Global,
     window: &Window,
@@ -169,9 +169,10 @@ fn write_rows(
     for number in 0..rows.len() {
         if window.shows_row(number) {
             let row = &mut rows[number];
+            legend.note_runs(row.shown(), &grid.extent)?;
             let columns = row.columns(alloc, grid)?;
             write_row(roster, number, columns.as_slice(), text)?;
-            legend.note(columns.as_slice())?;
+            legend.note_columns(columns.as_slice())?;
         }
     }
     Ok(())
@@ -184,7 +185,7 @@ fn write_row(
     columns: &[Column],
     text: &mut String,
 ) -> Result<(), AllocError>
-    ensures { OnOk result (string_bytes text.new ≡ string_bytes text.old ++ map_row_text roster.now (record { number = number; columns = columns.now })) }
+    ensures { OnOk result (string_bytes text.new ≡ string_bytes text.old ++ map_row_text roster.now number columns.now) }
 {
     write!(text, "cpu {number:<4}")?;
     write_signs(roster, columns, text)?;

@@ -3,17 +3,17 @@ ghost use Rattle.std.specs.Prelude.{◌≡◌, ℕ, ◌≤◌, List, nat_le, nat
 ghost use Rattle.std.specs.List.{prefix_len};
 ghost use Rattle.std.specs.List.Sorted.{IsNonDecreasingBy, IsPermutation};
 ghost use Rattle.bq_schedule.specs.declared.slice.Slice.{Slice};
-ghost use Rattle.bq_report.specs.Longest.{task_time_between};
+ghost use Rattle.bq_report.specs.Longest.{LastAsLong};
 ghost use Rattle.bq_report.specs.MapRows.{RunsRow};
 ghost use Rattle.bq_report.specs.Maps.{AreColumns, IsColumn, empty_map_row, map_row_with_run};
 
 use crate::grid::Grid;
-use crate::longest::longest_in;
+use crate::longest::{longest_in, time_left};
 use bq_schedule::Slice;
 use std::alloc::{AllocError, Global};
 use std::marker::Model;
 
-/// What a column shows: the shown task that ran longest, that only hidden tasks ran, or that none ran.
+/// What a column shows: the shown task that ran longest, that only hidden tasks ran, or that the processor was idle.
 #[derive(Clone, Copy)]
 pub(crate) enum Column {
     Task(u16),
@@ -58,6 +58,13 @@ impl MapRow {
             self.hidden.push(run)?;
         }
         Ok(())
+    }
+
+    /// The runs of shown tasks.
+    pub(crate) fn shown(&self) -> &[Slice]
+        ensures { result.now ≡ self.now.shown }
+    {
+        self.shown.as_slice()
     }
 
     /// What the columns show. Sorts the runs by their beginnings, which is their order in a schedule anyway.
@@ -114,19 +121,48 @@ fn column_between(
     requires hidden { IsNonDecreasingBy (λ (run : Slice). run.from) hidden.now }
     ensures { IfOk result (IsColumn (record { shown = shown.now; hidden = hidden.now }) from to) }
 {
-    if let Some(task) = longest_in(alloc, begun_before(shown, to), from, to)? {
-        return Ok(Column::Task(task));
-    }
-    match longest_in(alloc, begun_before(hidden, to), from, to)? {
-        Some(_) => Ok(Column::Hidden),
-        None => Ok(Column::Idle),
+    column_of(
+        alloc,
+        begun_before(shown, to),
+        begun_before(hidden, to),
+        from,
+        to,
+    )
+}
+
+/// What a column between two moments shows, by the runs in it: those of shown tasks and those of hidden ones.
+fn column_of(
+    alloc: Global,
+    shown: &[Slice],
+    hidden: &[Slice],
+    from: u64,
+    to: u64,
+) -> Result<Column, AllocError>
+    ensures { IfOk result (IsColumn (record { shown = shown.now; hidden = hidden.now }) from to) }
+{
+    let without_shown = time_left(to.saturating_sub(from), shown, from, to);
+    let idle = time_left(without_shown, hidden, from, to);
+    match longest_in(alloc, shown, from, to)? {
+        Some(longest) => {
+            if longest.time < u128::from(idle) {
+                return Ok(Column::Idle);
+            }
+            Ok(Column::Task(longest.task))
+        }
+        None => {
+            let hidden_time = without_shown - idle;
+            if hidden_time < idle {
+                return Ok(Column::Idle);
+            }
+            Ok(Column::Hidden)
+        }
     }
 }
 
 /// The runs that begin before a moment, if the runs are sorted by their beginnings.
 fn begun_before(runs: &[Slice], to: u64) -> &[Slice]
     requires { IsNonDecreasingBy (λ (run : Slice). run.from) runs.now }
-    ensures { (from task : ℕ) → task_time_between from to result.now task ≡ task_time_between from to runs.now task }
+    ensures { (from : ℕ) → LastAsLong from to result.now runs.now }
 {
     &runs[..begun(runs, to)]
 }
@@ -142,7 +178,7 @@ fn begun(runs: &[Slice], to: u64) -> usize
 fn not_over(runs: &[Slice], at: u64) -> &[Slice]
     requires { IsNonDecreasingBy (λ (run : Slice). run.from) runs.now }
     ensures order { IsNonDecreasingBy (λ (run : Slice). run.from) result.now }
-    ensures times { (from to task : ℕ) → at ≤ from → task_time_between from to result.now task ≡ task_time_between from to runs.now task }
+    ensures times { (from to : ℕ) → at ≤ from → LastAsLong from to result.now runs.now }
 {
     &runs[over(runs, at)..]
 }

@@ -18,7 +18,7 @@ loop-run-init c =
 pub loop-run-preserved : goal.loop-run-preserved
 loop-run-preserved c =
     let none : Slice = record { processor = 0; task = 0; from = 0; to = 0 } in
-    let time : c.saturating_sub-time.result ≡ time_between c.args.from c.args.to (get_or c.args.runs.now c.loop-run.run-index none) =
+    let time : c.time_between-time.result ≡ time_between c.args.from c.args.to (get_or c.args.runs.now c.loop-run.run-index none) =
     omega arith in
     elim c.if-task-len.branch [
       | then-task-len w ↦
@@ -26,7 +26,7 @@ loop-run-preserved c =
           let small : c.from-task.result < 1024 = omega (arith, c.loop-run.invariant.places) in
           let before = get_or_default c.loop-run.times.items c.from-task.result w.index-before.result.now 0 there in
           let value : w.index-before.result.now + w.from.result
-          ≡ get_or c.loop-run.times.items c.from-task.result 0 + c.saturating_sub-time.result = omega (arith, before) in
+          ≡ get_or c.loop-run.times.items c.from-task.result 0 + c.time_between-time.result = omega (arith, before) in
           let counted : w.index-before.result.now + w.from.result
           ≡ get_or c.loop-run.times.items c.from-task.result 0
           + time_between c.args.from c.args.to (get_or c.args.runs.now c.loop-run.run-index none) = omega (arith, value, time) in
@@ -37,7 +37,7 @@ loop-run-preserved c =
                 c.from-task.result (w.index-before.result.now + w.from.result) task c.loop-run-test.true there
                 c.from-task.ensures counted (c.loop-run.invariant.times task h);
             bound = λ task h. bound_kept c.loop-run.times.items c.from-task.result (w.index-before.result.now + w.from.result)
-                c.saturating_sub-time.result c.loop-run.run-index task there value (omega arith)
+                c.time_between-time.result c.loop-run.run-index task there value (omega arith)
                 (c.loop-run.invariant.bound c.from-task.result small) (c.loop-run.invariant.bound task h);
           })
       | else-task-len w ↦ rw w.times-is (record {
