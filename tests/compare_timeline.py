@@ -5,8 +5,8 @@
     tests/compare_timeline.py BQSIM --near [TRACES [SEED]]   drawn histories of the discipline alone, and how near they come
 
 BQSIM is the path of the program. Of each trace `csv` must have the model's slices, `json` its figures of tasks and
-processors (times, waits, latencies, fair times and counts, to the nanosecond), and `report` its tables of latencies and of bounds. The second
-form draws ticks, wakes and blocks at processors where no policy stands, and says how much of the bounds was reached.
+processors (times, waits, latencies, fair times and counts, to the nanosecond), and `report` its tables of latencies, of processors and of
+bounds. The second form draws ticks, wakes and blocks at processors where no policy stands, and says how much of the bounds was reached.
 
 `tests/quick.py` compares some of these. Last seen: 300 traces, 39,873 slices alike, the figures of `json` and the table of bounds too; of the second form 200 histories.
 """
@@ -242,6 +242,11 @@ class Watched:
         still = None if figures.woken is None else max(0, last - figures.woken)
         return figures.waited + max(0, last - figures.since), still
 
+    def observed(self):
+        """The time from the earliest first reading of any processor's clock to the latest last one."""
+        read = [(place.first, here.last) for place, here in zip(self.places, self.world.processors) if place.first is not None]
+        return max(last for _, last in read) - min(first for first, _ in read) if read else 0
+
     def json(self):
         def fair(figures):
             there = 0
@@ -260,11 +265,19 @@ class Watched:
         processors = [
             {
                 "processor": number, "busy": place.busy, "switches": place.switches, **place.hooks,
-                "idle": 0 if place.first is None else here.last - place.first - place.busy,
+                "idle": self.observed() - place.busy,
             }
-            for number, (place, here) in enumerate(zip(self.places, self.world.processors))
+            for number, place in enumerate(self.places)
         ]  # fmt: skip
         return {"schema": 1, "tasks": tasks, "processors": processors}
+
+    def busy(self):
+        """The rows of the table of processors, as words."""
+        rows, observed = [], self.observed()
+        for number, place in enumerate(self.places):
+            part = place.busy * 10_000 // observed if observed else 0
+            rows.append([str(number), f"{part // 100}.{part % 100:02}", millis(place.busy), millis(observed - place.busy), str(place.switches)])
+        return rows
 
     def latencies(self):
         """The rows of the table of latencies, as words."""
@@ -368,7 +381,8 @@ def compare(program, lines):
                 raise SystemExit(leave(lines, f"json differs: the model has\n{one}\nthe program\n{other}"))
         raise SystemExit(leave(lines, "json differs"))
     report = timeline(program, "report", text)
-    for head, rows in ("  cpu law ", ours.bounds()), (" task name               wakes ", ours.latencies()):
+    tables = ("  cpu law ", ours.bounds()), (" task name               wakes ", ours.latencies()), ("  cpu  busy % ", ours.busy())
+    for head, rows in tables:
         if table(report, head) != rows:
             raise SystemExit(leave(lines, f"the table{head}differs: the model has\n{rows}\nthe program\n{table(report, head)}"))
     return len(ours.slices), ours

@@ -18,11 +18,13 @@ MODELS = [
     "tests/simulate_model.py BQSIM 500 1",
     "tests/refusals.py BQSIM",
     "tests/seeds.py BQSIM 3 5",
+    "tests/one_verdict.py BQSIM 400",
     "tests/simulate_forms.py BQSIM",
     "tests/simulate_theory.py BQSIM",
     "tests/received.py BQSIM",
     "tests/long_work.py BQSIM",
     "tests/compare_with_model.py BQSIM tests/every_line.trace",
+    "tests/pieces.py BQSIM",
     "tests/pages.py BQSIM",
 ]
 SOURCES = [

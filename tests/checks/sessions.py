@@ -4,6 +4,7 @@ A session is a page whose blocks are those of the other pages (documents.py), bu
 it writes, on standard output and standard error, and then its exit status in brackets, as `[1]`, unless that is 0. A command below which
 nothing stands writes nothing. A line `..` stands for any lines, and ` ..` at the end of a line for any text.
 """
+import re
 from pathlib import Path
 
 from .documents import Copy, commands, matches, run_shown, steady
@@ -21,18 +22,22 @@ def count(page):
 
 
 def expected(command):
-    """The lines below a command, without empty ones at the end."""
+    """The lines below a command, without empty ones at the end; and its exit status, which no `..` stands for."""
     shown = list(command.shown or [])
     while shown and not shown[-1].strip():
         shown.pop()
-    return [steady(line) for line in shown]
+    status = int(shown.pop()[1:-1]) if shown and re.fullmatch(r"\[\d+\]", shown[-1]) else 0
+    return [steady(line) for line in shown], status
 
 
-def written(status, text):
-    """What a command wrote, with its exit status as the last line, unless that is 0."""
+def written(text):
+    """What a command wrote, and whether its last line has no end."""
     text = steady(text)
-    if text and not text.endswith("\n"):
-        text += "(no end of line)\n"
+    return text if not text or text.endswith("\n") else f"{text}(no end of line)\n"
+
+
+def with_status(text, status):
+    """A text with an exit status as its last line, unless that is 0."""
     return f"{text}[{status}]\n" if status else text
 
 
@@ -40,10 +45,12 @@ def check_session(runner, program, page):
     """Runs the commands of a session in their order, in one copy of the tree."""
     with Copy(program) as folder:
         for command in commands(page):
-            name = f"{page}:{command.line}: {command.text.splitlines()[0]}"
+            name, failure = f"{page}:{command.line}: {command.text.splitlines()[0]}", ""
             try:
-                shown, came = expected(command), written(*run_shown(runner, command.text, folder))
-                failure = "" if matches(shown, came) else difference("".join(f"{line}\n" for line in shown), came)
+                (shown, wanted), (status, came) = expected(command), run_shown(runner, command.text, folder)
+                came = written(came)
+                if not matches(shown, came) or status != wanted:
+                    failure = difference(with_status("".join(f"{line}\n" for line in shown), wanted), with_status(came, status))
             except Failed as reason:
                 failure = str(reason)
             yield Answer(name, failure)

@@ -10,7 +10,7 @@ use crate::fault::AsmFault;
 use bq_insn::Insn;
 use std::alloc::Global;
 
-/// Answers the instructions that a text stands for, or its first fault. The instructions are well formed: registers and
+/// The instructions that a text stands for, or its first fault. The instructions are well formed: registers and
 /// widths are in range, and they take 1 to 4096 slots.
 ///
 /// Each instruction has a line of its own: a first word, then operands, with spaces, tabs or commas between them. A `;`

@@ -51,7 +51,7 @@ impl<'a> Draft<'a> {
         self.take_words(number, words.as_slice())
     }
 
-    /// Answers the instructions, with the distance of each jump to a label set. The error names a fault of the text as
+    /// The instructions, with the distance of each jump to a label set. The error names a fault of the text as
     /// a whole: no instruction, or a jump to a label that is set nowhere.
     pub fn finish(self) -> Result<Vec<Insn>, AsmFault>
         requires { (lines : List Line) × IsDraftOf lines self }

@@ -6,7 +6,7 @@ ghost use Rattle.bq_asm.specs.Operands.{word_texts};
 use crate::draft::label_set;
 use crate::line::{without_comment, words};
 
-/// Answers whether the line says an instruction, right or faulty: it has words and sets no label.
+/// Whether the line says an instruction, right or faulty: it has words and sets no label.
 pub fn is_instruction_line(line: &[u8]) -> bool
     ensures { result ≡ is_instruction (parsed_line line.now) }
 {

@@ -104,7 +104,7 @@ impl Bounds {
     }
 
     /// Does what `owe` does without looking at each task, if the glance shows that none is owed more than one was before.
-    /// Answers whether it did; if not, nothing has changed, and you call `owe`. It takes constant time.
+    /// Returns whether it did; if not, nothing has changed, and you call `owe`. It takes constant time.
     pub fn owe_unseen(
         &mut self,
         processor: u8,

@@ -68,7 +68,7 @@ impl Lags {
     }
 
     /// Does what `take` does without looking at each task, if the glance shows that none is owed more than one was before.
-    /// Answers whether it did; if not, nothing has changed.
+    /// Returns whether it did; if not, nothing has changed.
     pub fn take_unseen(&mut self, event: &Event, reply: &Reply, rise: u64, glance: Glance) -> bool
         ensures done { (xs : List Task) → IsTrue result → IsGlance glance self.old.stretch xs → self.new ≡ lags_after (effect_of event.now reply.now) rise xs self.old }
         ensures left { result ≡ false → self.new ≡ self.old }

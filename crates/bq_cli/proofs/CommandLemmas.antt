@@ -4,10 +4,10 @@ use Rattle.std.specs.Prelude.{IfOk, option_map, codes, slice_index_or}
 use Rattle.std.proofs.lemmas.Option.{same_Some}
 use Rattle.clap.specs.Words.{Row, Text}
 use Rattle.bq_cli.specs.Commands.{HasValues, command_name}
-use Rattle.bq_cli.specs.Words.{IsParallel}
+use Rattle.bq_cli.specs.Words.{AreParWords}
 use Rattle.bq_cli.specs.declared.command.Command.{Command}
 use Rattle.bq_cli.specs.declared.command.Command.TheVariants.{Asm, Check, Dis, Import, Par, Replay, Run, Simulate, Timeline}
-use Rattle.bq_cli.specs.declared.par.Parallel.{Parallel}
+use Rattle.bq_cli.specs.declared.par.ParWords.{ParWords}
 
 -- the first letter of a name
 abbrev first : Text → ℕ
@@ -29,14 +29,14 @@ name_and_rows_of_entry (Some x) f g word name rows rows' a b e =
 
 -- only `par` has its name
 pub only_par_has_its_name : (rows rows' : List Row) (c : Command) (Out : Type 0)
-    → command_name c ≡ codes "par" → rows ≡ rows' → HasValues rows c → ((p : Parallel) → IsParallel rows' p → Out)
+    → command_name c ≡ codes "par" → rows ≡ rows' → HasValues rows c → ((p : ParWords) → AreParWords rows' p → Out)
     → Out
 only_par_has_its_name rows rows' (Asm w) Out is same given k = let letters : 97 ≡ 112 = ap first is in absurd (omega (arith, letters))
 only_par_has_its_name rows rows' (Check w) Out is same given k = let letters : 99 ≡ 112 = ap first is in absurd (omega (arith, letters))
 only_par_has_its_name rows rows' (Dis w) Out is same given k = let letters : 100 ≡ 112 = ap first is in absurd (omega (arith, letters))
 only_par_has_its_name rows rows' (Run w) Out is same given k = let letters : 114 ≡ 112 = ap first is in absurd (omega (arith, letters))
 only_par_has_its_name rows rows' (Import w) Out is same given k = let letters : 105 ≡ 112 = ap first is in absurd (omega (arith, letters))
-only_par_has_its_name rows rows' (Par p) Out is same given k = k p (subst (λ r. IsParallel r p) same given)
+only_par_has_its_name rows rows' (Par p) Out is same given k = k p (subst (λ r. AreParWords r p) same given)
 only_par_has_its_name rows rows' (Replay w) Out is same given k = let letters : 114 ≡ 112 = ap first is in absurd (omega (arith, letters))
 only_par_has_its_name rows rows' (Timeline w) Out is same given k = let letters : 116 ≡ 112 = ap first is in absurd (omega (arith, letters))
 only_par_has_its_name rows rows' (Simulate w) Out is same given k = let letters : 115 ≡ 112 = ap first is in absurd (omega (arith, letters))

@@ -2,7 +2,7 @@
 use Rattle.std.specs.Prelude.{◌≡◌, List, Option, Some, codes}
 use Rattle.clap.specs.Words.{Row, Text, subcommand_of}
 use Rattle.bq_cli.specs.BqsimApp.{bqsim_app}
-use Rattle.bq_cli.specs.Words.{AreAsmWords, AreCheckWords, AreListWords, ArePolicyWords, AreReplayWords, AreRunWords, AreSimulateWords, AreTimelineWords, IsParallel}
+use Rattle.bq_cli.specs.Words.{AreAsmWords, AreCheckWords, AreDisWords, ArePolicyWords, AreReplayWords, AreRunWords, AreSimulateWords, AreTimelineWords, AreParWords}
 use Rattle.bq_cli.specs.declared.command.Command.{Command}
 use Rattle.bq_cli.specs.declared.command.Command.TheVariants.{Asm, Check, Dis, Import, Par, Replay, Run, Simulate, Timeline}
 
@@ -22,10 +22,10 @@ command_name (Simulate w) = codes "simulate"
 abbrev pub HasValues : List Row → Command → Type 0
 HasValues rows (Asm w) = AreAsmWords rows w
 HasValues rows (Check w) = AreCheckWords rows w
-HasValues rows (Dis w) = AreListWords rows w
+HasValues rows (Dis w) = AreDisWords rows w
 HasValues rows (Run w) = AreRunWords rows w
 HasValues rows (Import w) = ArePolicyWords rows w
-HasValues rows (Par p) = IsParallel rows p
+HasValues rows (Par p) = AreParWords rows p
 HasValues rows (Replay w) = AreReplayWords rows w
 HasValues rows (Timeline w) = AreTimelineWords rows w
 HasValues rows (Simulate w) = AreSimulateWords rows w

@@ -13,18 +13,18 @@ use Rattle.bq_cli.specs.Filtering.{FiltersAll, AsmFilters, AsmFiltersInPart, Fil
 use Rattle.bq_cli.specs.Words.{is_plain_check, is_plain_dis}
 use Rattle.bq_cli.specs.declared.command.Command.{Command}
 use Rattle.bq_cli.specs.declared.command.Command.TheVariants.{Asm, Check, Dis, Par, Replay}
-use Rattle.bq_cli.specs.declared.par.Parallel.{Parallel}
+use Rattle.bq_cli.specs.declared.par.ParWords.{ParWords}
 
 -- The line says what a history of the scheduler that was asked for has.
-abbrev pub IsParLine : Parallel → List ℕ → Type 0
+abbrev pub IsParLine : ParWords → List ℕ → Type 0
 IsParLine p line = (s : HistorySummary) × IsHistorySummary (discipline_of p.rule) (processors_in p.size) p.ticks s × (line ≡ summary_line s)
 
 -- The writer got the line.
-abbrev pub WritesPar : Parallel → Option (List ℕ) → Option (List ℕ) → Type 0
+abbrev pub WritesPar : ParWords → Option (List ℕ) → Option (List ℕ) → Type 0
 WritesPar p old new = (line : List ℕ) × IsParLine p line × Appends old new line
 
 -- The writer got nothing, or a beginning of the line.
-abbrev pub WritesParInPart : Parallel → Option (List ℕ) → Option (List ℕ) → Type 0
+abbrev pub WritesParInPart : ParWords → Option (List ℕ) → Option (List ℕ) → Type 0
 WritesParInPart p old new = Keeps old new ⊎ ((line : List ℕ) × IsParLine p line × AppendsPart old new line)
 
 -- Without file and options the whole input is answered; else nothing is done.

@@ -12,7 +12,7 @@ use Rattle.bq_words.specs.Quantities.{size_in_word, decimal_of}
 use Rattle.bq_policy_check.specs.Given.{option_bytes}
 use Rattle.bq_policy_check.specs.declared.words.CheckWords.{CheckWords}
 use Rattle.bq_policy_check.specs.declared.words.LimitWords.{LimitWords}
-use Rattle.bq_policy_check.specs.declared.words.ListWords.{ListWords}
+use Rattle.bq_policy_check.specs.declared.words.DisWords.{DisWords}
 use Rattle.bq_policy_check.specs.declared.words.PolicyWords.{PolicyWords}
 use Rattle.bq_policy_check.specs.declared.words.RunWords.{RunWords}
 use Rattle.bq_policy_check.specs.declared.words.ReportWords.{ReportWords}
@@ -24,7 +24,7 @@ use Rattle.bq_timeline.specs.declared.settings.Words.{Words}
 use Rattle.bq_words.specs.Numbers.{below}
 use Rattle.bq_words.specs.Sizes.{rule_of}
 use Rattle.bq_cli.specs.declared.asm.AsmWords.{AsmWords}
-use Rattle.bq_cli.specs.declared.par.Parallel.{Parallel}
+use Rattle.bq_cli.specs.declared.par.ParWords.{ParWords}
 use Rattle.bq_cli.specs.declared.par.TheConstants.{MOST_TICKS}
 use Rattle.bq_cli.specs.declared.replaying.ReplayWords.{ReplayWords}
 use Rattle.bq_cli.specs.declared.simulate.SimulateWords.{SimulateWords}
@@ -85,7 +85,7 @@ pub record AreCheckWords (rows : List Row) (w : CheckWords) : Type 0 where
   pub image : IsFirstWord (codes "image") rows w.image
 
 -- the values of `dis`
-pub record AreListWords (rows : List Row) (w : ListWords) : Type 0 where
+pub record AreDisWords (rows : List Row) (w : DisWords) : Type 0 where
   pub policy : ArePolicyWords rows w.policy
   pub slots : IsSet (codes "slots") rows w.has_slots
 
@@ -110,7 +110,7 @@ abbrev pub ticks_of : List ℕ → Option ℕ
 ticks_of word = below (MOST_TICKS + 1) (decimal_of word)
 
 -- the values of `par`
-pub record IsParallel (rows : List Row) (p : Parallel) : Type 0 where
+pub record AreParWords (rows : List Row) (p : ParWords) : Type 0 where
   pub rule : option_and_then rule_of (first_of (codes "rule") rows) ≡ Some p.rule
   pub size : option_and_then size_in_word (first_of (codes "processors") rows) ≡ Some p.size
   pub ticks : option_and_then ticks_of (first_of (codes "ticks") rows) ≡ Some p.ticks
@@ -186,5 +186,5 @@ abbrev pub replaces_policy : CheckWords → Bool
 replaces_policy w = unwrap_or (option_map (λ path. is_among path w.files.items) (option_bytes w.image)) false
 
 -- `dis` without file and options
-abbrev pub is_plain_dis : ListWords → Bool
+abbrev pub is_plain_dis : DisWords → Bool
 is_plain_dis w = name_nothing w.policy && not w.has_slots

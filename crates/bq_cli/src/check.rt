@@ -60,7 +60,7 @@ fn limit_words(alloc: Global, matches: &ArgMatches<'_>) -> Result<LimitWords, Al
     })
 }
 
-/// Answers whether there is no file and no option: then the hex of an image is read from standard input.
+/// Whether there is no file and no option: then the hex of an image is read from standard input.
 pub(crate) fn is_plain_check(words: &CheckWords) -> bool
     ensures { result ≡ is_plain_check words.now }
 {
@@ -71,7 +71,7 @@ pub(crate) fn is_plain_check(words: &CheckWords) -> bool
         && words.image.is_none()
 }
 
-/// Answers whether no word sets a limit.
+/// Whether no word sets a limit.
 fn limit_nothing(words: &LimitWords) -> bool
     ensures { result ≡ limit_nothing words.now }
 {
@@ -147,7 +147,7 @@ fn most_read(alloc: Global, words: &CheckWords) -> Result<u64, WordsFault>
     most_bytes(alloc, &words.policy.max_bytes)
 }
 
-/// Answers whether the image would go to a file of a policy.
+/// Whether the image would go to a file of a policy.
 fn replaces_policy(words: &CheckWords) -> bool
     ensures { result ≡ replaces_policy words.now }
 {
@@ -157,7 +157,7 @@ fn replaces_policy(words: &CheckWords) -> bool
     }
 }
 
-/// Answers whether a word is one of some words.
+/// Whether a word is one of some words.
 fn is_among(word: &str, others: &[String]) -> bool
     ensures { result ≡ is_among word.now others.now }
 {
@@ -233,7 +233,7 @@ fn write_image(
     }
 }
 
-/// Answers the exit status if a call on a file failed; as JSON it writes a line.
+/// The exit status if a call on a file failed; as JSON it writes a line.
 fn failed(
     rt: &HostRuntime,
     words: &CheckWords,

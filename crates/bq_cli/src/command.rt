@@ -9,14 +9,14 @@ use crate::asm::{AsmWords, asm_words};
 use crate::check::check_words;
 use crate::dis::dis_words;
 use crate::import::import_words;
-use crate::par::{Parallel, par_words};
+use crate::par::{ParWords, par_words};
 use crate::replaying::{ReplayWords, replay_words};
 use crate::run::run_words;
 use crate::simulate::{SimulateWords, simulate_words};
 use crate::tables::program;
 use crate::timeline::{TimelineWords, timeline_words};
 use bq_console::{WordsFault, found_in, words_fault};
-use bq_policy_check::{CheckWords, ListWords, PolicyWords, RunWords};
+use bq_policy_check::{CheckWords, DisWords, PolicyWords, RunWords};
 use clap::ArgMatches;
 use std::alloc::Global;
 
@@ -28,13 +28,13 @@ pub enum Command {
     /// Says whether a policy is accepted.
     Check(CheckWords),
     /// Lists a policy, or a program.
-    Dis(ListWords),
+    Dis(DisWords),
     /// Runs a policy once.
     Run(RunWords),
     /// Writes a compiled program as an assembler text.
     Import(PolicyWords),
     /// Runs processors by threads of their own, and writes how long their history is.
-    Par(Parallel),
+    Par(ParWords),
     /// Reads a trace and writes what answers it.
     Replay(ReplayWords),
     /// Shows the schedule of a trace.

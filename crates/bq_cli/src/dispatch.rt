@@ -12,7 +12,7 @@ use crate::simulate::do_simulate;
 use crate::tables::VERSION;
 use crate::timeline::do_timeline;
 use bq_console::{
-    Bounded, ErasingWriter, MOST_BYTES, Progress, ShowingReader, WordsFault, as_texts, ended,
+    Bounded, ErasingWriter, MOST_BYTES, ProgressLine, ShowingReader, WordsFault, as_texts, ended,
     given_words, joined_words, report_out_of_memory, waiting_input, written,
 };
 use bq_lines::with_first_line;
@@ -72,6 +72,16 @@ fn do_job<T: Threads + Wait + Sync>(
     }
 }
 
+/// What is said if `check` refused hex.
+const CHECK_READS_HEX: &str =
+    "without a file this reads hex; bqsim check --explain - reads a policy in any form";
+
+/// What is said if `dis` refused hex.
+const DIS_READS_HEX: &str = "without a file this reads hex; bqsim dis - reads a policy in any form";
+
+/// What is said if `replay` found a bad line.
+const REPLAY_SAYS_NOT_WHY: &str = "a line is bad; bqsim timeline says why";
+
 /// Performs a command on what is read from the file of that name, or from standard input.
 pub(crate) fn perform_from<T: Threads + Wait + Sync, R: Read + Drop>(
     rt: &HostRuntime,
@@ -80,7 +90,7 @@ pub(crate) fn perform_from<T: Threads + Wait + Sync, R: Read + Drop>(
     name: Option<&str>,
     reader: R,
 ) -> ExitCode {
-    let progress = Progress::new(rt);
+    let progress = ProgressLine::new(rt);
     let mut input = Counted::new(Kept::new(ShowingReader::new(reader, &progress)));
     let mut output = Counted::new(Kept::new(ErasingWriter::new(rt.stdout(), &progress)));
     let outcome = perform(threads, rt.alloc(), command, &mut input, &mut output);
@@ -89,24 +99,21 @@ pub(crate) fn perform_from<T: Threads + Wait + Sync, R: Read + Drop>(
     if matches!((command, &outcome), (Command::Replay(_), Ok(true))) && input.calls() == 1 {
         let _ = rt.eprintln(EMPTY);
     }
-    if matches!(&outcome, Ok(false)) {
-        report_other_form(rt, command);
+    if matches!(&outcome, Ok(false)) && rt.stderr().is_terminal() {
+        report_other_command(rt, command);
     }
     ended(rt, name, &outcome, input, output)
 }
 
-/// Says on a terminal which form of `check` or `dis` reads more than hex, if the hex was refused.
-fn report_other_form(rt: &HostRuntime, command: &Command) {
-    let form = match command {
-        Command::Check(_) => "check --explain -",
-        Command::Dis(_) => "dis -",
+/// Says which command reads more than hex, if `check` or `dis` refused hex, or says why a line of a trace is bad.
+fn report_other_command(rt: &HostRuntime, command: &Command) {
+    let advice = match command {
+        Command::Check(_) => CHECK_READS_HEX,
+        Command::Dis(_) => DIS_READS_HEX,
+        Command::Replay(_) => REPLAY_SAYS_NOT_WHY,
         _ => return,
     };
-    if rt.stderr().is_terminal() {
-        let _ = eprintln!(rt;
-            "bqsim: without a file this reads hex; bqsim {form} reads a policy in any form"
-        );
-    }
+    let _ = eprintln!(rt; "bqsim: {advice}");
 }
 
 /// Writes the version of the program.

@@ -112,7 +112,7 @@ fn import_bytes(rt: &HostRuntime, name: &str, settings: &ImportSettings, bytes: 
     }
 }
 
-/// Answers whether the program is refused for the number of its bytes.
+/// Whether the program is refused for the number of its bytes.
 fn is_of_wrong_length(refusal: &ImportRefusal) -> bool {
     match refusal {
         ImportRefusal::Import(ImportFault::At { reason, .. }) => matches!(reason, Reason::Length),
@@ -120,7 +120,7 @@ fn is_of_wrong_length(refusal: &ImportRefusal) -> bool {
     }
 }
 
-/// Answers the line of C that a refusal is of, if an object says it.
+/// The line of C that a refusal is of, if an object says it.
 fn source_of<'a>(
     alloc: Global,
     refusal: &ImportRefusal,

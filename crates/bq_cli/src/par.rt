@@ -10,9 +10,9 @@ ghost use Rattle.bq_par.specs.Summaries.{IsHistorySummary};
 ghost use Rattle.bq_streams.specs.Counts.{counted_inner, failures_of};
 ghost use Rattle.bq_streams.specs.Faults.{IsWriteFault};
 ghost use Rattle.bq_trace.specs.Machines.{discipline_of};
-ghost use Rattle.bq_cli.specs.declared.par.Parallel.{Parallel as Asked};
+ghost use Rattle.bq_cli.specs.declared.par.ParWords.{ParWords as Asked};
 ghost use Rattle.bq_cli.specs.Performing.{WritesPar, WritesParInPart};
-ghost use Rattle.bq_cli.specs.Words.{IsParallel, ticks_of};
+ghost use Rattle.bq_cli.specs.Words.{AreParWords, ticks_of};
 
 use crate::with_ticks;
 use bq_cfs::CfsQueue;
@@ -43,7 +43,7 @@ macro_rules! with_ticks {
 
 /// What `par` is to run: under which rule, how many processors, and how often each of them ticks, at most `MOST_TICKS` times.
 #[derive(Clone, Copy)]
-pub struct Parallel {
+pub struct ParWords {
     pub rule: Rule,
     pub size: ProcessorCount,
     pub ticks: u32,
@@ -59,14 +59,14 @@ const SIZE: &str = with_sizes!("a number of processors is ");
 const TICKS: &str = with_ticks!("a number of ticks is ");
 
 /// The words that were found. A value that names nothing is refused.
-pub(crate) fn par_words(alloc: Global, matches: &ArgMatches<'_>) -> Result<Parallel, WordsFault>
-    ensures ok { IfOk result (IsParallel (rows_of (found_of matches.now))) }
-    ensures taken { IfErr result (λ e. (p : Asked) → IsParallel (rows_of (found_of matches.now)) p → e ≡ WordsFault.OutOfMemory) }
+pub(crate) fn par_words(alloc: Global, matches: &ArgMatches<'_>) -> Result<ParWords, WordsFault>
+    ensures ok { IfOk result (AreParWords (rows_of (found_of matches.now))) }
+    ensures taken { IfErr result (λ e. (p : Asked) → AreParWords (rows_of (found_of matches.now)) p → e ≡ WordsFault.OutOfMemory) }
 {
     let rule = rule_in(alloc, value(matches, "rule"))?;
     let size = size_in(alloc, value(matches, "processors"))?;
     let ticks = ticks_in(alloc, value(matches, "ticks"))?;
-    Ok(Parallel { rule, size, ticks })
+    Ok(ParWords { rule, size, ticks })
 }
 
 /// The rule that a word names.
@@ -126,7 +126,7 @@ fn ticks_named(word: &[u8]) -> Option<u32>
 pub(crate) fn perform_par<T: Threads + Wait + Sync, W: Write>(
     rt: &T,
     alloc: Global,
-    parallel: &Parallel,
+    parallel: &ParWords,
     output: &mut Counted<W>,
 ) -> Result<bool, StreamFault>
     ensures ok { IfOk result (λ done. (done ≡ true) × WritesPar parallel.now (W.contents (counted_inner output.old)) (W.contents (counted_inner output.new))) }
@@ -144,11 +144,11 @@ pub(crate) fn perform_par<T: Threads + Wait + Sync, W: Write>(
 fn run_as_asked<T: Threads + Wait + Sync>(
     rt: &T,
     alloc: Global,
-    parallel: &Parallel,
+    parallel: &ParWords,
 ) -> Result<HistorySummary, AllocError>
     ensures { IfOk result (IsHistorySummary (discipline_of parallel.now.rule) (processors_in parallel.now.size) parallel.now.ticks) }
 {
-    let Parallel { rule, size, ticks } = *parallel;
+    let ParWords { rule, size, ticks } = *parallel;
     match rule {
         Rule::Cfs => run::<CfsQueue, T>(rt, alloc, size, ticks),
         Rule::Eevdf => run::<EevdfQueue, T>(rt, alloc, size, ticks),

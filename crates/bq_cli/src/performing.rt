@@ -16,7 +16,7 @@ use std::io::{Read, Write};
 use std::sync::Wait;
 use std::thread::Threads;
 
-/// Performs `asm`, `par` and `replay`, and `check` and `dis` without file and options. Answers false if something was refused,
+/// Performs `asm`, `par` and `replay`, and `check` and `dis` without file and options. Returns false if something was refused,
 /// or a line was bad. The caller opens the files that words name, and `input` is what it opened. Any other command reads
 /// nothing, writes nothing and answers false; `do_command` does those.
 ///

@@ -34,7 +34,7 @@ pub(crate) fn policy_words(
     })
 }
 
-/// Answers whether no word names a file, a hook, maps, a format or a number of bytes.
+/// Whether no word names a file, a hook, maps, a format or a number of bytes.
 pub(crate) fn name_nothing(words: &PolicyWords) -> bool
     ensures { result ≡ name_nothing words.now }
 {

@@ -62,7 +62,7 @@ fn begun_with(
     Ok((fields, entries, counters))
 }
 
-/// Answers the words on how a run is reported.
+/// The words on how a run is reported.
 fn report_words(alloc: Global, matches: &ArgMatches<'_>) -> Result<ReportWords, AllocError>
     ensures { IfOk result (AreReportWords (rows_of (found_of matches.now))) }
 {

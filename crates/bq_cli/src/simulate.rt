@@ -14,8 +14,8 @@ use bq_comparison::{
 };
 use bq_console::status::{BAD_INPUT, IO_FAILED};
 use bq_console::{
-    ErasingWriter, Lines, Progress, WordsFault, all_words, report_out_of_memory, report_unwritten,
-    word, written,
+    ErasingWriter, Lines, ProgressLine, WordsFault, all_words, report_out_of_memory,
+    report_unwritten, word, written,
 };
 use bq_experiment::{
     AskedFault, HookWords, MachineWords, Policies, Ran, RunFault, ShownAs, Streams, StudyWords,
@@ -217,7 +217,7 @@ fn show_run(
     shown: ShownAs,
     most: u64,
 ) -> Result<ExitCode, ExitCode> {
-    let progress = Progress::new(rt);
+    let progress = ProgressLine::new(rt);
     let streams = Streams {
         output: Kept::new(ErasingWriter::new(rt.stdout(), &progress)),
         errors: ErasingWriter::new(rt.stderr(), &progress),
@@ -290,7 +290,7 @@ fn tabled<T: Threads + Sync>(
     most: u64,
 ) -> Result<String, SeedsFault> {
     let alloc = rt.alloc();
-    let progress = Progress::new(rt);
+    let progress = ProgressLine::new(rt);
     let plan = RunPlan {
         seeds: asked.seeds,
         most,
@@ -316,7 +316,7 @@ fn report_absent(rt: &HostRuntime, workload: &Workload, asked: &Comparing) {
     }
 }
 
-/// Answers whether one of that many tasks is asked for.
+/// Whether one of that many tasks is asked for.
 fn has_task(asked: &Comparing, count: u16) -> bool {
     for task in 0..count {
         if asked.window.shows_task(task) {
@@ -326,7 +326,7 @@ fn has_task(asked: &Comparing, count: u16) -> bool {
     false
 }
 
-/// Answers whether one of that many processors is asked for.
+/// Whether one of that many processors is asked for.
 fn has_processor(asked: &Comparing, count: u8) -> bool {
     for processor in 0..count {
         if asked.window.shows_processor(processor) {

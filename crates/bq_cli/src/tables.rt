@@ -60,9 +60,14 @@ const CHECK_FILES: &[OptionText] = options! {
     ("file", Several("FILE"), "The policies, each an image, its hex, or assembler text with ;@ lines that describe it; standard input as -, or with options alone. With neither a file nor an option, check reads the hex of an image and writes its hook and budget")
 };
 
-/// How much is read.
+/// How much is read of a file that is read whole.
 const READING_OPTIONS: &[OptionText] = options! {
-    ("max-bytes", Once("N"), "Refuses files of more than N bytes; the default is 16777216, and no limit for a trace")
+    ("max-bytes", Once("N"), "Refuses files of more than N bytes; the default is 16777216")
+};
+
+/// How much is read of a trace.
+const TRACE_READING_OPTIONS: &[OptionText] = options! {
+    ("max-bytes", Once("N"), "Stops at a trace of more than N bytes; there is no limit without it")
 };
 
 /// How long a run is.
@@ -139,8 +144,8 @@ const TIMELINE_OPTIONS: &[OptionText] = options! {
 
 /// The part of a schedule that is shown.
 const PART_OPTIONS: &[OptionText] = options! {
-    ("from", Once("TIME"), "Shows only what happens from this time on, as 1500us, 1.5ms or 2s; refused with report and json, whose figures are those of the whole"),
-    ("to", Once("TIME"), "Shows only what happens up to this time; refused with report and json, whose figures are those of the whole"),
+    ("from", Once("TIME"), "Shows only what happens from this time on, a number with its unit, as 1500us, 1.5ms or 2s; refused with report and json, whose figures are those of the whole"),
+    ("to", Once("TIME"), "Shows only what happens up to this time, a number with its unit; refused with report and json, whose figures are those of the whole"),
     ("cpus", Once("LIST"), "Shows only these processors, as in 0-3,8"),
     ("tasks", Once("LIST"), "Shows only these tasks, as in 1-3,editor: numbers, ranges and names; a name begins with no digit"),
     ("width", Once("COLUMNS"), with_columns!("How wide a map is, ", " without it")),
@@ -158,15 +163,22 @@ const WORKLOAD_OPTIONS: &[OptionText] = options! {
     ("seeds", Once("N"), "Runs the workload with N seeds, from its own on, and shows means and deviations")
 };
 
-/// What help says of the policy at a hook.
-const HOOK_HELP: &str =
-    "The policy for this hook of every processor: a file that bqsim check reads, or none, the default";
+/// What help says of the policy at a hook, after what the hook decides.
+macro_rules! hook_help {
+    ($decides:literal) => {
+        concat!(
+            "The policy that decides ",
+            $decides,
+            ": a file that bqsim check reads, or none, the default"
+        )
+    };
+}
 
 /// The policies of `simulate`, and its form.
 const SIMULATE_OPTIONS: &[OptionText] = options! {
-    ("place", Once("POLICY"), HOOK_HELP),
-    ("preempt", Once("POLICY"), HOOK_HELP),
-    ("pull", Once("POLICY"), HOOK_HELP),
+    ("place", Once("POLICY"), hook_help!("where a woken task goes")),
+    ("preempt", Once("POLICY"), hook_help!("whether the running task gives way")),
+    ("pull", Once("POLICY"), hook_help!("which task another processor pulls")),
     ("against", Often("POLICY"), "Runs the same seeds again with this policy instead, or with none, and shows both side by side; give it once for each policy"),
     ("as", Once("FORM"), with_forms!("report (the default), trace, "))
 };
@@ -192,7 +204,7 @@ static SCHEDULE_COMMANDS: [CommandText<'static>; 2] = [
     CommandText {
         name: "timeline",
         about: "Shows the schedule of a trace",
-        options: &[TIMELINE_OPTIONS, READING_OPTIONS, PART_OPTIONS],
+        options: &[TIMELINE_OPTIONS, TRACE_READING_OPTIONS, PART_OPTIONS],
         examples: examples![
             "bqsim timeline examples/four_tasks_cfs.trace",
             "bqsim timeline --as map --width 60 examples/four_tasks_eevdf.trace",
@@ -235,7 +247,7 @@ static OTHER_COMMANDS: [CommandText<'static>; 5] = [
     CommandText {
         name: "replay",
         about: "Reads a trace and writes the reply to each line",
-        options: &[REPLAY_OPTIONS, READING_OPTIONS],
+        options: &[REPLAY_OPTIONS, TRACE_READING_OPTIONS],
         examples: examples![
             "bqsim replay examples/four_tasks_cfs.trace",
             "bqsim simulate --as trace workloads/desktop.toml | bqsim replay"

@@ -7,8 +7,8 @@ ghost use Rattle.bq_timeline.specs.Settings.{AsksForSettings};
 use crate::policy_words::limit_of_bytes;
 use crate::refusing::refusal;
 use bq_console::{
-    Bounded, ErasingWriter, Lines, Progress, ShowingReader, WordsFault, ended, file_named, opened,
-    report_unread, waiting_input, word,
+    Bounded, ErasingWriter, Lines, ProgressLine, ShowingReader, WordsFault, ended, file_named,
+    opened, report_unread, waiting_input, word,
 };
 use bq_streams::{Counted, Kept};
 use bq_timeline::{Settings, SettingsFault, Words, show};
@@ -96,7 +96,7 @@ fn show_from<R: Read + Drop>(
     name: Option<&str>,
     reader: R,
 ) -> ExitCode {
-    let progress = Progress::new(rt);
+    let progress = ProgressLine::new(rt);
     let mut input = Counted::new(Kept::new(ShowingReader::new(reader, &progress)));
     let mut output = Counted::new(Kept::new(ErasingWriter::new(rt.stdout(), &progress)));
     let mut errors = ErasingWriter::new(rt.stderr(), &progress);

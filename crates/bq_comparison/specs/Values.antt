@@ -7,7 +7,7 @@ use Rattle.bq_report.specs.Columns.{nearest}
 use Rattle.bq_report.specs.Waits.{still_waiting, waited_in_all}
 use Rattle.bq_schedule.specs.declared.figures.HookFigures.{HookFigures}
 use Rattle.bq_schedule.specs.Figures.{Figures, processor_in_figures, task_in_figures}
-use Rattle.bq_schedule.specs.Passing.{idle_of}
+use Rattle.bq_schedule.specs.Observed.{observed_time, idle_in}
 use Rattle.bq_schedule.specs.Runnable.{fair_of}
 use Rattle.bq_schedule.specs.WakeLatencies.{Tasks, latencies_of, percentiles_of}
 use Rattle.bq_schedule.specs.declared.percentiles.Percentiles.{Percentiles}
@@ -35,7 +35,7 @@ task_value s id of_task.Wakes = (task_in_figures s id).wakes
 -- the value of a figure of a processor
 abbrev pub processor_value : Figures → ℕ → ProcessorFigure → ℕ
 processor_value s processor of_processor.Busy = (processor_in_figures s processor).busy
-processor_value s processor of_processor.Idle = idle_of (processor_in_figures s processor)
+processor_value s processor of_processor.Idle = idle_in (observed_time s) (processor_in_figures s processor)
 processor_value s processor of_processor.Switches = (processor_in_figures s processor).switches
 
 -- the figures of a hook at a processor

@@ -13,7 +13,7 @@ pub struct MachineSize {
     pub processors: u8,
 }
 
-/// Answers the figures of each task, then those of each processor and its hooks.
+/// The figures of each task, then those of each processor and its hooks.
 pub fn all_figures(alloc: Global, size: MachineSize) -> Result<Vec<Figure>, AllocError>
     ensures { IfOk result (λ v. v.items ≡ figures_of_report size) }
 {

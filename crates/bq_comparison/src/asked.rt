@@ -112,7 +112,7 @@ pub fn asked_comparison(
     }))
 }
 
-/// Answers whether words name a stretch of time.
+/// Whether words name a stretch of time.
 fn names_stretch(words: &Words) -> bool
     ensures { result ≡ names_stretch words.now }
 {
@@ -127,7 +127,7 @@ impl Comparing {
         self.add_by_names(alloc, &names)
     }
 
-    /// Adds the tasks that are asked for by name to the tasks that are shown; `names` has the names of the tasks. Answers a note
+    /// Adds the tasks that are asked for by name to the tasks that are shown; `names` has the names of the tasks. Returns a note
     /// on each name that no task has.
     fn add_by_names(&mut self, alloc: Global, names: &Names) -> Result<String, AllocError>
         ensures tasks { OnOk result (self.new.window.tasks.items ≡ self.old.window.tasks.items ++ tasks_for names.now self.old.names.items) }

@@ -23,7 +23,7 @@ pub(crate) fn cell(
     }
 }
 
-/// Answers a difference with its sign, if there is one; otherwise another text.
+/// A difference with its sign, if there is one; otherwise another text.
 pub(crate) fn signed(
     alloc: Global,
     difference: Option<Difference>,
@@ -38,7 +38,7 @@ pub(crate) fn signed(
     format!(in alloc; "{sign}{size}")
 }
 
-/// Answers how many runs have the value of a row, if there is a row.
+/// How many runs have the value of a row, if there is a row.
 pub(crate) fn runs_of(row: Option<FigureRow>) -> Option<u128> {
     let row = row?;
     Some(row.runs as u128)
@@ -54,7 +54,7 @@ pub(crate) fn deviation_of(row: Option<FigureRow>) -> Option<u128> {
     row?.deviation
 }
 
-/// Answers with how many seeds both sides have the value of a row, if there is a row.
+/// With how many seeds both sides have the value of a row, if there is a row.
 pub(crate) fn difference_runs_of(row: Option<PairedRow>) -> Option<u128> {
     let row = row?;
     Some(row.runs as u128)

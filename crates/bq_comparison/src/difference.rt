@@ -9,7 +9,7 @@ pub enum Difference {
 }
 
 impl Difference {
-    /// Answers how much more or less their mean is than ours.
+    /// How much more or less their mean is than ours.
     pub fn of(ours: u128, theirs: u128) -> Difference
         ensures { IsDifference ours theirs result }
     {

@@ -65,7 +65,7 @@ fn latency_word(figure: LatencyFigure) -> &'static str {
     }
 }
 
-/// Answers whether a figure is a time; otherwise it is a count.
+/// Whether a figure is a time; otherwise it is a count.
 pub(crate) fn is_time(figure: Figure) -> bool {
     match figure {
         Figure::Task(_, figure) => matches!(

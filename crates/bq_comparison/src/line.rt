@@ -16,7 +16,7 @@ pub struct FigureLine {
 }
 
 impl FigureLine {
-    /// Answers whether the line is of a task or a processor in the window; a line of a hook also needs a mean other than 0 on one side.
+    /// Whether the line is of a task or a processor in the window; a line of a hook also needs a mean other than 0 on one side.
     fn is_shown(&self, window: &Window) -> bool
         ensures { IsTrue result ↔ IsLineShown window.now self.now }
     {
@@ -41,7 +41,7 @@ impl FigureLine {
     }
 }
 
-/// Answers whether a mean is 0.
+/// Whether a mean is 0.
 fn is_nothing(mean: Option<u128>) -> bool
     ensures { result ≡ is_nothing mean }
 {

@@ -20,7 +20,7 @@ pub(crate) fn mean_by_sum(count: usize, total: u128) -> u128
     total * 1000 / count as u128
 }
 
-/// Answers the sample's standard deviation of 2 to 65,536 numbers in thousandths, rounded down. None if the numbers are too
+/// The sample's standard deviation of 2 to 65,536 numbers in thousandths, rounded down. None if the numbers are too
 /// great to be squared and added in 128 bits. n numbers always fit if each is below 2^54 / n; so 1,000 numbers fit if each is
 /// below 2^44.
 pub fn deviation(numbers: &[u64]) -> Option<u128>
@@ -79,7 +79,7 @@ fn total(numbers: &[u64]) -> u128
     total
 }
 
-/// Answers the sum of their squares, if it fits.
+/// The sum of their squares, if it fits.
 fn squares(numbers: &[u64]) -> Option<u128>
     ensures value { IfSome result (λ n. n ≡ squares numbers.now) }
     ensures none { IfNone result (2 ^ 128 ≤ squares numbers.now) }

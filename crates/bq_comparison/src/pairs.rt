@@ -67,7 +67,7 @@ fn difference(pairs: &[Pair]) -> Difference
     Difference::of(ours, theirs)
 }
 
-/// Answers the sample's standard deviation of the differences of 2 to 65,536 pairs in thousandths, rounded down. None if the
+/// The sample's standard deviation of the differences of 2 to 65,536 pairs in thousandths, rounded down. None if the
 /// differences are too great to be squared and added in 128 bits. n differences always fit if each is below 2^54 / n.
 pub fn paired_deviation(pairs: &[Pair]) -> Option<u128>
     requires some { 2 ≤ length pairs.now }
@@ -96,7 +96,7 @@ fn sums_of(pairs: &[Pair]) -> Sums
     sums
 }
 
-/// Answers the sum of the squares of the differences, if it fits.
+/// The sum of the squares of the differences, if it fits.
 fn squared_differences(pairs: &[Pair]) -> Option<u128>
     ensures value { IfSome result (λ n. n ≡ squared_differences pairs.now) }
     ensures none { IfNone result (2 ^ 128 ≤ squared_differences pairs.now) }

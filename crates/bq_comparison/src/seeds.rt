@@ -8,7 +8,7 @@ ghost use Rattle.bq_simulate.specs.Simulations.{with_seed};
 use crate::fault::SeedsFault;
 use crate::gathering::gather;
 use crate::{Figure, FigureRow, RunFigures, rows, run_of};
-use bq_console::{Done, EVENTS, Progress};
+use bq_console::{Done, EVENTS, ProgressLine};
 use bq_installed::Policy;
 use bq_simulate::SimulateFault;
 use bq_workload::Workload;
@@ -43,7 +43,7 @@ pub struct Experiment<'a> {
 /// The count of runs that are done, of all runs, and the place where it is shown.
 #[derive(Clone, Copy)]
 pub struct RunsShown<'a> {
-    pub progress: &'a Progress<'a>,
+    pub progress: &'a ProgressLine<'a>,
     /// How many runs were done before these.
     pub before: usize,
     /// How many runs there are in all.
@@ -53,7 +53,7 @@ pub struct RunsShown<'a> {
 /// At most this many runs are done at once.
 const MOST_AT_ONCE: usize = 64;
 
-/// Runs a workload with this many seeds, from its own on, with these policies at all processors. Answers the runs, and what they
+/// Runs a workload with this many seeds, from its own on, with these policies at all processors. Returns the runs, and what they
 /// say of each figure. A run that has more events than it may have is cut off, and then there is no summary. As many runs are done at
 /// once as there are processors available, each on a thread of its own. A workload with a flaw is refused for the first of its
 /// flaws. The runs of a workload without a flaw fail only if memory runs out, or if 64 bits do not count the bound of its steps.
@@ -116,7 +116,7 @@ fn show_runs(shown: &RunsShown<'_>, runs: &[RunFigures]) {
     }
 }
 
-/// Answers how many runs are done at once: as many as there are processors available.
+/// How many runs are done at once: as many as there are processors available.
 fn hands<T: Threads + Sync>(threads: &T) -> usize
     ensures { 1 ≤ result }
 {

@@ -8,7 +8,7 @@ use crate::{
     MachineSize, PairedRow, Rows, RunFigures, SeedsFault, SeedsSummary, all_figures, paired_rows,
     summary,
 };
-use bq_console::Progress;
+use bq_console::ProgressLine;
 use bq_experiment::Policies;
 use bq_workload::Workload;
 use std::alloc::Global;
@@ -35,7 +35,7 @@ pub struct RunPlan<'a> {
     pub seeds: u16,
     /// The most events of a run.
     pub most: u64,
-    pub progress: &'a Progress<'a>,
+    pub progress: &'a ProgressLine<'a>,
 }
 
 /// Runs a workload with these seeds, from its own on, under policies, and with the same seeds under others, if there are others.
@@ -100,7 +100,7 @@ fn other_side<T: Threads + Sync>(
     Ok(OtherSide { rows, paired })
 }
 
-/// Answers where the progress of a side is shown: how many sides come before it, and how many there are.
+/// Where the progress of a side is shown: how many sides come before it, and how many there are.
 fn shown<'a>(plan: &RunPlan<'a>, before: usize, sides: usize) -> RunsShown<'a> {
     let seeds = usize::from(plan.seeds);
     RunsShown {
@@ -110,7 +110,7 @@ fn shown<'a>(plan: &RunPlan<'a>, before: usize, sides: usize) -> RunsShown<'a> {
     }
 }
 
-/// Answers how many tasks a workload has, as far as 16 bits count, and how many processors.
+/// How many tasks a workload has, as far as 16 bits count, and how many processors.
 pub fn size_of_machine(workload: &Workload) -> MachineSize
     ensures { result ≡ size_of_machine workload.now }
 {

@@ -20,7 +20,7 @@ pub struct FigureRow {
     pub deviation: Option<u128>,
 }
 
-/// Answers what some runs of the same figures say of each figure.
+/// What some runs of the same figures say of each figure.
 pub fn rows(
     alloc: Global,
     figures: &[Figure],

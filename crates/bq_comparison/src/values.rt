@@ -9,7 +9,7 @@ use bq_report::tables::nanoseconds;
 use bq_report::{still_waiting, waited_in_all};
 use bq_schedule::{Percentiles, Schedule, WakeLatencies};
 
-/// Answers the value of a figure in a schedule in which tasks had these latencies. None for a latency of a task that had none,
+/// The value of a figure in a schedule in which tasks had these latencies. None for a latency of a task that had none,
 /// and for the wait of a task that has run since its last wake. If the figure is a latency of a task, the call sorts the task's
 /// latencies.
 pub fn value_of(schedule: &Schedule, latencies: &mut WakeLatencies, figure: Figure) -> Option<u64>
@@ -48,7 +48,7 @@ fn processor_value(schedule: &Schedule, processor: u8, figure: ProcessorFigure) 
     let figures = schedule.processor(processor);
     match figure {
         ProcessorFigure::Busy => figures.busy,
-        ProcessorFigure::Idle => figures.idle(),
+        ProcessorFigure::Idle => figures.idle(schedule.observed_time()),
         ProcessorFigure::Switches => figures.switches,
     }
 }
@@ -77,7 +77,7 @@ fn latency_value(latencies: &mut WakeLatencies, task: u16, figure: LatencyFigure
     percentile_value(latencies.percentiles(task), figure)
 }
 
-/// Answers the percentile that is named, of these.
+/// The percentile that is named, of these.
 fn percentile_value(percentiles: Percentiles, figure: LatencyFigure) -> Option<u64>
     ensures { result ≡ percentile_value percentiles figure }
 {

@@ -9,7 +9,7 @@ use crate::text_kind::{TextKind, kind_of_text};
 use bq_asm::{AsmFault, Cause, assemble};
 use std::alloc::{AllocError, Global};
 
-/// Answers one line on what is wrong with the text, by the number of the line at fault; None exactly if the assembler takes it.
+/// One line on what is wrong with the text, by the number of the line at fault; None exactly if the assembler takes it.
 pub fn complaint(alloc: Global, text: &[u8]) -> Result<Option<String>, AllocError>
     ensures complains { IfOk result (ComplainsOf text.now) }
     ensures line { IfOk result (λ c. IfSome c (λ reported. IsUtf8 text.now → NamesLine text.now (string_bytes reported))) }

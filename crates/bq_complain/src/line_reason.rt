@@ -78,7 +78,7 @@ fn word_reason(alloc: Global, line: &str) -> Result<String, AllocError> {
     format!(in alloc; "\"{written}\" has other operands than {first} takes; write it as {form}")
 }
 
-/// Answers the first word of a line; empty if it has none.
+/// The first word of a line; empty if it has none.
 pub(crate) fn first_word(written: &str) -> &str {
     for word in written.split(is_between) {
         if !word.is_empty() {
@@ -88,7 +88,7 @@ pub(crate) fn first_word(written: &str) -> &str {
     ""
 }
 
-/// Answers whether the letter separates words: a space, a tab or a comma.
+/// Whether the letter separates words: a space, a tab or a comma.
 pub(crate) fn is_between(letter: char) -> bool {
     letter == ' ' || letter == '\t' || letter == ','
 }
@@ -129,17 +129,17 @@ fn no_register(written: &str) -> Option<&str> {
     None
 }
 
-/// Answers whether these digits are a register's number.
+/// Whether these digits are a register's number.
 fn is_register(digits: &str) -> bool {
     digits == "10" || digits.len() == 1
 }
 
-/// Answers whether the letter separates words; brackets and the signs of an offset do so too.
+/// Whether the letter separates words; brackets and the signs of an offset do so too.
 fn is_outside(letter: char) -> bool {
     is_between(letter) || letter == '[' || letter == ']' || letter == '+' || letter == '-'
 }
 
-/// Answers the mark by which another language begins a comment, if the line has one.
+/// The mark by which another language begins a comment, if the line has one.
 fn foreign_comment(written: &str) -> Option<&'static str> {
     if written.contains("//") {
         return Some("//");
@@ -150,7 +150,7 @@ fn foreign_comment(written: &str) -> Option<&'static str> {
     None
 }
 
-/// Answers the text in brackets, if it has a blank.
+/// The text in brackets, if it has a blank.
 fn blank_in_brackets(written: &str) -> Option<&str> {
     let (_, rest) = written.split_once('[')?;
     let (inside, _) = rest.split_once(']')?;

@@ -103,15 +103,13 @@ fn slip_at(first: &str, place: usize, word: &str) -> Option<Slip> {
 
 /// What is wrong with a word that begins as a number does, and is not one.
 fn no_number(kind: NumberKind, word: &str) -> Slip {
-    match duration(word.as_bytes()) {
-        Some(time) if word.ends_with('s') => {
-            if matches!(kind, NumberKind::Wide) || fits(time, false, 0x8000_0000) {
-                Slip::Time(time)
-            } else {
-                Slip::LongTime(time)
-            }
-        }
-        _ => Slip::NoNumber,
+    let Some(time) = duration(word.as_bytes()) else {
+        return Slip::NoNumber;
+    };
+    if matches!(kind, NumberKind::Wide) || fits(time, false, 0x8000_0000) {
+        Slip::Time(time)
+    } else {
+        Slip::LongTime(time)
     }
 }
 
@@ -157,7 +155,7 @@ fn long_slip(kind: NumberKind, is_negative: bool, size: u64) -> Slip {
     Slip::LongBelowZero(size.wrapping_neg())
 }
 
-/// Answers whether a number of that size and sign is at least minus the bound, and below the bound.
+/// Whether a number of that size and sign is at least minus the bound, and below the bound.
 fn fits(size: u64, is_negative: bool, bound: u64) -> bool {
     size < bound || (is_negative && size == bound)
 }
@@ -177,7 +175,7 @@ fn offset_slip(word: &[u8]) -> Option<Slip> {
     }
 }
 
-/// Answers whether a word begins as a number does: with a digit or a sign.
+/// Whether a word begins as a number does: with a digit or a sign.
 fn begins_number(word: &[u8]) -> bool {
     match word {
         [first, ..] => first.is_ascii_digit() || *first == b'-' || *first == b'+',
@@ -185,7 +183,7 @@ fn begins_number(word: &[u8]) -> bool {
     }
 }
 
-/// Answers the digits of a number, without its sign, if it has one.
+/// The digits of a number, without its sign, if it has one.
 fn digits_of(word: &str) -> &str {
     match word.strip_prefix('-') {
         Some(digits) => digits,

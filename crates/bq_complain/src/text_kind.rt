@@ -57,14 +57,14 @@ pub fn kind_of_text(bytes: &[u8]) -> TextKind {
     TextKind::Other
 }
 
-/// Answers whether the line begins as one of C does.
+/// Whether the line begins as one of C does.
 fn begins_c(line: &str) -> bool {
     BEGINNINGS_OF_C
         .iter()
         .any(|beginning| line.starts_with(*beginning))
 }
 
-/// Answers whether the line is empty or a comment of another language than the assembler's.
+/// Whether the line is empty or a comment of another language than the assembler's.
 fn is_foreign_comment(line: &str) -> bool {
     line.is_empty()
         || line.starts_with("#")
@@ -79,7 +79,12 @@ fn kind_of_line(line: &str) -> TextKind {
         return TextKind::Workload;
     }
     if line.starts_with("machine ") {
-        return TextKind::Trace;
+        // A line such as `machine = { discipline = "eevdf" }` sets a key of a workload.
+        return if line.contains("=") {
+            TextKind::Workload
+        } else {
+            TextKind::Trace
+        };
     }
     if line.starts_with(";") || line.starts_with(IMAGE_IN_HEX) || begins_instruction(line) {
         return TextKind::Policy;
@@ -87,7 +92,7 @@ fn kind_of_line(line: &str) -> TextKind {
     TextKind::Other
 }
 
-/// Answers whether the line's first word is one of an instruction.
+/// Whether the line's first word is one of an instruction.
 fn begins_instruction(line: &str) -> bool {
     match line.split(' ').next() {
         Some(first) => named(first.as_bytes()).is_some(),

@@ -4,7 +4,7 @@ ghost use Rattle.std.specs.Io.{ReadsAtMost, WritesAtMost};
 ghost use Rattle.std.specs.Io.KnownBytes.{Keeps, ReadConsumes, WriteAppends};
 ghost use Rattle.bq_console.specs.Beside.{reader_of, writer_of};
 
-use crate::progress::{BYTES, Done, Progress};
+use crate::progress::{BYTES, Done, ProgressLine};
 use std::io;
 use std::io::{Read, Write};
 
@@ -12,7 +12,7 @@ use std::io::{Read, Write};
 #[derive(Drop)]
 pub struct ShowingReader<'a, R> {
     inner: R,
-    progress: &'a Progress<'a>,
+    progress: &'a ProgressLine<'a>,
     /// The number of bytes that it has given.
     given: u64,
     /// At how many bytes it shows that next.
@@ -21,7 +21,7 @@ pub struct ShowingReader<'a, R> {
 
 impl<'a, R> ShowingReader<'a, R> {
     /// A reader of this one.
-    pub fn new(inner: R, progress: &'a Progress<'a>) -> ShowingReader<'a, R>
+    pub fn new(inner: R, progress: &'a ProgressLine<'a>) -> ShowingReader<'a, R>
         ensures { reader_of result ≡ inner }
     {
         ShowingReader {
@@ -65,12 +65,12 @@ impl<R: Read> Read for ShowingReader<'_, R> {
 #[derive(Drop)]
 pub struct ErasingWriter<'a, W> {
     inner: W,
-    progress: &'a Progress<'a>,
+    progress: &'a ProgressLine<'a>,
 }
 
 impl<'a, W> ErasingWriter<'a, W> {
     /// A writer to this one.
-    pub fn new(inner: W, progress: &'a Progress<'a>) -> ErasingWriter<'a, W>
+    pub fn new(inner: W, progress: &'a ProgressLine<'a>) -> ErasingWriter<'a, W>
         ensures { writer_of result ≡ inner }
     {
         ErasingWriter { inner, progress }

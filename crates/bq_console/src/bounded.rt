@@ -39,7 +39,7 @@ impl<R> Bounded<R> {
         }
     }
 
-    /// Answers whether it has given more bytes than are allowed.
+    /// Whether it has given more bytes than are allowed.
     fn is_over(&self) -> bool
         ensures { result ≡ is_past_limit (limit_of self.now) (given_by self.now) }
     {

@@ -18,7 +18,7 @@ struct Streams<'a> {
     written: Option<Error>,
 }
 
-/// Answers the exit status of a job whose reader and writer are given back. If the job broke off, standard error says why: it
+/// The exit status of a job whose reader and writer are given back. If the job broke off, standard error says why: it
 /// names the file, or standard input if no name is given.
 pub fn ended<R: Read + Drop, W: Write + Drop>(
     rt: &HostRuntime,

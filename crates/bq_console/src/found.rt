@@ -28,7 +28,7 @@ pub fn word(
     }
 }
 
-/// Answers whether a flag is given.
+/// Whether a flag is given.
 pub fn is_set(matches: &ArgMatches<'_>, flag: &str) -> bool
     ensures { IsTrue result ↔ (first_of flag.now (rows_of (found_of matches.now)) ≡ Some (codes "true")) }
 {

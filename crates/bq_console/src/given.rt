@@ -12,7 +12,7 @@ use std::io::ErrorKind;
 /// The most bytes that the system hands on as one word.
 const WORD: usize = 1 << 17;
 
-/// Answers the words after the program's name, in order. If a word is no UTF-8 text, each byte that is no part of such text
+/// The words after the program's name, in order. If a word is no UTF-8 text, each byte that is no part of such text
 /// becomes `NO_TEXT` and two hex digits; no word has `NO_TEXT` otherwise.
 pub fn given_words(rt: &HostRuntime) -> Result<Vec<String>, WordsFault> {
     match env::args(rt) {

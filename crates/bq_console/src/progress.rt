@@ -40,34 +40,34 @@ impl fmt::Display for Done {
 /// The line of standard error that shows how much is done. Nothing is shown unless standard error is a terminal.
 ///
 /// ```text
-/// let progress = Progress::new(rt);
+/// let progress = ProgressLine::new(rt);
 /// progress.show(Done::Percent(40));
 /// progress.erase();
 /// ```
 #[derive(Drop)]
-pub struct Progress<'a> {
+pub struct ProgressLine<'a> {
     /// The terminal, if there is one.
     terminal: Option<&'a HostRuntime>,
     is_shown: Cell<bool>,
 }
 
-impl<'a> Progress<'a> {
+impl<'a> ProgressLine<'a> {
     /// Nothing is shown yet.
-    pub fn new(rt: &'a HostRuntime) -> Progress<'a> {
+    pub fn new(rt: &'a HostRuntime) -> ProgressLine<'a> {
         let terminal = if rt.stderr().is_terminal() {
             Some(rt)
         } else {
             None
         };
-        Progress {
+        ProgressLine {
             terminal,
             is_shown: Cell::new(false),
         }
     }
 
     /// Nothing is ever shown.
-    pub fn none() -> Progress<'a> {
-        Progress {
+    pub fn none() -> ProgressLine<'a> {
+        ProgressLine {
             terminal: None,
             is_shown: Cell::new(false),
         }

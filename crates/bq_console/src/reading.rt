@@ -15,7 +15,7 @@ use std::{fs, io};
 /// What is said of a name that is no UTF-8 text.
 const NO_TEXT_NAME: &str = "the name is no UTF-8 text, so it can't be opened";
 
-/// Answers the file that is named; None if it is `-`, which means standard input.
+/// The file that is named; None if it is `-`, which means standard input.
 pub fn file_named(file: &Option<String>) -> Option<&str>
     ensures { option_map (λ (f : Bor (List ℕ)). f.now) result ≡ file_named file.now }
 {
@@ -38,7 +38,7 @@ pub fn name_of(file: &Option<String>) -> &str
 /// The most bytes of a file that is read whole, unless `--max-bytes` says another number.
 pub const MOST_BYTES: u64 = 1 << 24;
 
-/// Answers all bytes of the file that is named, or of standard input, of at most this many. If they can't be read, standard
+/// All bytes of the file that is named, or of standard input, of at most this many. If they can't be read, standard
 /// error says why, and the error is the exit status.
 pub fn whole_input(rt: &HostRuntime, file: &Option<String>, most: u64) -> Result<Vec<u8>, ExitCode>
     ensures { IfErr result EndsFailed }
@@ -50,7 +50,7 @@ pub fn whole_input(rt: &HostRuntime, file: &Option<String>, most: u64) -> Result
     }
 }
 
-/// Answers all bytes of the file of that name, or of standard input if no name is given, of at most this many.
+/// All bytes of the file of that name, or of standard input if no name is given, of at most this many.
 pub fn read_input(rt: &HostRuntime, name: Option<&str>, most: u64) -> io::Result<Vec<u8>> {
     let mut bytes = Vec::new(rt.alloc());
     match name {
@@ -72,7 +72,7 @@ pub fn opened(rt: &HostRuntime, path: &str) -> io::Result<File> {
     fs::open(rt, path)
 }
 
-/// Answers standard input. If it is a terminal, standard error says that the program waits.
+/// Standard input. If it is a terminal, standard error says that the program waits.
 pub fn waiting_input(rt: &HostRuntime) -> Stdin {
     let input = rt.stdin();
     if input.is_terminal() {

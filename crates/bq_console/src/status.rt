@@ -16,7 +16,7 @@ pub const OUT_OF_MEMORY: u8 = 3;
 /// The exit status if a read or a write fails.
 pub const IO_FAILED: u8 = 4;
 
-/// Answers the exit status of an outcome: 0 if all is well, 1 if something was refused or bad, 3 if memory ran out, 4 if a read
+/// The exit status of an outcome: 0 if all is well, 1 if something was refused or bad, 3 if memory ran out, 4 if a read
 /// or a write failed or the input was too long.
 pub fn exit_status(outcome: &Result<bool, StreamFault>) -> u8
     ensures { result ≡ status_of outcome.now }

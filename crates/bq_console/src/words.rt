@@ -2,7 +2,7 @@
 ghost use Rattle.std.specs.Prelude.{ℕ, ◌<◌, ◌^◌, IfNone, IfSome, MatchOption};
 ghost use Rattle.bq_console.specs.Words.{IsSplitAtMark, IsFreeOf, IsNumber, IsNumberWord};
 
-/// Answers the two parts around the first such mark, if the text has one.
+/// The two parts around the first such mark, if the text has one.
 pub fn cut(text: &str, mark: char) -> Option<(&str, &str)>
     requires { mark < 128 }
     ensures { MatchOption result (IsFreeOf mark text.now) (λ parts. IsSplitAtMark mark text.now parts.0.now parts.1.now) }

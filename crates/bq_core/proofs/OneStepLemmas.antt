@@ -35,7 +35,7 @@ use Rattle.bq_parts.specs.Shares.{after_time, remarked, Decides, Ticks, Drains, 
 use Rattle.bq_parts.specs.Steps.{Performs, WorldStep}
 use Rattle.bq_core.specs.Laws.{HadMemory, StepIsOne}
 
--- Decision choices
+-- Choices
 
 place_small : (f : PlaceFacts) (version : Version) → length (place_bytes f version) < 2 ^ 16
 place_small f First = omega (arith, length-place_bytes_first f)

@@ -76,7 +76,7 @@ impl<Q: RunQueue> Parts<Q> {
         &self.cpus[usize::from(number)]
     }
 
-    /// Answers how many processors there are.
+    /// How many processors there are.
     pub fn processors(&self) -> usize
         ensures value { result ≡ count_in self.now }
         ensures few { result ≤ PROCESSORS }

@@ -143,7 +143,7 @@ impl<Q: RunQueue, const P: usize> Core<Q, P> {
         self.world.cpu(number)
     }
 
-    /// Answers how many processors there are.
+    /// How many processors there are.
     pub fn processors(&self) -> usize
         ensures value { result ≡ count_in self.now }
         ensures few { result ≤ PROCESSORS }

@@ -175,7 +175,7 @@ impl<Q: RunQueue> DynamicCore<Q> {
         self.parts.cpu(number)
     }
 
-    /// Answers how many processors there are.
+    /// How many processors there are.
     pub fn processors(&self) -> usize
         ensures value { result ≡ count_in self.now }
         ensures few { result ≤ PROCESSORS }

@@ -6,6 +6,7 @@ use Rattle.bq_disc.specs.Counts.{saturating_sum}
 use Rattle.bq_report.specs.declared.extent.Extent.{Extent}
 use Rattle.bq_report.specs.Names.{NamedTasks, name_of}
 use Rattle.bq_report.specs.Rosters.{place_in}
+use Rattle.bq_drawing.specs.declared.colours.TheConstants.{COLOURS}
 use Rattle.bq_drawing.specs.declared.frame.Frame.{Frame}
 use Rattle.bq_drawing.specs.declared.lanes.Stretch.{Stretch}
 use Rattle.bq_drawing.specs.declared.shapes.DrawnRun.{DrawnRun}
@@ -30,9 +31,13 @@ drawn_in e tasks names = record { extent = e; unit = unit_of_step (axis_step e);
 abbrev pub picture_setting : Frame → PictureSetting
 picture_setting f = record { extent = f.scale.extent; unit = f.unit; tasks = f.roster.now; names = f.names.now }
 
+-- the number of the colour at a place: the colours go round, one further each time
+abbrev pub colour_at : ℕ → ℕ
+colour_at place = (place % COLOURS + place / COLOURS % COLOURS) % COLOURS
+
 -- the number of a task's colour, by its place among all tasks of the trace
 abbrev pub colour_of : List ℕ → ℕ → ℕ
-colour_of tasks task = unwrap_or (place_in tasks task) 0 % 8
+colour_of tasks task = colour_at (unwrap_or (place_in tasks task) 0)
 
 -- the whole name of a task, or its number if it has none
 abbrev pub whole_name : PictureSetting → ℕ → List ℕ

@@ -20,11 +20,13 @@ pub struct Frame<'a> {
 }
 
 impl Frame<'_> {
-    /// The number of a task's colour, by its place among all tasks of the trace, whether these are shown or not.
+    /// The number of a task's colour, by its place among all tasks of the trace, whether these are shown or not. The colours go round,
+    /// one further each time: if tasks go round a few processors, a row still has tasks of every colour.
     pub fn colour(&self, task: u16) -> usize
         ensures { result ≡ colour_of self.now.roster.now task }
     {
-        self.roster.place(task).unwrap_or(0) % COLOURS
+        let place = self.roster.place(task).unwrap_or(0);
+        (place % COLOURS + place / COLOURS % COLOURS) % COLOURS
     }
 
     /// A time, to be written in the picture's unit.

@@ -7,7 +7,7 @@ use Rattle.bq_policy_check.specs.Given.{option_bytes}
 use Rattle.bq_timeline.specs.Settings.{AsksForSettings, IsNoSettings, asked_or, form_asked, settings_option_refused as option_unset, settings_word_refused as word_unset}
 use Rattle.bq_timeline.specs.declared.settings.Words.{Words}
 use Rattle.bq_words.specs.Sizes.{rule_of}
-use Rattle.bq_workload.specs.Durations.{duration_with_unit}
+use Rattle.bq_words.specs.Durations.{duration_of}
 use Rattle.bq_workload_file.specs.declared.changes.Changes.{Changes}
 use Rattle.bq_experiment.specs.declared.asked.ShownAs.{ShownAs}
 use Rattle.bq_experiment.specs.declared.asked.ShownAs.TheVariants.{Trace, Timeline}
@@ -26,7 +26,7 @@ simulable time = if nat_le 1 time && nat_le time longest then Some time else Non
 
 -- the time that a word writes with its unit, if it can be simulated
 abbrev pub simulable_time : List ℕ → Option ℕ
-simulable_time word = option_and_then simulable (duration_with_unit word)
+simulable_time word = option_and_then simulable (duration_of word)
 
 -- the words ask for these changes of the machine
 pub record AskForChanges (w : MachineWords) (c : Changes) : Type 0 where

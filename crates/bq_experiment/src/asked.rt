@@ -9,8 +9,7 @@ ghost use Rattle.bq_experiment.specs.Asking.{AskForChanges, AskToShow, IsNoChang
 use crate::words::StudyWords;
 use bq_timeline::{RefusedWord, Settings, SettingsFault, Words, with_forms, word_after};
 use bq_words::quantities::{decimal, size};
-use bq_words::{ProcessorCount, Rule, with_rules, with_sizes, with_units};
-use bq_workload::duration_with_unit;
+use bq_words::{ProcessorCount, Rule, duration, with_rules, with_sizes, with_units};
 use bq_workload::limits::LONGEST;
 use bq_workload_file::Changes;
 use std::alloc::Global;
@@ -84,7 +83,7 @@ impl AskedFault {
 }
 
 impl ShownAs {
-    /// Answers the form that the words ask for: a report, unless they say otherwise.
+    /// The form that the words ask for: a report, unless they say otherwise.
     pub fn of(alloc: Global, words: &StudyWords) -> Result<ShownAs, AskedFault>
         ensures asked { IfOk result (AskToShow words.now) }
         ensures fault { IfErr result (IsNotShown words.now) }
@@ -103,7 +102,7 @@ impl ShownAs {
     }
 }
 
-/// Answers whether a form is `trace`.
+/// Whether a form is `trace`.
 fn names_trace(form: &Option<String>) -> bool
     ensures { IsTrue result ↔ (option_bytes form.now ≡ Some (codes "trace")) }
 {
@@ -113,7 +112,7 @@ fn names_trace(form: &Option<String>) -> bool
     }
 }
 
-/// Answers whether the words choose what is shown, and how: a stretch of time, processors, tasks, a width, a theme or a title.
+/// Whether the words choose what is shown, and how: a stretch of time, processors, tasks, a width, a theme or a title.
 fn chooses_part(words: &Words) -> bool
     ensures { result ≡ chooses_part words.now }
 {
@@ -188,7 +187,7 @@ fn seed_asked(word: &Option<String>) -> Option<Option<u64>>
 fn time(word: &[u8]) -> Option<u64>
     ensures { result ≡ simulable_time word.now }
 {
-    let time = duration_with_unit(word)?;
+    let time = duration(word)?;
     if 1 <= time && time <= LONGEST {
         Some(time)
     } else {

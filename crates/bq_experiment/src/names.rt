@@ -12,7 +12,7 @@ use bq_trace::{Sink, TraceEvent};
 use bq_workload::{TaskKind, Workload};
 use std::alloc::{AllocError, Global};
 
-/// Answers the name of each task. The tasks of a kind are numbered from 0 if it has several.
+/// The name of each task. The tasks of a kind are numbered from 0 if it has several.
 pub fn task_names(alloc: Global, workload: &Workload) -> Result<Vec<String>, AllocError>
     ensures { IfOk result (λ names. map string_bytes names.items ≡ names_of workload.now.tasks.items) }
 {
@@ -33,7 +33,7 @@ fn add_names(alloc: Global, kind: &TaskKind, names: &mut Vec<String>) -> Result<
     Ok(())
 }
 
-/// Answers the name of a task, by its number among the tasks of its kind.
+/// The name of a task, by its number among the tasks of its kind.
 fn task_name(alloc: Global, kind: &TaskKind, number: u16) -> Result<String, AllocError>
     ensures { IfOk result (λ name. string_bytes name ≡ name_of_task kind.now number) }
 {
@@ -45,7 +45,7 @@ fn task_name(alloc: Global, kind: &TaskKind, number: u16) -> Result<String, Allo
     }
 }
 
-/// Tells a sink the name of each task, by the comment that names one in a trace. Answers how many lines of a trace that takes.
+/// Tells a sink the name of each task, by the comment that names one in a trace. Returns how many lines of a trace that takes.
 pub fn report_names<S: Sink>(
     alloc: Global,
     workload: &Workload,
@@ -64,7 +64,7 @@ pub fn report_names<S: Sink>(
     Ok(names.len() as u64)
 }
 
-/// Tells a viewer the name of each task, as the comments of a trace do; but a name that is not ASCII is shown as it is. Answers how
+/// Tells a viewer the name of each task, as the comments of a trace do; but a name that is not ASCII is shown as it is. Returns how
 /// many tasks there are.
 pub(crate) fn show_names(
     alloc: Global,
@@ -106,7 +106,7 @@ fn shown_comments(alloc: Global, workload: &Workload) -> Result<Vec<String>, All
     Ok(comments)
 }
 
-/// Answers the name as a form shows it: a control character becomes `?`.
+/// The name as a form shows it: a control character becomes `?`.
 pub fn shown_name(alloc: Global, name: &str) -> Result<String, AllocError>
     ensures { IfOk result (λ text. string_bytes text ≡ shown_name name.now) }
 {
@@ -117,7 +117,7 @@ pub fn shown_name(alloc: Global, name: &str) -> Result<String, AllocError>
     Ok(text)
 }
 
-/// Answers the name as a line of a trace can have it: a character that is no printable ASCII becomes `?`.
+/// The name as a line of a trace can have it: a character that is no printable ASCII becomes `?`.
 pub fn plain(alloc: Global, name: &str) -> Result<String, AllocError>
     ensures { IfOk result (λ text. string_bytes text ≡ plain_name name.now) }
 {

@@ -1,13 +1,13 @@
 //! The progress of one run.
 
-use bq_console::{Done, EVENTS, Progress};
+use bq_console::{Done, EVENTS, ProgressLine};
 use bq_parts::Event;
 use bq_workload::Workload;
 
 /// The progress of a run, by the times of its events.
 #[derive(Drop)]
 pub struct RunProgress<'a> {
-    progress: &'a Progress<'a>,
+    progress: &'a ProgressLine<'a>,
     /// How long it is, in nanoseconds.
     duration: u64,
     /// How many events have come.
@@ -18,7 +18,7 @@ pub struct RunProgress<'a> {
 
 impl<'a> RunProgress<'a> {
     /// No event of the workload's run has come.
-    pub fn new(workload: &Workload, progress: &'a Progress<'a>) -> RunProgress<'a> {
+    pub fn new(workload: &Workload, progress: &'a ProgressLine<'a>) -> RunProgress<'a> {
         RunProgress {
             progress,
             duration: workload.machine.duration,
@@ -38,7 +38,7 @@ impl<'a> RunProgress<'a> {
         }
     }
 
-    /// Answers how much of its time has passed, in percent.
+    /// How much of its time has passed, in percent.
     fn percent(&self) -> u64 {
         self.now.saturating_mul(100) / self.duration.max(1)
     }

@@ -23,7 +23,7 @@ use crate::passing::Passing;
 use crate::policies::Policies;
 use crate::run_progress::RunProgress;
 use crate::texts::Texts;
-use bq_console::Progress;
+use bq_console::ProgressLine;
 use bq_simulate::{Enough, SimulateFault, TraceWriter, simulate};
 use bq_streams::Counted;
 use bq_timeline::Settings;
@@ -38,7 +38,7 @@ use std::io::Write;
 pub struct Streams<'a, W, E> {
     pub output: W,
     pub errors: E,
-    pub progress: &'a Progress<'a>,
+    pub progress: &'a ProgressLine<'a>,
 }
 
 /// What came of a run: the output, given back, and the last notes, or why the run has not come to its end.
@@ -176,7 +176,7 @@ fn simulate_into<S: Sink + Enough>(
     Ok(())
 }
 
-/// Answers the fault of a run, by the fault of its simulation. If the run was cut off, what has come is written first.
+/// The fault of a run, by the fault of its simulation. If the run was cut off, what has come is written first.
 fn write_rest<S: Texts, W: Write, E: Write>(
     run: &mut RunSink<'_, S, W, E>,
     fault: SimulateFault,
@@ -218,7 +218,7 @@ fn as_timeline<W: Write + Drop, E: Write + Drop>(
     }
 }
 
-/// Writes a timeline to its end. Answers the notes for standard error.
+/// Writes a timeline to its end. Returns the notes for standard error.
 fn write_timeline<W: Write, E: Write>(
     alloc: Global,
     workload: &Workload,
@@ -242,7 +242,7 @@ fn write_timeline<W: Write, E: Write>(
     }
 }
 
-/// Runs the workload before a viewer, which gets the names of the tasks first. Answers the notes for standard error.
+/// Runs the workload before a viewer, which gets the names of the tasks first. Returns the notes for standard error.
 fn view<W: Write, E: Write>(
     alloc: Global,
     workload: &Workload,

@@ -29,7 +29,7 @@ pub struct AccessRange {
     pub is_in_greatest: bool,
 }
 
-/// Answers what helps if an access lacks this.
+/// What helps if an access lacks this.
 pub(crate) fn access_advice(
     policy: &PolicySource,
     access: Access,
@@ -55,7 +55,7 @@ pub(crate) fn access_advice(
     }
 }
 
-/// Answers what helps if the pointer is a number. If the number is 0 and was the answer of a look-up, the access is on the wrong
+/// What helps if the pointer is a number. If the number is 0 and was the answer of a look-up, the access is on the wrong
 /// side of the test.
 fn number_advice(register: u8, pointer: AbstractValue, trail: &Trail) -> Advice
     ensures { NamesRegister register result }
@@ -71,7 +71,7 @@ fn number_advice(register: u8, pointer: AbstractValue, trail: &Trail) -> Advice
     Advice::UsePointer
 }
 
-/// Answers whether the word is known to be the answer of a look-up.
+/// Whether the word is known to be the answer of a look-up.
 fn is_answer(known: Option<AbstractValue>) -> bool {
     match known {
         Some(word) => matches!(word.kind, ValueKind::EntryOrNull(_)),
@@ -79,7 +79,7 @@ fn is_answer(known: Option<AbstractValue>) -> bool {
     }
 }
 
-/// Answers what helps if the register is the answer of a look-up: a test, unless a number was added to the answer.
+/// What helps if the register is the answer of a look-up: a test, unless a number was added to the answer.
 pub(crate) fn test_advice(register: u8, answer: AbstractValue) -> Advice
     ensures { NamesRegister register result }
 {
@@ -90,17 +90,17 @@ pub(crate) fn test_advice(register: u8, answer: AbstractValue) -> Advice
     }
 }
 
-/// Answers whether nothing was added to the answer of a look-up, so that it may be tested.
+/// Whether nothing was added to the answer of a look-up, so that it may be tested.
 pub(crate) fn is_answer_itself(answer: AbstractValue) -> bool {
     answer.offset.hi == 0
 }
 
-/// Answers whether the pointer may be one of several.
+/// Whether the pointer may be one of several.
 fn is_range(pointer: AbstractValue) -> bool {
     pointer.offset.lo != pointer.offset.hi
 }
 
-/// Answers whether format 2 helps: all bytes of the load are in the context of its place policies, with each address that the
+/// Whether format 2 helps: all bytes of the load are in the context of its place policies, with each address that the
 /// pointer may have.
 fn is_in_second(policy: &PolicySource, access: Access, pointer: AbstractValue) -> bool {
     match (policy.form.hook, policy.form.version) {
@@ -112,7 +112,7 @@ fn is_in_second(policy: &PolicySource, access: Access, pointer: AbstractValue) -
     }
 }
 
-/// Answers whether all bytes of the access are below the bound, with each address that the pointer may have.
+/// Whether all bytes of the access are below the bound, with each address that the pointer may have.
 fn is_within(access: Access, pointer: AbstractValue, bound: u64) -> bool {
     let further = i64::from(access.off).cast_unsigned();
     let lo = pointer.offset.lo.wrapping_add(further);
@@ -121,7 +121,7 @@ fn is_within(access: Access, pointer: AbstractValue, bound: u64) -> bool {
     lo <= hi && past <= bound
 }
 
-/// Answers where in a value of this many bytes an access may begin.
+/// Where in a value of this many bytes an access may begin.
 fn room_of(access: Access, pointer: AbstractValue, size: u16) -> AccessRange {
     AccessRange {
         is_range: is_range(pointer),

@@ -103,7 +103,7 @@ pub struct Missing {
     pub mixed: Registers,
 }
 
-/// Answers what helps if something is wrong with the control graph of a program of this many slots.
+/// What helps if something is wrong with the control graph of a program of this many slots.
 pub(crate) fn graph_advice(fault: GraphFault, count: usize) -> Advice {
     match fault {
         GraphFault::JumpsBack(_) => Advice::JumpForward,
@@ -117,7 +117,7 @@ pub(crate) fn graph_advice(fault: GraphFault, count: usize) -> Advice {
     }
 }
 
-/// Answers what helps if something is not shown of the states.
+/// What helps if something is not shown of the states.
 pub(crate) fn state_advice(
     policy: &PolicySource,
     insn: Insn,
@@ -155,7 +155,7 @@ fn need_advice(
     }
 }
 
-/// Answers what helps if the answer is a pointer: an answer of a look-up that was moved before its test can't be followed.
+/// What helps if the answer is a pointer: an answer of a look-up that was moved before its test can't be followed.
 fn answer_advice(answer: AbstractValue) -> Advice {
     match answer.kind {
         ValueKind::EntryOrNull(_) if !is_answer_itself(answer) => Advice::Answer(ValueKind::Number),
@@ -174,7 +174,7 @@ pub(crate) fn only(register: u8) -> Registers
     registers
 }
 
-/// Answers what helps if nothing is known of these registers: a call left one unset, no instruction sets it on some way, or it
+/// What helps if nothing is known of these registers: a call left one unset, no instruction sets it on some way, or it
 /// holds words of two kinds.
 fn unknown_advice(registers: &Registers, trail: &Trail) -> Advice
     ensures { (missing : Lacking) × (result ≡ Know missing) }
@@ -198,7 +198,7 @@ fn unknown_advice(registers: &Registers, trail: &Trail) -> Advice
     Advice::Know(missing)
 }
 
-/// Answers what helps if a map does not exist.
+/// What helps if a map does not exist.
 fn map_advice(policy: &PolicySource, index: i32) -> Advice {
     match usize::try_from(index) {
         Err(_) => Advice::CountMaps,
@@ -208,7 +208,7 @@ fn map_advice(policy: &PolicySource, index: i32) -> Advice {
     }
 }
 
-/// Answers what helps if an argument of a helper is not what the helper wants; a register of two kinds is reported as such.
+/// What helps if an argument of a helper is not what the helper wants; a register of two kinds is reported as such.
 fn argument_advice(
     policy: &PolicySource,
     state: &AbstractState,
@@ -230,7 +230,7 @@ fn argument_advice(
     }
 }
 
-/// Answers what helps if the value of an update is not shown to be good: as many bytes as a value of the map in r1 has.
+/// What helps if the value of an update is not shown to be good: as many bytes as a value of the map in r1 has.
 fn value_advice(policy: &PolicySource, state: &AbstractState) -> Advice
     ensures { AdvisesOn Argument.Value result }
 {
@@ -246,7 +246,7 @@ fn value_advice(policy: &PolicySource, state: &AbstractState) -> Advice
     }
 }
 
-/// Answers what helps if the instruction works on a pointer.
+/// What helps if the instruction works on a pointer.
 fn pointer_advice(insn: Insn, pointer: Pointer, state: &AbstractState) -> Advice
     ensures { NamesRegister pointer.register result }
 {
@@ -264,7 +264,7 @@ fn pointer_advice(insn: Insn, pointer: Pointer, state: &AbstractState) -> Advice
     }
 }
 
-/// Answers what helps if the instruction compares a pointer: only the answer of a look-up is compared, unmoved, with 0.
+/// What helps if the instruction compares a pointer: only the answer of a look-up is compared, unmoved, with 0.
 fn comparison_advice(pointer: Pointer) -> Advice
     ensures { NamesRegister pointer.register result }
 {
@@ -280,7 +280,7 @@ fn comparison_advice(pointer: Pointer) -> Advice
     }
 }
 
-/// Answers what helps if the instruction calculates with a pointer.
+/// What helps if the instruction calculates with a pointer.
 fn arithmetic_advice(insn: Insn, pointer: Pointer, state: &AbstractState) -> Advice
     ensures { NamesRegister pointer.register result }
 {
@@ -296,7 +296,7 @@ fn arithmetic_advice(insn: Insn, pointer: Pointer, state: &AbstractState) -> Adv
     }
 }
 
-/// Answers whether the instruction adds one pointer to another or subtracts it, in 64 bits.
+/// Whether the instruction adds one pointer to another or subtracts it, in 64 bits.
 fn adds_pointers(insn: Insn, state: &AbstractState) -> bool {
     match insn {
         Insn::Alu {
@@ -309,7 +309,7 @@ fn adds_pointers(insn: Insn, state: &AbstractState) -> bool {
     }
 }
 
-/// Answers whether the word is known to be no number.
+/// Whether the word is known to be no number.
 fn is_pointer(known: Option<AbstractValue>) -> bool {
     match known {
         Some(word) => !matches!(word.kind, ValueKind::Number),

@@ -15,7 +15,7 @@ use bq_transfer::sides::{right_side, side};
 use bq_transfer::transfer::transfer;
 use bq_verify::{KnownStates, PolicyForm};
 
-/// Answers what is known on the step from one slot to another; None if no run takes it.
+/// What is known on the step from one slot to another; None if no run takes it.
 pub(crate) fn known_after(
     form: &PolicyForm,
     slots: &[Option<Insn>],
@@ -36,7 +36,7 @@ pub(crate) fn known_after(
     None
 }
 
-/// Answers whether a run may go on by the instruction, to the next one or by its jump; then the state is the one after it.
+/// Whether a run may go on by the instruction, to the next one or by its jump; then the state is the one after it.
 fn comes(
     state: &mut AbstractState,
     shapes: &[MapShape],
@@ -117,7 +117,7 @@ fn test_of(insn: Insn) -> Option<Test> {
     }
 }
 
-/// Answers whether a run may pass the test that way; then the state is the one after it.
+/// Whether a run may pass the test that way; then the state is the one after it.
 fn passes(state: &mut AbstractState, test: Test, is_taken: bool) -> bool {
     if test.dst >= 10 {
         return false;
@@ -141,7 +141,7 @@ fn passes(state: &mut AbstractState, test: Test, is_taken: bool) -> bool {
     true
 }
 
-/// Answers whether a run may pass an instruction that only the next one can follow; then the state is the one after it.
+/// Whether a run may pass an instruction that only the next one can follow; then the state is the one after it.
 fn goes_on(state: &mut AbstractState, shapes: &[MapShape], context: usize, insn: Insn) -> bool
     requires context { context < 2 ^ 16 }
     requires few { length shapes.now ≤ 8 }
@@ -155,7 +155,7 @@ fn goes_on(state: &mut AbstractState, shapes: &[MapShape], context: usize, insn:
     false
 }
 
-/// Answers whether the instruction is neither a jump nor an EXIT.
+/// Whether the instruction is neither a jump nor an EXIT.
 fn is_transferred(insn: Insn) -> bool
     ensures { IsTrue result → IsTransferred insn }
 {
@@ -174,7 +174,7 @@ fn is_transferred(insn: Insn) -> bool
     }
 }
 
-/// Answers whether the instruction does not write register 10.
+/// Whether the instruction does not write register 10.
 fn spares_frame(insn: Insn) -> bool
     ensures { IsTrue result → WritesBelowFrame insn }
 {

@@ -30,7 +30,7 @@ pub enum Detail {
     Refused(Refusal),
 }
 
-/// Answers the verdict on a policy, and what explains it. What it says of registers and stack at the slot of a refusal holds in
+/// The verdict on a policy, and what explains it. What it says of registers and stack at the slot of a refusal holds in
 /// every run that comes there. The label of a jump at fault is taken from the bytes of the policy's file, if that is a text.
 pub fn explain(
     alloc: Global,

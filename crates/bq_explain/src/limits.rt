@@ -55,7 +55,7 @@ impl Limits {
         }
     }
 
-    /// Answers whether a policy may be for that hook.
+    /// Whether a policy may be for that hook.
     pub(crate) fn allows(&self, hook: Hook) -> bool
         ensures { IsTrue result ↔ AllowsHook self.now hook }
     {
@@ -78,7 +78,7 @@ impl Limits {
         self.beyond(policy, Measure::Counters)
     }
 
-    /// Answers the limit of that measure, if the policy exceeds it.
+    /// The limit of that measure, if the policy exceeds it.
     fn beyond(&self, policy: &PolicySource, measure: Measure) -> Option<Over>
         ensures over { MatchOption result (IsWithinLimit (measure_of policy.now measure) (most_of self.now measure)) (IsOver policy.now self.now) }
         ensures measure { IfSome result (λ over. over.measure ≡ measure) }

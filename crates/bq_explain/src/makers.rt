@@ -24,7 +24,7 @@ enum Role {
     Leads,
 }
 
-/// Answers whether the instruction writes the register; a call answers in r0 and ends what r1 to r5 held.
+/// Whether the instruction writes the register; a call answers in r0 and ends what r1 to r5 held.
 pub(crate) fn writes(insn: Insn, register: u8) -> bool
     ensures { MatchBool result (spares register (Some insn) ≡ false) (spares register (Some insn) ≡ true) }
 {
@@ -34,7 +34,7 @@ pub(crate) fn writes(insn: Insn, register: u8) -> bool
     }
 }
 
-/// Answers whether the register that is written, if any, is this one.
+/// Whether the register that is written, if any, is this one.
 fn names(written: Option<u8>, register: u8) -> bool
     ensures { IsTrue result ↔ (written ≡ Some register) }
 {
@@ -44,7 +44,7 @@ fn names(written: Option<u8>, register: u8) -> bool
     }
 }
 
-/// Answers whether a way that spares the register leads on from the target, if there is one.
+/// Whether a way that spares the register leads on from the target, if there is one.
 fn leads(leading: &[bool], to: Option<usize>) -> bool
     requires { (k : ℕ) → to ≡ Some k → k < length leading.now }
     ensures { IsTrue result ↔ ((k : ℕ) × (to ≡ Some k) × (slice_index_or leading.now k false ≡ true)) }
@@ -55,7 +55,7 @@ fn leads(leading: &[bool], to: Option<usize>) -> bool
     }
 }
 
-/// Answers whether a way that spares the register leads on from one of the targets.
+/// Whether a way that spares the register leads on from one of the targets.
 fn lead_on(leading: &[bool], targets: Targets) -> bool
     requires { (k : ℕ) → IsAmongTargets targets k → k < length leading.now }
     ensures { IsTrue result ↔ ((k : ℕ) × IsAmongTargets targets k × (slice_index_or leading.now k false ≡ true)) }
@@ -233,7 +233,7 @@ fn push_named(
     Ok(())
 }
 
-/// Answers whether the maker is one of these, or no run comes from it.
+/// Whether the maker is one of these, or no run comes from it.
 fn is_left_out(trail: &[Maker], reaching: &[bool], maker: Maker) -> bool {
     !is_marked(reaching, maker.slot)
         || trail.iter().any(|named| named.slot == maker.slot && named.register == maker.register)

@@ -20,7 +20,7 @@ pub enum Measure {
 }
 
 impl Measure {
-    /// Answers how much of the measure the policy uses.
+    /// How much of the measure the policy uses.
     pub fn of(self, policy: &PolicySource) -> u64
         ensures { result ≡ measure_of policy.now self }
     {
@@ -75,7 +75,7 @@ fn map_bytes(shape: MapShape) -> u64
     u64::from(shape.value_size) * u64::from(shape.entries)
 }
 
-/// Answers how many of the instructions call a counter.
+/// How many of the instructions call a counter.
 pub(crate) fn counter_calls(insns: &[Insn]) -> usize
     ensures { result ≡ count_by asks_counter insns.now }
 {

@@ -41,7 +41,7 @@ pub struct Coming {
     pub known: AbstractValue,
 }
 
-/// Answers the last slot on the ways to this one at which the register comes with different words; no later instruction writes it.
+/// The last slot on the ways to this one at which the register comes with different words; no later instruction writes it.
 pub(crate) fn meeting_of(
     alloc: Global,
     policy: &PolicySource,
@@ -97,7 +97,7 @@ fn before(alloc: Global, slots: &[Option<Insn>], to: usize) -> Result<Vec<usize>
     Ok(from)
 }
 
-/// Answers whether control may go from the first slot to the second.
+/// Whether control may go from the first slot to the second.
 fn leads(slots: &[Option<Insn>], from: usize, to: usize) -> bool
     requires inside { from < length slots.now }
     requires short { length slots.now ≤ SLOTS }
@@ -110,7 +110,7 @@ fn leads(slots: &[Option<Insn>], from: usize, to: usize) -> bool
     is_to(targets.next, to) || is_to(targets.jump, to)
 }
 
-/// Answers whether the target is this slot.
+/// Whether the target is this slot.
 fn is_to(target: Option<usize>, to: usize) -> bool {
     match target {
         Some(slot) => slot == to,
@@ -192,14 +192,14 @@ impl Both {
     }
 }
 
-/// Answers whether different things are known of two words; maps of one shape make no difference.
+/// Whether different things are known of two words; maps of one shape make no difference.
 fn differ(shapes: &[MapShape], one: AbstractValue, other: AbstractValue) -> bool {
     !is_of_one_kind(shapes, one.kind, other.kind)
         || one.offset.lo != other.offset.lo
         || one.offset.hi != other.offset.hi
 }
 
-/// Answers whether both words count from one thing, or from like things of two maps of one shape.
+/// Whether both words count from one thing, or from like things of two maps of one shape.
 fn is_of_one_kind(shapes: &[MapShape], one: ValueKind, other: ValueKind) -> bool {
     match (one, other) {
         (ValueKind::Entry(map), ValueKind::Entry(like))

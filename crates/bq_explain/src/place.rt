@@ -35,7 +35,7 @@ pub(crate) fn place_at(policy: &PolicySource, slots: &[Option<Insn>], slot: usiz
     Some(Place { line, slot, insn })
 }
 
-/// Answers the line of the text that has the instruction at the slot.
+/// The line of the text that has the instruction at the slot.
 pub(crate) fn line_at(policy: &PolicySource, slot: usize) -> Option<usize> {
     let index = index_at(policy.insns.as_slice(), slot)?;
     policy.lines.as_slice().get(index).copied()
@@ -58,7 +58,7 @@ pub(crate) fn call_of(policy: &PolicySource, helper: i32) -> Option<Place> {
     None
 }
 
-/// Answers whether the instruction calls the helper.
+/// Whether the instruction calls the helper.
 fn calls(insn: Insn, helper: i32) -> bool {
     match insn {
         Insn::Call { helper: called } => called == helper,

@@ -60,7 +60,7 @@ pub(crate) fn accepted_words(
     format!(in alloc; "accepted {hook} budget {budget} of {SLOTS}, version {version}, maps {maps}")
 }
 
-/// Answers how many slots the instructions take.
+/// How many slots the instructions take.
 fn slot_count(insns: &[Insn]) -> usize {
     let mut count: usize = 0;
     for insn in insns {

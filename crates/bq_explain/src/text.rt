@@ -20,7 +20,7 @@ use bq_needs::need_text;
 use bq_policy_file::PolicySource;
 use std::alloc::{AllocError, Global};
 
-/// Answers the explanation, line by line; the first line is `accepted` or `refused` and why. The file's name, if there is one,
+/// The explanation, line by line; the first line is `accepted` or `refused` and why. The file's name, if there is one,
 /// comes before the place of the instruction that is at fault.
 pub fn explanation_text(
     alloc: Global,
@@ -55,7 +55,7 @@ fn accepted_text(
     }
 }
 
-/// Answers what is said of a policy that is not accepted, after the line of its verdict.
+/// What is said of a policy that is not accepted, after the line of its verdict.
 fn refused_text(
     alloc: Global,
     policy: &PolicySource,
@@ -112,7 +112,7 @@ fn limit_text(
     }
 }
 
-/// Answers what is said of a policy that the verifier refuses, after the line of its verdict.
+/// What is said of a policy that the verifier refuses, after the line of its verdict.
 fn refusal_text(
     alloc: Global,
     policy: &PolicySource,

@@ -54,7 +54,7 @@ pub struct Made {
 }
 
 impl Made {
-    /// Answers whether a call left the register unset.
+    /// Whether a call left the register unset.
     pub fn is_unset(&self) -> bool
         ensures { result ≡ leaves_unset self.now.place.insn self.now.register }
     {
@@ -62,7 +62,7 @@ impl Made {
     }
 }
 
-/// Answers whether the instruction is a call that leaves the register unset, if it writes the register.
+/// Whether the instruction is a call that leaves the register unset, if it writes the register.
 fn leaves_unset(insn: Insn, register: u8) -> bool
     ensures { result ≡ leaves_unset insn register }
 {
@@ -84,7 +84,7 @@ pub(crate) fn no_trail(alloc: Global) -> Trail
     }
 }
 
-/// Answers where the registers come from that are asked for at the slot.
+/// Where the registers come from that are asked for at the slot.
 pub(crate) fn trail_of(
     alloc: Global,
     policy: &PolicySource,
@@ -161,7 +161,7 @@ fn made_of(
     })
 }
 
-/// Answers the registers that no instruction sets on some way from the start; r1 and r10 are set there.
+/// The registers that no instruction sets on some way from the start; r1 and r10 are set there.
 fn unset_from_start(
     alloc: Global,
     slots: &[Option<Insn>],
@@ -181,7 +181,7 @@ fn unset_from_start(
     Ok(unset)
 }
 
-/// Answers the registers that a call leaves unset on some way to the slot.
+/// The registers that a call leaves unset on some way to the slot.
 fn left_by_calls(
     alloc: Global,
     slots: &[Option<Insn>],
@@ -231,7 +231,7 @@ fn calls_before(
     Ok(calls)
 }
 
-/// Answers whether something is known of the register before one of the nearest calls.
+/// Whether something is known of the register before one of the nearest calls.
 fn is_held(states: &KnownStates, calls: &[usize], register: u8) -> bool {
     for call in calls.iter().take(CALLS) {
         if known_at(states, *call, register).is_some() {
@@ -241,7 +241,7 @@ fn is_held(states: &KnownStates, calls: &[usize], register: u8) -> bool {
     false
 }
 
-/// Answers whether the instruction at the slot is a call that leaves the register unset.
+/// Whether the instruction at the slot is a call that leaves the register unset.
 fn is_call(slots: &[Option<Insn>], register: u8, slot: usize) -> bool {
     match slots.get(slot).copied() {
         Some(Some(insn)) => leaves_unset(insn, register),

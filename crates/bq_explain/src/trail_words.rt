@@ -12,7 +12,7 @@ use bq_policy_file::instruction_text;
 use bq_states::abstract_state::AbstractValue;
 use std::alloc::{AllocError, Global};
 
-/// Answers a line for each instruction that made a register, for each register that is unset on some way, and for each place
+/// A line for each instruction that made a register, for each register that is unset on some way, and for each place
 /// where ways meet.
 pub(crate) fn trail_text(
     alloc: Global,
@@ -57,7 +57,7 @@ fn unset_text(alloc: Global, register: usize, is_unset: bool) -> Result<String, 
 {
     if is_unset {
         return format!(in alloc;
-            "  r{register} is set by no instruction on some way from the start\n"
+            "  r{register} is set by no instruction on some path from the start\n"
         );
     }
     Ok(String::new(alloc))
@@ -124,7 +124,7 @@ fn coming_text(alloc: Global, shapes: &[MapShape], coming: &Coming) -> Result<St
 {
     let known = known_text(alloc, shapes, &coming.known)?;
     let place = place_text(alloc, &coming.place)?;
-    format!(in alloc; "{known} on the way over {place}")
+    format!(in alloc; "{known} on the path over {place}")
 }
 
 /// Says what is known of the register after the ways meet.

@@ -30,7 +30,7 @@ pub enum Verdict {
 impl Verdict {
     ghost use Rattle.bq_explain.specs.Verdicts.{is_accepted};
 
-    /// Answers whether the policy may run.
+    /// Whether the policy may run.
     pub fn is_accepted(self) -> bool
         ensures { result ≡ is_accepted self }
     {

@@ -17,7 +17,7 @@ pub(crate) struct Ways {
     jump: Vec<Option<usize>>,
 }
 
-/// Answers where runs may go from each slot before this one.
+/// Where runs may go from each slot before this one.
 pub(crate) fn ways_before(
     alloc: Global,
     slots: &[Option<Insn>],
@@ -49,7 +49,7 @@ pub(crate) fn ways_before(
     Ok(ways)
 }
 
-/// Answers where runs may go from a slot that a run reaches.
+/// Where runs may go from a slot that a run reaches.
 fn open_from(slots: &[Option<Insn>], states: &KnownStates, from: usize) -> Targets
     requires walkable { CanBeWalked slots.now }
     requires inside { from < length slots.now }
@@ -80,7 +80,7 @@ fn mark(list: &mut [bool], slot: Option<usize>) {
     }
 }
 
-/// Answers whether the slot is marked.
+/// Whether the slot is marked.
 pub(crate) fn is_marked(list: &[bool], slot: usize) -> bool {
     list.get(slot).copied() == Some(true)
 }
@@ -108,14 +108,14 @@ pub(crate) fn reaching(
     Ok(reaching)
 }
 
-/// Answers whether a run may go from the slot to one that is marked.
+/// Whether a run may go from the slot to one that is marked.
 fn leads(ways: &Ways, marked: &[bool], here: usize) -> bool {
     let next = ways.next.as_slice().get(here).copied().flatten();
     let jump = ways.jump.as_slice().get(here).copied().flatten();
     is_target(marked, next) || is_target(marked, jump)
 }
 
-/// Answers whether there is a target, and it is marked.
+/// Whether there is a target, and it is marked.
 fn is_target(marked: &[bool], target: Option<usize>) -> bool {
     match target {
         Some(slot) => is_marked(marked, slot),
@@ -123,7 +123,7 @@ fn is_target(marked: &[bool], target: Option<usize>) -> bool {
     }
 }
 
-/// Answers whether the slot has no instruction that writes the register.
+/// Whether the slot has no instruction that writes the register.
 pub(crate) fn spares(slots: &[Option<Insn>], register: u8, slot: usize) -> bool {
     match slots.get(slot).copied() {
         Some(Some(insn)) => !writes(insn, register),

@@ -28,15 +28,15 @@ vdelta_of-add x y w low =
     le-div (x * 1024 / w + y * 1024 / w) ((x + y) * 1024) w (omega arith)
     (omega (arith, div-mul-le_self (x * 1024) w, div-mul-le_self (y * 1024) w))
 
--- the virtual time of a time, times the weight, is no more than the time
+-- the virtual time of a time, times the weight, is at most 1024 times the time
 pub vdelta_of-weighted : (x w : ℕ) → w * vdelta_of x w ≤ x * 1024
 vdelta_of-weighted x w = omega (arith, div-mul-le_self (x * 1024) w)
 
--- the virtual time of a time, times the least weight, is no more than the time
+-- the virtual time of a time, times the least weight, is at most 1024 times the time
 vdelta_of-least : (x w : ℕ) → 15 ≤ w → 15 * vdelta_of x w ≤ x * 1024
 vdelta_of-least x w low = omega (arith, vdelta_of-weighted x w, mul-le-mul_right (x * 1024 / w) low)
 
--- ids are distinct, and each weight is in its range
+-- ids are distinct, each weight is in its range, and each v is at most 2^62
 pub record IsWellFormed (p : Running) : Type 0 where
   pub distinct : HasDistinctIds (present_at p)
   pub weights : (i : ℕ) (t : Task) → task_at i p ≡ Some t → IsWeight t.weight

@@ -80,7 +80,7 @@ impl Backward {
         Ok(())
     }
 
-    /// Answers the slot of which the first instruction until now is a copy.
+    /// The slot of which the first instruction until now is a copy.
     pub fn front(&self) -> Option<usize>
         requires { (maps : ℕ) × (old : List (Option Insn)) × IsBuilt maps old self.now.slots.items self.now.origins.items }
         ensures some { IfSome result (IsFront self.now.slots.items self.now.origins.items) }
@@ -90,7 +90,7 @@ impl Backward {
     }
 }
 
-/// Answers the copy of an instruction, in a program of this many maps; if it jumps, it has this distance.
+/// The copy of an instruction, in a program of this many maps; if it jumps, it has this distance.
 fn copied(insn: Insn, distance: i16, maps: usize) -> Insn
     requires { maps ≤ 8 }
     ensures { result ≡ copied maps insn distance }
@@ -118,7 +118,7 @@ fn copied(insn: Insn, distance: i16, maps: usize) -> Insn
     }
 }
 
-/// Answers the copy of a wide number: the reference of a map, if it is one.
+/// The copy of a wide number: the reference of a map, if it is one.
 fn wide_copy(dst: u8, value: u64, maps: usize) -> Insn
     requires { maps ≤ 8 }
     ensures { result ≡ wide_copy (is_reference maps value) dst value }

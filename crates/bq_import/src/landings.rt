@@ -77,7 +77,7 @@ impl Walk {
     }
 }
 
-/// Answers where control may go from the slot; nowhere if no instruction begins there.
+/// Where control may go from the slot; nowhere if no instruction begins there.
 fn targets_of(slots: &[Option<Insn>], slot: usize) -> Targets
     requires { IsLinked slots.now }
     ensures jumps { (to : ℕ) → result.jump ≡ Some to → IsJump slots.now slot to }

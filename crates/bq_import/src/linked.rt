@@ -13,7 +13,7 @@ use bq_insn::{Insn, SLOTS};
 use bq_verify::edges::{Targets, instruction};
 use bq_verify::graph_numbers::next_slot;
 
-/// Answers the slot to which the jump leads, if an instruction begins there.
+/// The slot to which the jump leads, if an instruction begins there.
 fn landing(slots: &[Option<Insn>], slot: usize, distance: i64) -> Option<usize>
     requires here { slot < length slots.now }
     requires short { length slots.now ≤ SLOTS }
@@ -98,7 +98,7 @@ fn jump_slot(slots: &[Option<Insn>], slot: usize, insn: Insn) -> Option<usize>
     Some(to)
 }
 
-/// Answers where control may go from a slot.
+/// Where control may go from a slot.
 pub fn targets(slots: &[Option<Insn>], slot: usize, insn: Insn) -> Targets
     requires here { instruction_at slots.now slot ≡ Some insn }
     requires inside { slot < length slots.now }

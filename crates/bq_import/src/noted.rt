@@ -8,7 +8,7 @@ use bq_object::SourceLine;
 use bq_policy_file::instruction_text;
 use std::alloc::{AllocError, Global};
 
-/// Answers the listing of these instructions. If an instruction comes from another line of C than the one before it, that line
+/// The listing of these instructions. If an instruction comes from another line of C than the one before it, that line
 /// comes above it as a comment.
 pub(crate) fn noted_listing(
     alloc: Global,
@@ -51,7 +51,7 @@ fn noted_line(alloc: Global, note: &String, insn: Insn) -> Result<String, AllocE
     format!(in alloc; "{note}{spelled}\n")
 }
 
-/// Answers the note between two instructions: the line of the second, if the first has another line.
+/// The note between two instructions: the line of the second, if the first has another line.
 fn note_between(
     alloc: Global,
     last: Option<SourceLine<'_>>,
@@ -65,7 +65,7 @@ fn note_between(
     }
 }
 
-/// Answers whether both are one line.
+/// Whether both are one line.
 fn is_same(last: Option<SourceLine<'_>>, source: SourceLine<'_>) -> bool {
     match last {
         Some(last) => last.line == source.line && last.file == source.file,
@@ -73,7 +73,7 @@ fn is_same(last: Option<SourceLine<'_>>, source: SourceLine<'_>) -> bool {
     }
 }
 
-/// Answers a line of C as a note; empty if the name of its file may not be in a note.
+/// A line of C as a note; empty if the name of its file may not be in a note.
 fn note_of(alloc: Global, source: SourceLine<'_>) -> Result<String, AllocError>
     ensures { IfOk result (λ note. IsNote (string_bytes note)) }
 {
@@ -94,7 +94,7 @@ fn comment(alloc: Global, words: &String) -> Result<String, AllocError>
     format!(in alloc; "; {words}\n")
 }
 
-/// Answers whether the bytes may be in a note.
+/// Whether the bytes may be in a note.
 fn is_note(words: &[u8]) -> bool
     ensures { result ≡ list_all is_note_byte words.now }
 {

@@ -17,7 +17,7 @@ use bq_insn::{Insn, SLOTS};
 use bq_verify::edges::{Targets, instruction};
 
 impl Backward {
-    /// Answers the next instruction, if it has to be in front and is not.
+    /// The next instruction, if it has to be in front and is not.
     fn missing_front(&self, next: Option<usize>) -> Option<usize>
         requires { (maps : ℕ) × (old : List (Option Insn)) × IsBuilt maps old self.now.slots.items self.now.origins.items }
         ensures some { IfSome result (λ n. (next ≡ Some n) × ¬ IsFront self.now.slots.items self.now.origins.items n) }
@@ -30,7 +30,7 @@ impl Backward {
         if front == next { None } else { Some(next) }
     }
 
-    /// Answers the distance from the next instruction to the copy of the jump's target; 0 if there is no target.
+    /// The distance from the next instruction to the copy of the jump's target; 0 if there is no target.
     fn distance(&self, places: &[Option<usize>], jump: Option<usize>) -> i16
         requires short { length self.now.slots.items ≤ SLOTS }
         requires known { AreCopyPlaces self.now.slots.items self.now.origins.items places.now }
@@ -101,7 +101,7 @@ impl Backward {
         Ok(())
     }
 
-    /// Answers the last slot of the run that is put in front: from there control goes on to nothing, or to what is in front.
+    /// The last slot of the run that is put in front: from there control goes on to nothing, or to what is in front.
     fn run_end(&self, old: &[Option<Insn>], places: &[Option<usize>], slot: usize) -> usize
         requires built { (maps : ℕ) × IsBuilt maps old.now self.now.slots.items self.now.origins.items }
         requires linked { IsLinked old.now }
@@ -119,7 +119,7 @@ impl Backward {
         last
     }
 
-    /// Answers the slot to which control goes on from this one, if its copy is not in front.
+    /// The slot to which control goes on from this one, if its copy is not in front.
     fn next_missing(&self, old: &[Option<Insn>], slot: usize) -> Option<usize>
         requires built { (maps : ℕ) × IsBuilt maps old.now self.now.slots.items self.now.origins.items }
         requires linked { IsLinked old.now }
@@ -160,7 +160,7 @@ impl Backward {
     }
 }
 
-/// Answers the place of the copy of a slot, if there is one.
+/// The place of the copy of a slot, if there is one.
 pub fn place_at(places: &[Option<usize>], slot: usize) -> Option<usize>
     ensures { result ≡ copy_place places.now slot }
 {

@@ -10,7 +10,7 @@ use bq_insn::Insn;
 use bq_verify::edges::instruction;
 use std::alloc::{AllocError, Global};
 
-/// Answers whether control goes from each instruction only to later ones.
+/// Whether control goes from each instruction only to later ones.
 pub(crate) fn goes_forward(old: &[Option<Insn>]) -> bool
     requires { IsLinked old.now }
     ensures yes { result ≡ true → AllForward old.now }
@@ -24,7 +24,7 @@ pub(crate) fn goes_forward(old: &[Option<Insn>]) -> bool
     true
 }
 
-/// Answers whether control goes from the slot only to later ones.
+/// Whether control goes from the slot only to later ones.
 fn leads_forward(old: &[Option<Insn>], slot: usize) -> bool
     requires linked { IsLinked old.now }
     requires inside { slot < length old.now }

@@ -89,7 +89,7 @@ impl Search {
         self.enter(old, maps, slot, to)
     }
 
-    /// Answers a target that is not in place: that of the jump first, so that the next instruction ends up in front.
+    /// A target that is not in place: that of the jump first, so that the next instruction ends up in front.
     fn missing(&self, targets: Targets) -> Option<usize>
         ensures some { IfSome result (IsMissing self.now.places.items targets) }
         ensures none { IfNone result ((to : ℕ) → IsAmongTargets targets to → HasCopy self.now.places.items to) }
@@ -100,7 +100,7 @@ impl Search {
         self.not_done(targets.next)
     }
 
-    /// Answers the slot, if there is one and it is not in place.
+    /// The slot, if there is one and it is not in place.
     fn not_done(&self, to: Option<usize>) -> Option<usize>
         ensures some { IfSome result (λ n. (to ≡ Some n) × (copy_place self.now.places.items n ≡ None)) }
         ensures none { IfNone result ((n : ℕ) → to ≡ Some n → HasCopy self.now.places.items n) }

@@ -114,7 +114,7 @@ fn address_in(insns: &[Insn]) -> Option<usize>
     None
 }
 
-/// Answers whether the instruction loads a wide number that a move could load.
+/// Whether the instruction loads a wide number that a move could load.
 fn is_address(insn: Insn) -> bool
     ensures { result ≡ is_address insn }
 {
@@ -124,7 +124,7 @@ fn is_address(insn: Insn) -> bool
     }
 }
 
-/// Answers whether the number is one of 32 bits with a sign.
+/// Whether the number is one of 32 bits with a sign.
 fn is_short(value: u64) -> bool
     ensures { result ≡ is_short value }
 {

@@ -79,7 +79,7 @@ pub struct ImportedText<'a> {
     pub sources: Vec<Option<SourceLine<'a>>>,
 }
 
-/// Answers the assembler text of a compiled program: the marks of the settings, and the listing of a copy of the program in
+/// The assembler text of a compiled program: the marks of the settings, and the listing of a copy of the program in
 /// which every jump goes forward. The input is an object file, whose function `policy` is the program, or the bytes of a text
 /// section. If the input has only hex digits and blanks, these spell the bytes. Above the instructions of an object are the
 /// lines of C that they come from, if the object says them.
@@ -242,7 +242,7 @@ fn maps_line(alloc: Global, maps: &Option<String>) -> Result<String, AllocError>
     }
 }
 
-/// Answers whether all bytes are hex digits or blanks.
+/// Whether all bytes are hex digits or blanks.
 fn is_hex(input: &[u8]) -> bool
     ensures { result ≡ list_all is_hex_byte input.now }
 {

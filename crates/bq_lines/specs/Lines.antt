@@ -15,8 +15,8 @@ use Rattle.bq_words.specs.Sizes.{rule_of}
 use Rattle.bq_lines.specs.Keywords.{keyword_of}
 use Rattle.bq_lines.specs.declared.keyword.Keyword.{Keyword}
 use Rattle.bq_lines.specs.declared.keyword.Keyword.TheVariants as keywords
-use Rattle.bq_lines.specs.declared.command.Command.{Command}
-use Rattle.bq_lines.specs.declared.command.Command.TheVariants.{Machine, Does, Wake, Load, Show, Counter}
+use Rattle.bq_lines.specs.declared.command.LineCommand.{LineCommand}
+use Rattle.bq_lines.specs.declared.command.LineCommand.TheVariants.{Machine, Does, Wake, Load, Show, Counter}
 use Rattle.bq_lines.specs.declared.command.LineReading.{LineReading}
 use Rattle.bq_lines.specs.declared.command.LineReading.TheVariants.{Skipped, Bad, Asks}
 
@@ -67,68 +67,68 @@ pull_words operands =
 -- what each command asks for
 
 -- `machine` makes a machine
-abbrev pub machine_command : List (List ℕ) → Option Command
+abbrev pub machine_command : List (List ℕ) → Option LineCommand
 machine_command operands = option_map (λ w. Machine w.0 w.1) (machine_words operands)
 
 -- `admit` admits a task
-abbrev pub admit_command : List (List ℕ) → Option Command
+abbrev pub admit_command : List (List ℕ) → Option LineCommand
 admit_command operands = option_map (λ w. Does (Admit w.0 w.1 w.2 w.3)) (admit_words operands)
 
 -- `retire` makes a task leave
-abbrev pub retire_command : List (List ℕ) → Option Command
+abbrev pub retire_command : List (List ℕ) → Option LineCommand
 retire_command operands = option_map (λ t. Does (Retire t)) (one_task operands)
 
 -- `draw` draws a generation, and has no words after it
-abbrev pub draw_command : List (List ℕ) → Option Command
+abbrev pub draw_command : List (List ℕ) → Option LineCommand
 draw_command [] = Some (Does Draw)
 draw_command other = None
 
 -- `none` takes a policy away, and another word is an image to load
-abbrev pub install_or_load : ℕ × ℕ × Hook × List ℕ → Command
+abbrev pub install_or_load : ℕ × ℕ × Hook × List ℕ → LineCommand
 install_or_load (c, g, h, image) = if bytes_eq image (codes "none") then Does (Install c h g None) else Load c h g image
 
 -- `install` installs a policy or takes one away
-abbrev pub install_command : List (List ℕ) → Option Command
+abbrev pub install_command : List (List ℕ) → Option LineCommand
 install_command operands = option_map install_or_load (install_words operands)
 
 -- `begin` begins a wake
-abbrev pub begin_command : List (List ℕ) → Option Command
+abbrev pub begin_command : List (List ℕ) → Option LineCommand
 begin_command operands = option_map (λ w. Does (BeginWake w.0 w.1)) (processor_and_task operands)
 
 -- `end` ends a wake
-abbrev pub end_command : List (List ℕ) → Option Command
+abbrev pub end_command : List (List ℕ) → Option LineCommand
 end_command operands = option_map (λ w. Does (EndWake w.0 w.1)) (processor_and_time operands)
 
 -- `wake` begins a wake and ends it at once
-abbrev pub wake_command : List (List ℕ) → Option Command
+abbrev pub wake_command : List (List ℕ) → Option LineCommand
 wake_command operands = option_map (λ w. Wake w.0 w.1 w.2) (wake_words operands)
 
 -- `drain` makes a processor take in the tasks that were placed on it
-abbrev pub drain_command : List (List ℕ) → Option Command
+abbrev pub drain_command : List (List ℕ) → Option LineCommand
 drain_command operands = option_map (λ w. Does (Drain w.0 w.1)) (processor_and_time operands)
 
 -- `tick` lets a processor's clock tick
-abbrev pub tick_command : List (List ℕ) → Option Command
+abbrev pub tick_command : List (List ℕ) → Option LineCommand
 tick_command operands = option_map (λ w. Does (Tick w.0 w.1)) (processor_and_time operands)
 
 -- `block` puts the running task to sleep
-abbrev pub block_command : List (List ℕ) → Option Command
+abbrev pub block_command : List (List ℕ) → Option LineCommand
 block_command operands = option_map (λ w. Does (Block w.0 w.1)) (processor_and_time operands)
 
 -- `pull` makes a processor take a task from another
-abbrev pub pull_command : List (List ℕ) → Option Command
+abbrev pub pull_command : List (List ℕ) → Option LineCommand
 pull_command operands = option_map (λ w. Does (Pull w.0 w.1 w.2)) (pull_words operands)
 
 -- `show` shows a processor
-abbrev pub show_command : List (List ℕ) → Option Command
+abbrev pub show_command : List (List ℕ) → Option LineCommand
 show_command operands = option_map (λ c. Show c) (one_number operands)
 
 -- `counter` shows a counter
-abbrev pub counter_command : List (List ℕ) → Option Command
+abbrev pub counter_command : List (List ℕ) → Option LineCommand
 counter_command operands = option_map (λ i. Counter i) (one_number operands)
 
 -- what the words after a keyword ask for
-abbrev pub command_after : Keyword → List (List ℕ) → Option Command
+abbrev pub command_after : Keyword → List (List ℕ) → Option LineCommand
 command_after keywords.Install operands = install_command operands
 command_after keywords.Machine operands = machine_command operands
 command_after keywords.Admit operands = admit_command operands
@@ -145,11 +145,11 @@ command_after keywords.Show operands = show_command operands
 command_after keywords.Counter operands = counter_command operands
 
 -- what a command asks for, by its name and the words after it
-abbrev pub command_of : List ℕ → List (List ℕ) → Option Command
+abbrev pub command_of : List ℕ → List (List ℕ) → Option LineCommand
 command_of name operands = option_and_then (λ k. command_after k operands) (keyword_of name)
 
 -- a line says its command, or is bad if it has none
-abbrev pub reading_of_command : Option Command → LineReading
+abbrev pub reading_of_command : Option LineCommand → LineReading
 reading_of_command None = Bad
 reading_of_command (Some c) = Asks c
 

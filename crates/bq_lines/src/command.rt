@@ -7,7 +7,7 @@ use bq_words::{ProcessorCount, Rule};
 
 /// What a line may ask. An image stays in the bytes of its line.
 #[derive(Drop)]
-pub enum Command<'a> {
+pub enum LineCommand<'a> {
     /// A machine is made.
     Machine {
         rule: Rule,
@@ -46,5 +46,5 @@ pub enum LineReading<'a> {
     /// The line is not of the format.
     Bad,
     /// The line asks for this.
-    Asks(Command<'a>),
+    Asks(LineCommand<'a>),
 }

@@ -11,7 +11,7 @@ pub mod keyword;
 pub mod lines;
 
 pub use begun::{PartialLine, first_line};
-pub use command::{Command, LineReading};
+pub use command::{LineCommand, LineReading};
 pub use image::HexWord;
 pub use keyword::Keyword;
 pub use lines::read_short_line;

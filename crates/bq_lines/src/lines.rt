@@ -6,7 +6,7 @@ ghost use Rattle.bq_words.specs.Words.{words};
 ghost use Rattle.bq_lines.specs.Lines.{machine_command, admit_command, retire_command, draw_command, install_words, install_command, begin_command, end_command, wake_command, drain_command, tick_command, block_command, pull_command, show_command, counter_command, command_of, machine_words, admit_words, one_task, one_number, processor_and_task, processor_and_time, wake_words, pull_words, reading_of_command, reading_of_words, reading_of, reading_of_short_line};
 
 use crate::bytes::is_allowed_line;
-use crate::command::{Command, LineReading};
+use crate::command::{LineCommand, LineReading};
 use crate::image::HexWord;
 use crate::keyword::Keyword;
 use bq_hooks::Hook;
@@ -184,7 +184,7 @@ fn machine(operands: &[u8]) -> LineReading<'_>
     ensures { result ≡ reading_of_command (machine_command (words operands.now)) }
 {
     match machine_words(operands) {
-        Some((rule, size)) => LineReading::Asks(Command::Machine { rule, size }),
+        Some((rule, size)) => LineReading::Asks(LineCommand::Machine { rule, size }),
         None => LineReading::Bad,
     }
 }
@@ -194,7 +194,7 @@ fn admit(operands: &[u8]) -> LineReading<'_>
     ensures { result ≡ reading_of_command (admit_command (words operands.now)) }
 {
     match admit_words(operands) {
-        Some((task, (nice, (mask, slice)))) => LineReading::Asks(Command::Does(Event::Admit {
+        Some((task, (nice, (mask, slice)))) => LineReading::Asks(LineCommand::Does(Event::Admit {
             task,
             nice,
             mask,
@@ -209,7 +209,7 @@ fn retire(operands: &[u8]) -> LineReading<'_>
     ensures { result ≡ reading_of_command (retire_command (words operands.now)) }
 {
     match one_task(operands) {
-        Some(task) => LineReading::Asks(Command::Does(Event::Retire { task })),
+        Some(task) => LineReading::Asks(LineCommand::Does(Event::Retire { task })),
         None => LineReading::Bad,
     }
 }
@@ -219,7 +219,7 @@ fn draw(operands: &[u8]) -> LineReading<'_>
     ensures { result ≡ reading_of_command (draw_command (words operands.now)) }
 {
     match end_of_words(operands) {
-        Some(()) => LineReading::Asks(Command::Does(Event::Draw)),
+        Some(()) => LineReading::Asks(LineCommand::Does(Event::Draw)),
         None => LineReading::Bad,
     }
 }
@@ -232,14 +232,14 @@ fn install(operands: &[u8]) -> LineReading<'_>
         return LineReading::Bad;
     };
     if image == b"none".as_slice() {
-        return LineReading::Asks(Command::Does(Event::Install {
+        return LineReading::Asks(LineCommand::Does(Event::Install {
             processor,
             hook,
             generation,
             policy: None,
         }));
     }
-    LineReading::Asks(Command::Load {
+    LineReading::Asks(LineCommand::Load {
         processor,
         hook,
         generation,
@@ -253,7 +253,7 @@ fn begin(operands: &[u8]) -> LineReading<'_>
 {
     match processor_and_task(operands) {
         Some((processor, task)) => {
-            LineReading::Asks(Command::Does(Event::BeginWake { processor, task }))
+            LineReading::Asks(LineCommand::Does(Event::BeginWake { processor, task }))
         }
         None => LineReading::Bad,
     }
@@ -265,7 +265,7 @@ fn end(operands: &[u8]) -> LineReading<'_>
 {
     match processor_and_time(operands) {
         Some((processor, now)) => {
-            LineReading::Asks(Command::Does(Event::EndWake { processor, now }))
+            LineReading::Asks(LineCommand::Does(Event::EndWake { processor, now }))
         }
         None => LineReading::Bad,
     }
@@ -276,7 +276,7 @@ fn wake(operands: &[u8]) -> LineReading<'_>
     ensures { result ≡ reading_of_command (wake_command (words operands.now)) }
 {
     match wake_words(operands) {
-        Some((processor, task, now)) => LineReading::Asks(Command::Wake {
+        Some((processor, task, now)) => LineReading::Asks(LineCommand::Wake {
             processor,
             task,
             now,
@@ -290,7 +290,10 @@ fn drain(operands: &[u8]) -> LineReading<'_>
     ensures { result ≡ reading_of_command (drain_command (words operands.now)) }
 {
     match processor_and_time(operands) {
-        Some((processor, now)) => LineReading::Asks(Command::Does(Event::Drain { processor, now })),
+        Some((processor, now)) => LineReading::Asks(LineCommand::Does(Event::Drain {
+            processor,
+            now,
+        })),
         None => LineReading::Bad,
     }
 }
@@ -300,7 +303,10 @@ fn tick(operands: &[u8]) -> LineReading<'_>
     ensures { result ≡ reading_of_command (tick_command (words operands.now)) }
 {
     match processor_and_time(operands) {
-        Some((processor, now)) => LineReading::Asks(Command::Does(Event::Tick { processor, now })),
+        Some((processor, now)) => LineReading::Asks(LineCommand::Does(Event::Tick {
+            processor,
+            now,
+        })),
         None => LineReading::Bad,
     }
 }
@@ -310,7 +316,10 @@ fn block(operands: &[u8]) -> LineReading<'_>
     ensures { result ≡ reading_of_command (block_command (words operands.now)) }
 {
     match processor_and_time(operands) {
-        Some((processor, now)) => LineReading::Asks(Command::Does(Event::Block { processor, now })),
+        Some((processor, now)) => LineReading::Asks(LineCommand::Does(Event::Block {
+            processor,
+            now,
+        })),
         None => LineReading::Bad,
     }
 }
@@ -320,7 +329,7 @@ fn pull(operands: &[u8]) -> LineReading<'_>
     ensures { result ≡ reading_of_command (pull_command (words operands.now)) }
 {
     match pull_words(operands) {
-        Some((processor, (from, now))) => LineReading::Asks(Command::Does(Event::Pull {
+        Some((processor, (from, now))) => LineReading::Asks(LineCommand::Does(Event::Pull {
             processor,
             from,
             now,
@@ -334,7 +343,7 @@ fn show(operands: &[u8]) -> LineReading<'_>
     ensures { result ≡ reading_of_command (show_command (words operands.now)) }
 {
     match one_number(operands) {
-        Some(processor) => LineReading::Asks(Command::Show { processor }),
+        Some(processor) => LineReading::Asks(LineCommand::Show { processor }),
         None => LineReading::Bad,
     }
 }
@@ -344,7 +353,7 @@ fn counter(operands: &[u8]) -> LineReading<'_>
     ensures { result ≡ reading_of_command (counter_command (words operands.now)) }
 {
     match one_number(operands) {
-        Some(counter) => LineReading::Asks(Command::Counter { counter }),
+        Some(counter) => LineReading::Asks(LineCommand::Counter { counter }),
         None => LineReading::Bad,
     }
 }

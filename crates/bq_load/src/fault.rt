@@ -11,30 +11,30 @@ use std::fmt;
 /// verifier refuses. A field is judged once it is whole; if it is cut, the fault is `Cut`.
 #[derive(Clone, Copy, Debug, PartialEq, Eq)]
 pub enum LoadFault {
-    /// The bytes do not begin with the letters BQPI.
+    /// L1: the bytes do not begin with the letters BQPI.
     Magic,
-    /// The version is not 1 or 2.
+    /// L2: the version is not 1 or 2.
     Version,
-    /// The hook is not 0, 1 or 2.
+    /// L3: the hook is not 0, 1 or 2.
     Hook,
-    /// There are more than 8 maps, or a shape is not within its limits.
+    /// L4: there are more than 8 maps, or a shape is not within its limits.
     Shape,
-    /// The bytes end within a field, the program included.
+    /// L5: the bytes end within a field, the program included.
     Cut,
-    /// Bytes follow the program.
+    /// L6: bytes follow the program.
     Rest,
-    /// The bytes are no program: the slot of the instruction at fault, counted from 0, and its least cause. A wrong
+    /// L7: the bytes are no program: the slot of the instruction at fault, counted from 0, and its least cause. A wrong
     /// length is named at slot 0.
     Decode {
         slot: usize,
         cause: bq_insn::fault::Cause,
     },
-    /// The program is not accepted: the slot, and why.
+    /// L8: the program is not accepted: the slot, and why.
     Refused {
         slot: usize,
         cause: bq_verify::Cause,
     },
-    /// Memory ran out, which says nothing of the bytes.
+    /// L9: memory ran out, which says nothing of the bytes.
     OutOfMemory,
 }
 

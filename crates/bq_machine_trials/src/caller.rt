@@ -119,7 +119,7 @@ impl<'a, N: Naming + Counting, R: Wait> Player<'a, N, R> {
         }
     }
 
-    /// Makes the call, and keeps its receipts. Answers the place of the first.
+    /// Makes the call, and keeps its receipts. Returns the place of the first.
     fn call(&mut self, request: Request) -> Result<u64, Refusal> {
         let Receipts { first, second } = ask(
             self.rt,
@@ -245,7 +245,7 @@ impl<'a, N: Naming + Counting, R: Wait> Player<'a, N, R> {
         ]
     }
 
-    /// Does what the play says. Answers counters 0, 3 and 63: as they were while a call was held, where the play reads them then,
+    /// Does what the play says. Returns counters 0, 3 and 63: as they were while a call was held, where the play reads them then,
     /// else as they are at its end.
     pub fn play(&mut self, play: Play) -> Result<[u64; 3], Refusal> {
         match play {

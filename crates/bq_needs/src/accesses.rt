@@ -130,7 +130,7 @@ fn value_lack(
     }
 }
 
-/// Answers whether all bytes of the access lie below the bound, with each offset that its pointer may have.
+/// Whether all bytes of the access lie below the bound, with each offset that its pointer may have.
 #[tactic(auto, using(crate::proofs::AccessLemmas::all_below, crate::proofs::AccessLemmas::last_beyond, crate::proofs::AccessLemmas::greatest_beyond))]
 fn stays(access: Access, offsets: Range, bound: usize) -> bool
     requires few { access.bytes ≤ 256 }
@@ -146,7 +146,7 @@ fn stays(access: Access, offsets: Range, bound: usize) -> bool
     at.hi <= (bound - access.bytes) as u64
 }
 
-/// Answers whether all bytes of the stack that the access may touch are known to be set.
+/// Whether all bytes of the stack that the access may touch are known to be set.
 fn touches_set(state: &AbstractState, access: Access, offsets: Range) -> bool
     requires few { access.bytes ≤ 256 }
     requires inside { StaysBelow access offsets STACK_SIZE }
@@ -162,7 +162,7 @@ fn touches_set(state: &AbstractState, access: Access, offsets: Range) -> bool
     true
 }
 
-/// Answers the words at this distance from those of the range. None if one of them would be beyond the greatest word.
+/// The words at this distance from those of the range. None if one of them would be beyond the greatest word.
 fn moved(offsets: Range, off: i16) -> Option<Range>
     ensures range { MatchOption result (ReachesLast off offsets) (IsMoved off offsets) }
     ensures wraps { IfNone result (Wraps off offsets) }
@@ -224,7 +224,7 @@ fn place_text(alloc: Global, shapes: &[MapShape], kind: ValueKind) -> Result<Str
     }
 }
 
-/// Answers at what offsets the access begins, if its pointer may be followed and a range says it.
+/// At what offsets the access begins, if its pointer may be followed and a range says it.
 fn begin_range(access: Access, pointer: AbstractValue) -> Option<Range>
     ensures { MatchOption result ((MayBeFollowed pointer.kind → ⊥) ⊎ Wraps access.off pointer.offset) (λ at. MayBeFollowed pointer.kind × IsMoved access.off pointer.offset at) }
 {
@@ -251,7 +251,7 @@ pub(crate) fn register_text(
     format!(in alloc; "r{register}, which is {described}")
 }
 
-/// Answers whether the word is the answer of a look-up, before its test.
+/// Whether the word is the answer of a look-up, before its test.
 pub(crate) fn may_be_null(kind: ValueKind) -> bool
     ensures { result ≡ may_be_null kind }
 {
@@ -261,7 +261,7 @@ pub(crate) fn may_be_null(kind: ValueKind) -> bool
     }
 }
 
-/// Answers whether a pointer of the kind may be followed.
+/// Whether a pointer of the kind may be followed.
 fn is_followed(kind: ValueKind) -> bool
     ensures { IsTrue result ↔ MayBeFollowed kind }
 {
@@ -298,7 +298,7 @@ pub(crate) fn lack_text(
         ),
         Lack::ReadsUnset => String::from_str(
             alloc,
-            "on some way that leads here not all of these bytes are known to be written",
+            "on some path that leads here not all of these bytes are known to be written",
         ),
         Lack::BeyondValue(map, size) => {
             format!(in alloc; "a value of map {map} has {size} bytes, and an access stays in one")

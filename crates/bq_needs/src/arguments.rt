@@ -79,14 +79,14 @@ pub(crate) fn bad_argument(
     None
 }
 
-/// Answers whether the helper wants the argument, and it is not shown.
+/// Whether the helper wants the argument, and it is not shown.
 fn is_bad(policy: &PolicySource, state: &AbstractState, helper: i32, argument: Argument) -> bool
     ensures { MatchBool result (IsBad policy.now state.now helper argument) (Wants helper argument → IsArgumentShown policy.now state.now argument) }
 {
     wants(helper, argument) && !is_good(policy, state, argument)
 }
 
-/// Answers whether the helper of that number has that argument.
+/// Whether the helper of that number has that argument.
 fn wants(helper: i32, argument: Argument) -> bool
     ensures { IsTrue result ↔ Wants helper argument }
 {
@@ -98,7 +98,7 @@ fn wants(helper: i32, argument: Argument) -> bool
     }
 }
 
-/// Answers whether the argument is shown to be what the helper wants.
+/// Whether the argument is shown to be what the helper wants.
 fn is_good(policy: &PolicySource, state: &AbstractState, argument: Argument) -> bool
     ensures { IsTrue result ↔ IsArgumentShown policy.now state.now argument }
 {
@@ -126,7 +126,7 @@ pub(crate) fn wanted_text(argument: Argument) -> &'static str
     }
 }
 
-/// Answers whether register 1 names a map.
+/// Whether register 1 names a map.
 fn names_map(state: &AbstractState) -> bool
     ensures { IsTrue result ↔ ((m : ℕ) × CertaintyHoldsAt (Pointer (ValueKind.Map m) 0) state.now 1) }
 {
@@ -149,7 +149,7 @@ fn named_map(state: &AbstractState) -> Option<u8>
     }
 }
 
-/// Answers whether register 3 points to as many bytes that may be read as a value of that map has.
+/// Whether register 3 points to as many bytes that may be read as a value of that map has.
 fn points_to_value(policy: &PolicySource, state: &AbstractState) -> bool
     ensures { IsTrue result ↔ PointsToValue policy.now state.now }
 {
@@ -162,7 +162,7 @@ fn points_to_value(policy: &PolicySource, state: &AbstractState) -> bool
     points_to(policy, state, 3, usize::from(shape.value_size))
 }
 
-/// Answers whether the register points to this many bytes that may be read.
+/// Whether the register points to this many bytes that may be read.
 #[tactic(auto, using(crate::proofs::NeedLemmas::lacking_not_pointing))]
 fn points_to(policy: &PolicySource, state: &AbstractState, register: u8, bytes: usize) -> bool
     requires { bytes ≤ 256 }
@@ -183,7 +183,7 @@ fn points_to(policy: &PolicySource, state: &AbstractState, register: u8, bytes: 
     }
 }
 
-/// Answers whether the register is the number 0.
+/// Whether the register is the number 0.
 fn is_zero(state: &AbstractState, register: u8) -> bool
     ensures { IsTrue result ↔ CertaintyHoldsAt (Exact 0) state.now register }
 {
@@ -193,7 +193,7 @@ fn is_zero(state: &AbstractState, register: u8) -> bool
     }
 }
 
-/// Answers whether register 1 is the number of a counter.
+/// Whether register 1 is the number of a counter.
 fn names_counter(state: &AbstractState) -> bool
     ensures { IsTrue result ↔ IsCounter (known_in state.now 1) }
 {
@@ -203,7 +203,7 @@ fn names_counter(state: &AbstractState) -> bool
     }
 }
 
-/// Answers whether the register is a number.
+/// Whether the register is a number.
 fn is_number(state: &AbstractState, register: u8) -> bool
     ensures { IsTrue result ↔ CertaintyHoldsAt Scalar state.now register }
 {

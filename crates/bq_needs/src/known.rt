@@ -89,7 +89,7 @@ pub(crate) fn map_name(alloc: Global, shapes: &[MapShape], map: u8) -> Result<St
     }
 }
 
-/// Answers whether more than one of the maps has that shape.
+/// Whether more than one of the maps has that shape.
 fn is_shared(shapes: &[MapShape], shape: Option<MapShape>) -> bool
     ensures { result ≡ is_shared shapes.now shape }
 {
@@ -99,7 +99,7 @@ fn is_shared(shapes: &[MapShape], shape: Option<MapShape>) -> bool
     }
 }
 
-/// Answers how many of the maps have that shape.
+/// How many of the maps have that shape.
 fn count_of(shapes: &[MapShape], shape: MapShape) -> usize
     ensures { result ≡ count_by (same_shape shape) shapes.now }
 {
@@ -177,7 +177,7 @@ fn offset_text(alloc: Global, range: Range) -> Result<String, AllocError>
     below_text(alloc, below(range.lo), below(range.hi))
 }
 
-/// Answers how far below its base a word is, if it is `offset` above the base by a sum that wraps.
+/// How far below its base a word is, if it is `offset` above the base by a sum that wraps.
 fn below(offset: u64) -> u64
     requires { 0 < offset }
     ensures { result ≡ 2 ^ 64 - offset }

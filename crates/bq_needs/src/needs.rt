@@ -97,14 +97,14 @@ fn unknown_registers(state: &AbstractState, insn: Insn) -> Registers
     registers
 }
 
-/// Answers whether the instruction reads the register, and nothing is known of it.
+/// Whether the instruction reads the register, and nothing is known of it.
 fn is_unknown(state: &AbstractState, insn: Insn, register: u8) -> bool
     ensures { result ≡ is_unknown state.now insn register }
 {
     reads(insn, register) && known(state, register).is_none()
 }
 
-/// Answers whether a register is marked.
+/// Whether a register is marked.
 fn has_one(registers: &Registers) -> bool
     ensures { IsTrue result ↔ ((r : ℕ) × (r < REGISTERS) × (slice_index_or registers.now r false ≡ true)) }
 {
@@ -116,7 +116,7 @@ fn has_one(registers: &Registers) -> bool
     false
 }
 
-/// Answers the access of a load or a store, and why it is not shown to be good, if it is not.
+/// The access of a load or a store, and why it is not shown to be good, if it is not.
 fn access_need(policy: &PolicySource, state: &AbstractState, insn: Insn) -> Option<Need>
     ensures { MatchOption result (IsGoodAccess policy.now state.now insn) (Lacking policy.now state.now insn (Cause.State Obligation.Access)) }
 {
@@ -158,7 +158,7 @@ fn pointer_worked_on(state: &AbstractState, insn: Insn) -> Option<Pointer>
     None
 }
 
-/// Answers the register, if the instruction works on it and it is known to be no number.
+/// The register, if the instruction works on it and it is known to be no number.
 fn as_pointer(state: &AbstractState, insn: Insn, register: u8) -> Option<Pointer>
     requires { register < REGISTERS }
     ensures register { IfSome result (λ pointer. pointer.register ≡ register) }
@@ -177,7 +177,7 @@ fn as_pointer(state: &AbstractState, insn: Insn, register: u8) -> Option<Pointer
     }
 }
 
-/// Answers whether words of the kind are numbers.
+/// Whether words of the kind are numbers.
 fn is_number(kind: ValueKind) -> bool
     ensures { IsTrue result ↔ (kind ≡ ValueKind.Number) }
 {
@@ -206,7 +206,7 @@ fn map_need(policy: &PolicySource, index: i32) -> Option<Need>
     }
 }
 
-/// Answers whether there is a map of that number.
+/// Whether there is a map of that number.
 fn is_map(policy: &PolicySource, index: i32) -> bool
     ensures { IsTrue result ↔ IsMapNumber policy.now index }
 {

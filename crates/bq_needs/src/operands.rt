@@ -21,7 +21,7 @@ pub struct Access {
     pub off: i16,
 }
 
-/// Answers whether the instruction reads the register as an operand; then it does nothing if the register is unset.
+/// Whether the instruction reads the register as an operand; then it does nothing if the register is unset.
 pub fn reads(insn: Insn, register: u8) -> bool
     ensures is { result ≡ reads insn register }
     ensures needs { IsTrue result → NeedsSet insn register }
@@ -51,7 +51,7 @@ pub fn read_registers(insn: Insn) -> Registers
     registers
 }
 
-/// Answers whether the instruction works on the register: a store of a register works on the register that it stores, and each
+/// Whether the instruction works on the register: a store of a register works on the register that it stores, and each
 /// other instruction on those that it reads.
 pub(crate) fn works_on(insn: Insn, register: u8) -> bool
     ensures { result ≡ works_on insn register }
@@ -72,7 +72,7 @@ fn reads_left(op: Operation) -> bool
     }
 }
 
-/// Answers whether the second operand is that register.
+/// Whether the second operand is that register.
 fn is_register(src: Source, register: u8) -> bool
     ensures { result ≡ is_that_register src register }
 {

@@ -169,7 +169,7 @@ fn other_rule(insn: Insn, pointer: Pointer) -> &'static str
     }
 }
 
-/// Answers whether the instruction adds to the register, takes from it, or adds it to a number, in 64 bits: then it moves a pointer.
+/// Whether the instruction adds to the register, takes from it, or adds it to a number, in 64 bits: then it moves a pointer.
 pub fn moves(insn: Insn, register: u8) -> bool
     ensures { result ≡ moves insn register }
 {

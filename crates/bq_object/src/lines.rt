@@ -34,7 +34,7 @@ struct Table<'a> {
 /// The most slots that a policy may have.
 const SLOTS: u64 = 4096;
 
-/// Answers for each slot of the policy the line that it comes from, if the object says it. The answer is empty if the object has
+/// For each slot of the policy the line that it comes from, if the object says it. The answer is empty if the object has
 /// no lines, or no policy.
 pub fn source_lines(alloc: Global, file: &[u8]) -> Result<Vec<Option<SourceLine<'_>>>, AllocError> {
     let mut lines = Vec::new(alloc);

@@ -14,7 +14,7 @@ use crate::symbol::{Symbol, name_at, policy_in, symbol_at};
 use std::alloc::{AllocError, Global};
 use std::str;
 
-/// Answers whether a file is an object, by its first four bytes.
+/// Whether a file is an object, by its first four bytes.
 pub fn is_object(file: &[u8]) -> bool
     ensures { IsTrue result ↔ IsObject file.now }
 {
@@ -28,7 +28,7 @@ pub(crate) struct Tables<'a> {
     pub(crate) names: &'a [u8],
 }
 
-/// Answers the instructions of the function `policy`, as they are in the file.
+/// The instructions of the function `policy`, as they are in the file.
 pub fn policy_of(file: &[u8]) -> Result<&[u8], ObjectFault>
     ensures ok { IfOk result (λ policy. IsPolicyOfObject file.now policy.now) }
     ensures err { IfErr result (IsObjectFault file.now) }
@@ -93,7 +93,7 @@ fn code<'a>(file: &'a [u8], headers: &[u8], policy: Symbol) -> Result<&'a [u8], 
     }
 }
 
-/// Answers the names of the functions beside `policy`, which are left out, in the order of the symbols. There are none if the
+/// The names of the functions beside `policy`, which are left out, in the order of the symbols. There are none if the
 /// symbols can't be read; a name that is not UTF-8 is skipped.
 pub fn others(alloc: Global, file: &[u8]) -> Result<Vec<&str>, AllocError> {
     let mut found = Vec::new(alloc);

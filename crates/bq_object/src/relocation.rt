@@ -9,7 +9,7 @@ use crate::numbers::{part, wide, word};
 use crate::section::{Section, section_at};
 use crate::symbol::Symbol;
 
-/// Answers the length of a relocation of a section of this kind; 0 if the kind has none.
+/// The length of a relocation of a section of this kind; 0 if the kind has none.
 fn entry_size(kind: u32) -> u64
     ensures { result ≡ entry_size kind }
 {
@@ -93,7 +93,7 @@ fn filled(kind: u32) -> Filled
     }
 }
 
-/// Answers whether the bytes at the offset belong to the function.
+/// Whether the bytes at the offset belong to the function.
 fn is_within(policy: Symbol, at: u64) -> bool
     ensures { IsTrue result ↔ HoldsOffset policy at }
 {

@@ -35,12 +35,12 @@ impl Symbol {
         }
     }
 
-    /// Answers whether it is a function of this file.
+    /// Whether it is a function of this file.
     pub fn is_function(self) -> bool {
         self.kind % 16 == 2 && self.section != 0
     }
 
-    /// Answers whether it is the function `policy`.
+    /// Whether it is the function `policy`.
     pub fn is_policy(self, names: &[u8]) -> bool
         ensures { IsTrue result ↔ IsPolicySymbol names.now self }
     {
@@ -91,7 +91,7 @@ pub fn policy_in(entries: &[u8], names: &[u8]) -> Option<Symbol>
 /// The longest name that is read.
 const LONGEST: usize = 256;
 
-/// Answers the name that begins there, up to the 0 that ends it. A longer name is cut after 256 bytes.
+/// The name that begins there, up to the 0 that ends it. A longer name is cut after 256 bytes.
 pub fn name_at(names: &[u8], at: u32) -> &[u8] {
     let from = (at as usize).min(names.len());
     let rest = &names[from..];

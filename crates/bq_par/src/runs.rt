@@ -23,7 +23,7 @@ use std::thread::{Threads, map_vec};
 
 /// Runs this many processors under the rule of a kind of queue, each in a thread of its own (or in turn, if no thread can be
 /// made). The task of each processor has the processor's number as its id. It is admitted, woken and drained there, and then
-/// the processor ticks as often as asked for. Answers how long the one history is, how many of its events are ticks, and how
+/// the processor ticks as often as asked for. Returns how long the one history is, how many of its events are ticks, and how
 /// many receipts are confirmed by it, which is all of them. The only error is that memory runs out.
 pub fn run<Q: RunQueue + Drop + Send, T: Threads + Wait + Sync>(
     rt: &T,

@@ -118,7 +118,7 @@ fn returned<N: Naming + Counting>(
     Ok(ReturnedSeats { seats, lists })
 }
 
-/// Answers how many of the records are of ticks.
+/// How many of the records are of ticks.
 fn ticks_among(records: &[&Record]) -> u64
     ensures { result ≡ sum_by (λ r. one_tick r.now) records.now }
 {
@@ -129,7 +129,7 @@ fn ticks_among(records: &[&Record]) -> u64
     ticks
 }
 
-/// Answers how many ticks a record is of: 1 or 0.
+/// How many ticks a record is of: 1 or 0.
 fn ticks_of_one(entry: &Record) -> u64
     ensures is { result ≡ one_tick entry.now }
     ensures few { result ≤ 1 }
@@ -140,7 +140,7 @@ fn ticks_of_one(entry: &Record) -> u64
     }
 }
 
-/// Answers how many receipts of all lists the records confirm.
+/// How many receipts of all lists the records confirm.
 fn confirmed_among(records: &[&Record], lists: &[Vec<Receipt<Record>>]) -> u64
     requires stand { All (λ l. All (IsRecorded (map (λ r. r.now) records.now)) l.items) lists.now }
     requires few { sum_by (λ l. length l.items) lists.now < 2 ^ 64 }
@@ -153,7 +153,7 @@ fn confirmed_among(records: &[&Record], lists: &[Vec<Receipt<Record>>]) -> u64
     confirmed
 }
 
-/// Answers how many receipts of one list the records confirm.
+/// How many receipts of one list the records confirm.
 fn confirmed_in(records: &[&Record], list: &[Receipt<Record>]) -> u64
     requires { All (IsRecorded (map (λ r. r.now) records.now)) list.now }
     ensures { result ≡ length list.now }

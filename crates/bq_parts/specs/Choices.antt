@@ -19,7 +19,7 @@ use Rattle.bq_hooks.specs.OwnPlace.{own_place}
 use Rattle.bq_hooks.specs.Permitted.{may_place, may_preempt, may_pull, task_numbered}
 use Rattle.bq_hooks.specs.Settled.{settled as chosen}
 use Rattle.bq_parts.specs.declared.carried.Carried.{Carried}
-use Rattle.bq_parts.specs.declared.decision.Decision.{Decision}
+use Rattle.bq_parts.specs.declared.decision.HookDecision.{HookDecision}
 use Rattle.bq_parts.specs.Processors.{Processor, size_of}
 
 -- what the world runs under: the discipline, and how a policy answers. `Answers policy context maps now processor r0 left
@@ -46,7 +46,7 @@ pub record SettledChoice : Type 0 where
   pub attached : Attached
 
 -- a decision of a processor, with its choice as a number, its calls, and what is attached to the hook afterwards
-abbrev pub decision_of : {T : Type 0} → (T → ℕ) → Decision T → List CounterCall → Attached → SettledChoice
+abbrev pub decision_of : {T : Type 0} → (T → ℕ) → HookDecision T → List CounterCall → Attached → SettledChoice
 decision_of number d calls attached = record { choice = number d.choice; by = d.by; steps = d.steps; calls = calls; attached = attached }
 
 -- the own choice, with no policy asked
@@ -110,7 +110,7 @@ SettlesPull s processor from p other settled =
     Settles s (λ version. context) p.hooks.pull p.running.last processor (may_pull processor queue) (or_nobody own) settled
 
 -- the pulled task, or none, is the one whose number was chosen
-abbrev pub SettlesPulled : PolicySemantics → ℕ → ℕ → Processor → Processor → Decision (Option ℕ) → List CounterCall → Attached → Type 0
+abbrev pub SettlesPulled : PolicySemantics → ℕ → ℕ → Processor → Processor → HookDecision (Option ℕ) → List CounterCall → Attached → Type 0
 SettlesPulled s processor from p other d calls attached =
     (choice : ℕ) × SettlesPull s processor from p other (decision_of (λ task. choice) d calls attached) × (d.choice ≡ task_numbered choice)
 

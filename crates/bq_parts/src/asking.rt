@@ -12,41 +12,15 @@ ghost use Rattle.bq_disc.specs.OneProcessor.{present_at};
 ghost use Rattle.bq_parts.specs.Processors.{HasEachOnce, HasLobbyIds, size_of};
 ghost use Rattle.bq_parts.specs.Choices.{by_programs, place_bytes, SettlesPlace, SettlesPreempt, SettlesPulled, decided_by, decision_of};
 
-use crate::{Carried, Cpu, Decision};
+use crate::{Carried, Cpu, HookDecision};
 use bq_bpf::{Board, Done, Env};
 use bq_disc::RunQueue;
 use bq_disc::limits::{PROCESSORS, TASKS};
 use bq_hooks::place::{PLACE_LENGTH, Place, WIDE_PLACE_LENGTH, place_ctx, wide_place_ctx};
 use bq_hooks::preempt::{PREEMPT_LENGTH, Preempt, preempt_ctx};
 use bq_hooks::pull::{PULL_LENGTH, Pull, pull_ctx};
-use bq_hooks::{By, Choice, Hook, Version, own_place, settle_place, settle_preempt, settle_pull};
+use bq_hooks::{Hook, Version, own_place, settle_place, settle_preempt, settle_pull};
 use bq_installed::Scratch;
-
-impl<T> Decision<T> {
-    /// The discipline's own choice as a decision, with no policy asked.
-    #[inline(always)]
-    pub(crate) fn unasked(choice: T) -> Decision<T>
-        ensures { result ≡ record { choice = choice; by = By.Discipline; steps = 0 } }
-    {
-        Decision {
-            choice,
-            by: By::Discipline,
-            steps: 0,
-        }
-    }
-
-    /// A choice as a decision, after a policy took this many steps.
-    #[inline(always)]
-    pub(crate) fn after(chosen: Choice<T>, steps: u32) -> Decision<T>
-        ensures { result ≡ record { choice = chosen.value; by = chosen.by; steps = steps } }
-    {
-        Decision {
-            choice: chosen.value,
-            by: chosen.by,
-            steps,
-        }
-    }
-}
 
 impl<Q: RunQueue> Cpu<Q> {
     /// What a policy may ask at this processor: the last reading of its clock, and its number.
@@ -68,7 +42,7 @@ impl<Q: RunQueue> Cpu<Q> {
         carried: &Carried,
         scratch: &mut Scratch,
         board: &mut B,
-    ) -> Decision<u8>
+    ) -> HookDecision<u8>
         requires few { count ≤ PROCESSORS }
         requires usable { HasPlace count carried.now.task }
         requires unasked { scratch.old ≡ [] }
@@ -79,7 +53,7 @@ impl<Q: RunQueue> Cpu<Q> {
         let task = &carried.task.node().entity;
         let own = own_place(count, &carried.loads, task);
         let Some(version) = self.hooks.version(Hook::Place) else {
-            return Decision::unasked(own);
+            return HookDecision::unasked(own);
         };
         let facts = Place {
             task,
@@ -89,7 +63,7 @@ impl<Q: RunQueue> Cpu<Q> {
             loads: &carried.loads,
         };
         let done = self.ask_place(processor, version, &facts, scratch, board);
-        Decision::after(settle_place(Some(done.r0), count, task, own), done.steps)
+        HookDecision::after(settle_place(Some(done.r0), count, task, own), done.steps)
     }
 
     /// Asks the place policy, whose image has this version, about these facts.
@@ -129,7 +103,7 @@ impl<Q: RunQueue> Cpu<Q> {
         processor: u8,
         scratch: &mut Scratch,
         board: &mut B,
-    ) -> Decision<bool>
+    ) -> HookDecision<bool>
         requires distinct { HasDistinctIds self.old.running.queue }
         requires few { length self.old.running.queue < 2 ^ 32 }
         requires unasked { scratch.old ≡ [] }
@@ -138,11 +112,11 @@ impl<Q: RunQueue> Cpu<Q> {
         ensures board { Through B.leads board.old scratch.new board.new }
     {
         let Some(current) = &self.current else {
-            return Decision::unasked(false);
+            return HookDecision::unasked(false);
         };
         let own = self.queue.wants_preempt(current.node());
         let Some(_) = self.hooks.version(Hook::Preempt) else {
-            return Decision::unasked(own);
+            return HookDecision::unasked(own);
         };
         let facts = Preempt {
             processor,
@@ -154,7 +128,7 @@ impl<Q: RunQueue> Cpu<Q> {
         preempt_ctx(&facts, &mut context);
         let env = self.env(processor);
         let done = self.hooks.ask(Hook::Preempt, &context, env, scratch, board);
-        Decision::after(settle_preempt(Some(done.r0), own), done.steps)
+        HookDecision::after(settle_preempt(Some(done.r0), own), done.steps)
     }
 
     /// Decides who runs. If nothing runs, the queue's choice does, and no policy is asked.
@@ -163,7 +137,7 @@ impl<Q: RunQueue> Cpu<Q> {
         processor: u8,
         scratch: &mut Scratch,
         board: &mut B,
-    ) -> Decision<bool>
+    ) -> HookDecision<bool>
         requires once { HasEachOnce (present_at self.old.running) }
         requires ids { HasLobbyIds (present_at self.old.running) }
         requires unasked { scratch.old ≡ [] }
@@ -188,7 +162,7 @@ impl<Q: RunQueue> Cpu<Q> {
         source: &Cpu<Q>,
         scratch: &mut Scratch,
         board: &mut B,
-    ) -> Decision<Option<u16>>
+    ) -> HookDecision<Option<u16>>
         requires inside { processor < PROCESSORS }
         requires few { size_of self.old ≤ TASKS }
         requires few_from { size_of source.now ≤ TASKS }
@@ -201,7 +175,7 @@ impl<Q: RunQueue> Cpu<Q> {
         let size = self.size();
         let own = source.own_pull(processor, size);
         let Some(_) = self.hooks.version(Hook::Pull) else {
-            return Decision::unasked(own);
+            return HookDecision::unasked(own);
         };
         let facts = Pull {
             puller: processor,
@@ -216,6 +190,6 @@ impl<Q: RunQueue> Cpu<Q> {
         let env = self.env(processor);
         let done = self.hooks.ask(Hook::Pull, &context, env, scratch, board);
         let chosen = settle_pull(Some(done.r0), &source.queue, processor, own);
-        Decision::after(chosen, done.steps)
+        HookDecision::after(chosen, done.steps)
     }
 }

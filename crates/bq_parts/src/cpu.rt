@@ -126,7 +126,7 @@ impl<Q: RunQueue> Cpu<Q> {
         self.hooks.answered(hook)
     }
 
-    /// Answers how many tasks run or wait in the queue.
+    /// How many tasks run or wait in the queue.
     pub fn size(&self) -> usize
         requires { size_of self.now < 2 ^ 32 }
         ensures { result ≡ size_of self.now }
@@ -137,7 +137,7 @@ impl<Q: RunQueue> Cpu<Q> {
         }
     }
 
-    /// Answers how many tasks run or wait here, those of the inbox included.
+    /// How many tasks run or wait here, those of the inbox included.
     pub fn load(&self, inbox: &Inbox) -> u32
         requires few { load_of self.now inbox.now < 2 ^ 32 }
         ensures { result ≡ load_of self.now inbox.now }

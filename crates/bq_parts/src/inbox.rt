@@ -38,7 +38,7 @@ impl Inbox {
         Inbox { last: None, len: 0 }
     }
 
-    /// Answers how many tasks are in the inbox.
+    /// How many tasks are in the inbox.
     pub fn len(&self) -> u32
         ensures { result ≡ length self.now }
     {

@@ -23,7 +23,7 @@ pub mod wakes;
 
 pub use carried::Carried;
 pub use cpu::Cpu;
-pub use decision::Decision;
+pub use decision::HookDecision;
 pub use event::Event;
 pub use inbox::Inbox;
 pub use lobby::Lobby;

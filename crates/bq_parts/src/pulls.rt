@@ -47,7 +47,7 @@ impl<Q: RunQueue> Cpu<Q> {
     }
 
     /// The task with this id, if any, comes here from the other's queue. If nothing runs here then, the queue's choice
-    /// starts to run. Answers who runs here.
+    /// starts to run. Returns who runs here.
     fn take_task(&mut self, source: &mut Cpu<Q>, task: Option<u16>) -> Option<u16>
         requires fresh { IfSome (taken_from source.old.running task) (λ t. with_id t.id self.old.running.queue ≡ None) }
         ensures run { result ≡ id_of self.new.running.current }

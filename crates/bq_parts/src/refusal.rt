@@ -8,35 +8,35 @@ use std::fmt;
 /// Why an event was refused. A refused event does not change the world. A refusal is shown as the text that answers a trace.
 #[derive(Clone, Copy, PartialEq, Eq)]
 pub enum Refusal {
-    /// A processor's number is not below the number of processors.
+    /// C1: a processor's number is not below the number of processors.
     NoProcessor,
-    /// The id is over 1023, or is not admitted.
+    /// C2: the id is over 1023, or is not admitted.
     NoTask,
-    /// The task is not in the lobby.
+    /// C3: the task is not in the lobby.
     NotBlocked,
-    /// The id is admitted already.
+    /// C4: the id is admitted already.
     TaskExists,
-    /// The mask names no processor of the machine.
+    /// C5: the mask names no processor of the machine.
     EmptyMask,
-    /// The nice value is outside -20 to 19.
+    /// C6: the nice value is outside -20 to 19.
     Nice,
-    /// The slice is outside 100,000 to 100,000,000 nanoseconds.
+    /// C7: the slice is outside 100,000 to 100,000,000 nanoseconds.
     Slice,
-    /// Nothing runs.
+    /// C8: nothing runs.
     Idle,
-    /// A processor would pull from itself.
+    /// C9: a processor would pull from itself.
     SameProcessor,
-    /// The processor's hand is full.
+    /// C10: the processor's hand is full.
     InHand,
-    /// The processor's hand is empty.
+    /// C11: the processor's hand is empty.
     NothingInHand,
-    /// The generation is not above the newest one of that processor and hook, which is given.
+    /// C12: the generation is not above the newest one of that processor and hook, which is given.
     Older(u64),
-    /// The generation is 0, or was not drawn.
+    /// C13: the generation is 0, or was not drawn.
     NotDrawn,
-    /// The policy was verified for another hook.
+    /// C14: the policy was verified for another hook.
     WrongHook,
-    /// Memory ran out.
+    /// C15: memory ran out.
     OutOfMemory,
 }
 

@@ -9,7 +9,7 @@ use bq_explain::judge;
 use bq_policy_file::{PolicyFault, read_policy};
 use std::alloc::{AllocError, Global};
 
-/// Answers the bytes of the image of the policy whose file has these bytes, if `check` with these words accepts it; None otherwise.
+/// The bytes of the image of the policy whose file has these bytes, if `check` with these words accepts it; None otherwise.
 pub fn accepted_image(
     alloc: Global,
     words: &CheckWords,

@@ -89,7 +89,7 @@ fn difference(alloc: Global, given: &Head, text: &[u8]) -> Result<Option<Key>, A
     }
 }
 
-/// Answers the mark that the words contradict, if that is the fault.
+/// The mark that the words contradict, if that is the fault.
 fn differing(fault: PolicyFault) -> Option<Key>
     ensures { result ≡ differing fault }
 {

@@ -8,7 +8,7 @@ use bq_hooks::Version;
 use bq_policy_file::{FileKind, Head, Options, PolicyFault, PolicySource, kind_of, read_policy};
 use std::alloc::{AllocError, Global};
 
-/// Answers lines on what the marks of a text say and its image lacks, since the options leave it out; or on the first line that
+/// Lines on what the marks of a text say and its image lacks, since the options leave it out; or on the first line that
 /// is no mark. Empty if there is nothing to say.
 ///
 /// ```text
@@ -38,7 +38,7 @@ fn note_beside(alloc: Global, given: &Head, text: &[u8]) -> Result<String, Alloc
     }
 }
 
-/// Answers the note on the line that is no mark, if that is the fault.
+/// The note on the line that is no mark, if that is the fault.
 fn head_note(alloc: Global, text: &[u8], fault: PolicyFault) -> Result<String, AllocError>
     ensures { IfOk result (λ note. NotesHead fault (string_bytes note)) }
 {
@@ -76,14 +76,14 @@ fn left_text(alloc: Global, given: &Head, policy: &PolicySource) -> Result<Strin
     Ok(note)
 }
 
-/// Answers whether the text has maps, and the options none.
+/// Whether the text has maps, and the options none.
 fn leaves_maps(given: &Head, policy: &PolicySource) -> bool
     ensures { result ≡ leaves_maps given.now policy.now }
 {
     given.maps.is_none() && !policy.form.shapes.is_empty()
 }
 
-/// Answers whether the text has the second version, and the options none.
+/// Whether the text has the second version, and the options none.
 fn leaves_format(given: &Head, policy: &PolicySource) -> bool
     ensures { result ≡ leaves_format given.now policy.now }
 {

@@ -6,7 +6,7 @@ use crate::maps_words::maps_words;
 use bq_policy_file::{Options, OptionsFault};
 use std::alloc::{AllocError, Global};
 
-/// Answers one line on what is wrong with the options of `asm`, without its end; None if they ask for a form.
+/// One line on what is wrong with the options of `asm`, without its end; None if they ask for a form.
 ///
 /// ```text
 /// --maps: part 1 "7:2": the size of a value is 8 to 256, a multiple of 8 (got 7)

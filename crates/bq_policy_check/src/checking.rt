@@ -21,7 +21,7 @@ use bq_explain::{Explanation, Limits, explain, explanation_text, judge, verdict_
 use bq_policy_file::{Head, PolicyFault, PolicySource, read_policy};
 use std::alloc::{AllocError, Global};
 
-/// Answers the verdict on the policy whose file has that name and these bytes, or why the file is no policy. Words are refused
+/// The verdict on the policy whose file has that name and these bytes, or why the file is no policy. Words are refused
 /// only if they say no head or no limits. Standard input has no name.
 pub fn check(
     alloc: Global,
@@ -155,7 +155,7 @@ fn reasoned_refusal(
     Ok(text)
 }
 
-/// Answers an explanation, in words or as JSON. In words it ends with the line of C, if the text names one.
+/// An explanation, in words or as JSON. In words it ends with the line of C, if the text names one.
 fn shown(
     alloc: Global,
     words: &CheckWords,

@@ -20,7 +20,7 @@ pub const HOOK_WORDS: &str = with_hooks!("");
 /// What the value of `--format` is.
 pub const FORMAT: &str = with_versions!("a format is ");
 
-/// Answers what the words say beside the file. They are refused only if they say no head.
+/// What the words say beside the file. They are refused only if they say no head.
 pub fn given_head(alloc: Global, words: &PolicyWords) -> Result<Head, WordsFault>
     ensures gives { IfOk result (GivesHead words.now) }
     ensures none { IfErr result (GivesNone (GivesHead words.now)) }

@@ -85,7 +85,7 @@ fn put_refusal(
     put_number(fields, alloc, "slot", slot as u64)
 }
 
-/// Answers the fields for an accepted policy: its maps, and what it uses.
+/// The fields for an accepted policy: its maps, and what it uses.
 pub(crate) fn fields_of_summary(
     alloc: Global,
     policy: &PolicySource,
@@ -101,7 +101,7 @@ pub(crate) fn fields_of_summary(
     Ok(fields)
 }
 
-/// Answers the fields for a policy that the verifier refuses: the cause in words, the instruction, the need, what is known,
+/// The fields for a policy that the verifier refuses: the cause in words, the instruction, the need, what is known,
 /// where that comes from, and what helps.
 pub(crate) fn fields_of_refusal(
     alloc: Global,
@@ -123,7 +123,7 @@ pub(crate) fn fields_of_refusal(
     Ok(fields)
 }
 
-/// Answers the fields for a policy that exceeds a limit: the place of a call that is not allowed.
+/// The fields for a policy that exceeds a limit: the place of a call that is not allowed.
 pub(crate) fn fields_of_limit(
     alloc: Global,
     place: &Option<Place>,
@@ -188,7 +188,7 @@ pub(crate) fn number_value(number: Option<usize>) -> Value {
     }
 }
 
-/// Answers what is known of each register, by its name; null if nothing is known before the instruction.
+/// What is known of each register, by its name; null if nothing is known before the instruction.
 fn registers_value(
     alloc: Global,
     shapes: &[MapShape],

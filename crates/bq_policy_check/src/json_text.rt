@@ -93,7 +93,7 @@ pub(crate) fn name_text(alloc: Global, name: Option<&str>) -> Result<Option<Stri
     }
 }
 
-/// Answers the first line of a text, and the rest after it.
+/// The first line of a text, and the rest after it.
 fn first_line(text: &str) -> (&str, &str)
     ensures { result.0.now ≡ first_line text.now }
 {

@@ -26,7 +26,7 @@ const HOOKS: &str = with_hooks!("each is one of ", ", with commas between them")
 /// What a list of helpers is.
 const HELPERS: &str = with_helpers!("each is the number of a helper, with commas between them: ");
 
-/// Answers the limits that the words set. They are refused only if they set none.
+/// The limits that the words set. They are refused only if they set none.
 pub fn limits_of(alloc: Global, words: &LimitWords) -> Result<Limits, WordsFault>
     ensures has { IfOk result (HasLimits words.now) }
     ensures none { IfErr result (GivesNone (HasLimits words.now)) }
@@ -108,7 +108,7 @@ fn hooks_of(alloc: Global, text: &str) -> Result<Option<Vec<Hook>>, AllocError>
     Ok(None)
 }
 
-/// Adds the hooks of a comma-separated text, up to the first part that is no hook. Answers whether all parts are hooks.
+/// Adds the hooks of a comma-separated text, up to the first part that is no hook. Returns whether all parts are hooks.
 fn push_hooks(hooks: &mut Vec<Hook>, text: &str) -> Result<bool, AllocError>
     requires { hooks.old.items ≡ [] }
     ensures { IfOk result (λ all. MatchBool all (AllZip IsHook (parts 44 text.now) hooks.new.items) ((hooks : List Place) → ¬ AllZip IsHook (parts 44 text.now) hooks)) }
@@ -161,7 +161,7 @@ fn numbers_of(alloc: Global, text: &str) -> Result<Option<Vec<i32>>, AllocError>
     Ok(None)
 }
 
-/// Adds the helpers of a comma-separated text, up to the first part that is no helper's number. Answers whether all parts are.
+/// Adds the helpers of a comma-separated text, up to the first part that is no helper's number. Returns whether all parts are.
 fn push_numbers(numbers: &mut Vec<i32>, text: &str) -> Result<bool, AllocError>
     requires { numbers.old.items ≡ [] }
     ensures { IfOk result (λ all. MatchBool all (AllZip IsHelperWord (parts 44 text.now) numbers.new.items) ((helpers : List ℤ) → ¬ AllZip IsHelperWord (parts 44 text.now) helpers)) }

@@ -7,14 +7,14 @@ ghost use Rattle.bq_policy_check.specs.Refusing.{RefusesPolicy};
 use crate::answered::Answered;
 use crate::given::given_head;
 use crate::reasons::{Reason, fault_line, reason_of, reason_text};
-use crate::words::ListWords;
+use crate::words::DisWords;
 use bq_console::{WordsFault, file_named};
 use bq_policy_file::{Head, PolicyFault, policy_text, read_policy};
 use std::alloc::{AllocError, Global};
 
-/// Answers the listing of the policy whose file has these bytes, under the marks that say its hook, maps and version. Words are
+/// The listing of the policy whose file has these bytes, under the marks that say its hook, maps and version. Words are
 /// refused only if they say no head.
-pub fn list(alloc: Global, words: &ListWords, bytes: &[u8]) -> Result<Answered, AllocError>
+pub fn list(alloc: Global, words: &DisWords, bytes: &[u8]) -> Result<Answered, AllocError>
     ensures { IfOk result (ListsTo words.now bytes.now) }
 {
     match given_head(alloc, &words.policy) {
@@ -26,7 +26,7 @@ pub fn list(alloc: Global, words: &ListWords, bytes: &[u8]) -> Result<Answered, 
 
 fn list_file(
     alloc: Global,
-    words: &ListWords,
+    words: &DisWords,
     bytes: &[u8],
     head: &Head,
 ) -> Result<Answered, AllocError>
@@ -59,7 +59,7 @@ pub fn refused_file(
     reasoned(alloc, file_named(file), &reason, &line)
 }
 
-/// Answers a line that refuses a file, and the reason after it.
+/// A line that refuses a file, and the reason after it.
 pub(crate) fn reasoned(
     alloc: Global,
     name: Option<&str>,

@@ -25,7 +25,7 @@ fn many_words(alloc: Global, number: usize) -> Result<String, AllocError> {
     format!(in alloc; "{number} maps; a program has {MAPS} at most")
 }
 
-/// Answers whether a text names maps.
+/// Whether a text names maps.
 fn is_maps(alloc: Global, text: &str) -> Result<bool, AllocError> {
     Ok(shapes_of(alloc, text.as_bytes())?.is_some())
 }

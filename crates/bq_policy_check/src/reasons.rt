@@ -60,7 +60,7 @@ fn at_line(line: usize, why: String) -> Reason {
     }
 }
 
-/// Answers whether the file of these bytes is an object file.
+/// Whether the file of these bytes is an object file.
 fn is_object(bytes: &[u8]) -> bool {
     bytes.starts_with(b"\x7fELF")
 }
@@ -113,7 +113,7 @@ pub fn fault_reason(alloc: Global, bytes: &[u8], fault: PolicyFault) -> Result<S
     reason_text(alloc, None, &reason)
 }
 
-/// Answers the reason after the file's name, if there is one: `p.s line 3: why`, `p.s: why`.
+/// The reason after the file's name, if there is one: `p.s line 3: why`, `p.s: why`.
 pub(crate) fn reason_text(
     alloc: Global,
     name: Option<&str>,
@@ -128,7 +128,7 @@ pub(crate) fn reason_text(
     }
 }
 
-/// Answers the reason after the file's name and its place, unless the place is the whole file.
+/// The reason after the file's name and its place, unless the place is the whole file.
 fn named_text(alloc: Global, name: Name<'_>, at: &str, why: &str) -> Result<String, AllocError> {
     if at.is_empty() {
         return format!(in alloc; "{name}: {why}");
@@ -180,7 +180,7 @@ fn slot_value(fault: PolicyFault) -> Value
     }
 }
 
-/// Answers which part of the program refuses the file.
+/// Which part of the program refuses the file.
 fn stage_of(fault: PolicyFault) -> &'static str
     ensures { result.now ≡ stage_of fault }
 {

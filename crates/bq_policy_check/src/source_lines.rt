@@ -4,7 +4,7 @@ use bq_explain::{Detail, Explanation};
 use std::alloc::{AllocError, Global};
 use std::str::from_utf8;
 
-/// Answers what an explanation says of the line of C; empty if no comment above the instruction names one.
+/// What an explanation says of the line of C; empty if no comment above the instruction names one.
 pub(crate) fn source_text(
     alloc: Global,
     file: &[u8],
@@ -32,7 +32,7 @@ fn source_of<'a>(file: &'a [u8], explanation: &Explanation) -> Option<&'a str> {
     source
 }
 
-/// Answers the line of the text that has the instruction at fault.
+/// The line of the text that has the instruction at fault.
 fn line_at_fault(explanation: &Explanation) -> Option<usize> {
     match &explanation.detail {
         Detail::Refused(refusal) => refusal.place.line,

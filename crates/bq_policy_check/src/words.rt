@@ -79,7 +79,7 @@ pub struct RunWords {
 
 /// The words after `dis`.
 #[derive(Drop)]
-pub struct ListWords {
+pub struct DisWords {
     pub policy: PolicyWords,
     /// Whether each instruction has its slot and its bytes beside it.
     pub has_slots: bool,

@@ -8,7 +8,7 @@ use crate::form::ProgramForm;
 use bq_asm::{AsmFault, assemble};
 use std::alloc::{AllocError, Global};
 
-/// Answers the lower-case hex of the program to which an assembler text assembles, in this form, and LF; otherwise why the text
+/// The lower-case hex of the program to which an assembler text assembles, in this form, and LF; otherwise why the text
 /// is refused.
 pub fn assembled(alloc: Global, form: &ProgramForm, text: &[u8]) -> Result<Answer, AllocError>
     ensures { IfOk result (λ a. AsmWrites form.now text.now a.accepted (string_bytes a.text)) }

@@ -4,7 +4,7 @@ ghost use Rattle.bq_policy_file.specs.HexText.{IsNoHex, SpellsBytes, digits_in, 
 
 use std::alloc::{AllocError, Global};
 
-/// Answers the bytes that a hex text spells; None if it is no hex. Blanks and line ends in the text are dropped.
+/// The bytes that a hex text spells; None if it is no hex. Blanks and line ends in the text are dropped.
 pub fn bytes_of(alloc: Global, text: &[u8]) -> Result<Option<Vec<u8>>, AllocError>
     ensures { IfOk result (λ read. MatchOption read (IsNoHex text.now) (λ bytes. SpellsBytes text.now bytes.items)) }
 {

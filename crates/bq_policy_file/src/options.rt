@@ -56,7 +56,7 @@ impl From<AllocError> for OptionsFault {
 }
 
 impl Options {
-    /// Answers the form that the options ask for. If both faults are there, the error is `Maps`.
+    /// The form that the options ask for. If both faults are there, the error is `Maps`.
     pub fn form(&self, alloc: Global) -> Result<ProgramForm, OptionsFault>
         ensures ok { IfOk result (AsksForForm self.now) }
         ensures err { IfErr result (HasOptionsFault self.now) }
@@ -78,7 +78,7 @@ impl Options {
         }))
     }
 
-    /// Answers the form without a hook. No other option may be given beside it.
+    /// The form without a hook. No other option may be given beside it.
     fn program_alone(&self) -> Result<ProgramForm, OptionsFault>
         requires { self.now.hook ≡ None }
         ensures ok { IfOk result (AsksForForm self.now) }
@@ -94,7 +94,7 @@ impl Options {
     }
 }
 
-/// Answers the line that refuses options, for their fault. If memory runs out, that is the error.
+/// The line that refuses options, for their fault. If memory runs out, that is the error.
 pub fn refused_options(alloc: Global, fault: OptionsFault) -> Result<Answer, AllocError>
     ensures line { IfOk result (λ a. (o : Options) → HasOptionsFault o fault → RefusesOptions o (string_bytes a.text)) }
     ensures refused { IfOk result (λ a. a.accepted ≡ false) }

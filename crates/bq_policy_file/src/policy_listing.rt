@@ -14,7 +14,7 @@ use bq_insn::Insn;
 use bq_insn::encode::encode;
 use std::alloc::{AllocError, Global};
 
-/// Answers the marks of a policy and its instructions, each with its slot and its bytes in a comment if that is asked for. Read
+/// The marks of a policy and its instructions, each with its slot and its bytes in a comment if that is asked for. Read
 /// again, that text is the policy.
 pub fn policy_text(
     alloc: Global,
@@ -38,7 +38,7 @@ fn marked(alloc: Global, policy: &PolicySource, has_slots: bool) -> Result<Strin
     format!(in alloc; "{marks}{lines}")
 }
 
-/// Answers the listing, with slots and bytes if that is asked for.
+/// The listing, with slots and bytes if that is asked for.
 fn program_text(alloc: Global, insns: &[Insn], has_slots: bool) -> Result<String, AllocError>
     requires whole { is_well_formed insns.now ≡ true }
     requires numbers { AllFit insns.now }

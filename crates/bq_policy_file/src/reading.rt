@@ -16,7 +16,7 @@ use bq_insn::decode::decode;
 use bq_load::{Image, read_image};
 use std::alloc::{AllocError, Global};
 
-/// Answers the policy that a file holds: an image, the hex of one, or an assembler text whose marks say what it is. What is
+/// The policy that a file holds: an image, the hex of one, or an assembler text whose marks say what it is. What is
 /// given beside the file must agree with it, and says of a text what the marks leave out.
 pub fn read_policy(alloc: Global, bytes: &[u8], given: &Head) -> Result<PolicySource, PolicyFault>
     ensures policy { IfOk result (IsPolicy bytes.now given.now) }

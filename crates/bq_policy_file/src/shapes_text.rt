@@ -16,7 +16,7 @@ pub const SHAPES_FORM: &str = with_map_limits!(
     ", with commas between and no blanks"
 );
 
-/// Answers the shapes that the text names, as `8:2,16:4` does: the size of a value and the number of entries. None if it names
+/// The shapes that the text names, as `8:2,16:4` does: the size of a value and the number of entries. None if it names
 /// more than 8, or one that is not within its limits, or is of another form.
 pub fn shapes_of(alloc: Global, text: &[u8]) -> Result<Option<Vec<MapShape>>, AllocError>
     ensures { IfOk result (λ named. MatchOption named (NamesNoShapes text.now) (λ shapes. NamesShapes text.now shapes.items)) }
@@ -50,7 +50,7 @@ fn shape_of(text: &[u8]) -> Option<MapShape>
     MapShape::new(number(size)?, number(entries)?)
 }
 
-/// Answers the part before the first such byte, and the text after that byte, if there is one.
+/// The part before the first such byte, and the text after that byte, if there is one.
 fn cut(text: &[u8], mark: u8) -> (&[u8], Option<&[u8]>)
     ensures { parts mark text.now ≡ result.0.now ∷ parts_after mark result.1 }
 {
@@ -61,7 +61,7 @@ fn cut(text: &[u8], mark: u8) -> (&[u8], Option<&[u8]>)
     (&text[..len], Some(&text[len + 1..]))
 }
 
-/// Answers how many bytes come before the first such byte, or before the end.
+/// How many bytes come before the first such byte, or before the end.
 fn part_len(text: &[u8], mark: u8) -> usize
     ensures { IsPartLen mark text.now result }
 {

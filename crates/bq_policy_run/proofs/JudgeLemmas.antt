@@ -8,7 +8,7 @@ use Rattle.bq_hooks.specs.declared.hook.Version.{Version}
 use Rattle.bq_hooks.specs.declared.hook.Version.TheVariants.{First, Second}
 use Rattle.bq_policy_run.specs.declared.permitted.Permission.{Permission}
 use Rattle.bq_policy_run.specs.declared.permitted.Permission.TheVariants.{Permitted, NotPermitted, NotShown}
-use Rattle.bq_policy_run.specs.Permitting.{place_permits, permission_word}
+use Rattle.bq_policy_run.specs.Permitting.{place_permits, permission_of}
 use Rattle.bq_policy_run.specs.Judging.{BeginsWithWord, word_begins}
 
 -- a text that begins with the word
@@ -35,32 +35,32 @@ by_test false h = cc
 
 -- on a place
 pub judged_place : (hook : Hook) (context : List ℕ) (r0 : ℕ) (word : Permission) (text : List ℕ)
-    → hook ≡ Place → ((v : Version) → length context ≡ context_length_of hook v → word ≡ permission_word hook context r0)
+    → hook ≡ Place → ((v : Version) → length context ≡ context_length_of hook v → word ≡ permission_of hook context r0)
     → (36 ≤ length context → word ≢ NotShown → BeginsWithWord word text)
     → (v : Version) → length context ≡ context_length_of hook v
-    → BeginsWithWord (permission_word hook context r0) text
+    → BeginsWithWord (permission_of hook context r0) text
 judged_place hook context r0 word text at is reported v h =
-    let e : word ≡ permission_word hook context r0 = is v h in
-    let placed : word ≡ permission_word Place context r0 = e ∙ ap (λ (k : Hook). permission_word k context r0) at in
+    let e : word ≡ permission_of hook context r0 = is v h in
+    let placed : word ≡ permission_of Place context r0 = e ∙ ap (λ (k : Hook). permission_of k context r0) at in
     let long = place_long v (length context) (subst (λ (k : Hook). length context ≡ context_length_of k v) at h) in
     subst (λ (w : Permission). BeginsWithWord w text) e
     (reported long (subst (λ (w : Permission). w ≢ NotShown) (sym placed) (by_test (place_permits context r0))))
 
 -- on whether the current task gives way
 pub judged_preempt : (hook : Hook) (context : List ℕ) (r0 : ℕ) (word : Permission) (text shown : List ℕ)
-    → hook ≡ Preempt → ((v : Version) → length context ≡ context_length_of hook v → word ≡ permission_word hook context r0)
+    → hook ≡ Preempt → ((v : Version) → length context ≡ context_length_of hook v → word ≡ permission_of hook context r0)
     → (word ≢ NotShown → BeginsWithWord word shown) → text ≡ shown → (v : Version) → length context ≡ context_length_of hook v
-    → BeginsWithWord (permission_word hook context r0) text
+    → BeginsWithWord (permission_of hook context r0) text
 judged_preempt hook context r0 word text shown at is reported same v h =
-    let e : word ≡ permission_word hook context r0 = is v h in
-    let asked : word ≡ permission_word Preempt context r0 = e ∙ ap (λ (k : Hook). permission_word k context r0) at in
-    subst (λ (t : List ℕ). BeginsWithWord (permission_word hook context r0) t) (sym same)
+    let e : word ≡ permission_of hook context r0 = is v h in
+    let asked : word ≡ permission_of Preempt context r0 = e ∙ ap (λ (k : Hook). permission_of k context r0) at in
+    subst (λ (t : List ℕ). BeginsWithWord (permission_of hook context r0) t) (sym same)
     (subst (λ (w : Permission). BeginsWithWord w shown) e
     (reported (subst (λ (w : Permission). w ≢ NotShown) (sym asked) (by_test (nat_lt r0 2)))))
 
 -- on a task to take
 pub judged_pull : (hook : Hook) (context : List ℕ) (r0 : ℕ) (word : Permission) (text : List ℕ)
-    → ((v : Version) → length context ≡ context_length_of hook v → word ≡ permission_word hook context r0) → BeginsWithWord word text
+    → ((v : Version) → length context ≡ context_length_of hook v → word ≡ permission_of hook context r0) → BeginsWithWord word text
     → (v : Version) → length context ≡ context_length_of hook v
-    → BeginsWithWord (permission_word hook context r0) text
+    → BeginsWithWord (permission_of hook context r0) text
 judged_pull hook context r0 word text is reported v h = subst (λ (w : Permission). BeginsWithWord w text) (is v h) reported

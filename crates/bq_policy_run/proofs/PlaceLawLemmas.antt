@@ -13,7 +13,7 @@ use Rattle.bq_disc.specs.Masks.{allows}
 use Rattle.bq_hooks.specs.Permitted.{may_place, may_preempt}
 use Rattle.bq_policy_run.specs.declared.permitted.Permission.TheVariants.{Permitted, NotPermitted}
 use Rattle.bq_policy_run.specs.PermittingLaw.{IsPermissionOn}
-use Rattle.bq_policy_run.specs.Permitting.{context_number, place_permits, place_word, preempt_word}
+use Rattle.bq_policy_run.specs.Permitting.{context_number, place_permits, place_permission, preempt_permission}
 
 -- a context shows as many processors as there are below its limit
 count_shown : (limit : ℕ) (f : PlaceFacts) → limit ≤ 64 → context_number (place_bytes_below limit f) 32 ≡ min f.processors limit
@@ -73,7 +73,7 @@ word_by_test false = refl
 
 -- the word on a place is the rule's, if the context shows that processor or the whole machine
 pub place_is_rules : (limit : ℕ) (f : PlaceFacts) (r0 : ℕ) → limit ≤ 64 → (r0 < limit) ⊎ (f.processors ≤ limit)
-    → IsPermissionOn (may_place f.processors f.task r0) (place_word (place_bytes_below limit f) r0)
+    → IsPermissionOn (may_place f.processors f.task r0) (place_permission (place_bytes_below limit f) r0)
 place_is_rules limit f r0 h t =
     let same : place_permits (place_bytes_below limit f) r0 ≡ may_place f.processors f.task r0 =
     permits_is limit f r0 h ∙ ap (λ b. b && allows f.task.mask r0) (test_of_limit limit f.processors r0 t) in
@@ -86,7 +86,7 @@ is_permitted false h = cc
 
 -- what the context permits is a processor that it shows
 pub place_permitted : (limit : ℕ) (f : PlaceFacts) (r0 : ℕ) → limit ≤ 64
-    → place_word (place_bytes_below limit f) r0 ≡ Permitted
+    → place_permission (place_bytes_below limit f) r0 ≡ Permitted
     → may_place f.processors f.task r0 ≡ true
 place_permitted limit f r0 h e =
     let count = min f.processors limit in
@@ -97,5 +97,5 @@ place_permitted limit f r0 h e =
     subst (IsPermissionOn (may_place f.processors f.task r0)) e (place_is_rules limit f r0 h (inl below))
 
 -- the word on a preemption is the rule's
-pub preempt_is_rules : (r0 : ℕ) → IsPermissionOn (may_preempt r0) (preempt_word r0)
+pub preempt_is_rules : (r0 : ℕ) → IsPermissionOn (may_preempt r0) (preempt_permission r0)
 preempt_is_rules r0 = word_by_test (may_preempt r0)

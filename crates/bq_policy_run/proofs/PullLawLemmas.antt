@@ -14,7 +14,7 @@ use Rattle.bq_hooks.specs.Permitted.{may_pull}
 use Rattle.bq_policy_run.specs.declared.permitted.Permission.{Permission}
 use Rattle.bq_policy_run.specs.declared.permitted.Permission.TheVariants.{Permitted, NotPermitted, NotShown}
 use Rattle.bq_policy_run.specs.PermittingLaw.{IsPermissionOn, IsPullFrom}
-use Rattle.bq_policy_run.specs.Permitting.{context_number, shown_ids, shows_task, hides_tasks, pull_word}
+use Rattle.bq_policy_run.specs.Permitting.{context_number, shown_ids, shows_task, hides_tasks, pull_permission}
 use Rattle.bq_policy_run.proofs.MovableIdLemmas.{any_movable, movable_small, AreSmall}
 use Rattle.bq_policy_run.proofs.PieceLemmas.{tasks_hold}
 
@@ -95,7 +95,7 @@ word_is_rules false false false r0 xs n s h =
 
 -- the word on a pull is the rule's, or that the task is not shown
 pub pull_is_rules : (queue : List Task) (f : PullFacts) (r0 : ℕ)
-    → IsPullFrom queue f → IsPermissionOn (may_pull f.puller queue r0) (pull_word (pull_bytes f) r0)
+    → IsPullFrom queue f → IsPermissionOn (may_pull f.puller queue r0) (pull_permission (pull_bytes f) r0)
 pull_is_rules queue f r0 h =
     let small : AreSmall f.movable = subst AreSmall (sym h.movable) (movable_small f.puller queue h.small) in
     let may : list_any (λ id. id == r0) (ids f.movable) ≡ is_movable_to f.puller r0 queue =
@@ -105,7 +105,7 @@ pull_is_rules queue f r0 h =
     ap (list_any (λ id. id == r0)) (sym (shown_are f small)) in
     let hides : nat_lt (min (length (ids f.movable)) 8) (length (ids f.movable)) ≡ hides_tasks (pull_bytes f) =
     ap (λ n. nat_lt (min n 8) n) long ∙ sym (hidden_are f h.few) in
-    subst (λ b. IsPermissionOn ((r0 == nobody) || b) (pull_word (pull_bytes f) r0)) may
+    subst (λ b. IsPermissionOn ((r0 == nobody) || b) (pull_permission (pull_bytes f) r0)) may
     (word_is_rules (r0 == nobody) (shows_task (pull_bytes f) r0) (hides_tasks (pull_bytes f)) r0 (ids f.movable) refl shown hides)
 
 is_not_shown : (none shown hides : Bool) → word_by none shown hides ≡ NotShown → hides ≡ true
@@ -115,7 +115,7 @@ is_not_shown false false true h = refl
 is_not_shown false false false h = cc
 
 -- a task is said not to be shown only where more than eight may go
-pub not_shown : (queue : List Task) (f : PullFacts) (r0 : ℕ) → IsPullFrom queue f → pull_word (pull_bytes f) r0 ≡ NotShown
+pub not_shown : (queue : List Task) (f : PullFacts) (r0 : ℕ) → IsPullFrom queue f → pull_permission (pull_bytes f) r0 ≡ NotShown
     → 8 < length f.movable
 not_shown queue f r0 h e =
     let hides : nat_lt (min (length f.movable) 8) (length f.movable) ≡ true =

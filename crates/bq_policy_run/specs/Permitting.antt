@@ -36,20 +36,20 @@ abbrev pub hides_tasks : List ℕ → Bool
 hides_tasks context = nat_lt (context_number context 20) (context_number context 16)
 
 -- a processor that the context shows, in the mask
-abbrev pub place_word : List ℕ → ℕ → Permission
-place_word context r0 = if place_permits context r0 then Permitted else NotPermitted
+abbrev pub place_permission : List ℕ → ℕ → Permission
+place_permission context r0 = if place_permits context r0 then Permitted else NotPermitted
 
 -- the answer decides
-abbrev pub preempt_word : ℕ → Permission
-preempt_word r0 = if may_preempt r0 then Permitted else NotPermitted
+abbrev pub preempt_permission : ℕ → Permission
+preempt_permission r0 = if may_preempt r0 then Permitted else NotPermitted
 
 -- permitted: no task, or one that is shown. Another may be movable only if not all movable tasks are shown
-abbrev pub pull_word : List ℕ → ℕ → Permission
-pull_word context r0 =
+abbrev pub pull_permission : List ℕ → ℕ → Permission
+pull_permission context r0 =
     if r0 == nobody || shows_task context r0 then Permitted else if hides_tasks context then NotShown else NotPermitted
 
 -- the word on an answer, for a context of the hook
-abbrev pub permission_word : Hook → List ℕ → ℕ → Permission
-permission_word Place context r0 = place_word context r0
-permission_word Preempt context r0 = preempt_word r0
-permission_word Pull context r0 = pull_word context r0
+abbrev pub permission_of : Hook → List ℕ → ℕ → Permission
+permission_of Place context r0 = place_permission context r0
+permission_of Preempt context r0 = preempt_permission r0
+permission_of Pull context r0 = pull_permission context r0

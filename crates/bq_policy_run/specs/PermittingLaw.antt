@@ -8,7 +8,7 @@ use Rattle.bq_hooks.specs.Permitted.{may_place, may_preempt, may_pull}
 use Rattle.bq_hooks.specs.declared.hook.Hook.TheVariants.{Place, Preempt, Pull}
 use Rattle.bq_policy_run.specs.declared.permitted.Permission.{Permission}
 use Rattle.bq_policy_run.specs.declared.permitted.Permission.TheVariants.{Permitted, NotPermitted, NotShown}
-use Rattle.bq_policy_run.specs.Permitting.{permission_word}
+use Rattle.bq_policy_run.specs.Permitting.{permission_of}
 
 -- whether the rule permits the answer, and the word on it: of an answer that is not shown the word says neither
 abbrev pub IsPermissionOn : Bool → Permission → Type 0
@@ -28,8 +28,8 @@ pub record IsPullFrom (queue : List Task) (f : PullFacts) : Type 0 where
 -- word is the rule's; for a pull policy it is left open only if more than eight tasks are movable
 pub record WordsAreTheRules : Type 0 where
   pub place : (limit : ℕ) (f : PlaceFacts) (r0 : ℕ) → limit ≤ 64 → (r0 < limit) ⊎ (f.processors ≤ limit) →
-      IsPermissionOn (may_place f.processors f.task r0) (permission_word Place (place_bytes_below limit f) r0)
-  pub place_permitted : (limit : ℕ) (f : PlaceFacts) (r0 : ℕ) → limit ≤ 64 → permission_word Place (place_bytes_below limit f) r0 ≡ Permitted → may_place f.processors f.task r0 ≡ true
-  pub preempt : (f : PreemptFacts) (r0 : ℕ) → IsPermissionOn (may_preempt r0) (permission_word Preempt (preempt_bytes f) r0)
-  pub pull : (queue : List Task) (f : PullFacts) (r0 : ℕ) → IsPullFrom queue f → IsPermissionOn (may_pull f.puller queue r0) (permission_word Pull (pull_bytes f) r0)
-  pub not_shown : (queue : List Task) (f : PullFacts) (r0 : ℕ) → IsPullFrom queue f → permission_word Pull (pull_bytes f) r0 ≡ NotShown → 8 < length f.movable
+      IsPermissionOn (may_place f.processors f.task r0) (permission_of Place (place_bytes_below limit f) r0)
+  pub place_permitted : (limit : ℕ) (f : PlaceFacts) (r0 : ℕ) → limit ≤ 64 → permission_of Place (place_bytes_below limit f) r0 ≡ Permitted → may_place f.processors f.task r0 ≡ true
+  pub preempt : (f : PreemptFacts) (r0 : ℕ) → IsPermissionOn (may_preempt r0) (permission_of Preempt (preempt_bytes f) r0)
+  pub pull : (queue : List Task) (f : PullFacts) (r0 : ℕ) → IsPullFrom queue f → IsPermissionOn (may_pull f.puller queue r0) (permission_of Pull (pull_bytes f) r0)
+  pub not_shown : (queue : List Task) (f : PullFacts) (r0 : ℕ) → IsPullFrom queue f → permission_of Pull (pull_bytes f) r0 ≡ NotShown → 8 < length f.movable

@@ -17,7 +17,7 @@ use Rattle.bq_interp.specs.Progress.{setting_of}
 use Rattle.bq_interp.specs.Snapshots.{AreSnapshots}
 use Rattle.bq_policy_run.specs.Changes.{calls_text, changes_text, with_all}
 use Rattle.bq_policy_run.specs.Naming.{AreZeroMaps, IsContextNamed, SetsCounter, SetsEntry, SetsFields, TextsInTurn}
-use Rattle.bq_policy_run.specs.Permitting.{permission_word}
+use Rattle.bq_policy_run.specs.Permitting.{permission_of}
 use Rattle.bq_policy_run.specs.Runs.{AreRuns, IsRun, PersistentState, kept_in}
 use Rattle.bq_verify.specs.declared.cause.Cause.{Cause}
 use Rattle.bq_verify.specs.Accepted.{Accepted}
@@ -93,7 +93,7 @@ changed_text maps now calls = changes_text maps (with_all maps now) ++ calls_tex
 -- and at the end how long runs take
 pub record ReportsRun (program : Accepted) (context : List ℕ) (answer steps : ℕ) (executed changed timing text : List ℕ) : Type 0 where
   pub judged : List ℕ
-  pub word : BeginsWithWord (permission_word program.hook context answer) judged
+  pub word : BeginsWithWord (permission_of program.hook context answer) judged
   pub text_is : text ≡ answer_line answer judged steps program.budget ++ (executed ++ (changed ++ timing))
 
 -- the number of runs before the last, of as many runs as the word says

@@ -51,7 +51,7 @@ fn write_map(
     Ok(())
 }
 
-/// Answers how many entries the map of that number has; 0 if no map has that number.
+/// How many entries the map of that number has; 0 if no map has that number.
 fn entries(maps: &Maps, number: usize) -> u32
     ensures { result ≡ entries_in (slice_get maps.now.shapes number) }
 {
@@ -80,7 +80,7 @@ fn write_change(
     write_entry(alloc, number, entry, bytes, text)
 }
 
-/// Answers the bytes that an entry had before, as far as the bytes of its map are there.
+/// The bytes that an entry had before, as far as the bytes of its map are there.
 fn entry_before<'a>(before: &'a [Vec<u8>], maps: &Maps, number: usize, entry: u32) -> &'a [u8]
     requires { HasEntry maps.now number entry }
     ensures { result.now ≡ entry_of (with_all maps.now (map (λ v. v.items) before.now)) number entry }

@@ -122,7 +122,7 @@ const PULL: [FieldRow; 10] = [
     several!("v", 40, Eight, apart 16, count 8),
 ];
 
-/// Answers the field of that name. If the field comes several times, the name has a dot and the number.
+/// The field of that name. If the field comes several times, the name has a dot and the number.
 pub(crate) fn field_named(hook: Hook, version: Version, name: &str) -> Option<Field>
     ensures some { IfSome result (IsField hook version name.now) }
     ensures none { IfNone result ((field : OfField) → ¬ IsField hook version name.now field) }
@@ -146,7 +146,7 @@ fn field_by(hook: Hook, name: &str) -> Option<Field>
     }
 }
 
-/// Answers the field of that name, if it comes once.
+/// The field of that name, if it comes once.
 fn by_name(hook: Hook, name: &str) -> Option<Field>
     ensures some { IfSome result (GoesByName hook name.now) }
     ensures none { IfNone result ((field : OfField) → ¬ GoesByName hook name.now field) }
@@ -191,7 +191,7 @@ fn first_named(rows: &[FieldRow], name: &str) -> Option<FieldRow>
     rows.iter().copied().find(|row| row.name == name)
 }
 
-/// Answers the field of a row, if it comes once.
+/// The field of a row, if it comes once.
 fn single(row: FieldRow) -> Option<Field>
     ensures some { IfSome result (IsSingle (field_of_row row)) }
     ensures none { IfNone result ((field : OfField) → ¬ IsSingle (field_of_row row) field) }
@@ -205,7 +205,7 @@ fn single(row: FieldRow) -> Option<Field>
     })
 }
 
-/// Answers the field of that number of a row, if the row's field comes several times.
+/// The field of that number of a row, if the row's field comes several times.
 fn numbered(row: FieldRow, number: usize) -> Option<Field>
     ensures some { IfSome result (IsNumbered (field_of_row row) number) }
     ensures none { IfNone result ((field : OfField) → field.at < 2 ^ 64 → ¬ IsNumbered (field_of_row row) number field) }

@@ -25,6 +25,6 @@ mod word_text;
 pub use changes::{copied, write_calls, write_changes};
 pub use fields::{Field, FieldWidth};
 pub use inputs::{Inputs, inputs_of};
-pub use one_run::{RunOutcome, run_often, run_once, trace_once};
-pub use permitted::{PLACE_SHOWN, Permission, place_shown, word_on};
+pub use one_run::{run_often, run_once, trace_once};
+pub use permitted::{PLACE_SHOWN, Permission, permission_of, place_shown};
 pub use running::run;

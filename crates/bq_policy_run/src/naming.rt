@@ -25,7 +25,7 @@ const TIME: &str = with_units!(
 /// What the number of a processor is.
 const PROCESSOR: &str = with_32_bits!("a processor is a whole number below ", "");
 
-/// Answers the inputs that the words name; all others are 0. Words are refused only if they name no inputs.
+/// The inputs that the words name; all others are 0. Words are refused only if they name no inputs.
 pub(crate) fn inputs_named(
     alloc: Global,
     words: &RunWords,

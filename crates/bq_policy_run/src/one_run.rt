@@ -13,9 +13,8 @@ use bq_verify::Verified;
 use std::alloc::AllocError;
 
 /// What a run answered and took.
-pub type RunOutcome = Ran;
 
-/// Answers whether the context has the length of the program's hook and version, and the maps have its shapes.
+/// Whether the context has the length of the program's hook and version, and the maps have its shapes.
 fn fits(verified: &Verified, inputs: &Inputs) -> bool
     ensures { IsTrue result ↔ FitsProgram verified.now inputs.now }
 {
@@ -25,7 +24,7 @@ fn fits(verified: &Verified, inputs: &Inputs) -> bool
 
 /// Runs the program once on the inputs, and leaves their maps and counters as the run does. None if the context has not the length
 /// of the program's hook and version, or the maps are of other shapes: then all is left as it was.
-pub fn run_once(verified: &Verified, inputs: &mut Inputs) -> Option<RunOutcome>
+pub fn run_once(verified: &Verified, inputs: &mut Inputs) -> Option<Ran>
     ensures run { IfSome result (λ r. IsRunOn verified.now inputs.old r inputs.new) }
     ensures fits { IfSome result (λ _. FitsProgram verified.now inputs.old) }
     ensures none { IfNone result (¬ FitsProgram verified.now inputs.old) }
@@ -74,7 +73,7 @@ pub fn trace_once(
     verified: &Verified,
     inputs: &mut Inputs,
     snapshots: &mut Vec<Snapshot>,
-) -> Result<Option<RunOutcome>, AllocError>
+) -> Result<Option<Ran>, AllocError>
     requires { snapshots.old.items ≡ [] }
     ensures run { IfOk result (λ o. IfSome o (λ r. IsRunOn verified.now inputs.old r inputs.new)) }
     ensures snapshots { IfOk result (λ o. IfSome o (λ r. AreSnapshots (setting_on verified.now inputs.old) (start inputs.old.maps.bytes) r.calls.items 0 snapshots.new.items)) }

@@ -1,7 +1,7 @@
 //! Decides whether the rule permits an answer, by what the context shows.
 ghost use Rattle.std.specs.Prelude.{◌≡◌, ◌≤◌, ◌+◌, length, slice_range};
 ghost use Rattle.byteorder.specs.Endian.{little_number};
-ghost use Rattle.bq_policy_run.specs.Permitting.{hides_tasks, context_number, place_permits, place_word, preempt_word, pull_word, shows_task, permission_word};
+ghost use Rattle.bq_policy_run.specs.Permitting.{hides_tasks, context_number, place_permits, place_permission, preempt_permission, pull_permission, shows_task, permission_of};
 ghost use Rattle.bq_hooks.specs.Hooks.{context_length_of};
 ghost use Rattle.bq_hooks.specs.declared.hook.Version.{Version as OfVersion};
 
@@ -30,19 +30,19 @@ pub enum Permission {
     NotShown,
 }
 
-/// Answers what the rule says of the answer to this context, which has the length of the hook's contexts.
-pub fn word_on(hook: Hook, context: &[u8], r0: u64) -> Permission
-    ensures { (version : OfVersion) → length context.now ≡ context_length_of hook version → result ≡ permission_word hook context.now r0 }
+/// What the rule says of the answer to this context, which has the length of the hook's contexts.
+pub fn permission_of(hook: Hook, context: &[u8], r0: u64) -> Permission
+    ensures { (version : OfVersion) → length context.now ≡ context_length_of hook version → result ≡ permission_of hook context.now r0 }
 {
     match hook {
-        Hook::Place => place_word(context, r0),
-        Hook::Preempt => preempt_word(r0),
-        Hook::Pull => pull_word(context, r0),
+        Hook::Place => place_permission(context, r0),
+        Hook::Preempt => preempt_permission(r0),
+        Hook::Pull => pull_permission(context, r0),
     }
 }
 
-fn place_word(context: &[u8], r0: u64) -> Permission
-    ensures { 36 ≤ length context.now → result ≡ place_word context.now r0 }
+fn place_permission(context: &[u8], r0: u64) -> Permission
+    ensures { 36 ≤ length context.now → result ≡ place_permission context.now r0 }
 {
     if context.len() >= PLACE_SHOWN && place_permits(context, r0) {
         Permission::Permitted
@@ -51,7 +51,7 @@ fn place_word(context: &[u8], r0: u64) -> Permission
     }
 }
 
-/// Answers whether the answer is a processor of the machine, in the task's mask.
+/// Whether the answer is a processor of the machine, in the task's mask.
 fn place_permits(context: &[u8], r0: u64) -> bool
     requires { 36 ≤ length context.now }
     ensures { result ≡ place_permits context.now r0 }
@@ -60,7 +60,7 @@ fn place_permits(context: &[u8], r0: u64) -> bool
     r0 < u64::from(count) && r0 < u64::from(PROCESSORS) && allows(mask, r0 as u8)
 }
 
-/// Answers how many processors a place context shows, and the task's mask.
+/// How many processors a place context shows, and the task's mask.
 pub fn place_shown(context: &[u8]) -> (u32, u64)
     requires { 36 ≤ length context.now }
     ensures count { result.0 ≡ context_number context.now 32 }
@@ -73,8 +73,8 @@ pub fn place_shown(context: &[u8]) -> (u32, u64)
     )
 }
 
-fn preempt_word(r0: u64) -> Permission
-    ensures { result ≡ preempt_word r0 }
+fn preempt_permission(r0: u64) -> Permission
+    ensures { result ≡ preempt_permission r0 }
 {
     if r0 < 2 {
         Permission::Permitted
@@ -83,8 +83,8 @@ fn preempt_word(r0: u64) -> Permission
     }
 }
 
-fn pull_word(context: &[u8], r0: u64) -> Permission
-    ensures { 160 ≤ length context.now → result ≡ pull_word context.now r0 }
+fn pull_permission(context: &[u8], r0: u64) -> Permission
+    ensures { 160 ≤ length context.now → result ≡ pull_permission context.now r0 }
 {
     if r0 == NOBODY {
         return Permission::Permitted;
@@ -110,7 +110,7 @@ fn number_at(context: &[u8], at: usize) -> u32
     LittleEndian::read_u32(&context[at..at + 4])
 }
 
-/// Answers whether one of the tasks that are shown has that number.
+/// Whether one of the tasks that are shown has that number.
 fn shows_task(context: &[u8], r0: u64) -> bool
     requires { 160 ≤ length context.now }
     ensures { result ≡ shows_task context.now r0 }
@@ -125,7 +125,7 @@ fn shows_task(context: &[u8], r0: u64) -> bool
     false
 }
 
-/// Answers whether more tasks are movable than are shown.
+/// Whether more tasks are movable than are shown.
 fn hides_tasks(context: &[u8]) -> bool
     requires { 160 ≤ length context.now }
     ensures { result ≡ hides_tasks context.now }

@@ -11,9 +11,10 @@ use crate::repeats::runs_before;
 use crate::timing::time_line;
 use crate::traces::executed_text;
 use crate::word_text::word_text;
-use crate::{Inputs, RunOutcome, copied, run_often, trace_once, write_calls, write_changes};
+use crate::{Inputs, copied, run_often, trace_once, write_calls, write_changes};
 use bq_console::WordsFault;
 use bq_explain::{Verdict, verdict_line};
+use bq_interp::Ran;
 use bq_policy_check::{Answered, RunWords, given_head, refused_file};
 use bq_policy_file::{Head, PolicySource, read_policy};
 use bq_verify::{Refused, Verified, verify};
@@ -124,7 +125,7 @@ struct Series {
     before: u32,
 }
 
-/// Answers the last run of a series, on inputs of the program's hook; the line that says how long runs take comes last.
+/// The last run of a series, on inputs of the program's hook; the line that says how long runs take comes last.
 fn run_on(
     alloc: Global,
     words: &RunWords,
@@ -165,7 +166,7 @@ fn changed_text(
     alloc: Global,
     first: &[Vec<u8>],
     inputs: &Inputs,
-    ran: &RunOutcome,
+    ran: &Ran,
 ) -> Result<String, AllocError>
     ensures { IfOk result (λ text. string_bytes text ≡ changes_text (with_all inputs.now.maps (map (λ v. v.items) first.now)) inputs.now.maps ++ calls_text ran.now.calls.items) }
 {
@@ -191,7 +192,7 @@ fn reported(
     alloc: Global,
     verified: &Verified,
     inputs: &Inputs,
-    ran: &RunOutcome,
+    ran: &Ran,
     behind: &Behind,
 ) -> Result<String, AllocError>
     requires { length inputs.now.context.items ≡ context_length_of verified.now.hook verified.now.version }

@@ -100,7 +100,7 @@ fn put_field(
     Ok(())
 }
 
-/// Answers the word that a text writes for the field of that name: a number, or `none` if the field may show that there is no
+/// The word that a text writes for the field of that name: a number, or `none` if the field may show that there is no
 /// such task or processor.
 fn field_word(hook: Hook, name: &str, text: &str) -> Option<u64>
     ensures some { IfSome result (IsFieldWord hook name.now text.now) }
@@ -113,14 +113,14 @@ fn field_word(hook: Hook, name: &str, text: &str) -> Option<u64>
     }
 }
 
-/// Answers whether a text is `none`, and the field of that name may show that there is no such task or processor.
+/// Whether a text is `none`, and the field of that name may show that there is no such task or processor.
 fn is_nobody(hook: Hook, name: &str, text: &str) -> bool
     ensures { IsTrue result ↔ ((text.now ≡ codes "none") × (shows_nobody hook name.now ≡ true)) }
 {
     text == "none" && shows_nobody(hook, name)
 }
 
-/// Answers whether the field of that name may show that there is no such task or processor.
+/// Whether the field of that name may show that there is no such task or processor.
 fn shows_nobody(hook: Hook, name: &str) -> bool
     ensures { result ≡ shows_nobody hook name.now }
 {

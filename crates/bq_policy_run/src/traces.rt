@@ -10,7 +10,7 @@ use bq_policy_file::PolicySource;
 use bq_verify::Verified;
 use std::alloc::{AllocError, Global};
 
-/// Answers the instructions that the run executed, if that is asked for; empty otherwise.
+/// The instructions that the run executed, if that is asked for; empty otherwise.
 pub(crate) fn executed_text(
     alloc: Global,
     is_traced: bool,
@@ -27,7 +27,7 @@ pub(crate) fn executed_text(
     }
 }
 
-/// Answers the place of each instruction, the instruction, and a line for each register that it changed.
+/// The place of each instruction, the instruction, and a line for each register that it changed.
 fn steps_text(
     alloc: Global,
     policy: &PolicySource,
@@ -72,7 +72,7 @@ fn slot_text(alloc: Global, insn: Option<Insn>) -> Result<String, AllocError>
     }
 }
 
-/// Answers the registers that an instruction changed, by the snapshot at the next one.
+/// The registers that an instruction changed, by the snapshot at the next one.
 fn changes_to(alloc: Global, snapshot: &Snapshot, after: &[Snapshot]) -> Result<String, AllocError>
     ensures { IfOk result (λ text. string_bytes text ≡ changes_to snapshot.now after.now) }
 {
@@ -96,7 +96,7 @@ fn changes_text(alloc: Global, before: &Snapshot, now: &Snapshot) -> Result<Stri
     Ok(text)
 }
 
-/// Answers the line of the instruction at a slot and a comma, if the policy is a text.
+/// The line of the instruction at a slot and a comma, if the policy is a text.
 fn place_of(alloc: Global, policy: &PolicySource, slot: usize) -> Result<String, AllocError> {
     let line = match index_at(policy.insns.as_slice(), slot) {
         Some(index) => policy.lines.get(index),

@@ -20,7 +20,7 @@ pub struct Closed<Q: RunQueue + Drop, const P: usize> {
 }
 
 impl<Q: RunQueue + Drop, const P: usize> Closed<Q, P> {
-    /// Answers how many events the history has.
+    /// How many events the history has.
     pub fn len(&self) -> u64
         ensures { result ≡ length self.now.history }
     {

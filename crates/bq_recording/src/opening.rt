@@ -37,7 +37,7 @@ pub struct Opening<Q: RunQueue + Drop, N: Naming + Counting, const P: usize> {
 }
 
 impl<Q: RunQueue + Drop, N: Naming + Counting, const P: usize> Opening<Q, N, P> {
-    /// Opens a machine over `queues`, one for each processor, without tasks and at the first mark. Answers it with its
+    /// Opens a machine over `queues`, one for each processor, without tasks and at the first mark. Returns it with its
     /// seats, numbered from 0. It takes memory for all locks and seats.
     pub fn over(
         alloc: Global,

@@ -11,6 +11,7 @@ use Rattle.bq_schedule.specs.declared.figures.ProcessorFigures.{ProcessorFigures
 use Rattle.bq_schedule.specs.declared.figures.TaskFigures.{TaskFigures}
 use Rattle.bq_schedule.specs.declared.percentiles.Percentiles.{Percentiles}
 use Rattle.bq_schedule.specs.Figures.{Figures, processor_in_figures, task_in_figures}
+use Rattle.bq_schedule.specs.Observed.{observed_time}
 use Rattle.bq_schedule.specs.Runnable.{fair_of}
 use Rattle.bq_schedule.specs.WakeLatencies.{Tasks, latencies_of, percentiles_of}
 use Rattle.bq_report.specs.declared.window.Window.{Window}
@@ -303,19 +304,22 @@ pub others_kept : (first now next : Tasks) (id : ℕ) → ((other : ℕ) → id 
 others_kept first now next id rest others other h = others other (λ e. absurd (omega (arith, e, h))) ∙ rest other (omega (arith, h))
 
 -- the line of a processor that has one
-pub processor_line_added : (w : Window) (s : Figures) (p : ℕ) (old new : List ℕ) (b : Bool) (f : ProcessorFigures)
-    → (IsTrue b ↔ HasProcessor w s p) → b ≡ true → f ≡ processor_in_figures s p → new ≡ old ++ processor_report_line p f
+pub processor_line_added : (w : Window) (s : Figures) (p : ℕ) (old new : List ℕ) (b : Bool) (observed : ℕ) (f : ProcessorFigures)
+    → (IsTrue b ↔ HasProcessor w s p) → b ≡ true → observed ≡ observed_time s → f ≡ processor_in_figures s p
+    → new ≡ old ++ processor_report_line p observed f
     → GrowsByPart (IsProcessorLine w s p) old new
-processor_line_added w s p old new b f decides true_ is e =
-    let line = processor_report_line p (processor_in_figures s p) in
-    adds_part (HasProcessor w s p) (λ own. own ≡ line) old new line (decides.0 true_) refl (e ∙ ap (λ g. old ++ processor_report_line p g) is)
+processor_line_added w s p old new b observed f decides true_ all is e =
+    let line = processor_report_line p (observed_time s) (processor_in_figures s p) in
+    adds_part (HasProcessor w s p) (λ own. own ≡ line) old new line (decides.0 true_) refl
+    (e ∙ ap (λ time. old ++ processor_report_line p time f) all ∙ ap (λ g. old ++ processor_report_line p (observed_time s) g) is)
 
 -- the object of a processor that has one
-pub processor_there : (w : Window) (s : Figures) (p : ℕ) (f : ProcessorFigures)
-    → HasProcessor w s p → f ≡ processor_in_figures s p → IsProcessorObject w s p (processor_object p f ∷ [])
-processor_there w s p f holds is =
-    part_there (HasProcessor w s p) (λ own. own ≡ processor_object p (processor_in_figures s p) ∷ []) (processor_object p f ∷ [])
-    holds (ap (λ g. processor_object p g ∷ []) is)
+pub processor_there : (w : Window) (s : Figures) (p observed : ℕ) (f : ProcessorFigures)
+    → HasProcessor w s p → observed ≡ observed_time s → f ≡ processor_in_figures s p → IsProcessorObject w s p (processor_object p observed f ∷ [])
+processor_there w s p observed f holds all is =
+    part_there (HasProcessor w s p) (λ own. own ≡ processor_object p (observed_time s) (processor_in_figures s p) ∷ [])
+    (processor_object p observed f ∷ []) holds
+    (ap (λ time. processor_object p time f ∷ []) all ∙ ap (λ g. processor_object p (observed_time s) g ∷ []) is)
 
 -- the object of a task that has one
 pub task_there : (w : Window) (names : NamedTasks) (s : Figures) (latencies : List ℕ) (id : ℕ) (p : Percentiles)
@@ -359,9 +363,9 @@ no_float_in_task names s id p =
     (no_float_in_text (name_of names id)) (no_float_in_integer (task_in_figures s id).nice) (no_float_in_number (still_waiting s id))
 
 -- no figure of a processor is a float
-pub no_float_in_processor : (p : ℕ) (f : ProcessorFigures) → has_float (processor_object p f) ≡ false
+pub no_float_in_processor : (p observed : ℕ) (f : ProcessorFigures) → has_float (processor_object p observed f) ≡ false
 unfolding processor_object
-no_float_in_processor p f = refl
+no_float_in_processor p observed f = refl
 
 -- an element that is this object
 pub element_of : (v d : Data) (first : Bool) (old new : List ℕ) → v ≡ d → has_float d ≡ false

@@ -5,9 +5,8 @@ use Rattle.bq_schedule.specs.declared.change.Start.{Start}
 use Rattle.bq_schedule.specs.declared.figures.TaskFigures.{TaskFigures}
 use Rattle.bq_schedule.specs.declared.figures.HookFigures.{HookFigures}
 use Rattle.bq_schedule.specs.declared.figures.ProcessorFigures.{ProcessorFigures}
-use Rattle.bq_disc.specs.Counts.{saturating_sum}
 use Rattle.bq_schedule.specs.Counts.{counted_wide, parts_per_nanosecond}
-use Rattle.bq_schedule.specs.Passing.{idle_of}
+use Rattle.bq_schedule.specs.Observed.{idle_in}
 use Rattle.bq_schedule.specs.declared.percentiles.Percentiles.{Percentiles}
 use Rattle.bq_report.specs.Amounts.{millis_text, three_decimals}
 
@@ -89,11 +88,11 @@ hundredths_of part whole = if whole == 0 then 0 else part * 10000 / whole
 abbrev pub percent_text : ℕ → ℕ → List ℕ
 percent_text part whole = right 3 (hundredths_of part whole / 100) ++ (codes "." ++ zeros 2 (hundredths_of part whole % 100))
 
--- the line of a processor: how much of its time a task ran
-abbrev pub processor_report_line : ℕ → ProcessorFigures → List ℕ
-processor_report_line processor p =
-    right 5 processor ++ (codes "  " ++ (percent_text p.busy (saturating_sum p.busy (idle_of p))
-    ++ (millis_column p.busy ++ (millis_column (idle_of p) ++ (cell 8 p.switches ++ codes "\n")))))
+-- the line of a processor: how much of the observed time a task ran there
+abbrev pub processor_report_line : ℕ → ℕ → ProcessorFigures → List ℕ
+processor_report_line processor observed p =
+    right 5 processor ++ (codes "  " ++ (percent_text p.busy observed
+    ++ (millis_column p.busy ++ (millis_column (idle_in observed p) ++ (cell 8 p.switches ++ codes "\n")))))
 
 -- the line of a hook, if a policy was asked there
 abbrev pub hook_line_if : ℕ → List ℕ → HookFigures → List ℕ

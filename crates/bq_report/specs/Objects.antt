@@ -8,7 +8,7 @@ use Rattle.bq_schedule.specs.declared.figures.ProcessorFigures.{ProcessorFigures
 use Rattle.bq_schedule.specs.declared.figures.TaskFigures.{TaskFigures}
 use Rattle.bq_schedule.specs.declared.percentiles.Percentiles.{Percentiles}
 use Rattle.bq_schedule.specs.Figures.{Figures, task_in_figures}
-use Rattle.bq_schedule.specs.Passing.{idle_of}
+use Rattle.bq_schedule.specs.Observed.{idle_in}
 use Rattle.bq_schedule.specs.Runnable.{fair_of}
 use Rattle.bq_report.specs.Columns.{nearest}
 use Rattle.bq_report.specs.Names.{NamedTasks, name_of}
@@ -61,11 +61,11 @@ task_object names s id p =
     (member (codes "waited") (number (unsigned (waited_in_all s id)))
     (member (codes "weight") (number (unsigned (task_in_figures s id).weight)) no_members))))))))))
 
--- the figures of a processor
-unfoldable pub processor_object : ℕ → ProcessorFigures → Data
-processor_object processor p =
+-- the figures of a processor in this observed time
+unfoldable pub processor_object : ℕ → ℕ → ProcessorFigures → Data
+processor_object processor observed p =
     object (member (codes "busy") (number (unsigned p.busy))
-    (member (codes "idle") (number (unsigned (idle_of p)))
+    (member (codes "idle") (number (unsigned (idle_in observed p)))
     (member (codes "place") (hook_object p.place)
     (member (codes "preempt") (hook_object p.preempt)
     (member (codes "processor") (number (unsigned processor))

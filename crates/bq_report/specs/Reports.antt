@@ -7,6 +7,7 @@ use Rattle.serde_json.specs.Written.{compact_text}
 use Rattle.bq_schedule.specs.declared.figures.ProcessorFigures.{ProcessorFigures}
 use Rattle.bq_schedule.specs.declared.percentiles.Percentiles.{Percentiles}
 use Rattle.bq_schedule.specs.Figures.{Figures, processor_in_figures, task_in_figures}
+use Rattle.bq_schedule.specs.Observed.{observed_time}
 use Rattle.bq_schedule.specs.Runnable.{fair_of}
 use Rattle.bq_schedule.specs.WakeLatencies.{Tasks, latencies_of, percentiles_of}
 use Rattle.bq_report.specs.declared.window.Window.{Window}
@@ -64,7 +65,8 @@ IsLatencyLine w names s latencies id line =
 
 -- the line of a processor, if it has one
 abbrev pub IsProcessorLine : Window → Figures → ℕ → List ℕ → Type 0
-IsProcessorLine w s p line = IsPartIf ℕ (HasProcessor w s p) (λ own. own ≡ processor_report_line p (processor_in_figures s p)) line
+IsProcessorLine w s p line =
+    IsPartIf ℕ (HasProcessor w s p) (λ own. own ≡ processor_report_line p (observed_time s) (processor_in_figures s p)) line
 
 -- a policy was asked at a hook of a processor
 abbrev pub WasAsked : ProcessorFigures → Type 0
@@ -134,7 +136,7 @@ IsTaskObject w names s latencies id objects =
 -- the object of a processor, if it has one
 abbrev pub IsProcessorObject : Window → Figures → ℕ → List Data → Type 0
 IsProcessorObject w s p objects =
-    IsPartIf Data (HasProcessor w s p) (λ own. own ≡ processor_object p (processor_in_figures s p) ∷ []) objects
+    IsPartIf Data (HasProcessor w s p) (λ own. own ≡ processor_object p (observed_time s) (processor_in_figures s p) ∷ []) objects
 
 -- what precedes an element of an array: a line feed, and a comma before that unless the element is the first
 abbrev pub separator_if : Bool → List ℕ

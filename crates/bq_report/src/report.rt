@@ -158,7 +158,8 @@ fn write_processor_if(
     if !window.has_processor(schedule, number) {
         return Ok(());
     }
-    write_processor_line(text, number, &schedule.processor(number))
+    let observed = schedule.observed_time();
+    write_processor_line(text, number, observed, &schedule.processor(number))
 }
 
 /// Adds the table of the policies that were asked. Adds nothing if no policy was asked.

@@ -104,10 +104,12 @@ fn write_processors(
 ) -> Result<(), AllocError>
     ensures { OnOk result (GrowsByPart (AreElements (IsProcessorObject window.now schedule.now) 64) (string_bytes text.old) (string_bytes text.new)) }
 {
+    let observed = schedule.observed_time();
     let mut is_first = true;
     for number in 0..PROCESSORS {
         if window.has_processor(schedule, number) {
-            write_processor(alloc, number, &schedule.processor(number), is_first, text)?;
+            let figures = schedule.processor(number);
+            write_processor(alloc, number, observed, &figures, is_first, text)?;
             is_first = false;
         }
     }
@@ -118,14 +120,15 @@ fn write_processors(
 fn write_processor(
     alloc: Global,
     number: u8,
+    observed: u64,
     figures: &ProcessorFigures,
     is_first: bool,
     text: &mut String,
 ) -> Result<(), AllocError>
     ensures { OnOk result (string_bytes text.new
-        ≡ string_bytes text.old ++ (separator_if is_first ++ compact_text (processor_object number figures.now))) }
+        ≡ string_bytes text.old ++ (separator_if is_first ++ compact_text (processor_object number observed figures.now))) }
 {
-    let value = processor_value(alloc, number, figures)?;
+    let value = processor_value(alloc, number, observed, figures)?;
     write_element(alloc, &value, is_first, text)
 }
 
@@ -199,16 +202,17 @@ fn latency_value(alloc: Global, percentiles: &Percentiles) -> Result<Value, Allo
     json!(in alloc; {"p50": median, "p95": most, "p99": nearly_all, "max": greatest})
 }
 
-/// The object of a processor.
+/// The object of a processor in this observed time.
 #[tactic(auto, unfolding(crate::specs::Objects::processor_object))]
 fn processor_value(
     alloc: Global,
     number: u8,
+    observed: u64,
     figures: &ProcessorFigures,
 ) -> Result<Value, AllocError>
-    ensures { IfOk result (λ v. view v ≡ processor_object number figures.now) }
+    ensures { IfOk result (λ v. view v ≡ processor_object number observed figures.now) }
 {
-    let idle = figures.idle();
+    let idle = figures.idle(observed);
     let place = hook_value(alloc, &figures.place)?;
     let preempt = hook_value(alloc, &figures.preempt)?;
     let pull = hook_value(alloc, &figures.pull)?;

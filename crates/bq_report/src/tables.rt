@@ -131,18 +131,19 @@ pub fn write_missed_line(text: &mut String, missed: u64) -> Result<(), AllocErro
     write!(text, "\nwakes that found no task waiting: {missed}\n")
 }
 
-/// Adds the line of a processor: how much of its time a task ran.
+/// Adds the line of a processor: how much of the observed time a task ran there.
 pub fn write_processor_line(
     text: &mut String,
     processor: u8,
+    observed: u64,
     figures: &ProcessorFigures,
 ) -> Result<(), AllocError>
-    ensures { OnOk result (string_bytes text.new ≡ string_bytes text.old ++ processor_report_line processor figures.now) }
+    ensures { OnOk result (string_bytes text.new ≡ string_bytes text.old ++ processor_report_line processor observed figures.now) }
 {
-    let idle = figures.idle();
+    let idle = figures.idle(observed);
     let busy = Percent {
         part: figures.busy,
-        whole: figures.busy.saturating_add(idle),
+        whole: observed,
     };
     write!(text, "{processor:>5}  {busy}")?;
     write_millis(text, figures.busy)?;

@@ -4,6 +4,7 @@ pub mod SliceTimeLemmas
 pub mod SumLemmas
 pub mod WorldLemmas
 pub mod ApartLemmas
+pub mod ObservedLemmas
 pub mod WindowLemmas
 pub mod WakeLemmas
 pub mod PurseLemmas

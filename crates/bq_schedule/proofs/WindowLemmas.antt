@@ -1,5 +1,5 @@
--- Slices and idle time fill the time from the first reading to the last.
-use Rattle.std.proofs.Common.{◌≡◌, ◌≢◌, ℕ, ◌+◌, ◌<◌, ◌≤◌, Bool, true, false, [], ◌∷◌, length, Option, Some, None, refl, sym, ap, ◌∙◌, ◌⊎◌, inl, inr, eqb, ltb, cond, subst, arith}
+-- Slices and idle time fill the observed time.
+use Rattle.std.proofs.Common.{◌≡◌, ◌≢◌, ℕ, ◌+◌, ◌-◌, ◌<◌, ◌≤◌, Bool, true, false, [], ◌∷◌, length, Option, Some, None, refl, sym, ap, ◌∙◌, ◌⊎◌, inl, inr, eqb, ltb, cond, subst, arith}
 use Rattle.std.proofs.lemmas.Bool.Decides.{eqb_tells}
 use Rattle.std.proofs.lemmas.List.{get_or-replicate}
 use Rattle.bq_disc.specs.OneProcessor.{reading}
@@ -8,12 +8,14 @@ use Rattle.bq_schedule.specs.declared.change.Start.{Start}
 use Rattle.bq_schedule.specs.declared.figures.ProcessorFigures.{ProcessorFigures}
 use Rattle.bq_schedule.specs.Moments.{History}
 use Rattle.bq_schedule.specs.Figures.{Figures, unread, processor_in_figures}
-use Rattle.bq_schedule.specs.Passing.{slice_between, slice_at, slice_length, passed, processor_read, figures_read, idle_of}
+use Rattle.bq_schedule.specs.Passing.{slice_between, slice_at, slice_length, passed, processor_read, figures_read}
+use Rattle.bq_schedule.specs.Observed.{observed_time, idle_in}
 use Rattle.bq_schedule.specs.Slices.{Sight, sight_of}
 use Rattle.bq_schedule.specs.Steps.{figures_after, figures}
-use Rattle.bq_schedule.specs.Laws.{IsOfProcessors, window_since, FillsWindow}
+use Rattle.bq_schedule.specs.Laws.{IsOfProcessors, window_since, FillsObservedTime}
 use Rattle.bq_schedule.proofs.FrameLemmas.{Works, works, RunsAs}
 use Rattle.bq_schedule.proofs.ClockLemmas.{Shows, shows-after, count-figures, within-figures, processor-read_at}
+use Rattle.bq_schedule.proofs.ObservedLemmas.{window-observed}
 use Rattle.bq_schedule.proofs.SumLemmas.{busy_is_sum_of_slices}
 
 -- nothing ran before the first reading, and since then no more than the clock rose
@@ -104,14 +106,21 @@ figures_are_filled count (m ∷ past) processor h inside =
     filled-shown s (figures_after s m.event m.answer) (sight_of m.event m.answer) processor (omega (arith, count-figures count past h.1))
     (shows-after s m.event m.answer (within-figures count past m h)) (figures_are_filled count past processor h.1 inside)
 
-fills_if : (first : Option ℕ) (p : ProcessorFigures) → p.first ≡ first → IsFilled first p.last p.busy p.running
-    → p.busy + idle_of p ≡ window_since p.first p.last
-fills_if None p e h = rw e (omega (arith, h.0))
-fills_if (Some first) p e h = rw e (omega (arith, h))
+-- this much work fits in the time from the first reading to the last; with the idle time it fills a time
+abbrev pub Fills : ProcessorFigures → ℕ → ℕ → Type 0
+Fills p observed work = (work ≤ window_since p.first p.last) × (work + idle_in observed p ≡ observed)
 
--- the slices of a processor and its idle time fill the time from its first reading to the last
-pub fills_window : FillsWindow
-fills_window count past processor few h inside =
-    let p = processor_in_figures (figures count past) processor in
-    ap (λ n. n + idle_of p) (sym (busy_is_sum_of_slices count past few h processor inside))
-    ∙ fills_if p.first p refl (figures_are_filled count past processor h inside)
+fills_if : (first : Option ℕ) (p : ProcessorFigures) (observed : ℕ) → p.first ≡ first → ((first : ℕ) → p.first ≡ Some first → p.last - first ≤ observed)
+    → IsFilled first p.last p.busy p.running → Fills p observed p.busy
+fills_if None p observed e within h = (omega (arith, h.0), omega (arith, h.0))
+fills_if (Some first) p observed e within h = (rw e (omega (arith, h)), omega (arith, h, within first e))
+
+-- the slices of a processor fit between its first reading and its last; with its idle time they fill the observed time
+pub fills_observed_time : FillsObservedTime
+fills_observed_time count past processor few h inside =
+    let s = figures count past in
+    let p = processor_in_figures s processor in
+    subst (Fills p (observed_time s)) (busy_is_sum_of_slices count past few h processor inside)
+    (fills_if p.first p (observed_time s) refl
+    (λ first e. window-observed s processor first (omega (arith, count-figures count past h, inside)) e)
+    (figures_are_filled count past processor h inside))

@@ -18,7 +18,8 @@ use Rattle.bq_schedule.specs.Moments.{Moment, History}
 use Rattle.bq_schedule.specs.Figures.{processor_in_figures, task_in_figures}
 use Rattle.bq_schedule.specs.Running.{running_task}
 use Rattle.bq_schedule.specs.Counts.{parts_per_nanosecond}
-use Rattle.bq_schedule.specs.Passing.{idle_of, parts_per_weight}
+use Rattle.bq_schedule.specs.Passing.{parts_per_weight}
+use Rattle.bq_schedule.specs.Observed.{observed_time, idle_in}
 use Rattle.bq_schedule.specs.Runnable.{fair_of}
 use Rattle.bq_schedule.specs.FairTimes.{share, all_fair, all_unshared, all_busy}
 use Rattle.bq_schedule.specs.Slices.{Sight, sight_of, clock, runner, slices, time_in, is_of, is_slice_at, StandApart, slices_at, runs}
@@ -79,11 +80,14 @@ abbrev pub window_since : Option ℕ → ℕ → ℕ
 window_since None last = 0
 window_since (Some first) last = last - first
 
--- the slices of a processor and its idle time fill its window from the first reading to the last
-abbrev pub FillsWindow : Type 0
-FillsWindow = (count : ℕ) (past : History) (processor : ℕ) → count ≤ 255 → IsOfProcessors count past → processor < count →
-    let p = processor_in_figures (figures count past) processor in
-    time_in (is_slice_at processor) (slices past) + idle_of p ≡ window_since p.first p.last
+-- the slices of a processor take no more than the time from its first reading to its last; together with its idle time they fill the
+-- observed time
+abbrev pub FillsObservedTime : Type 0
+FillsObservedTime = (count : ℕ) (past : History) (processor : ℕ) → count ≤ 255 → IsOfProcessors count past → processor < count →
+    let s = figures count past in
+    let p = processor_in_figures s processor in
+    (time_in (is_slice_at processor) (slices past) ≤ window_since p.first p.last)
+    × (time_in (is_slice_at processor) (slices past) + idle_in (observed_time s) p ≡ observed_time s)
 
 -- A start is reported when its task starts running. If the task has not run since its last wake, the start reports the time from the
 -- end of that wake. So a wake has at most one latency: the time to its task's first run

@@ -2,6 +2,7 @@ pub mod Moments
 pub mod Counts
 pub mod Figures
 pub mod Passing
+pub mod Observed
 pub mod Runnable
 pub mod Running
 pub mod Steps

@@ -80,12 +80,3 @@ abbrev pub figures_read : ℕ → ℕ → Figures → Figures
 figures_read processor now s =
     let p = processor_in_figures s processor in
     with_charged (figures_with_processor s processor (processor_read processor p now)) (slice_at processor p now)
-
--- how much of the time from the first reading to the last was idle
-abbrev pub idle_since : Option ℕ → ℕ → ℕ → ℕ
-idle_since None last busy = 0
-idle_since (Some first) last busy = last - first - busy
-
--- how long nothing ran at a processor, from its first reading to its last
-abbrev pub idle_of : ProcessorFigures → ℕ
-idle_of p = idle_since p.first p.last p.busy

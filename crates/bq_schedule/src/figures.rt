@@ -114,7 +114,7 @@ pub struct ProcessorFigures {
 
 impl ProcessorFigures {
     ghost use Rattle.bq_schedule.specs.Figures.{unread};
-    ghost use Rattle.bq_schedule.specs.Passing.{idle_of};
+    ghost use Rattle.bq_schedule.specs.Observed.{idle_in};
 
     /// The figures of a processor before anything happens there.
     pub fn new() -> ProcessorFigures
@@ -138,14 +138,11 @@ impl ProcessorFigures {
         }
     }
 
-    /// The time from the first reading to the last in which nothing ran, in nanoseconds.
-    pub fn idle(&self) -> u64
-        ensures { result ≡ idle_of self.now }
+    /// For how much of the schedule's observed time nothing ran here, in nanoseconds.
+    pub fn idle(&self, observed: u64) -> u64
+        ensures { result ≡ idle_in observed self.now }
     {
-        match self.first {
-            Some(first) => self.last.saturating_sub(first).saturating_sub(self.busy),
-            None => 0,
-        }
+        observed.saturating_sub(self.busy)
     }
 }
 

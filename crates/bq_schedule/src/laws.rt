@@ -1,5 +1,5 @@
 //! The laws of schedules, each as the contract of a function that does nothing.
-ghost use Rattle.bq_schedule.specs.Laws.{AddsUpFairTimes, AddsUpSlices, AddsUpWaits, EndsStarts, FillsWindow, IsCharged, LeavesLittle, SharesOut, ShowsClocks, SlicesStandApart, ReportsLatencies, ReportsRuns, ReportsSlices, ReportsStarts, ReportsStops, ReportsWaits};
+ghost use Rattle.bq_schedule.specs.Laws.{AddsUpFairTimes, AddsUpSlices, AddsUpWaits, EndsStarts, FillsObservedTime, IsCharged, LeavesLittle, SharesOut, ShowsClocks, SlicesStandApart, ReportsLatencies, ReportsRuns, ReportsSlices, ReportsStarts, ReportsStops, ReportsWaits};
 
 /// A schedule shows each processor's last reading, and which task runs there.
 pub fn shows_clocks()
@@ -27,9 +27,10 @@ pub fn slices_stand_apart()
     ensures { SlicesStandApart }
 {}
 
-/// The slices of a processor and its idle time together fill the time from its first reading to its last.
-pub fn fills_window()
-    ensures { FillsWindow }
+/// The slices of a processor take no more than the time from its first reading to its last. Together with its idle time they fill the
+/// observed time.
+pub fn fills_observed_time()
+    ensures { FillsObservedTime }
 {}
 
 /// A start is reported when its task starts running. If the task has not run since its last wake, the start reports the time from the

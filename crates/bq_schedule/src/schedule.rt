@@ -1,6 +1,7 @@
 //! A schedule, from answers only.
 ghost use Rattle.std.specs.Prelude.{◌≡◌, IfOk, length};
 ghost use Rattle.bq_schedule.specs.Figures.{opening_figures, processor_in_figures, task_in_figures, figures_with_processor, figures_with_task};
+ghost use Rattle.bq_schedule.specs.Observed.{observed_time};
 ghost use Rattle.bq_schedule.specs.Runnable.{fair_of, undrained};
 ghost use Rattle.bq_schedule.specs.Steps.{figures_after, change, is_there};
 
@@ -109,6 +110,20 @@ impl Schedule {
         } else {
             None
         }
+    }
+
+    /// The time from the earliest first reading of any processor's clock to the latest last one, in nanoseconds. 0 if no clock was read.
+    pub fn observed_time(&self) -> u64
+        ensures { result ≡ observed_time self.now }
+    {
+        let first = self.processors.iter().filter_map(|p| p.first).min();
+        let last = self
+            .processors
+            .iter()
+            .filter(|p| p.first.is_some())
+            .map(|p| p.last)
+            .max();
+        last.unwrap_or(0).saturating_sub(first.unwrap_or(0))
     }
 
     /// How many processors there are.

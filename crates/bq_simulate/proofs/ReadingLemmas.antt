@@ -23,8 +23,8 @@ use Rattle.bq_lines.specs.declared.keyword.Keyword.{Keyword}
 use Rattle.bq_lines.specs.declared.keyword.Keyword.TheVariants as keywords
 use Rattle.bq_lines.specs.Lines.{reading_of, reading_of_words, reading_of_command, install_or_load as reads_install}
 use Rattle.bq_words.specs.Quantities.{size_in_word}
-use Rattle.bq_lines.specs.declared.command.Command.{Command}
-use Rattle.bq_lines.specs.declared.command.Command.TheVariants.{Does, Machine}
+use Rattle.bq_lines.specs.declared.command.LineCommand.{LineCommand}
+use Rattle.bq_lines.specs.declared.command.LineCommand.TheVariants.{Does, Machine}
 use Rattle.bq_lines.specs.declared.command.LineReading.TheVariants.{Asks}
 use Rattle.bq_simulate.specs.Spelling.{HasFittingNumbers, event_words, image_word, spaced_words}
 use Rattle.bq_simulate.specs.Laws.{CanStandInLine, event_command, install_asked}
@@ -126,21 +126,21 @@ room_words image (Pull c from now) can h =
     let numbers = two_numbers c from (omega arith) (omega arith) in let n = short_decimal now h.2 in omega arith
 
 -- what some words ask for where each is what it should be
-of_one : {A : Type 0} (f : A → Command) (a : Option A) (x : A) → a ≡ Some x → reading_of_command (option_map (λ x. f x) a) ≡ Asks (f x)
+of_one : {A : Type 0} (f : A → LineCommand) (a : Option A) (x : A) → a ≡ Some x → reading_of_command (option_map (λ x. f x) a) ≡ Asks (f x)
 of_one f a x ea = rw ea refl
 
-of_two : {A B : Type 0} (f : A → B → Command) (a : Option A) (b : Option B) (x : A) (y : B) → a ≡ Some x → b ≡ Some y
+of_two : {A B : Type 0} (f : A → B → LineCommand) (a : Option A) (b : Option B) (x : A) (y : B) → a ≡ Some x → b ≡ Some y
     → reading_of_command (option_map (λ (w : A × B). f w.0 w.1) (option_and_then (λ x. option_map (λ y. (x, y)) b) a)) ≡ Asks (f x y)
 of_two f a b x y ea eb = rw (ea, eb) refl
 
-of_three : {A B C : Type 0} (f : A → B → C → Command) (a : Option A) (b : Option B) (c : Option C) (x : A) (y : B) (z : C)
+of_three : {A B C : Type 0} (f : A → B → C → LineCommand) (a : Option A) (b : Option B) (c : Option C) (x : A) (y : B) (z : C)
     → a ≡ Some x → b ≡ Some y → c ≡ Some z
     → reading_of_command
     (option_map (λ (w : A × B × C). f w.0 w.1 w.2) (option_and_then (λ x. option_and_then (λ y. option_map (λ z. (x, y, z)) c) b) a))
     ≡ Asks (f x y z)
 of_three f a b c x y z ea eb ec = rw (ea, eb, ec) refl
 
-of_four : {A B C D : Type 0} (f : A → B → C → D → Command) (a : Option A) (b : Option B) (c : Option C)
+of_four : {A B C D : Type 0} (f : A → B → C → D → LineCommand) (a : Option A) (b : Option B) (c : Option C)
     (d : Option D) (x : A) (y : B) (z : C) (w : D)
     → a ≡ Some x → b ≡ Some y → c ≡ Some z → d ≡ Some w
     → reading_of_command (option_map (λ (w : A × B × C × D). f w.0 w.1 w.2 w.3)
@@ -155,7 +155,7 @@ reads_image : (image : Option (List ℕ)) (c generation : ℕ) (hook : Hook)
 reads_image None c generation hook can = refl
 reads_image (Some bytes) c generation hook can = rw (hex_not_none bytes can.each) refl
 
-of_install : (a b : Option ℕ) (d : Option Hook) (word : List ℕ) (c generation : ℕ) (hook : Hook) (command : Command)
+of_install : (a b : Option ℕ) (d : Option Hook) (word : List ℕ) (c generation : ℕ) (hook : Hook) (command : LineCommand)
     → a ≡ Some c → b ≡ Some generation → d ≡ Some hook → reads_install (c, generation, hook, word) ≡ command
     → reading_of_command (option_map reads_install (option_and_then (λ c. option_and_then (λ g. option_map (λ h. (c, g, h, word)) d) b) a))
     ≡ Asks command

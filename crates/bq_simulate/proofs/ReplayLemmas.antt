@@ -14,7 +14,7 @@ use Rattle.bq_words.specs.declared.rule.Rule.{Rule}
 use Rattle.bq_words.specs.declared.processor_count.ProcessorCount.{ProcessorCount}
 use Rattle.bq_lines.specs.Kept.{IsOneLine}
 use Rattle.bq_lines.specs.Lines.{reading_of}
-use Rattle.bq_lines.specs.declared.command.Command.TheVariants as asks
+use Rattle.bq_lines.specs.declared.command.LineCommand.TheVariants as asks
 use Rattle.bq_lines.specs.declared.command.LineReading.{LineReading}
 use Rattle.bq_lines.specs.declared.command.LineReading.TheVariants as reads
 use Rattle.bq_insn.specs.Spelling.{spelling}

@@ -9,8 +9,8 @@ use Rattle.bq_words.specs.declared.rule.Rule.{Rule}
 use Rattle.bq_words.specs.declared.processor_count.ProcessorCount.{ProcessorCount}
 use Rattle.bq_lines.specs.Kept.{IsOneLine}
 use Rattle.bq_lines.specs.Lines.{reading_of}
-use Rattle.bq_lines.specs.declared.command.Command.{Command}
-use Rattle.bq_lines.specs.declared.command.Command.TheVariants.{Does, Load, Machine}
+use Rattle.bq_lines.specs.declared.command.LineCommand.{LineCommand}
+use Rattle.bq_lines.specs.declared.command.LineCommand.TheVariants.{Does, Load, Machine}
 use Rattle.bq_lines.specs.declared.command.LineReading.TheVariants.{Asks}
 use Rattle.bq_simulate.specs.Spelling.{HasFittingNumbers, asking_line, machine_line}
 
@@ -26,12 +26,12 @@ CanStandInLine None = Unit {0}
 CanStandInLine (Some bytes) = IsImageOfLine bytes
 
 -- an install with an image asks to load it; an install without one takes away the policy at the hook
-abbrev pub install_asked : Option (List ℕ) → ℕ → Hook → ℕ → Command
+abbrev pub install_asked : Option (List ℕ) → ℕ → Hook → ℕ → LineCommand
 install_asked None c hook generation = Does (Install c hook generation None)
 install_asked (Some bytes) c hook generation = Load c hook generation (encode_lower bytes)
 
 -- what the line of an event asks for: any other is asked for as it is
-abbrev pub event_command : Option (List ℕ) → Event → Command
+abbrev pub event_command : Option (List ℕ) → Event → LineCommand
 event_command image (Install c hook generation policy) = install_asked image c hook generation
 event_command image event = Does event
 

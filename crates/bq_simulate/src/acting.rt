@@ -32,7 +32,7 @@ struct Doing {
     action: Option<Action>,
 }
 
-/// Answers what a task does next; none if it has done all its actions as often as it is to.
+/// What a task does next; none if it has done all its actions as often as it is to.
 fn next_of(workload: &Workload, progress: &TaskProgress) -> Result<Option<Action>, BrokenInvariant>
     ensures action { IfOk result (λ action. action ≡ next_action workload.now.tasks.items progress.now) }
     ensures stray { IfErr result (λ _. action_count workload.now.tasks.items progress.now ≤ progress.now.action) }
@@ -43,7 +43,7 @@ fn next_of(workload: &Workload, progress: &TaskProgress) -> Result<Option<Action
     }
 }
 
-/// Answers what a task of a kind does next; none if it has done all its actions as often as it is to.
+/// What a task of a kind does next; none if it has done all its actions as often as it is to.
 fn action_at(kind: &TaskKind, progress: &TaskProgress) -> Result<Option<Action>, BrokenInvariant>
     ensures action { IfOk result (λ action. action ≡ action_at kind.now progress.now) }
     ensures stray { IfErr result (λ _. length kind.now.actions.items ≤ progress.now.action) }
@@ -68,7 +68,7 @@ fn asked_by(action: Option<Action>) -> Option<Length>
     }
 }
 
-/// Answers how far a task has come once it has done an action.
+/// How far a task has come once it has done an action.
 fn advanced(workload: &Workload, progress: TaskProgress) -> Result<TaskProgress, BrokenInvariant>
     ensures next { IfOk result (λ next. next ≡ advanced_in workload.now.tasks.items progress) }
     ensures missing { IfErr result (λ _. slice_get workload.now.tasks.items progress.kind ≡ None) }
@@ -79,7 +79,7 @@ fn advanced(workload: &Workload, progress: TaskProgress) -> Result<TaskProgress,
     Ok(progress)
 }
 
-/// Answers how many tasks a kind has.
+/// How many tasks a kind has.
 fn count_of(workload: &Workload, kind: usize) -> Result<u16, BrokenInvariant>
     ensures count { IfOk result (λ count. count ≡ kind_count workload.now.tasks.items kind) }
     ensures missing { IfErr result (λ _. slice_get workload.now.tasks.items kind ≡ None) }
@@ -88,7 +88,7 @@ fn count_of(workload: &Workload, kind: usize) -> Result<u16, BrokenInvariant>
     Ok(kind.count)
 }
 
-/// Answers how far a task has come once its wake has come to one more of the tasks of a kind.
+/// How far a task has come once its wake has come to one more of the tasks of a kind.
 fn woken_one(
     workload: &Workload,
     progress: TaskProgress,
@@ -194,7 +194,7 @@ impl Simulation {
         })
     }
 
-    /// Answers the next length of a task, if one is asked for.
+    /// The next length of a task, if one is asked for.
     fn length_for(&mut self, task: u16, asked: Option<Length>) -> Result<u64, BrokenInvariant>
         ensures drawn { IfOk result (λ length. DrawsFor task asked self.old length self.new) }
         ensures stray { IfErr result (λ _. (length : Length) × (asked ≡ Some length) × ((is_length length ≡ false) ⊎ (slice_get self.old.streams.items task ≡ None))) }

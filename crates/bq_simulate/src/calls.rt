@@ -54,7 +54,7 @@ impl Driver {
         }
     }
 
-    /// A task is woken from a processor at an instant, and placed. Answers the processor on which it was placed.
+    /// A task is woken from a processor at an instant, and placed. Returns the processor on which it was placed.
     pub fn wake<S: Sink>(
         &mut self,
         alloc: Global,
@@ -106,7 +106,7 @@ impl Driver {
         }
     }
 
-    /// The clock of a processor ticks. Answers the task that runs there afterwards.
+    /// The clock of a processor ticks. Returns the task that runs there afterwards.
     pub fn tick<S: Sink>(
         &mut self,
         alloc: Global,
@@ -123,7 +123,7 @@ impl Driver {
         }
     }
 
-    /// The task that runs at a processor goes to sleep. Answers the task that runs there afterwards.
+    /// The task that runs at a processor goes to sleep. Returns the task that runs there afterwards.
     pub fn block<S: Sink>(
         &mut self,
         alloc: Global,

@@ -6,7 +6,7 @@ pub trait Enough {
     /// Whether it has enough.
     ghost sated: { Self → Bool };
 
-    /// Answers whether the sink has enough.
+    /// Whether the sink has enough.
     fn has_enough(&self) -> bool
         ensures { result ≡ sated self.now };
 }

@@ -24,7 +24,7 @@ use bq_workload::{Periods, Roster, Setup, Workload, most_steps, soundness};
 use std::alloc::Global;
 
 /// Follows a workload to its end, with these policies at all processors, and reports its events to a sink: line 1 of their trace
-/// makes the machine, and each event is a line. Answers the counts of tasks, run phases and missed wakes. Each sleep lasts
+/// makes the machine, and each event is a line. Returns the counts of tasks, run phases and missed wakes. Each sleep lasts
 /// exactly its length. Each tick and each look for a task to pull comes exactly when it is to. What comes first is done next.
 /// When it ends, no timer, no end of a phase, no tick and no look is left that comes until the end. If the sink has enough
 /// before the end, that is the fault, and the sink got all that came until then.
@@ -140,7 +140,7 @@ impl Simulation {
         })
     }
 
-    /// Runs from the opening machine to the end, or until the sink has enough. Answers what was counted.
+    /// Runs from the opening machine to the end, or until the sink has enough. Returns what was counted.
     fn run<S: Sink + Enough>(
         &mut self,
         alloc: Global,
@@ -167,7 +167,7 @@ impl Simulation {
         Ok(self.counted(tasks))
     }
 
-    /// Runs from the opening machine until nothing comes due any more, or the sink has enough. Answers how many tasks there are.
+    /// Runs from the opening machine until nothing comes due any more, or the sink has enough. Returns how many tasks there are.
     fn proceed<S: Sink + Enough>(
         &mut self,
         alloc: Global,
@@ -192,7 +192,7 @@ impl Simulation {
         Ok(tasks)
     }
 
-    /// Answers what was counted until now, with this number of tasks.
+    /// What was counted until now, with this number of tasks.
     fn counted(&self, tasks: u16) -> Counts
         ensures { result.tasks ≡ tasks }
     {

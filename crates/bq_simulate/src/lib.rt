@@ -1,4 +1,5 @@
-//! A simulation: tasks do what their workload says, the machine decides when, and what was done can be written as a trace.
+//! The loop behind the command `simulate`, which is in bq_experiment: tasks do what their workload says, the machine decides when,
+//! and what was done can be written as a trace.
 //! The loop does the events of a trace from the opening machine on: none is refused, and readings never fall. Each task does
 //! what its kind says, and when the loop ends nothing due by the duration is undone. A workload with a flaw is refused first.
 //! A trace that is written asks for exactly those events, and a replay of it gets their answers.

@@ -137,7 +137,7 @@ impl Simulation {
         }
     }
 
-    /// Answers how many tasks there are, each with a stream of its own.
+    /// How many tasks there are, each with a stream of its own.
     pub(crate) fn tasks(&self) -> Result<u16, SimulateFault>
         ensures tasks { IfOk result (λ tasks. tasks ≡ length self.now.streams.items) }
         ensures stray { IfErr result (λ _. self.now.counts.tasks ≢ length self.now.streams.items) }

@@ -8,7 +8,7 @@ use bq_parts::{Cpu, Event, Reply};
 use bq_report::percent::Percent;
 use bq_report::tables::write_millis;
 use bq_schedule::Change;
-use bq_trace::{AnyCore, Seen};
+use bq_trace::{AnyCore, AnyCpu};
 use bq_why::{place_of, present};
 use bq_words::Rule;
 use std::alloc::{AllocError, Global};
@@ -39,8 +39,8 @@ impl BoundsTable {
     pub fn comes(&mut self, event: &Event, machine: &AnyCore) {
         self.running = match place_of(event) {
             Some((processor, _)) => match machine.seen(processor) {
-                Some(Seen::Cfs(cpu)) => how_it_stands(cpu),
-                Some(Seen::Eevdf(cpu)) => how_it_stands(cpu),
+                Some(AnyCpu::Cfs(cpu)) => how_it_stands(cpu),
+                Some(AnyCpu::Eevdf(cpu)) => how_it_stands(cpu),
                 None => None,
             },
             None => None,
@@ -62,11 +62,11 @@ impl BoundsTable {
         let rise = reading.to.saturating_sub(reading.from);
         let running = self.running;
         match machine.seen(processor) {
-            Some(Seen::Cfs(cpu)) => {
+            Some(AnyCpu::Cfs(cpu)) => {
                 self.bounds
                     .take(processor, event, reply, running, rise, cpu.kept());
             }
-            Some(Seen::Eevdf(cpu)) => {
+            Some(AnyCpu::Eevdf(cpu)) => {
                 self.bounds
                     .take(processor, event, reply, running, rise, cpu.kept());
                 let is_done = match glance_at(cpu) {

@@ -59,7 +59,7 @@ fn is_name(part: &[u8]) -> bool
     }
 }
 
-/// Adds the tasks that a part names by number. Answers whether the part is a number, a range or a name.
+/// Adds the tasks that a part names by number. Returns whether the part is a number, a range or a name.
 #[tactic(auto, using(crate::proofs::TaskLemmas::name_adds))]
 fn push_tasks(tasks: &mut Vec<u16>, part: &[u8]) -> Result<bool, AllocError>
     ensures { IfOk result (λ named. MatchBool named (AddsPart part.now tasks.old.items tasks.new.items) (tasks_of_part part.now ≡ None)) }

@@ -6,11 +6,11 @@ use Rattle.bq_words.specs.declared.rule.Rule.{Rule}
 use Rattle.bq_words.specs.declared.rule.Rule.TheVariants as rules
 use Rattle.bq_trace.specs.Cores.{processor_in}
 use Rattle.bq_trace.specs.Machines.{Driven}
-use Rattle.bq_trace.specs.declared.any_core.Seen.{Seen}
-use Rattle.bq_trace.specs.declared.any_core.Seen.TheVariants as seen
+use Rattle.bq_trace.specs.declared.any_core.AnyCpu.{AnyCpu}
+use Rattle.bq_trace.specs.declared.any_core.AnyCpu.TheVariants as seen
 
 -- a processor, and the rule of its machine
-abbrev pub seen_of : Seen → Rule × Processor
+abbrev pub seen_of : AnyCpu → Rule × Processor
 seen_of (seen.Cfs cpu) = (rules.Cfs, cpu.now)
 seen_of (seen.Eevdf cpu) = (rules.Eevdf, cpu.now)
 

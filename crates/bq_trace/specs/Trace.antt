@@ -12,7 +12,7 @@ use Rattle.bq_trace.specs.Loading.{LoadsAndAnswers}
 use Rattle.bq_streams.specs.Writing.{AppendsPart}
 use Rattle.bq_lines.specs.Lines.{reading_of}
 use Rattle.bq_trace.specs.Texts.{bad_line, show_line, counter_line}
-use Rattle.bq_lines.specs.declared.command.Command.TheVariants.{Machine, Does, Wake, Load, Show, Counter}
+use Rattle.bq_lines.specs.declared.command.LineCommand.TheVariants.{Machine, Does, Wake, Load, Show, Counter}
 use Rattle.bq_lines.specs.declared.command.LineReading.{LineReading}
 use Rattle.bq_lines.specs.declared.command.LineReading.TheVariants.{Skipped, Bad, Asks}
 use Rattle.bq_trace.specs.declared.progress.Phase.{Phase}

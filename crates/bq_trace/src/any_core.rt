@@ -20,7 +20,7 @@ use std::marker::Model;
 
 /// A processor, under whichever rule its machine has.
 #[derive(Clone, Copy)]
-pub enum Seen<'a> {
+pub enum AnyCpu<'a> {
     /// Under CFS.
     Cfs(&'a Cpu<CfsQueue>),
     /// Under EEVDF.
@@ -114,16 +114,16 @@ impl AnyCore {
     }
 
     /// A processor as it is now, if the machine has it.
-    pub fn seen(&self, processor: u8) -> Option<Seen<'_>>
+    pub fn seen(&self, processor: u8) -> Option<AnyCpu<'_>>
         ensures { option_map seen_of result ≡ seen_in self.now processor }
     {
         match &self.core {
             RuleCore::Cfs(core) => match cpu(core, processor) {
-                Some(cpu) => Some(Seen::Cfs(cpu)),
+                Some(cpu) => Some(AnyCpu::Cfs(cpu)),
                 None => None,
             },
             RuleCore::Eevdf(core) => match cpu(core, processor) {
-                Some(cpu) => Some(Seen::Eevdf(cpu)),
+                Some(cpu) => Some(AnyCpu::Eevdf(cpu)),
                 None => None,
             },
         }

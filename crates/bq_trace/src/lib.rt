@@ -18,7 +18,7 @@ pub mod texts;
 mod trace_event;
 mod trace_position;
 
-pub use any_core::{AnyCore, Seen};
+pub use any_core::{AnyCore, AnyCpu};
 pub use bq_streams::StreamFault as ReplayFault;
 pub use pieces::replay;
 pub use session::Session;

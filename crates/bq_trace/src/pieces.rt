@@ -9,7 +9,7 @@ use bq_streams::{Counted, PIECE, READS, StreamFault};
 use std::alloc::Global;
 use std::io::{Read, Write};
 
-/// Reads a trace to its end and writes the answers. Answers true if no line was bad.
+/// Reads a trace to its end and writes the answers. Returns true if no line was bad.
 ///
 /// # Example
 ///

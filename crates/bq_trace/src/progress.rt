@@ -16,7 +16,7 @@ use crate::reporting::{report, report_bad, report_skipped};
 use crate::sink::Sink;
 use crate::trace_event::TraceEvent;
 use bq_bpf::board::COUNTERS;
-use bq_lines::{Command, LineReading, read_short_line};
+use bq_lines::{LineCommand, LineReading, read_short_line};
 use bq_parts::{Event, Refusal, Reply};
 use std::alloc::{AllocError, Global};
 
@@ -31,7 +31,7 @@ fn is_out_of_memory(answer: &Result<Reply, Refusal>) -> bool
 }
 
 impl AnyCore {
-    /// Does an event, and reports it before and after. Answers true if the event was not refused.
+    /// Does an event, and reports it before and after. Returns true if the event was not refused.
     pub fn perform<S: Sink>(
         &mut self,
         alloc: Global,
@@ -61,7 +61,7 @@ impl AnyCore {
         Ok(answer.is_ok())
     }
 
-    /// Begins a wake, and ends it unless the begin was refused. Answers false: the line of a wake is never bad.
+    /// Begins a wake, and ends it unless the begin was refused. Returns false: the line of a wake is never bad.
     fn wake<S: Sink>(
         &mut self,
         alloc: Global,
@@ -80,7 +80,7 @@ impl AnyCore {
         Ok(false)
     }
 
-    /// Does what the line of this number says, and reports what happens. Answers true if the line is bad.
+    /// Does what the line of this number says, and reports what happens. Returns true if the line is bad.
     fn obey<S: Sink>(
         &mut self,
         alloc: Global,
@@ -94,19 +94,19 @@ impl AnyCore {
     {
         match reading {
             LineReading::Skipped => report_skipped(number, line, sink),
-            LineReading::Asks(Command::Does(event)) => {
+            LineReading::Asks(LineCommand::Does(event)) => {
                 self.perform(alloc, number, event, sink)?;
                 Ok(false)
             }
             LineReading::Asks(
-                Command::Wake {
+                LineCommand::Wake {
                     processor,
                     task,
                     now,
                 },
             ) => { self.wake(alloc, number, processor, task, now, sink) }
             LineReading::Asks(
-                Command::Load {
+                LineCommand::Load {
                     processor,
                     hook,
                     generation,
@@ -122,7 +122,7 @@ impl AnyCore {
                 self.install_image(alloc, number, installation, sink)?;
                 Ok(false)
             }
-            LineReading::Asks(Command::Counter { counter }) => {
+            LineReading::Asks(LineCommand::Counter { counter }) => {
                 if usize::from(counter) >= COUNTERS {
                     return report_bad(number, line, sink);
                 }
@@ -130,7 +130,7 @@ impl AnyCore {
                 report(number, &TraceEvent::CounterRead { counter, value }, sink)?;
                 Ok(false)
             }
-            LineReading::Asks(Command::Show { processor }) => {
+            LineReading::Asks(LineCommand::Show { processor }) => {
                 let shown = TraceEvent::ProcessorAsked {
                     processor,
                     machine: self,
@@ -138,7 +138,7 @@ impl AnyCore {
                 report(number, &shown, sink)?;
                 Ok(false)
             }
-            LineReading::Bad | LineReading::Asks(Command::Machine { .. }) => {
+            LineReading::Bad | LineReading::Asks(LineCommand::Machine { .. }) => {
                 report_bad(number, line, sink)
             }
         }
@@ -157,7 +157,7 @@ pub enum Phase {
 }
 
 impl Phase {
-    /// Does what the line of this number says while no machine line has come yet, and reports what happens. Answers true if the
+    /// Does what the line of this number says while no machine line has come yet, and reports what happens. Returns true if the
     /// line is bad.
     ///
     /// A machine is large and is built on the stack here, so this is kept out of the path of every other line.
@@ -176,7 +176,7 @@ impl Phase {
     {
         match reading {
             LineReading::Skipped => report_skipped(number, line, sink),
-            LineReading::Asks(Command::Machine { rule, size }) => {
+            LineReading::Asks(LineCommand::Machine { rule, size }) => {
                 *self = Phase::Running(AnyCore::new(alloc, *rule, *size)?);
                 let opened = TraceEvent::Opened {
                     rule: *rule,
@@ -192,7 +192,7 @@ impl Phase {
         }
     }
 
-    /// Does what the line of this number says, and reports what happens. Answers true if the line is bad.
+    /// Does what the line of this number says, and reports what happens. Returns true if the line is bad.
     fn answer<S: Sink>(
         &mut self,
         alloc: Global,

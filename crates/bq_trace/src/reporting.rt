@@ -17,7 +17,7 @@ pub fn report<S: Sink>(number: u64, event: &TraceEvent<'_>, sink: &mut S) -> Res
     sink.take(number, event)
 }
 
-/// Reports a line that says nothing. Answers false: such a line is not bad. `line` is `None` only for a line that is too long. Such a
+/// Reports a line that says nothing. Returns false: such a line is not bad. `line` is `None` only for a line that is too long. Such a
 /// line is bad, so it does not come here.
 pub fn report_skipped<S: Sink>(
     number: u64,
@@ -32,7 +32,7 @@ pub fn report_skipped<S: Sink>(
     Ok(false)
 }
 
-/// Reports a bad line. Answers true.
+/// Reports a bad line. Returns true.
 pub fn report_bad<S: Sink>(
     number: u64,
     line: Option<&[u8]>,

@@ -98,7 +98,7 @@ impl Session {
         Ok(self)
     }
 
-    /// Runs the last line, if no line feed ended it, and writes its answer. Answers true if no line of the trace was bad.
+    /// Runs the last line, if no line feed ended it, and writes its answer. Returns true if no line of the trace was bad.
     fn end<W: Write>(&mut self, out: &mut Counted<W>) -> Result<bool, StreamFault>
         ensures ok { IfOk result (λ clean. (begun : List ℕ) → KeepsLine self.old.begun begun
             → Finishes self.old begun (W.contents (counted_inner out.old)) (W.contents (counted_inner out.new)) clean) }
@@ -113,7 +113,7 @@ impl Session {
         Ok(self.position.progress.clean)
     }
 
-    /// Runs the last line, if no line feed ended it. Answers true if no line of the trace was bad.
+    /// Runs the last line, if no line feed ended it. Returns true if no line of the trace was bad.
     pub fn finish<W: Write>(mut self, out: &mut Counted<W>) -> Result<bool, StreamFault>
         ensures ok { IfOk result (λ clean. (begun : List ℕ) → KeepsLine self.begun begun
             → Finishes self begun (W.contents (counted_inner out.old)) (W.contents (counted_inner out.new)) clean) }

@@ -2,7 +2,7 @@
 ghost use Rattle.std.specs.Prelude.{◌≡◌, ◌++◌, OnOk, string_bytes};
 ghost use Rattle.bq_trace.specs.Texts.{entity_text, current_text, spaced_entities, processor_line, show_line};
 
-use crate::any_core::{AnyCore, Seen};
+use crate::any_core::{AnyCore, AnyCpu};
 use crate::texts::write_refusal;
 use bq_disc::{Entity, RunQueue};
 use bq_parts::{Cpu, Refusal};
@@ -62,7 +62,7 @@ pub fn write_shown(text: &mut String, processor: u8, machine: &AnyCore) -> Resul
 {
     match machine.seen(processor) {
         None => write_refusal(text, Refusal::NoProcessor),
-        Some(Seen::Cfs(cpu)) => write_processor(text, processor, cpu),
-        Some(Seen::Eevdf(cpu)) => write_processor(text, processor, cpu),
+        Some(AnyCpu::Cfs(cpu)) => write_processor(text, processor, cpu),
+        Some(AnyCpu::Eevdf(cpu)) => write_processor(text, processor, cpu),
     }
 }

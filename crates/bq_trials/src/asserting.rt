@@ -5,6 +5,11 @@ use crate::hex_text::bytes_of;
 use std::alloc::Global;
 use std::process::Abort;
 
+/// It is so; where it is not, what was found is told, and what was wanted.
+pub(crate) fn holds(rt: &impl Abort, is: bool, found: &str, wanted: &str) {
+    assert!(rt; is, "{found}, and wanted is {wanted}");
+}
+
 pub(crate) fn is_true(rt: &impl Abort, fact: bool) {
     assert!(rt; fact);
 }

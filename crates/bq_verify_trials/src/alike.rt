@@ -165,7 +165,7 @@ both:
 ldxdw r0, [r0+8]
 exit";
 
-/// Answers of which one at least is not tested where they meet.
+/// Of which one at least is not tested where they meet.
 const UNTESTED: &str = "\
 11
 ; the answers of both look-ups meet, and are tested there

@@ -160,7 +160,7 @@ mov64 r2, r3
 mov32 r3, r3
 jgt64 r3, 55, out";
 
-/// Answers that were found, and are tested once more.
+/// That were found, and are tested once more.
 const FOUND_ANSWERS: &str = "\
 10
 ; the answer was found, and is tested once more: as a copy, and itself

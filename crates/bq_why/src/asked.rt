@@ -2,7 +2,7 @@
 
 use crate::answers::answer;
 use bq_hooks::Hook;
-use bq_trace::{AnyCore, Seen};
+use bq_trace::{AnyCore, AnyCpu};
 use std::alloc::AllocError;
 
 /// What asking a policy led to.
@@ -26,8 +26,8 @@ impl Asked {
     /// The value if the policy at a hook of a processor took this many steps.
     pub fn at(machine: &AnyCore, processor: u8, hook: Hook, steps: u32) -> Asked {
         let answer = match machine.seen(processor) {
-            Some(Seen::Cfs(cpu)) => answer(cpu, hook, steps),
-            Some(Seen::Eevdf(cpu)) => answer(cpu, hook, steps),
+            Some(AnyCpu::Cfs(cpu)) => answer(cpu, hook, steps),
+            Some(AnyCpu::Eevdf(cpu)) => answer(cpu, hook, steps),
             None => None,
         };
         Asked { steps, answer }

@@ -13,7 +13,7 @@ use bq_disc::Entity;
 use bq_disc::limits::TASKS;
 use bq_hooks::{By, Hook};
 use bq_report::{Millis, Names};
-use bq_trace::{AnyCore, Seen};
+use bq_trace::{AnyCore, AnyCpu};
 use bq_words::Rule;
 use std::alloc::{AllocError, Global};
 
@@ -39,8 +39,8 @@ pub(crate) fn write_choice(
 ) -> Result<(), AllocError> {
     let rule = machine.rule();
     let (mark, tasks) = match machine.seen(choice.processor) {
-        Some(Seen::Cfs(cpu)) => (cpu.kept(), present(alloc, cpu)?),
-        Some(Seen::Eevdf(cpu)) => (cpu.kept(), present(alloc, cpu)?),
+        Some(AnyCpu::Cfs(cpu)) => (cpu.kept(), present(alloc, cpu)?),
+        Some(AnyCpu::Eevdf(cpu)) => (cpu.kept(), present(alloc, cpu)?),
         None => return Ok(()),
     };
     if let Some(from) = measured_from(rule, tasks.as_slice()) {

@@ -72,7 +72,7 @@ impl fmt::Display for Refused<'_> {
     }
 }
 
-/// Answers whether the task that an event names is one that there may be.
+/// Whether the task that an event names is one that there may be.
 fn is_task(event: &Event) -> bool {
     match event {
         Event::Admit { task, .. } | Event::Retire { task } | Event::BeginWake { task, .. } => {

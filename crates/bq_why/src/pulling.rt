@@ -8,7 +8,7 @@ use crate::presence::{present, waiting};
 use bq_disc::limits::PROCESSORS;
 use bq_disc::{Entity, Movable, RunQueue};
 use bq_parts::Cpu;
-use bq_trace::{AnyCore, Seen};
+use bq_trace::{AnyCore, AnyCpu};
 use std::alloc::{AllocError, Global};
 
 /// What a pull sees before it happens.
@@ -61,10 +61,10 @@ pub(crate) fn sight_of(
         return Ok(None);
     }
     let sight = match (machine.seen(puller), machine.seen(other)) {
-        (Some(Seen::Cfs(here)), Some(Seen::Cfs(there))) => {
+        (Some(AnyCpu::Cfs(here)), Some(AnyCpu::Cfs(there))) => {
             sight(alloc, puller, other, here, there)?
         }
-        (Some(Seen::Eevdf(here)), Some(Seen::Eevdf(there))) => {
+        (Some(AnyCpu::Eevdf(here)), Some(AnyCpu::Eevdf(there))) => {
             sight(alloc, puller, other, here, there)?
         }
         _ => return Ok(None),

@@ -12,7 +12,7 @@ use bq_hooks::{By, Hook};
 use bq_parts::{Event, Reply};
 use bq_report::{Millis, Names, Window};
 use bq_schedule::Change;
-use bq_trace::{AnyCore, Seen};
+use bq_trace::{AnyCore, AnyCpu};
 use std::alloc::{AllocError, Global};
 
 /// An event that was done.
@@ -60,8 +60,8 @@ pub fn place_of(event: &Event) -> Option<(u8, u64)>
 /// The running task of a processor, if one runs.
 fn running(machine: &AnyCore, processor: u8) -> Option<u16> {
     match machine.seen(processor) {
-        Some(Seen::Cfs(cpu)) => cpu.running_id(),
-        Some(Seen::Eevdf(cpu)) => cpu.running_id(),
+        Some(AnyCpu::Cfs(cpu)) => cpu.running_id(),
+        Some(AnyCpu::Eevdf(cpu)) => cpu.running_id(),
         None => None,
     }
 }

@@ -30,15 +30,14 @@ amount_at unit number (Some point) =
 abbrev pub amount_of : ℕ → List ℕ → Option ℕ
 amount_of unit number = amount_at unit number (position is_point number)
 
--- the word is cut where its number ends: the rest is the unit, or nanoseconds if there is no rest
-abbrev pub duration_at : List ℕ → Option ℕ → Option ℕ
-duration_at word None = amount_of 1 word
-duration_at word (Some end) = option_and_then (λ unit. amount_of unit (take end word)) (unit_of (drop end word))
+-- the nanoseconds of a word whose number ends here: the rest is its unit
+abbrev pub duration_at : List ℕ → ℕ → Option ℕ
+duration_at word end = option_and_then (λ unit. amount_of unit (take end word)) (unit_of (drop end word))
 
 -- a byte that is neither a digit nor a point
 abbrev pub ends_number : ℕ → Bool
 ends_number c = not (is_ascii_digit c || is_point c)
 
--- the nanoseconds that a word writes: the unit begins at the first byte that is neither a digit nor a point
+-- the nanoseconds that a word writes: its unit begins at the first byte that is neither a digit nor a point, and may not be missing
 abbrev pub duration_of : List ℕ → Option ℕ
-duration_of word = duration_at word (position ends_number word)
+duration_of word = option_and_then (duration_at word) (position ends_number word)

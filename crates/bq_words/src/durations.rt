@@ -5,20 +5,17 @@ ghost use Rattle.bq_words.specs.Durations.{amount_of, duration_of, ends_number, 
 use crate::nanoseconds;
 use crate::quantities::decimal;
 
-/// The nanoseconds that a word writes: a number, with a fraction or without, and a unit: `ns`, `us`, `ms` or `s`. Without a unit the number
-/// counts nanoseconds. A part of a nanosecond is cut off.
+/// The nanoseconds that a word writes: a number, with a fraction or without, and a unit: `ns`, `us`, `ms` or `s`. A part of a nanosecond
+/// is cut off.
 ///
-/// `1500`, `1.5us` and `0.0015ms` are all 1500. `None` if the word is no length of time, or if it has 2^64 ns or more.
+/// `1500ns`, `1.5us` and `0.0015ms` are all 1500. `None` if the word is no length of time, or if it has 2^64 ns or more. A number without
+/// a unit is `None` too, so that `60` is not taken for 60 ns by mistake.
 pub fn duration(word: &[u8]) -> Option<u64>
     ensures { result ≡ duration_of word.now }
 {
-    match end_of_number(word) {
-        Some(end) => {
-            let unit = nanoseconds(&word[end..])?;
-            amount(&word[..end], unit)
-        }
-        None => amount(word, 1),
-    }
+    let end = end_of_number(word)?;
+    let unit = nanoseconds(&word[end..])?;
+    amount(&word[..end], unit)
 }
 
 /// Where the digits and points at the front of the word end. `None` if the word has nothing else.

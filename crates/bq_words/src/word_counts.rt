@@ -6,7 +6,7 @@ ghost use Rattle.bq_words.specs.Words.{words, one_of, two_of, three_of, four_of}
 
 use crate::words::next_word;
 
-/// Answers `Some` exactly when no word is left.
+/// `Some` exactly when no word is left.
 pub fn end_of_words(text: &[u8]) -> Option<()>
     ensures { MatchOption result ((w : _) × (ws : _) × (words text.now ≡ w ∷ ws)) (λ _. words text.now ≡ []) }
 {

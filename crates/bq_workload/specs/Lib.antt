@@ -1,4 +1,3 @@
-pub mod Durations
 pub mod Lengths
 pub mod Streams
 pub mod Draws

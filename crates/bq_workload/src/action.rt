@@ -17,7 +17,7 @@ pub enum Length {
 }
 
 impl Length {
-    /// Answers whether its numbers are from 1 to `LONGEST` and its least is at most its greatest.
+    /// Whether its numbers are from 1 to `LONGEST` and its least is at most its greatest.
     pub fn is_sound(&self) -> bool
         ensures { result ≡ is_length self.now }
     {
@@ -45,7 +45,7 @@ pub enum Action {
 }
 
 impl Action {
-    /// Answers whether the action takes time whatever other tasks do: `Run` and `Sleep` do.
+    /// Whether the action takes time whatever other tasks do: `Run` and `Sleep` do.
     pub fn takes_time(&self) -> bool
         ensures { result ≡ takes_time self.now }
     {
@@ -53,7 +53,7 @@ impl Action {
     }
 }
 
-/// Answers whether at least one of these actions takes time.
+/// Whether at least one of these actions takes time.
 pub fn take_time(actions: &[Action]) -> bool
     ensures { result ≡ list_any takes_time actions.now }
 {

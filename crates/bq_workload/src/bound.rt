@@ -4,7 +4,7 @@ ghost use Rattle.bq_workload.specs.Bounds.{most_steps, steps_for, steps_of};
 
 use crate::{Action, Workload};
 
-/// Answers how many steps a simulation takes at most, or 2^64 - 1 if 64 bits do not count them. At one instant each task does
+/// How many steps a simulation takes at most, or 2^64 - 1 if 64 bits do not count them. At one instant each task does
 /// each of its actions at most once, since one of them takes time. A wake takes a step for each task of the kind that it wakes,
 /// and the end of a task takes one. Each timer comes due at most once. Each processor ticks at most once; it looks for a task
 /// once, and again each time it falls idle. There is one instant for each nanosecond, and one more.
@@ -30,7 +30,7 @@ pub fn most_steps(workload: &Workload) -> u64
         .saturating_mul(at_once)
 }
 
-/// Answers how many steps one task takes at most for all of its actions and for its end.
+/// How many steps one task takes at most for all of its actions and for its end.
 fn units_of(workload: &Workload, actions: &[Action]) -> u64
     ensures { result ≡ min (steps_of workload.now.tasks.items actions.now) (2 ^ 64 - 1) }
 {
@@ -41,7 +41,7 @@ fn units_of(workload: &Workload, actions: &[Action]) -> u64
     units
 }
 
-/// Answers how many steps an action takes at most: a wake takes one for each task of the kind that it wakes.
+/// How many steps an action takes at most: a wake takes one for each task of the kind that it wakes.
 fn units_for(workload: &Workload, action: &Action) -> u64
     ensures { result ≡ steps_for workload.now.tasks.items action.now }
 {

@@ -10,7 +10,7 @@ use crate::Due;
 use crate::roster::{BrokenInvariant, Roster};
 use bq_disc::limits::PROCESSORS;
 
-/// Answers when each of this many processors first looks for a task to pull. A single processor never looks.
+/// When each of this many processors first looks for a task to pull. A single processor never looks.
 pub(crate) fn first_look(processors: u8, balance: u64) -> Option<u64>
     ensures { result ≡ first_look processors balance }
 {
@@ -49,7 +49,7 @@ impl Roster {
         Ok(())
     }
 
-    /// Answers when a processor that runs something from now on ticks next: at its tick, or if it has none, at one that this call plans.
+    /// When a processor that runs something from now on ticks next: at its tick, or if it has none, at one that this call plans.
     pub(crate) fn next_tick(
         &mut self,
         processor: u8,
@@ -102,7 +102,7 @@ impl Roster {
         Ok(next)
     }
 
-    /// A processor looks for a task to pull, and its next look is planned. It must be due to look now. Answers from which
+    /// A processor looks for a task to pull, and its next look is planned. It must be due to look now. Returns from which
     /// processor it pulls, if any.
     pub fn look(&mut self, processor: u8, now: u64) -> Result<Option<u8>, BrokenInvariant>
         ensures due { OnOk result (LooksAt (accounts_of self.old) processor now) }
@@ -135,7 +135,7 @@ impl Roster {
         }
     }
 
-    /// Answers the processor with the most tasks, the least number if several have as many. None if no processor has two.
+    /// The processor with the most tasks, the least number if several have as many. None if no processor has two.
     pub fn largest(&self) -> Option<u8>
         ensures { HasLargest self.now.by_processor.items 64 result }
     {
@@ -146,7 +146,7 @@ impl Roster {
         best
     }
 
-    /// Answers the larger of `best`, the largest of the processors before, and the next processor.
+    /// The larger of `best`, the largest of the processors before, and the next processor.
     fn larger(&self, best: Option<u8>, next: u8) -> Option<u8>
         ensures { result ≡ larger self.now.by_processor.items best next }
     {
@@ -161,7 +161,7 @@ impl Roster {
         }
     }
 
-    /// Answers how many tasks a processor has: 0 if there is no such processor.
+    /// How many tasks a processor has: 0 if there is no such processor.
     fn size_at(&self, processor: u8) -> u32
         ensures { result ≡ size_at self.now.by_processor.items processor }
     {

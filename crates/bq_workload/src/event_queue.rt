@@ -58,7 +58,7 @@ impl EventQueue {
         recompute(&mut self.numbers, leaf);
     }
 
-    /// Answers the time at which something is due first, and its place: the least place if several are due then.
+    /// The time at which something is due first, and its place: the least place if several are due then.
     pub fn first(&self) -> Option<(u64, u16)>
         ensures none { IfNone result (AreNever self.now) }
         ensures first { IfSome result (λ due. IsFirstDue self.now due.0 due.1) }

@@ -32,7 +32,7 @@ impl ProcessorState {
         }
     }
 
-    /// Answers whether it neither ticks nor looks for a task to pull until the end.
+    /// Whether it neither ticks nor looks for a task to pull until the end.
     pub fn rests_past(&self, end: u64) -> bool
         ensures { result ≡ rests_past end self.now }
     {
@@ -40,7 +40,7 @@ impl ProcessorState {
     }
 }
 
-/// Answers whether a time is after the end; true if there is no time.
+/// Whether a time is after the end; true if there is no time.
 fn is_past(time: Option<u64>, end: u64) -> bool
     ensures { result ≡ is_past end time }
 {

@@ -101,21 +101,21 @@ impl TaskProgress {
         self.got = 0;
     }
 
-    /// Answers whether the task has got exactly what its run phase takes.
+    /// Whether the task has got exactly what its run phase takes.
     pub fn is_done(&self) -> bool
         ensures { result ≡ is_done self.now }
     {
         self.got == self.due
     }
 
-    /// Answers whether the task has got no more than its run phase takes, and no timer wakes it until the end.
+    /// Whether the task has got no more than its run phase takes, and no timer wakes it until the end.
     pub fn keeps_time(&self, end: u64) -> bool
         ensures { result ≡ keeps_time end self.now }
     {
         self.got <= self.due && self.sleeps_past(end)
     }
 
-    /// Answers whether no timer wakes the task until the end.
+    /// Whether no timer wakes the task until the end.
     fn sleeps_past(&self, end: u64) -> bool
         ensures { result ≡ sleeps_past end self.now }
     {
@@ -125,7 +125,7 @@ impl TaskProgress {
         }
     }
 
-    /// Answers whether the task lacks more of its phase than it can get from this instant until the end.
+    /// Whether the task lacks more of its phase than it can get from this instant until the end.
     pub fn lacks_more(&self, since: u64, end: u64) -> bool
         ensures { result ≡ lacks_more since end self.now }
     {

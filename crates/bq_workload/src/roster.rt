@@ -72,7 +72,7 @@ impl Roster {
         Ok(())
     }
 
-    /// Answers how far a task has come.
+    /// How far a task has come.
     pub fn progress(&self, task: u16) -> Result<TaskProgress, BrokenInvariant>
         ensures there { IfOk result (λ progress. slice_get self.now.by_task.items task ≡ Some progress) }
         ensures missing { IfErr result (λ _. slice_get self.now.by_task.items task ≡ None) }
@@ -99,7 +99,7 @@ impl Roster {
         Ok(())
     }
 
-    /// Answers what is known of a processor.
+    /// What is known of a processor.
     pub fn processor_state(&self, processor: u8) -> Result<ProcessorState, BrokenInvariant>
         ensures there { IfOk result (λ processor_state. slice_get self.now.by_processor.items processor ≡ Some processor_state) }
         ensures missing { IfErr result (λ _. slice_get self.now.by_processor.items processor ≡ None) }
@@ -121,7 +121,7 @@ impl Roster {
         self.by_processor[usize::from(processor)] = processor_state;
     }
 
-    /// Answers how many processors there are.
+    /// How many processors there are.
     pub fn processors(&self) -> usize
         ensures { result ≡ length self.now.by_processor.items }
     {
@@ -217,7 +217,7 @@ impl Roster {
         Ok(())
     }
 
-    /// Answers whether a task runs at a processor.
+    /// Whether a task runs at a processor.
     fn runs_at(&self, processor: u8, task: u16) -> bool
         ensures { result ≡ runs_at self.now.by_processor.items processor task }
     {
@@ -325,7 +325,7 @@ impl Roster {
         }
     }
 
-    /// The phase of the task that runs at a processor has ended now. Answers the task and its progress: it has got exactly what
+    /// The phase of the task that runs at a processor has ended now. Returns the task and its progress: it has got exactly what
     /// its phase takes.
     pub fn end_phase(
         &mut self,
@@ -343,7 +343,7 @@ impl Roster {
         self.done_at(processor)
     }
 
-    /// Answers the task that runs at a processor and its progress, if it has got exactly what its phase takes.
+    /// The task that runs at a processor and its progress, if it has got exactly what its phase takes.
     fn done_at(&self, processor: u8) -> Result<(u16, TaskProgress), BrokenInvariant>
         ensures done { IfOk result (λ ended. IsPhaseDone (accounts_of self.now) processor ended.0 ended.1) }
         ensures stray { IfErr result (λ _. NoneIsDone processor (accounts_of self.now)) }
@@ -358,7 +358,7 @@ impl Roster {
         Ok((task, progress))
     }
 
-    /// Answers whether no task has run past its phase, and nothing comes until the end: no timer wakes a task, no phase of a
+    /// Whether no task has run past its phase, and nothing comes until the end: no timer wakes a task, no phase of a
     /// task that runs ends, and no processor ticks or looks for a task to pull. If nothing comes any more, it is over unless a
     /// task has run past its phase.
     pub fn is_over(&self, end: u64) -> bool
@@ -368,14 +368,14 @@ impl Roster {
         self.all_keep_time(end) && self.all_run_past(end) && self.all_rest_past(end)
     }
 
-    /// Answers whether no task has run past its phase, and no timer wakes one until the end.
+    /// Whether no task has run past its phase, and no timer wakes one until the end.
     fn all_keep_time(&self, end: u64) -> bool
         ensures { result ≡ list_all (keeps_time end) self.now.by_task.items }
     {
         self.by_task.iter().all(|progress| progress.keeps_time(end))
     }
 
-    /// Answers whether no phase of a task that runs ends until the end.
+    /// Whether no phase of a task that runs ends until the end.
     fn all_run_past(&self, end: u64) -> bool
         ensures { result ≡ list_all (runs_past end self.now.by_task.items) self.now.by_processor.items }
     {
@@ -384,7 +384,7 @@ impl Roster {
             .all(|processor_state| self.runs_past(processor_state, end))
     }
 
-    /// Answers whether no processor ticks or looks for a task to pull until the end.
+    /// Whether no processor ticks or looks for a task to pull until the end.
     fn all_rest_past(&self, end: u64) -> bool
         ensures { result ≡ list_all (rests_past end) self.now.by_processor.items }
     {
@@ -393,7 +393,7 @@ impl Roster {
             .all(|processor_state| processor_state.rests_past(end))
     }
 
-    /// Answers whether the phase of the task that runs at a processor ends after the end; true if none runs.
+    /// Whether the phase of the task that runs at a processor ends after the end; true if none runs.
     fn runs_past(&self, processor_state: &ProcessorState, end: u64) -> bool
         ensures { result ≡ runs_past end self.now.by_task.items processor_state.now }
     {

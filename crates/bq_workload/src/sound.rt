@@ -64,7 +64,7 @@ fn sound_machine(machine: &Setup) -> Result<(), Unsound>
     Ok(())
 }
 
-/// Answers whether a time is from 1 to the longest.
+/// Whether a time is from 1 to the longest.
 fn is_time(time: u64) -> bool
     ensures { result ≡ is_long time }
 {
@@ -87,14 +87,14 @@ fn sound_kind(number: usize, kind: &TaskKind, processors: u8, kinds: usize) -> R
     sound_actions(number, &kind.actions, kinds)
 }
 
-/// Answers whether the name of a kind has at most `LONGEST_NAME` bytes.
+/// Whether the name of a kind has at most `LONGEST_NAME` bytes.
 fn has_name(kind: &TaskKind) -> bool
     ensures { result ≡ has_name kind.now }
 {
     kind.name.len() <= LONGEST_NAME
 }
 
-/// Answers whether the numbers of a kind are in their ranges.
+/// Whether the numbers of a kind are in their ranges.
 fn has_numbers(kind: &TaskKind) -> bool
     ensures { result ≡ has_numbers kind.now }
 {
@@ -121,7 +121,7 @@ fn sound_actions(number: usize, actions: &[Action], kinds: usize) -> Result<(), 
     Ok(())
 }
 
-/// Answers whether the length of an action is in range, or the action wakes one of this many kinds.
+/// Whether the length of an action is in range, or the action wakes one of this many kinds.
 fn is_action(action: &Action, kinds: usize) -> bool
     ensures { result ≡ is_action kinds action.now }
 {

@@ -90,7 +90,7 @@ impl Roster {
         self.plan_end(processor, &progress, now)
     }
 
-    /// Takes a task to a processor. Answers its progress, with the cost of a migration if it is one.
+    /// Takes a task to a processor. Returns its progress, with the cost of a migration if it is one.
     fn move_to(&mut self, processor: u8, task: u16) -> TaskProgress
         requires there { task < length self.old.by_task.items }
         ensures accounts { accounts_of self.new ≡ of_task (moved_to processor self.old.periods.migration_cost) task (accounts_of self.old) }

@@ -24,7 +24,7 @@ use Rattle.bq_workload.specs.declared.workload.TaskKind.{TaskKind}
 use Rattle.bq_workload.specs.declared.workload.Workload.{Workload}
 use Rattle.bq_workload_file.specs.declared.changes.Changes.{Changes}
 use Rattle.bq_workload_file.specs.Actions.{action_of, actions_with, action_of_entry, named_at, waits}
-use Rattle.bq_workload.specs.Durations.{duration_with_unit}
+use Rattle.bq_words.specs.Durations.{duration_of}
 use Rattle.bq_workload_file.specs.Fields.{loops_of, read_mask, read_name, read_nice, number_in, or_default, some_of, span_in, whole, read_within}
 use Rattle.bq_workload_file.specs.Lengths.{drawn_by, ends_of, fixed_or_drawn, read_length, read_time, uniform_of}
 use Rattle.bq_workload_file.specs.Tables.{only_of}
@@ -40,7 +40,7 @@ within_each least greatest n = each-if (nat_le least n && nat_le n greatest) n (
 
 span_each : (least greatest : ℕ) (d : Data) → IfSome (span_in least greatest d) (IsIn least greatest)
 span_each least greatest d =
-    each-of (option_and_then duration_with_unit (as_str d)) (read_within least greatest) (IsIn least greatest)
+    each-of (option_and_then duration_of (as_str d)) (read_within least greatest) (IsIn least greatest)
     (within_each least greatest)
 
 number_each : (least greatest : ℕ) (d : Data) → IfSome (number_in least greatest d) (IsIn least greatest)

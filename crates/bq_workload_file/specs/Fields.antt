@@ -6,7 +6,7 @@ use Rattle.bq_workload.specs.declared.limits.TheConstants.{LONGEST_NAME}
 use Rattle.bq_words.specs.declared.rule.Rule.{Rule}
 use Rattle.bq_words.specs.declared.processor_count.ProcessorCount.{ProcessorCount}
 use Rattle.bq_words.specs.Sizes.{rule_of, size_numbered}
-use Rattle.bq_workload.specs.Durations.{duration_with_unit}
+use Rattle.bq_words.specs.Durations.{duration_of}
 use Rattle.bq_words.specs.ProcessorSets.{processors_of}
 
 -- a number from the least to the greatest
@@ -15,7 +15,7 @@ read_within least greatest n = if nat_le least n && nat_le n greatest then Some 
 
 -- a duration with its unit, from the least to the greatest
 abbrev pub span_in : ℕ → ℕ → Data → Option ℕ
-span_in least greatest d = option_and_then (read_within least greatest) (option_and_then duration_with_unit (as_str d))
+span_in least greatest d = option_and_then (read_within least greatest) (option_and_then duration_of (as_str d))
 
 -- a whole number that is not negative
 abbrev pub whole : ℤ → Option ℕ

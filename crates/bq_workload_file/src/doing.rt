@@ -38,7 +38,7 @@ pub(crate) fn all_actions<'a>(
     }
 }
 
-/// Answers a run, and a sleep if there is one.
+/// A run, and a sleep if there is one.
 fn short<'a>(
     alloc: Global,
     place: Location<'a>,

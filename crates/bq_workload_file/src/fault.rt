@@ -36,7 +36,7 @@ impl From<AllocError> for Fault {
     }
 }
 
-/// Answers where a text is no TOML, and why.
+/// Where a text is no TOML, and why.
 pub(crate) fn syntax(alloc: Global, text: &str, error: &toml::de::Error) -> Fault
     requires { ¬ IsMemory error.now → parse_document text.now ≡ None }
     ensures { IsWorkloadFault text.now result }
@@ -84,7 +84,7 @@ fn passed(line: usize, column: usize, byte: u8) -> (usize, usize)
     }
 }
 
-/// Answers whether a byte is the first of a character.
+/// Whether a byte is the first of a character.
 fn is_char_start(byte: u8) -> bool
     ensures { result ≡ is_char_start byte }
 {

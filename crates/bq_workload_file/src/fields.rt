@@ -10,8 +10,7 @@ use crate::tables::at;
 use crate::why::{Range, Wanted, Why};
 use bq_weights::is_nice;
 use bq_words::processor_sets::processors;
-use bq_words::{ProcessorCount, Rule};
-use bq_workload::duration_with_unit;
+use bq_words::{ProcessorCount, Rule, duration};
 use bq_workload::limits::LONGEST_NAME;
 use toml::{Table, Value};
 
@@ -32,7 +31,7 @@ pub(crate) fn span(value: &Value, range: Range) -> Option<u64>
     ensures { result ≡ span_in range.least range.greatest (view value.now) }
 {
     let word = value.as_str()?;
-    let span = duration_with_unit(word.as_bytes())?;
+    let span = duration(word.as_bytes())?;
     within(span, range)
 }
 
@@ -48,7 +47,7 @@ fn number(value: &Value, range: Range) -> Option<u64>
     within(number as u64, range)
 }
 
-/// Answers the duration at a key, or the default if the key is absent.
+/// The duration at a key, or the default if the key is absent.
 pub(crate) fn span_at<'a>(
     table: &'a Table,
     key: &'static str,
@@ -70,7 +69,7 @@ pub(crate) fn span_at<'a>(
     }
 }
 
-/// Answers the whole number at a key, or the default if the key is absent.
+/// The whole number at a key, or the default if the key is absent.
 pub(crate) fn number_at<'a>(
     table: &'a Table,
     key: &'static str,
@@ -94,7 +93,7 @@ pub(crate) fn number_at<'a>(
     }
 }
 
-/// Answers how often a task does its actions; for ever if the key is absent.
+/// How often a task does its actions; for ever if the key is absent.
 pub(crate) fn loops(table: &Table) -> Result<Option<u64>, Why<'_>>
     ensures { result_ok result ≡ loops_of (get_member (codes "loops") (table_view table.now)) }
 {
@@ -127,7 +126,7 @@ fn nice_value(value: &Value) -> Option<i8>
     }
 }
 
-/// Answers the nice value of a task, 0 if the key is absent.
+/// The nice value of a task, 0 if the key is absent.
 pub(crate) fn nice(table: &Table) -> Result<i8, Why<'_>>
     ensures { result_ok result ≡ or_default (pos 0) read_nice (get_member (codes "nice") (table_view table.now)) }
 {
@@ -174,7 +173,7 @@ fn named(value: &Value) -> Option<u64>
     processors(word.as_bytes())
 }
 
-/// Answers the rule by which processors choose, or the default if the key is absent.
+/// The rule by which processors choose, or the default if the key is absent.
 pub(crate) fn rule(table: &Table, default: Rule) -> Result<Rule, Why<'_>>
     ensures { result_ok result ≡ or_default default rule_in (get_member (codes "discipline") (table_view table.now)) }
 {
@@ -199,7 +198,7 @@ fn rule_named(value: &Value) -> Option<Rule>
     Rule::of_word(word.as_bytes())
 }
 
-/// Answers how many processors there are, or the default if the key is absent.
+/// How many processors there are, or the default if the key is absent.
 pub(crate) fn size(table: &Table, default: ProcessorCount) -> Result<ProcessorCount, Why<'_>>
     ensures { result_ok result ≡ or_default default size_in (get_member (codes "processors") (table_view table.now)) }
 {

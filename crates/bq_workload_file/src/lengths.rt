@@ -23,7 +23,7 @@ pub(crate) fn length(value: &Value) -> Option<Length>
     }
 }
 
-/// Answers the length that a table says to draw.
+/// The length that a table says to draw.
 fn drawn(table: &Table) -> Option<Length>
     ensures { result ≡ drawn_of (table_view table.now) }
 {

@@ -46,7 +46,7 @@ pub(crate) fn all_known<'a>(table: &'a Table, known: &'static [&'static str]) ->
     Ok(())
 }
 
-/// Answers whether a key is one of some words.
+/// Whether a key is one of some words.
 fn is_word(key: &str, words: &[&str]) -> bool
     ensures { result ≡ list_any (λ word. bytes_eq word.now key.now) words.now }
 {

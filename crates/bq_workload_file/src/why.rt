@@ -6,8 +6,7 @@ use bq_disc::limits::TASKS;
 use bq_disc::with_processors;
 use bq_weights::with_nice_values;
 use bq_words::quantities::NO_SIZE;
-use bq_words::{with_rules, with_units};
-use bq_workload::duration_with_unit;
+use bq_words::{duration, with_rules, with_units};
 use bq_workload::limits::{LONGEST, LONGEST_NAME};
 use std::fmt;
 use toml::{Table, Value};
@@ -219,7 +218,7 @@ fn pair(value: &Value) -> Option<(&Value, &Value)> {
 /// Says that a value is not a duration, or none of a range.
 fn no_time<W: fmt::Write>(f: &mut fmt::Formatter<W>, value: &Value, range: &Range) -> fmt::Result {
     let given = match value.as_str() {
-        Some(word) => duration_with_unit(word.as_bytes()),
+        Some(word) => duration(word.as_bytes()),
         None => None,
     };
     match given {

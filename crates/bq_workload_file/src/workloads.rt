@@ -130,7 +130,7 @@ fn tables(document: &Table) -> Result<&[Value], Why<'_>>
     }
 }
 
-/// Answers the names of the tasks, no two of which are equal. Each is of one task at least, so there are at most 1,024.
+/// The names of the tasks, no two of which are equal. Each is of one task at least, so there are at most 1,024.
 fn names<'a>(alloc: Global, tables: &'a [Value]) -> Result<Vec<String>, Trouble<'a>>
     ensures names { IfOk result (λ v. AreTableNames (items_view tables.now) v.items) }
     ensures others { IfOk result (λ v. AreOthers [] v.items) }

@@ -7,5 +7,7 @@ returns-then-not-has_processor c = adds_none _ _ _ (test_fails _ _ c.has_process
 
 pub returns : goal.returns
 returns c =
-    on_ok_weaker _ (processor_line_added _ _ _ _ _ _ _ c.has_processor.ensures c.if-not-has_processor.false c.processor.ensures)
+    on_ok_weaker _
+    (processor_line_added _ _ _ _ _ _ _ _ c.has_processor.ensures c.if-not-has_processor.false c.observed_time-observed.ensures
+    c.processor.ensures)
     c.write_processor_line.ensures

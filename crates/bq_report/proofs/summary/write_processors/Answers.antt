@@ -16,7 +16,7 @@ loop-number-preserved c =
             elements_at _ _ _ _ _ _ _ w.is_first-is (ap string_bytes w.text-is)
             (elements_more (IsProcessorObject c.args.window.now c.args.schedule.now)
             c.loop-number.number _ _ _ _ _ c.loop-number.invariant.elements
-            (processor_there _ _ _ _ (c.has_processor.ensures.0 w.if-has_processor.true) w.processor.ensures)
+            (processor_there _ _ _ _ _ (c.has_processor.ensures.0 w.if-has_processor.true) c.observed_time-observed.ensures w.processor-figures.ensures)
             w.in_ok-write_processor.ensures);
       }
       | else-has_processor w ↦ record {

@@ -1,5 +1,0 @@
-use Rattle.bq_schedule.proofs.WindowLemmas as Windows
-use Rattle.bq_schedule.proofs.laws.fills_window.Goals as goal
-
-pub returns : goal.returns
-returns c = Windows.fills_window

@@ -1,0 +1,94 @@
+//! Streams that fail, and what is said of errors: the system's words for them are those of errno's manual.
+
+use crate::asserting::holds;
+use bq_console::reason;
+use bq_streams::Kept;
+use std::io;
+use std::io::{Error, Read, Write};
+use std::test::Fail;
+
+/// Errors by their numbers, and the system's words for them.
+static NUMBERED: [(i32, &str); 5] = [
+    (2, "no such file or directory"),
+    (5, "input/output error"),
+    (13, "permission denied"),
+    (21, "is a directory"),
+    (28, "no space left on device"),
+];
+
+/// Errors of other texts, and what is said of them.
+static OTHERS: [(&str, &str); 2] = [("Nothing is there", "nothing is there"), ("", "")];
+
+#[test]
+fn reasons_are_the_systems_words(rt: HostRuntime) -> Result<(), Fail> {
+    for (number, words) in &NUMBERED {
+        let error = Error::from_raw_os_error(*number);
+        let printed = reason(rt.alloc(), &error)?;
+        holds(&rt, printed.as_str() == *words, printed.as_str(), words);
+    }
+    for (text, words) in &OTHERS {
+        let error = Error::other(*text);
+        let printed = reason(rt.alloc(), &error)?;
+        holds(&rt, printed.as_str() == *words, printed.as_str(), words);
+    }
+    Ok(())
+}
+
+/// Gives one byte, then fails as a directory does, then gives bytes again; takes nothing of what is written.
+#[derive(Drop)]
+struct Failing {
+    calls: u8,
+}
+
+impl Read for Failing {
+    fn read(&mut self, buf: &mut [u8]) -> io::Result<usize> {
+        self.calls = self.calls.saturating_add(1);
+        if self.calls == 2 {
+            return Err(Error::from_raw_os_error(21));
+        }
+        match buf {
+            [] => Ok(0),
+            [first, ..] => {
+                *first = b'x';
+                Ok(1)
+            }
+        }
+    }
+}
+
+impl Write for Failing {
+    fn write(&mut self, _buf: &[u8]) -> io::Result<usize> {
+        Err(Error::from_raw_os_error(28))
+    }
+
+    fn flush(&mut self) -> io::Result<()> {
+        Ok(())
+    }
+}
+
+/// The number of the failure that was kept last.
+fn code(kept: &Kept<Failing>) -> Option<i32> {
+    match kept.failure() {
+        Some(error) => error.raw_os_error(),
+        None => None,
+    }
+}
+
+/// What reads and writes come to, each with the number that is kept then.
+#[test]
+fn failures_are_kept(rt: HostRuntime) {
+    let mut kept = Kept::new(Failing { calls: 0 });
+    let mut buf = [0u8; 4];
+    let first = (kept.read(&mut buf).is_ok(), code(&kept));
+    holds(&rt, first == (true, None), "the first read", "a byte");
+    let second = (kept.read(&mut buf).is_ok(), kept.read(&mut buf).is_ok());
+    holds(
+        &rt,
+        second == (false, true),
+        "the second read",
+        "a failure, and then bytes",
+    );
+    holds(&rt, code(&kept) == Some(21), "a failure", "21");
+    holds(&rt, kept.write(b"y").is_err(), "a write", "a failure");
+    holds(&rt, code(&kept) == Some(28), "a failure", "28");
+}
