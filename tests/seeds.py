@@ -5,8 +5,8 @@
 
 BQSIM is the path of the program. Each workload of workloads/ is run for DURATION under both disciplines, with no policy against
 those of OTHERS, and again the other way round. The figures are those of single runs, one by one with `--seed`, as `--as json` has
-them. Their means, deviations and differences are computed here in fractions, as docs/SEEDS.md says, and each line of the report,
-the csv and the json has to be the same. `tests/quick.py` runs it. Last seen: 10 workloads, 10,594 figures alike
+them. Their means and deviations, and those of the differences seed by seed, are computed here in fractions, as docs/SEEDS.md says,
+and each line of the report, the csv and the json has to be the same. `tests/quick.py` runs it. Last seen: 10 workloads, 10,594 figures alike
 in three forms.
 """
 import csv
@@ -22,7 +22,8 @@ from pathlib import Path
 TOP = Path(__file__).resolve().parent.parent
 DURATION = "40ms"
 OTHERS = {"place": TOP / "policies/keep_home.s", "preempt": TOP / "policies/run_to_the_end.s"}
-HEAD = "of,name,figure,unit,runs,mean,deviation,against_runs,against_mean,against_deviation,difference".split(",")
+HEAD = "of,name,figure,unit,runs,mean,deviation,against_runs,against_mean,against_deviation,difference,difference_deviation,difference_runs".split(",")
+SIDES = "against: with the policies of --against; difference: against less mean, seed by seed"
 TIMES = ["cpu", "fair", "waited"]
 COUNTS = ["switches", "preempted", "migrated", "wakes"]
 
@@ -52,25 +53,32 @@ def figures(program, words, seed):
     return values
 
 
-def summary(program, words, seeds):
-    """Of each figure how many runs have it, and the mean and the deviation in whole thousandths."""
-    runs, rows = [figures(program, words, seed) for seed in seeds], {}
-    for figure in runs[0]:
-        values = [Fraction(run[figure]) for run in runs if run[figure] is not None]
-        mean = math.floor(1000 * statistics.mean(values)) if values else None
-        deviation = math.isqrt(math.floor(10**6 * statistics.variance(values))) if len(values) > 1 else None
-        rows[figure] = len(values), mean, deviation
-    return rows
+def summed(values):
+    """How many values there are, and their mean and deviation in whole thousandths."""
+    values = [Fraction(value) for value in values if value is not None]
+    mean = math.floor(1000 * statistics.mean(values)) if values else None
+    deviation = math.isqrt(math.floor(10**6 * statistics.variance(values))) if len(values) > 1 else None
+    return len(values), mean, deviation
+
+
+def differences(pairs):
+    """The difference of the means of the pairs of which both are there, the deviation of their differences, and how many there are."""
+    pairs = [pair for pair in pairs if None not in pair]
+    count, _, deviation = summed([their - our for our, their in pairs])
+    (_, our, _), (_, their, _) = (summed([pair[side] for pair in pairs]) for side in (0, 1))
+    return their - our if pairs else None, deviation, count
 
 
 def lines(ours, theirs):
-    """The figures that have a line, each with both sides and the difference of the means."""
-    for figure, row in ours.items():
-        their = theirs[figure] if theirs else (None, None, None)
+    """The figures that have a line, each with both sides and what the seeds say of the differences."""
+    for figure in ours[0]:
+        row, their, paired = summed([run[figure] for run in ours]), (None, None, None), (None, None, None)
+        if theirs:
+            their = summed([run[figure] for run in theirs])
+            paired = differences([(our[figure], other[figure]) for our, other in zip(ours, theirs)])
         if figure[0].count(" ") == 2 and row[1] == 0 and their[1] in (0, None):
             continue
-        difference = None if row[1] is None or their[1] is None else their[1] - row[1]
-        yield figure, row, their, difference
+        yield figure, row, their, paired
 
 
 def decimal(thousandths, sign="", unit=1):
@@ -85,33 +93,35 @@ def as_csv(told):
     text = io.StringIO()
     writer = csv.writer(text, lineterminator="\n")
     writer.writerow(HEAD)
-    for figure, (runs, *ours), (their_runs, *theirs), difference in told:
+    for figure, (runs, *ours), (their_runs, *theirs), (difference, deviation, count) in told:
         cells = [runs, *map(decimal, ours), "" if their_runs is None else their_runs, *map(decimal, theirs)]
-        writer.writerow([*figure, *cells, decimal(difference, "+")])
+        writer.writerow([*figure, *cells, decimal(difference, "+"), decimal(deviation), "" if count is None else count])
     return text.getvalue()
 
 
 def as_json(told):
-    keys = "runs mean_thousandths deviation_thousandths against_runs against_mean_thousandths against_deviation_thousandths difference_thousandths".split()
-    figures = [dict(zip(["of", "name", "figure", "unit", *keys], [*figure, *ours, *theirs, difference])) for figure, ours, theirs, difference in told]
+    keys = [f"{side}{key}" for side in ("", "against_") for key in ("runs", "mean_thousandths", "deviation_thousandths")]
+    keys += ["difference_thousandths", "difference_deviation_thousandths", "difference_runs"]
+    figures = [dict(zip(["of", "name", "figure", "unit", *keys], [*figure, *ours, *theirs, *paired])) for figure, ours, theirs, paired in told]
     return {"schema": 1, "figures": figures}
 
 
 def as_report(told, wide):
     """The words of each line: what stands in a column, without how wide it is."""
-    head = "of name figure unit mean deviation" + (" against deviation difference" if wide else "")
-    rows = [head.split()]
-    for (of, name, figure, unit), (_, *ours), (_, *theirs), difference in told:
+    head = "of name figure unit mean deviation" + (" against deviation difference deviation" if wide else "")
+    rows = [SIDES.split(), head.split()] if wide else [head.split()]
+    for (of, name, figure, unit), (_, *ours), (_, *theirs), (difference, deviation, _) in told:
         size, shown = (1000, ["us"]) if unit == "ns" else (1, [])
         values = [*ours, *theirs] if wide else ours
         cells = [decimal(value, unit=size) or "-" for value in values]
-        cells += [decimal(difference, "+", size) or "-"] if wide else []
+        cells += [decimal(difference, "+", size) or "-", decimal(deviation, unit=size) or "-"] if wide else []
         rows.append([*of.split(), *name[:15].split(), figure, *shown, *cells])
     return rows
 
 
 def compare(program, words, against, theirs_words, seeds):
-    ours, theirs = summary(program, words, seeds), summary(program, theirs_words, seeds) if against else None
+    ours = [figures(program, words, seed) for seed in seeds]
+    theirs = [figures(program, theirs_words, seed) for seed in seeds] if against else None
     told = list(lines(ours, theirs))
     asked = [*words, "--seed", seeds[0], "--seeds", len(seeds), *against]
     if run(program, *asked, "--as", "csv") != as_csv(told):

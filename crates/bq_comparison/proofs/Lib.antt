@@ -4,4 +4,5 @@ mod LatencyLemmas
 mod RunLemmas
 mod RangeLemmas
 mod RowLemmas
+mod PairLemmas
 mod RatioLemmas

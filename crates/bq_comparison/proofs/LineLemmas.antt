@@ -1,10 +1,10 @@
 -- Lines, one more at the end.
-use Rattle.std.proofs.Common.{◌≡◌, ℕ, ◌+◌, List, [], ◌∷◌, ◌++◌, Option, length, refl, ap, inl, inr, arith, Global}
-use Rattle.std.specs.declared.vec.Vec.{Vec}
+use Rattle.std.proofs.Common.{◌≡◌, ℕ, ◌+◌, List, [], ◌∷◌, ◌++◌, Option, length, refl, ap, inl, inr, arith}
 use Rattle.std.proofs.lemmas.Grind.{common_steps}
 use Rattle.bq_comparison.specs.declared.summing.FigureRow.{FigureRow}
+use Rattle.bq_comparison.specs.declared.sides.OtherSide.{OtherSide}
 use Rattle.bq_comparison.specs.declared.line.FigureLine.{FigureLine}
-use Rattle.bq_comparison.specs.Lines.{Selects, rows_beside, row_at}
+use Rattle.bq_comparison.specs.Lines.{Selects, row_beside, rows_beside}
 
 -- a line more at the end that is shown is selected too
 pub Selects-take : (P : FigureLine → Type 0) (xs ys : List FigureLine) (x : FigureLine)
@@ -27,8 +27,8 @@ Selects-leave P (z ∷ zs) ys x h hidden =
     ]
 
 -- a row more at the end stands beside the one at its place
-pub beside-more : (place : ℕ) (rows : List FigureRow) (row : FigureRow) (theirs : Option (Vec FigureRow Global))
+pub beside-more : (place : ℕ) (rows : List FigureRow) (row : FigureRow) (theirs : Option OtherSide)
     → rows_beside place (rows ++ row ∷ []) theirs
-    ≡ rows_beside place rows theirs ++ record { ours = row; theirs = row_at theirs (place + length rows) } ∷ []
+    ≡ rows_beside place rows theirs ++ row_beside (place + length rows) row theirs ∷ []
 beside-more place [] row theirs = grind (arith, common_steps)
 beside-more place (r ∷ rs) row theirs = grind (arith, common_steps, beside-more (place + 1) rs row theirs)

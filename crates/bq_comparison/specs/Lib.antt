@@ -10,3 +10,4 @@ pub mod Rows
 pub mod Runs
 pub mod Values
 pub mod Means
+pub mod Pairs

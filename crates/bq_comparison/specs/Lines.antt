@@ -1,22 +1,30 @@
 -- Figures side by side.
 use Rattle.std.specs.Prelude.{◌≡◌, ℕ, ◌+◌, ◌==◌, ◌&&◌, ◌⊎◌, Bool, false, List, [], ◌∷◌, Option, Some, None, slice_get, option_and_then}
-use Rattle.std.specs.declared.vec.Vec.{Vec}
-use Rattle.std.proofs.Common.{Global}
 use Rattle.bq_comparison.specs.declared.naming.Figure.{Figure}
 use Rattle.bq_comparison.specs.declared.naming.Figure.TheVariants.{Task, Latency, StillWaiting, Processor, Hook}
+use Rattle.bq_comparison.specs.declared.pairs.PairedRow.{PairedRow}
+use Rattle.bq_comparison.specs.declared.sides.OtherSide.{OtherSide}
 use Rattle.bq_comparison.specs.declared.summing.FigureRow.{FigureRow}
 use Rattle.bq_report.specs.declared.window.Window.{Window}
 use Rattle.bq_report.specs.Windows.{ShowsProcessor, ShowsTask}
 use Rattle.bq_comparison.specs.declared.line.FigureLine.{FigureLine}
 
 -- the other side's row at a place, if there is another side
-abbrev pub row_at : Option (Vec FigureRow Global) → ℕ → Option FigureRow
-row_at theirs place = option_and_then (λ rows. slice_get rows.items place) theirs
+abbrev pub row_at : Option OtherSide → ℕ → Option FigureRow
+row_at theirs place = option_and_then (λ side. slice_get side.rows.items place) theirs
+
+-- what both sides say of the difference at a place, if there is another side
+abbrev pub paired_at : Option OtherSide → ℕ → Option PairedRow
+paired_at theirs place = option_and_then (λ side. slice_get side.paired.items place) theirs
+
+-- a row beside the other side's at this place, with what both say of their difference
+abbrev pub row_beside : ℕ → FigureRow → Option OtherSide → FigureLine
+row_beside place row theirs = record { ours = row; theirs = row_at theirs place; paired = paired_at theirs place }
 
 -- each row beside the one at its place; the first has this place
-abbrev pub rows_beside : ℕ → List FigureRow → Option (Vec FigureRow Global) → List FigureLine
+abbrev pub rows_beside : ℕ → List FigureRow → Option OtherSide → List FigureLine
 rows_beside place [] theirs = []
-rows_beside place (row ∷ rows) theirs = record { ours = row; theirs = row_at theirs place } ∷ rows_beside (place + 1) rows theirs
+rows_beside place (row ∷ rows) theirs = row_beside place row theirs ∷ rows_beside (place + 1) rows theirs
 
 -- the mean is 0
 abbrev pub is_nothing : Option ℕ → Bool

@@ -29,9 +29,8 @@ AreSeededRuns policies w most figures seed (run ∷ runs) = IsWorkloadRun polici
 abbrev pub AreFirstRuns : List Accepted → Workload → ℕ → List Figure → List RunFigures → Type 0
 AreFirstRuns policies w most figures runs = AreSeededRuns policies w most figures w.machine.seed runs
 
--- what the runs with this many seeds, from the workload's own on, each of at most that many events, say of each figure
-pub record IsSeedsSummary (policies : List Accepted) (w : Workload) (most : ℕ) (count : ℕ) (figures : List Figure) (rows : List FigureRow) : Type 0 where
-  pub runs : List RunFigures
+-- the runs with this many seeds, from the workload's own on, each of at most that many events, and what they say of each figure
+pub record IsSeedsSummary (policies : List Accepted) (w : Workload) (most : ℕ) (count : ℕ) (figures : List Figure) (runs : List RunFigures) (rows : List FigureRow) : Type 0 where
   pub number : length runs ≡ count
   pub runs_are : AreFirstRuns policies w most figures runs
   pub rows_are : AreRows runs figures rows

@@ -1,7 +1,7 @@
 //! Means, deviations and differences as text.
 
-use crate::FigureRow;
 use crate::difference::Difference;
+use crate::{FigureRow, PairedRow};
 use std::alloc::{AllocError, Global};
 
 /// Thousandths, with three decimals.
@@ -51,5 +51,21 @@ pub(crate) fn mean_of(row: Option<FigureRow>) -> Option<u128> {
 
 /// The deviation of a row, if there is a row and it has one.
 pub(crate) fn deviation_of(row: Option<FigureRow>) -> Option<u128> {
+    row?.deviation
+}
+
+/// With how many seeds both sides have the value of a row, if there is a row.
+pub(crate) fn difference_runs_of(row: Option<PairedRow>) -> Option<u128> {
+    let row = row?;
+    Some(row.runs as u128)
+}
+
+/// The difference of a row, if there is a row and it has one.
+pub(crate) fn difference_of(row: Option<PairedRow>) -> Option<Difference> {
+    row?.difference
+}
+
+/// The deviation of the differences of a row, if there is a row and it has one.
+pub(crate) fn difference_deviation_of(row: Option<PairedRow>) -> Option<u128> {
     row?.deviation
 }

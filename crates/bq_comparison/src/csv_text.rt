@@ -1,16 +1,15 @@
 //! Figures as comma-separated values.
 
-use crate::cells::{cell, deviation_of, mean_of, signed};
-use crate::difference::Difference;
+use crate::cells::{cell, deviation_of, difference_deviation_of, difference_of, mean_of, signed};
 use crate::labels::{name, subject, unit, word};
 use crate::line::FigureLine;
-use crate::{Figure, FigureRow};
+use crate::{Figure, FigureRow, PairedRow};
 use csv::{Error, Writer, WriterBuilder};
 use std::alloc::{AllocError, Global};
 
 /// The first row.
 const HEAD: &str =
-    "of,name,figure,unit,runs,mean,deviation,against_runs,against_mean,against_deviation,difference\n";
+    "of,name,figure,unit,runs,mean,deviation,against_runs,against_mean,against_deviation,difference,difference_deviation,difference_runs\n";
 
 /// A row a figure. Times are in nanoseconds, and what is not there is left empty.
 pub(crate) fn csv_text(
@@ -43,8 +42,7 @@ fn row(alloc: Global, line: &FigureLine, names: &[String]) -> Result<Vec<u8>, Al
     write_label(alloc, &mut writer, line.ours.figure, names)?;
     write_side(alloc, &mut writer, Some(line.ours))?;
     write_side(alloc, &mut writer, line.theirs)?;
-    let difference = Difference::of(line.ours.mean, mean_of(line.theirs));
-    write_field(&mut writer, signed(alloc, difference, "")?.as_str())?;
+    write_differences(alloc, &mut writer, line.paired)?;
     match ended(writer) {
         Ok(bytes) => Ok(bytes),
         Err(_) => Err(AllocError),
@@ -76,6 +74,23 @@ fn write_side(
     }
     write_field(writer, cell(alloc, mean_of(side), "")?.as_str())?;
     write_field(writer, cell(alloc, deviation_of(side), "")?.as_str())
+}
+
+/// Writes the difference of the means, the deviation of the differences and how many there are; of no pairs three empty fields.
+fn write_differences(
+    alloc: Global,
+    writer: &mut Writer<Vec<u8>>,
+    paired: Option<PairedRow>,
+) -> Result<(), AllocError> {
+    write_field(writer, signed(alloc, difference_of(paired), "")?.as_str())?;
+    write_field(
+        writer,
+        cell(alloc, difference_deviation_of(paired), "")?.as_str(),
+    )?;
+    match paired {
+        Some(paired) => write_field(writer, paired.runs.to_string(alloc)?.as_str()),
+        None => write_field(writer, ""),
+    }
 }
 
 /// Writes a field; fails if memory runs out.

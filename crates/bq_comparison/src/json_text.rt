@@ -1,7 +1,9 @@
 //! Figures as JSON.
 
 use crate::Figure;
-use crate::cells::{deviation_of, mean_of, runs_of};
+use crate::cells::{
+    deviation_of, difference_deviation_of, difference_of, difference_runs_of, mean_of, runs_of,
+};
 use crate::difference::Difference;
 use crate::labels::{name, subject, unit, word};
 use crate::line::FigureLine;
@@ -61,25 +63,29 @@ fn put_word(
     put(object, alloc, key, Value::try_from_str(alloc, word)?)
 }
 
-/// Adds how many runs of each side have a value, the means, the deviations and the difference.
+/// Adds how many runs of each side have a value, the means and the deviations, and the same of the differences.
 fn put_numbers(
     alloc: Global,
     object: &mut Map<String, Value>,
     line: &FigureLine,
 ) -> Result<(), AllocError> {
-    let their_mean = mean_of(line.theirs);
     let sizes = [
         ("runs", runs_of(Some(line.ours))),
         ("mean_thousandths", line.ours.mean),
         ("deviation_thousandths", line.ours.deviation),
         ("against_runs", runs_of(line.theirs)),
-        ("against_mean_thousandths", their_mean),
+        ("against_mean_thousandths", mean_of(line.theirs)),
         ("against_deviation_thousandths", deviation_of(line.theirs)),
+        ("difference_runs", difference_runs_of(line.paired)),
+        (
+            "difference_deviation_thousandths",
+            difference_deviation_of(line.paired),
+        ),
     ];
     for (key, size) in &sizes {
         put(object, alloc, key, number(*size))?;
     }
-    let difference = signed_number(Difference::of(line.ours.mean, their_mean));
+    let difference = signed_number(difference_of(line.paired));
     put(object, alloc, "difference_thousandths", difference)
 }
 

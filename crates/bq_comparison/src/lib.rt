@@ -1,7 +1,7 @@
 //! `simulate` with several seeds, or beside another choice of policies: the mean and the standard deviation of each figure of
-//! the report, as a table, as comma-separated values or as JSON.
-//! Promises that both sides are summaries of as many runs as were asked for, that each line has the two rows of one figure, and
-//! that lines are left out only as asked, or if a hook has only zeros.
+//! the report, and of its difference seed by seed, as a table, as comma-separated values or as JSON.
+//! Promises that both sides are summaries of as many runs as were asked for, that each line has the two rows of one figure and what
+//! the runs with the same seeds say of its difference, and that lines are left out only as asked, or if a hook has only zeros.
 //!
 //! The figures are of one run, in numbers; the seeds' runs are added up row by row. Builds on bq_experiment for the command's words.
 #![tactic(auto)]
@@ -18,6 +18,8 @@ mod labels;
 mod line;
 pub mod means;
 mod naming;
+mod pairing;
+mod pairs;
 mod runs;
 mod seeds;
 mod sides;
@@ -34,9 +36,11 @@ pub use gathering::Gatherer;
 pub use line::{FigureLine, lines};
 pub use means::{deviation, mean};
 pub use naming::{Figure, HookFigure, LatencyFigure, ProcessorFigure, TaskFigure};
+pub use pairing::paired_rows;
+pub use pairs::{Pair, PairedRow, paired_deviation};
 pub use runs::{FigureValue, RunFigures, run_of};
-pub use seeds::{Experiment, Rows, RunsShown, summary};
-pub use sides::{RunPlan, Sides, compare, size_of_machine};
+pub use seeds::{Experiment, Rows, RunsShown, SeedsSummary, summary};
+pub use sides::{OtherSide, RunPlan, Sides, compare, size_of_machine};
 pub use summing::{FigureRow, rows};
 pub use values::value_of;
 pub use writing::comparison_text;

@@ -1,17 +1,18 @@
 //! Figures side by side.
 ghost use Rattle.std.specs.Prelude.{◌≡◌, ◌↔◌, IsTrue, IfOk};
-ghost use Rattle.bq_comparison.specs.Lines.{IsLineShown, Selects, rows_beside, is_nothing, row_at, is_zero};
+ghost use Rattle.bq_comparison.specs.Lines.{IsLineShown, Selects, rows_beside, is_nothing, paired_at, row_at, is_zero};
 
 use crate::sides::Sides;
-use crate::{Figure, FigureRow};
+use crate::{Figure, FigureRow, PairedRow};
 use bq_report::Window;
 use std::alloc::{AllocError, Global};
 
-/// What the runs say of a figure, and what those under the other policies say, if there are any.
+/// What the runs say of a figure, and what those under the other policies say of it and of its difference, if there are any.
 #[derive(Clone, Copy)]
 pub struct FigureLine {
     pub ours: FigureRow,
     pub theirs: Option<FigureRow>,
+    pub paired: Option<PairedRow>,
 }
 
 impl FigureLine {
@@ -53,7 +54,17 @@ impl Sides {
         ensures { result ≡ row_at self.now.theirs place }
     {
         match &self.theirs {
-            Some(rows) => rows.get(place).copied(),
+            Some(side) => side.rows.get(place).copied(),
+            None => None,
+        }
+    }
+
+    /// What both sides say of the difference at a place.
+    fn paired(&self, place: usize) -> Option<PairedRow>
+        ensures { result ≡ paired_at self.now.theirs place }
+    {
+        match &self.theirs {
+            Some(side) => side.paired.get(place).copied(),
             None => None,
         }
     }
@@ -68,6 +79,7 @@ pub fn lines(alloc: Global, sides: &Sides, window: &Window) -> Result<Vec<Figure
         let line = FigureLine {
             ours: *row,
             theirs: sides.their(place),
+            paired: sides.paired(place),
         };
         if line.is_shown(window) {
             lines.push(line)?;

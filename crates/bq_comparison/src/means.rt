@@ -1,6 +1,6 @@
 //! Means and standard deviations in whole numbers.
 ghost use Rattle.std.specs.Prelude.{◌≡◌, ◌≤◌, ◌<◌, ◌-◌, ◌*◌, ◌^◌, length, sum, IfSome, IfNone};
-ghost use Rattle.bq_comparison.specs.Means.{IsDeviation, IsMean, IsRoot, IsTooGreat, squares};
+ghost use Rattle.bq_comparison.specs.Means.{AreTooGreatSums, IsDeviation, IsDeviationBySums, IsMean, IsMeanBySum, IsRoot, IsTooGreat, squares};
 
 /// The mean of 1 to 65,536 numbers in thousandths, rounded down.
 pub fn mean(numbers: &[u64]) -> u128
@@ -8,7 +8,16 @@ pub fn mean(numbers: &[u64]) -> u128
     requires few { length numbers.now ≤ 65536 }
     ensures { IsMean numbers.now result }
 {
-    total(numbers) * 1000 / numbers.len() as u128
+    mean_by_sum(numbers.len(), total(numbers))
+}
+
+/// The mean of numbers in thousandths, rounded down, given how many there are and their sum.
+pub(crate) fn mean_by_sum(count: usize, total: u128) -> u128
+    requires some { 0 < count }
+    requires fits { total < 2 ^ 80 }
+    ensures { IsMeanBySum count total result }
+{
+    total * 1000 / count as u128
 }
 
 /// The sample's standard deviation of 2 to 65,536 numbers in thousandths, rounded down. None if the numbers are too
@@ -20,22 +29,30 @@ pub fn deviation(numbers: &[u64]) -> Option<u128>
     ensures value { IfSome result (IsDeviation numbers.now) }
     ensures none { IfNone result (IsTooGreat numbers.now) }
 {
-    let count = numbers.len() as u128;
-    let whole = whole(count, numbers)?;
-    let total = total(numbers);
+    deviation_by_sums(numbers.len(), squares(numbers)?, total(numbers))
+}
+
+/// The standard deviation of 2 to 65,536 numbers, given the sum of their squares and the size of their sum. None if these are too
+/// great to be multiplied in 128 bits.
+pub(crate) fn deviation_by_sums(count: usize, squared: u128, total: u128) -> Option<u128>
+    requires some { 2 ≤ count }
+    requires few { count ≤ 65536 }
+    ensures value { IfSome result (IsDeviationBySums count squared total) }
+    ensures none { IfNone result (AreTooGreatSums count squared total) }
+{
+    let count = count as u128;
+    let whole = whole(count, squared)?;
     let square = total.checked_mul(total)?;
     Some(root(whole.saturating_sub(square), count * (count - 1)))
 }
 
 /// `count` times the sum of the squares; `None` if 10^6 times that does not fit 128 bits.
-fn whole(count: u128, numbers: &[u64]) -> Option<u128>
-    requires some { 0 < count }
-    requires count { count ≡ length numbers.now }
-    ensures value { IfSome result (λ n. n ≡ length numbers.now * squares numbers.now) }
+fn whole(count: u128, squared: u128) -> Option<u128>
+    ensures value { IfSome result (λ n. n ≡ count * squared) }
     ensures fits { IfSome result (λ n. n * 1000000 < 2 ^ 128) }
-    ensures none { IfNone result (2 ^ 128 ≤ length numbers.now * squares numbers.now * 1000000) }
+    ensures none { IfNone result (2 ^ 128 ≤ count * squared * 1000000) }
 {
-    let whole = count.checked_mul(squares(numbers)?)?;
+    let whole = count.checked_mul(squared)?;
     whole.checked_mul(1_000_000)?;
     Some(whole)
 }

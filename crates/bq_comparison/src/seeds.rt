@@ -18,6 +18,13 @@ use std::thread::{Threads, available_parallelism, map_indices};
 /// What the runs say of each figure, a row a figure.
 pub type Rows = Vec<FigureRow>;
 
+/// Some runs, and what they say of each figure.
+#[derive(Drop)]
+pub struct SeedsSummary {
+    pub runs: Vec<RunFigures>,
+    pub rows: Rows,
+}
+
 /// What comes of some runs.
 type Results = Vec<Result<RunFigures, SeedsFault>>;
 
@@ -46,8 +53,8 @@ pub struct RunsShown<'a> {
 /// At most this many runs are done at once.
 const MOST_AT_ONCE: usize = 64;
 
-/// Runs a workload with this many seeds, from its own on, with these policies at all processors. Returns what the runs say of
-/// each figure. A run that has more events than it may have is cut off, and then there is no summary. As many runs are done at
+/// Runs a workload with this many seeds, from its own on, with these policies at all processors. Returns the runs, and what they
+/// say of each figure. A run that has more events than it may have is cut off, and then there is no summary. As many runs are done at
 /// once as there are processors available, each on a thread of its own. A workload with a flaw is refused for the first of its
 /// flaws. The runs of a workload without a flaw fail only if memory runs out, or if 64 bits do not count the bound of its steps.
 /// `Last` comes exactly when the last seed would be 2^64 or more.
@@ -57,13 +64,13 @@ pub fn summary<T: Threads + Sync>(
     experiment: &Experiment<'_>,
     count: u16,
     shown: &RunsShown<'_>,
-) -> Result<Rows, SeedsFault>
-    ensures rows { IfOk result (λ rows. IsSeedsSummary experiment.now.policies.now experiment.now.workload.now experiment.now.most count experiment.now.figures.now rows.items) }
+) -> Result<SeedsSummary, SeedsFault>
+    ensures rows { IfOk result (λ s. IsSeedsSummary experiment.now.policies.now experiment.now.workload.now experiment.now.most count experiment.now.figures.now s.runs.items s.rows.items) }
     ensures fault { IfErr result (IsNoSummary experiment.now.policies.now experiment.now.workload.now experiment.now.most count) }
 {
     let runs = runs(threads, alloc, experiment, count, shown)?;
     let rows = rows(alloc, experiment.figures, runs.as_slice())?;
-    Ok(rows)
+    Ok(SeedsSummary { runs, rows })
 }
 
 /// The runs with this many seeds, from the workload's own on.

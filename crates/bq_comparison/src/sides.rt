@@ -1,10 +1,13 @@
 //! The two sides of a comparison.
-ghost use Rattle.std.specs.Prelude.{◌≡◌, IfErr, IfOk, option_map};
-ghost use Rattle.bq_comparison.specs.Faults.{IsNoSide};
-ghost use Rattle.bq_comparison.specs.Sides.{IsComparison, size_of_machine};
+ghost use Rattle.std.specs.Prelude.{◌≡◌, IfErr, IfOk, length, option_map};
+ghost use Rattle.bq_comparison.specs.Faults.{IsNoSide, IsNoSummary};
+ghost use Rattle.bq_comparison.specs.Sides.{IsComparison, IsOtherSide, size_of_machine};
 
 use crate::seeds::{Experiment, RunsShown};
-use crate::{MachineSize, Rows, SeedsFault, all_figures, summary};
+use crate::{
+    MachineSize, PairedRow, Rows, RunFigures, SeedsFault, SeedsSummary, all_figures, paired_rows,
+    summary,
+};
 use bq_console::ProgressLine;
 use bq_experiment::Policies;
 use bq_workload::Workload;
@@ -15,7 +18,14 @@ use std::thread::Threads;
 #[derive(Drop)]
 pub struct Sides {
     pub ours: Rows,
-    pub theirs: Option<Rows>,
+    pub theirs: Option<OtherSide>,
+}
+
+/// What the runs under other policies say of each figure, and what they say of its difference, seed by seed.
+#[derive(Drop)]
+pub struct OtherSide {
+    pub rows: Rows,
+    pub paired: Vec<PairedRow>,
 }
 
 /// The extent of a comparison, and the place where its progress is shown.
@@ -53,19 +63,41 @@ pub fn compare<T: Threads + Sync>(
     };
     let seeds = plan.seeds;
     let Some(others) = others else {
-        let ours = summary(threads, alloc, &ours, seeds, &shown(plan, 0, 1))?;
-        return Ok(Sides { ours, theirs: None });
+        let SeedsSummary { rows, .. } = summary(threads, alloc, &ours, seeds, &shown(plan, 0, 1))?;
+        return Ok(Sides {
+            ours: rows,
+            theirs: None,
+        });
     };
     let theirs = Experiment {
         policies: others.loaded(),
         ..ours
     };
-    let ours = summary(threads, alloc, &ours, seeds, &shown(plan, 0, 2))?;
-    let theirs = summary(threads, alloc, &theirs, seeds, &shown(plan, 1, 2))?;
+    let SeedsSummary { runs, rows } = summary(threads, alloc, &ours, seeds, &shown(plan, 0, 2))?;
+    let runs = runs.as_slice();
+    let theirs = other_side(threads, alloc, &theirs, seeds, &shown(plan, 1, 2), runs)?;
     Ok(Sides {
-        ours,
+        ours: rows,
         theirs: Some(theirs),
     })
+}
+
+/// Runs a workload with this many seeds, from its own on, beside our runs with the same seeds.
+fn other_side<T: Threads + Sync>(
+    threads: &T,
+    alloc: Global,
+    experiment: &Experiment<'_>,
+    count: u16,
+    shown: &RunsShown<'_>,
+    ours: &[RunFigures],
+) -> Result<OtherSide, SeedsFault>
+    requires { length ours.now ≡ count }
+    ensures side { IfOk result (IsOtherSide experiment.now.policies.now experiment.now.workload.now experiment.now.most count experiment.now.figures.now ours.now) }
+    ensures fault { IfErr result (IsNoSummary experiment.now.policies.now experiment.now.workload.now experiment.now.most count) }
+{
+    let SeedsSummary { runs, rows } = summary(threads, alloc, experiment, count, shown)?;
+    let paired = paired_rows(alloc, experiment.figures.len(), ours, runs.as_slice())?;
+    Ok(OtherSide { rows, paired })
 }
 
 /// Where the progress of a side is shown: how many sides come before it, and how many there are.

@@ -1,6 +1,6 @@
 //! An aligned table of figures.
 
-use crate::cells::{cell, deviation_of, mean_of, signed};
+use crate::cells::{cell, deviation_of, difference_deviation_of, difference_of, mean_of, signed};
 use crate::difference::Difference;
 use crate::labels::{is_time, name, subject, word};
 use crate::line::FigureLine;
@@ -10,9 +10,11 @@ use std::alloc::{AllocError, Global};
 const HEAD: &str =
     "of             name            figure        unit          mean     deviation\n";
 
-/// The head of a table with others.
-const WIDE_HEAD: &str =
-    "of             name            figure        unit          mean     deviation       against     deviation    difference\n";
+/// The head of a table with others, below a line that says which side is which.
+const WIDE_HEAD: &str = concat!(
+    "against: with the policies of --against; difference: against less mean, seed by seed\n",
+    "of             name            figure        unit          mean     deviation       against     deviation    difference     deviation\n",
+);
 
 /// A line a figure, below the head of a table with others or without. Times are in microseconds.
 pub(crate) fn table_text(
@@ -46,7 +48,7 @@ fn write_label(
     write!(text, "{subject:<14} {name:<15.15} {word:<13} {unit:<4}")
 }
 
-/// Its means and deviations.
+/// Its means and deviations, and those of the differences.
 fn write_cells(alloc: Global, text: &mut String, line: &FigureLine) -> Result<(), AllocError> {
     let is_time = is_time(line.ours.figure);
     write_cell(alloc, text, is_time, line.ours.mean)?;
@@ -54,12 +56,11 @@ fn write_cells(alloc: Global, text: &mut String, line: &FigureLine) -> Result<()
     if line.theirs.is_none() {
         return Ok(());
     }
-    let their_mean = mean_of(line.theirs);
-    write_cell(alloc, text, is_time, their_mean)?;
+    write_cell(alloc, text, is_time, mean_of(line.theirs))?;
     write_cell(alloc, text, is_time, deviation_of(line.theirs))?;
-    let difference = Difference::of(line.ours.mean, their_mean);
-    let difference = shown_difference(is_time, difference);
-    write_padded(text, signed(alloc, difference, "-")?.as_str())
+    let difference = shown_difference(is_time, difference_of(line.paired));
+    write_padded(text, signed(alloc, difference, "-")?.as_str())?;
+    write_cell(alloc, text, is_time, difference_deviation_of(line.paired))
 }
 
 fn write_cell(

@@ -4,7 +4,7 @@ use Rattle.bq_comparison.specs.declared.naming.Figure.TheVariants.{Task}
 use Rattle.bq_comparison.specs.declared.naming.TaskFigure.TheVariants.{Ran}
 use Rattle.bq_comparison.specs.declared.summing.FigureRow.{FigureRow}
 use Rattle.bq_comparison.specs.declared.line.FigureLine.{FigureLine}
-use Rattle.bq_comparison.specs.Lines.{Selects, rows_beside, IsLineShown, row_at}
+use Rattle.bq_comparison.specs.Lines.{Selects, IsLineShown, row_beside, rows_beside}
 use Rattle.bq_comparison.proofs.LineLemmas.{Selects-take, Selects-leave, beside-more}
 use Rattle.bq_comparison.proofs.line.lines.Goals as goal
 use Rattle.bq_comparison.proofs.line.lines.Goals.{then-is_shown+in_ok-push, else-is_shown}
@@ -17,16 +17,16 @@ rows-preserved c =
     let i = c.rows.place in
     let none : FigureRow = record { figure = Task 0 Ran; runs = 0; mean = None; deviation = None } in
     let row : FigureRow = get_or rows i none in
-    let line : FigureLine = record { ours = row; theirs = row_at theirs i } in
+    let line : FigureLine = row_beside i row theirs in
     let all : c.deref-row-items.result.now ≡ rows = search rules in
     let inside : i < length rows = search (rules, arith) in
     let place : 0 + length (take i rows) ≡ i = omega (arith, length-take i rows) in
     let more : rows_beside 0 (take (i + 1) rows) theirs ≡ rows_beside 0 (take i rows) theirs ++ line ∷ [] =
     ap (λ l. rows_beside 0 l theirs) (take_more rows i none inside) ∙ beside-more 0 (take i rows) row theirs
-    ∙ ap (λ n. rows_beside 0 (take i rows) theirs ++ record { ours = row; theirs = row_at theirs n } ∷ []) place in
-    let made : record { ours = get_or c.deref-row-items.result.now i none; theirs = c.their.result } ≡ line =
-    ap (λ l. record { ours = get_or l i none; theirs = c.their.result }) all
-    ∙ ap (λ t. record { ours = row; theirs = t }) c.their.ensures in
+    ∙ ap (λ n. rows_beside 0 (take i rows) theirs ++ row_beside n row theirs ∷ []) place in
+    let here : get_or c.deref-row-items.result.now i none ≡ row = ap (λ l. get_or l i none) all in
+    let made : record { ours = get_or c.deref-row-items.result.now i none; theirs = c.their.result; paired = c.paired.result } ≡ line =
+    cc (here, c.their.ensures, c.paired.ensures) in
     let of : List FigureLine → Type 0 = λ ys. Selects shows (rows_beside 0 (take (i + 1) rows) theirs) ys in
     let from : List FigureLine → Type 0 = λ xs. Selects shows xs (c.rows.lines.items ++ line ∷ []) in
     let kept : List FigureLine → Type 0 = λ xs. Selects shows xs c.rows.lines.items in
