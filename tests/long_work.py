@@ -128,6 +128,9 @@ class LongWork:
         policy = os.path.join(self.folder, "refused.s")
         with open(policy, "w", encoding="ascii") as file:
             file.write(";@ hook preempt\nldxw r0, [r1+200]\nexit\n")
+        trace = os.path.join(self.folder, "bad.trace")
+        with open(trace, "w", encoding="ascii") as file:
+            file.write("draw\n")
         explain = b"bqsim: give --explain too, to see why\r\n"
         other = b"bqsim: without a file this reads hex; bqsim %s reads a policy in any form\r\n"
         for words, said in (
@@ -136,6 +139,7 @@ class LongWork:
             (("check", "--json", policy), b""),
             (("check",), other % b"check --explain -"),
             (("dis",), other % b"dis -"),
+            (("replay", trace), b"bqsim: a line is bad; bqsim timeline says why\r\n"),
         ):
             name = " ".join(words)
             status, text, seen = self.on_terminal(*words)

@@ -14,8 +14,8 @@ use bq_comparison::{
 };
 use bq_console::status::{BAD_INPUT, IO_FAILED};
 use bq_console::{
-    ErasingWriter, Lines, ProgressLine, WordsFault, all_words, report_out_of_memory, report_unwritten,
-    word, written,
+    ErasingWriter, Lines, ProgressLine, WordsFault, all_words, report_out_of_memory,
+    report_unwritten, word, written,
 };
 use bq_experiment::{
     AskedFault, HookWords, MachineWords, Policies, Ran, RunFault, ShownAs, Streams, StudyWords,

@@ -7,8 +7,8 @@ ghost use Rattle.bq_timeline.specs.Settings.{AsksForSettings};
 use crate::policy_words::limit_of_bytes;
 use crate::refusing::refusal;
 use bq_console::{
-    Bounded, ErasingWriter, Lines, ProgressLine, ShowingReader, WordsFault, ended, file_named, opened,
-    report_unread, waiting_input, word,
+    Bounded, ErasingWriter, Lines, ProgressLine, ShowingReader, WordsFault, ended, file_named,
+    opened, report_unread, waiting_input, word,
 };
 use bq_streams::{Counted, Kept};
 use bq_timeline::{Settings, SettingsFault, Words, show};

@@ -53,7 +53,7 @@ made_text shapes made =
 -- the line of a register that is unset on some way, if it is
 abbrev pub unset_text : ℕ → Bool → List ℕ
 unset_text register false = []
-unset_text register true = codes "  r" ++ (decimal register ++ codes " is set by no instruction on some way from the start\n")
+unset_text register true = codes "  r" ++ (decimal register ++ codes " is set by no instruction on some path from the start\n")
 
 -- the words on the unset registers among the first ones, this many
 abbrev pub unset_below : ℕ → List Bool → List ℕ
@@ -62,7 +62,7 @@ unset_below (suc n) unset = unset_below n unset ++ unset_text n (slice_index_or 
 
 -- what a register is on a way, and the instruction that the way comes from
 abbrev pub coming_text : List MapShape → Coming → List ℕ
-coming_text shapes coming = known_text shapes coming.known ++ (codes " on the way over " ++ place_text coming.place)
+coming_text shapes coming = known_text shapes coming.known ++ (codes " on the path over " ++ place_text coming.place)
 
 -- the words on a register after ways meet
 abbrev pub met_text : List MapShape → Option AbstractValue → List ℕ

@@ -55,7 +55,7 @@ pub fn advice_text(
             alloc,
             with_most_calls!(
                 "take calls out, from the ",
-                " on a way on: each way may have ",
+                " on a path on: each path may have ",
                 ", and one call may add what several did"
             ),
         ),
@@ -84,7 +84,7 @@ pub fn advice_text(
         ),
         Advice::WriteFirst => String::from_str(
             alloc,
-            "write each of these bytes first, on each way, by stores at known distances from r10, as stdw [r10-8], 0",
+            "write each of these bytes first, on each path, by stores at known distances from r10, as stdw [r10-8], 0",
         ),
         Advice::StoreWhole => String::from_str(
             alloc,
@@ -167,7 +167,7 @@ fn test_text(alloc: Global, register: u8) -> Result<String, AllocError> {
 /// Says where to use an answer that cannot be tested any more.
 fn use_before_text(alloc: Global, register: u8) -> Result<String, AllocError> {
     format!(in alloc;
-        "use r{register} on the way where it is an entry, before the ways meet: an answer to which a number was added can't be tested"
+        "use r{register} on the path where it is an entry, before the paths meet: an answer to which a number was added can't be tested"
     )
 }
 
@@ -203,22 +203,22 @@ fn lack_text(alloc: Global, missing: &Missing, register: usize) -> Result<String
     }
     if missing.called[register] {
         return format!(in alloc;
-            "set r{register} after the call, on each way that leads here: a call leaves r1 to r5 unset"
+            "set r{register} after the call, on each path that leads here: a call leaves r1 to r5 unset"
         );
     }
     if missing.held[register] {
         return format!(in alloc;
-            "a call leaves r1 to r5 unset: on each way that leads here copy r{register} before the call, as by mov64 r6, r{register}, and read the copy, or set r{register} again"
+            "a call leaves r1 to r5 unset: on each path that leads here copy r{register} before the call, as by mov64 r6, r{register}, and read the copy, or set r{register} again"
         );
     }
     if missing.unset[register] {
         return format!(in alloc;
-            "set r{register} on each way that leads here, as by mov64 before the first branch"
+            "set r{register} on each path that leads here, as by mov64 before the first branch"
         );
     }
     if missing.mixed[register] {
         return format!(in alloc;
-            "use r{register} on each way before the ways meet, or bring the same kind of word on both: a number, a pointer into the same place, or a map of the same shape"
+            "use r{register} on each path before the paths meet, or bring the same kind of word on both: a number, a pointer into the same place, or a map of the same shape"
         );
     }
     Ok(String::new(alloc))
@@ -312,14 +312,14 @@ fn argument_words(argument: Argument) -> &'static str {
 fn answer_words(kind: ValueKind) -> &'static str {
     match kind {
         ValueKind::Map(_) => {
-            "set r0 to a number on each way to the exit; the reference of a map is no answer"
+            "set r0 to a number on each path to the exit; the reference of a map is no answer"
         }
         ValueKind::EntryOrNull(_) => {
-            "set r0 to a number on each way to the exit; a pointer is no answer, what it points to may be loaded after a test: jeq64 r0, 0, label"
+            "set r0 to a number on each path to the exit; a pointer is no answer, what it points to may be loaded after a test: jeq64 r0, 0, label"
         }
-        ValueKind::Number => "set r0 to a number on each way to the exit; a pointer is no answer",
+        ValueKind::Number => "set r0 to a number on each path to the exit; a pointer is no answer",
         ValueKind::Context | ValueKind::Stack | ValueKind::Entry(_) => {
-            "set r0 to a number on each way to the exit; a pointer is no answer, what it points to may be loaded"
+            "set r0 to a number on each path to the exit; a pointer is no answer, what it points to may be loaded"
         }
     }
 }

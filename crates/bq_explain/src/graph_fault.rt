@@ -105,11 +105,11 @@ pub(crate) fn graph_text(
         GraphFault::JumpsInside(to) => return inside_text(alloc, to),
         GraphFault::Helper(helper) => return called_text(alloc, helper),
         GraphFault::RunsOut => "goes on past the end of the program, where an exit is needed",
-        GraphFault::Unreached => "is on no way from the first instruction",
+        GraphFault::Unreached => "is on no path from the first instruction",
         GraphFault::Frame => "writes r10, which is only read",
         GraphFault::Calls => with_most_calls!(
             "is at least the ",
-            " call of a counter on some way; ",
+            " call of a counter on some path; ",
             " are allowed"
         ),
     };

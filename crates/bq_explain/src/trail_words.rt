@@ -57,7 +57,7 @@ fn unset_text(alloc: Global, register: usize, is_unset: bool) -> Result<String, 
 {
     if is_unset {
         return format!(in alloc;
-            "  r{register} is set by no instruction on some way from the start\n"
+            "  r{register} is set by no instruction on some path from the start\n"
         );
     }
     Ok(String::new(alloc))
@@ -124,7 +124,7 @@ fn coming_text(alloc: Global, shapes: &[MapShape], coming: &Coming) -> Result<St
 {
     let known = known_text(alloc, shapes, &coming.known)?;
     let place = place_text(alloc, &coming.place)?;
-    format!(in alloc; "{known} on the way over {place}")
+    format!(in alloc; "{known} on the path over {place}")
 }
 
 /// Says what is known of the register after the ways meet.

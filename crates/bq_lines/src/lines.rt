@@ -290,7 +290,10 @@ fn drain(operands: &[u8]) -> LineReading<'_>
     ensures { result ≡ reading_of_command (drain_command (words operands.now)) }
 {
     match processor_and_time(operands) {
-        Some((processor, now)) => LineReading::Asks(LineCommand::Does(Event::Drain { processor, now })),
+        Some((processor, now)) => LineReading::Asks(LineCommand::Does(Event::Drain {
+            processor,
+            now,
+        })),
         None => LineReading::Bad,
     }
 }
@@ -300,7 +303,10 @@ fn tick(operands: &[u8]) -> LineReading<'_>
     ensures { result ≡ reading_of_command (tick_command (words operands.now)) }
 {
     match processor_and_time(operands) {
-        Some((processor, now)) => LineReading::Asks(LineCommand::Does(Event::Tick { processor, now })),
+        Some((processor, now)) => LineReading::Asks(LineCommand::Does(Event::Tick {
+            processor,
+            now,
+        })),
         None => LineReading::Bad,
     }
 }
@@ -310,7 +316,10 @@ fn block(operands: &[u8]) -> LineReading<'_>
     ensures { result ≡ reading_of_command (block_command (words operands.now)) }
 {
     match processor_and_time(operands) {
-        Some((processor, now)) => LineReading::Asks(LineCommand::Does(Event::Block { processor, now })),
+        Some((processor, now)) => LineReading::Asks(LineCommand::Does(Event::Block {
+            processor,
+            now,
+        })),
         None => LineReading::Bad,
     }
 }

@@ -95,7 +95,7 @@ lack_text p lack.Reference = codes "the reference of a map is no address of its 
 lack_text p lack.WritesContext = codes "the context is only read"
 lack_text p lack.BeyondContext = codes "the context of " ++ (hook_word p.form.hook ++ (codes ", version " ++ (decimal (version_number p.form.version) ++ length_text p.form)))
 lack_text p lack.BeyondStack = codes "the stack has the 512 bytes below r10"
-lack_text p lack.ReadsUnset = codes "on some way that leads here not all of these bytes are known to be written"
+lack_text p lack.ReadsUnset = codes "on some path that leads here not all of these bytes are known to be written"
 lack_text p (lack.BeyondValue map size) = codes "a value of map " ++ (decimal map ++ (codes " has " ++ (decimal size ++ codes " bytes, and an access stays in one")))
 lack_text p lack.InNoMap = codes "an access stays in one value"
 

@@ -298,7 +298,7 @@ pub(crate) fn lack_text(
         ),
         Lack::ReadsUnset => String::from_str(
             alloc,
-            "on some way that leads here not all of these bytes are known to be written",
+            "on some path that leads here not all of these bytes are known to be written",
         ),
         Lack::BeyondValue(map, size) => {
             format!(in alloc; "a value of map {map} has {size} bytes, and an access stays in one")

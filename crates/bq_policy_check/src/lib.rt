@@ -35,4 +35,4 @@ pub use limits::limits_of;
 pub use listing::{list, refused_file};
 pub use numbers::small_number;
 pub use reasons::{HOOK_UNNAMED, Reason, fault_line, fault_reason};
-pub use words::{CheckWords, LimitWords, DisWords, PolicyWords, ReportWords, RunWords};
+pub use words::{CheckWords, DisWords, LimitWords, PolicyWords, ReportWords, RunWords};

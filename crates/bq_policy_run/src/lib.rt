@@ -26,5 +26,5 @@ pub use changes::{copied, write_calls, write_changes};
 pub use fields::{Field, FieldWidth};
 pub use inputs::{Inputs, inputs_of};
 pub use one_run::{run_often, run_once, trace_once};
-pub use permitted::{PLACE_SHOWN, Permission, place_shown, permission_of};
+pub use permitted::{PLACE_SHOWN, Permission, permission_of, place_shown};
 pub use running::run;

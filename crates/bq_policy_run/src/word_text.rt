@@ -7,7 +7,7 @@ ghost use Rattle.bq_hooks.specs.Hooks.{context_length_of};
 ghost use Rattle.bq_hooks.specs.declared.hook.Version.{Version};
 
 use crate::permitted::NOBODY;
-use crate::{PLACE_SHOWN, Permission, place_shown, permission_of};
+use crate::{PLACE_SHOWN, Permission, permission_of, place_shown};
 use bq_hooks::Hook;
 use std::alloc::{AllocError, Global};
 

@@ -7,6 +7,6 @@ use Rattle.bq_explain.proofs.trail_words.coming_text.Goals as goal
 pub returns : goal.returns
 returns c =
     IfOk-weaker c.format.result
-    (λ text. string_bytes text ≡ string_bytes c.in_ok-known.known ++ (codes " on the way over " ++ string_bytes c.in_ok-place.place))
+    (λ text. string_bytes text ≡ string_bytes c.in_ok-known.known ++ (codes " on the path over " ++ string_bytes c.in_ok-place.place))
     (λ text. string_bytes text ≡ coming_text c.args.shapes.now c.args.coming.now)
     (λ text is. is ∙ rw (c.in_ok-known.ensures.text, c.in_ok-place.ensures) refl) c.format.ensures.ok
