@@ -6,7 +6,7 @@ use Rattle.bq_comparison.specs.declared.runs.RunFigures.{RunFigures}
 use Rattle.bq_comparison.proofs.sides.compare.Goals as goal
 
 pub returns-clause-sides : goal.returns-clause-sides
-returns-clause-sides c =
+returns-clause-sides g c =
     let w = c.args.workload.now in
     let plan = c.args.plan.now in
     let side = c.in_ok-theirs.theirs in
