@@ -3,7 +3,7 @@
 
     tests/simulate_theory.py BQSIM
 
-BQSIM is the path of the program. Three laws, under both disciplines:
+BQSIM is the path of the program. Four laws, under both disciplines:
 
 - Tasks that never sleep have shares of one processor by their weights (those of Linux's table of nice values), within four of
   the longest slices.
@@ -12,6 +12,7 @@ BQSIM is the path of the program. Three laws, under both disciplines:
   mean thinking time and 1 / p0 the sum over k of N! / (N - k)! (S / Z)^k. That holds under each discipline that wastes nothing and
   knows no need beforehand. With many sources it comes near M/M/1. Four seeds have to come within 5 percent of it together.
 - While no task is pinned and more can run than there are processors, no processor idles.
+- A processor on which a task runs from the beginning is busy for as long as its tasks run, and idles for all the rest of the duration.
 
 `tests/quick.py` runs it. Last seen: shares within 5.5 ms of 10 s under CFS and 3.1 ms under EEVDF; mean
 responses of 3.062 and 3.090 ms over 167,000 visits each, by the formula 3.111; no processor idle.
@@ -79,11 +80,23 @@ def work(program, rule):
     print(f"{rule}: no processor idles")
 
 
+def rest(program, rule):
+    text = f'[machine]\nprocessors = 2\nduration = "200ms"\ndiscipline = "{rule}"\n'
+    needs = [10, 70]
+    for processor, need in enumerate(needs):
+        text += f'[[task]]\nname = "job{processor}"\ncpus = "{processor}"\nrun = "{need}ms"\nloops = 1\n'
+    for processor, need in zip(told(program, text)["processors"], needs):
+        if (processor["busy"], processor["idle"]) != (need * MS, (200 - need) * MS):
+            sys.exit(f"{rule}: processor {processor['processor']} is busy for {processor['busy']} ns and idles for {processor['idle']} of 200 ms, and runs {need} ms")
+    print(f"{rule}: processors idle for all the rest of the duration")
+
+
 def main(program):
     for rule in ("cfs", "eevdf"):
         shares(program, rule)
         queue(program, rule)
         work(program, rule)
+        rest(program, rule)
 
 
 if __name__ == "__main__":

@@ -96,9 +96,8 @@ class Loop:
         while self.due:
             now, kind, number = min((when, *what) for what, when in self.due.items())
             steps[kind](number, now)
-        for processor, run in enumerate(self.runs):
-            if run is not None:
-                self.event("tick", processor, self.machine["duration"])
+        for processor in range(self.size):
+            self.event("tick", processor, self.machine["duration"])
         return self.lines
 
     def switch(self, processor, word, now):

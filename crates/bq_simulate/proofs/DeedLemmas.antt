@@ -1,5 +1,5 @@
 -- Deeds after deeds.
-use Rattle.std.proofs.Common.{◌≡◌, ℕ, List, [], ◌∷◌, ◌++◌, length, length-append, Option, Some, refl, sym, ◌∙◌, ap, subst, append_assoc, append-nil, arith}
+use Rattle.std.proofs.Common.{◌≡◌, ℕ, true, List, [], ◌∷◌, ◌++◌, length, length-append, Option, Some, refl, sym, ◌∙◌, ap, subst, append_assoc, append-nil, arith}
 use Rattle.std.specs.Option.{option_map_or}
 use Rattle.std.specs.Prelude.{slice_get, slice_set}
 use Rattle.bq_parts.specs.declared.event.Event.{Event}
@@ -22,7 +22,7 @@ use Rattle.bq_workload.proofs.AgreedLemmas.{both}
 use Rattle.bq_workload.proofs.DueLemmas.{same-accounts}
 use Rattle.bq_simulate.specs.declared.simulation.Simulation.{Simulation}
 use Rattle.bq_simulate.specs.Actions.{IsTaskOfKind, acted, aim_of, asked_by, first_task_of, next_action, kind_start}
-use Rattle.bq_simulate.specs.Chronicles.{Acts, Beats, Book, Deed, Happens, MayCome, IsWoken, Joins, Lives, Looks, Misses, Reaches, Rings, after_act, after_answer, after_beat, after_event, after_look, drawn_with, events_of, task_added, length_taken}
+use Rattle.bq_simulate.specs.Chronicles.{Acts, Beats, Book, Deed, Happens, MayCome, IsWoken, Joins, Lives, Looks, Misses, Reaches, Rings, after_act, after_answer, after_beat, after_event, after_look, drawn_with, events_of, is_busy, task_added, length_taken}
 use Rattle.bq_simulate.specs.Simulations.{BeginsMore, Befell, DrawsFor, GoesByDeeds, HasDrawn, HasFirsts, Lived, Same, Silent, SimulationStays, book_of, streams_after}
 use Rattle.bq_simulate.specs.Steps.{AreJust, AreWake, Follow, IsAct, IsJoin}
 use Rattle.bq_simulate.proofs.KindLemmas.{firsts-pushed}
@@ -63,8 +63,8 @@ Lives-append kinds seed periods d m e a b c (Reaches task ∷ xs) ys reported mo
     (c', there, waits, Lives-append kinds seed periods d m e a b c xs ys reported more lives k)
 Lives-append kinds seed periods d m e a b c (Misses task ∷ xs) ys reported more (c', there, waits, lives) k =
     (c', there, waits, Lives-append kinds seed periods d m e a b c xs ys reported more lives k)
-Lives-append kinds seed periods d m e a b c (Beats at now ∷ xs) ys reported more (ticks, lives) k =
-    (ticks, Lives-append kinds seed periods d m e (after_beat periods at now a) b c xs ys reported more lives k)
+Lives-append kinds seed periods d m e a b c (Beats at now ∷ xs) ys reported more (ticks, busy, lives) k =
+    (ticks, busy, Lives-append kinds seed periods d m e (after_beat periods at now a) b c xs ys reported more lives k)
 Lives-append kinds seed periods d m e a b c (Looks at now source ∷ xs) ys reported more (looks, from, lives) k =
     (looks, from, Lives-append kinds seed periods d m e (after_look periods at now a) b c xs ys reported more lives k)
 
@@ -92,7 +92,7 @@ drives-of-lives kinds seed periods d e a b (Reaches task ∷ xs) reported (c, th
     drives-of-lives kinds seed periods d e a b xs reported lives
 drives-of-lives kinds seed periods d e a b (Misses task ∷ xs) reported (c, there, waits, lives) =
     drives-of-lives kinds seed periods d e a b xs reported lives
-drives-of-lives kinds seed periods d e a b (Beats at now ∷ xs) reported (ticks, lives) =
+drives-of-lives kinds seed periods d e a b (Beats at now ∷ xs) reported (ticks, busy, lives) =
     drives-of-lives kinds seed periods d e (after_beat periods at now a) b xs reported lives
 drives-of-lives kinds seed periods d e a b (Looks at now source ∷ xs) reported (looks, from, lives) =
     drives-of-lives kinds seed periods d e (after_look periods at now a) b xs reported lives
@@ -399,13 +399,13 @@ Stays-here s = record { agrees = λ h. h; periods = refl; seed = refl; streams =
 -- a clock beats, and then what befalls
 pub Befell-beats : {S : Type 0} (takes : S → ℕ → TraceEvent → S → Type 0) (A B : List Deed → Type 0) (x y : S)
     (s t u : Simulation) (processor now : ℕ)
-    → TicksAt (accounts_of s.roster) processor now → SimulationStays s t → t.driver ≡ s.driver
-    → accounts_of t.roster ≡ beaten processor now s.roster.periods.tick (accounts_of s.roster)
+    → TicksAt (accounts_of s.roster) processor now → is_busy (accounts_of s.roster) processor ≡ true → SimulationStays s t
+    → t.driver ≡ s.driver → accounts_of t.roster ≡ beaten processor now s.roster.periods.tick (accounts_of s.roster)
     → ((xs : List Deed) → A xs → B (Beats processor now ∷ xs)) → Befell takes A x t y u
     → Befell takes B x s y u
-Befell-beats takes A B x y s t u processor now ticks stays driver accounts first befell =
+Befell-beats takes A B x y s t u processor now ticks busy stays driver accounts first befell =
     Befell-first takes A B x y s t u (Beats processor now) stays
-    (λ kinds drawn. (ticks, (refl, driver, ap (λ (a : Accounts). record { accounts = a; drawn = drawn }) accounts))) first
+    (λ kinds drawn. (ticks, busy, (refl, driver, ap (λ (a : Accounts). record { accounts = a; drawn = drawn }) accounts))) first
     befell
 
 -- a processor looks for a task to pull, and then what befalls

@@ -1,15 +1,13 @@
 -- The ticks at the end of a simulation that goes well.
-use Rattle.std.proofs.Common.{◌≡◌, ◌≢◌, ℕ, zero, suc, ◌<◌, ◌≤◌, length, true, List, [], ◌∷◌, None, Some, map, refl, sym, subst, ◌∙◌, arith}
-use Rattle.std.specs.Prelude.{filter, slice_get}
+use Rattle.std.proofs.Common.{◌≡◌, ℕ, suc, ◌≤◌, length, true, List, [], ◌∷◌, None, Some, map, refl, sym, subst, ◌∙◌, arith}
+use Rattle.std.specs.Prelude.{slice_get}
 use Rattle.std.specs.List.{list_all}
 use Rattle.std.proofs.lemmas.Bool.{and_from, le-leb}
-use Rattle.std.proofs.lemmas.Option.{none-some}
 use Rattle.bq_parts.specs.declared.event.Event.TheVariants.{Tick}
 use Rattle.bq_parts.specs.declared.reply.Reply.{Reply}
 use Rattle.bq_parts.specs.World.{World, count_in}
 use Rattle.bq_parts.proofs.RefusalLemmas.{accepted, not_refused_is_there}
 use Rattle.bq_trace.specs.TraceEvents.{TraceEvent, Reported}
-use Rattle.bq_workload.specs.declared.processor_state.ProcessorState.{ProcessorState}
 use Rattle.bq_workload.specs.declared.progress.TaskProgress.{TaskProgress}
 use Rattle.bq_workload.specs.declared.roster.Periods.{Periods}
 use Rattle.bq_workload.specs.declared.workload.TaskKind.{TaskKind}
@@ -22,11 +20,11 @@ use Rattle.bq_simulate.specs.declared.driver.Driver.{Driver}
 use Rattle.bq_simulate.specs.declared.simulation.Simulation.{Simulation}
 use Rattle.bq_simulate.specs.Agreement.{IsOnTime}
 use Rattle.bq_simulate.specs.AgreementLaws.{BookAgrees}
-use Rattle.bq_simulate.specs.Chronicles.{Book, Deed, Lives, after_answer, is_busy}
+use Rattle.bq_simulate.specs.Chronicles.{Book, Deed, Lives, after_answer}
 use Rattle.bq_simulate.specs.Drives.{DrivesEvent, runs_now}
 use Rattle.bq_simulate.specs.Order.{SimulationGoesWell, HasGoneWell}
-use Rattle.bq_simulate.specs.Simulations.{Lived, periods_of, with_seed}
-use Rattle.bq_simulate.specs.Steps.{AreJust, last_ticks}
+use Rattle.bq_simulate.specs.Simulations.{Lived, book_of, periods_of, with_seed}
+use Rattle.bq_simulate.specs.Steps.{AreJust, all_processors, last_ticks}
 use Rattle.bq_simulate.proofs.KeptLemmas.{AreBy, by_kept}
 use Rattle.bq_simulate.proofs.MeetAgreeLemmas.{step_of, tick_agrees, world_of}
 use Rattle.bq_simulate.proofs.MirrorLemmas.{state_there}
@@ -35,7 +33,7 @@ use Rattle.bq_simulate.proofs.SoundKindLemmas.{sound_times}
 use Rattle.bq_simulate.proofs.StandingLemmas.{standing_is_kept}
 use Rattle.bq_simulate.proofs.TimeKeptLemmas.{switched_kept, tasks_run_alone}
 use Rattle.bq_simulate.proofs.TimeLemmas.{on_time_to_end}
-use Rattle.bq_simulate.proofs.WellLemmas.{KeepAll, goes-well}
+use Rattle.bq_simulate.proofs.WellLemmas.{KeepAll, goes-well, processors_kept}
 
 -- world and accounts agree, and nothing is past
 abbrev Fits : ℕ → Driver → Book → Type 0
@@ -98,14 +96,20 @@ ticks_keep w seed now processors sound d e b c deeds reported are leads h =
       few = omega (arith, by.2, h.few);
     }
 
--- a simulation goes on well by ticks of some processors
-pub ticked-well : {S : Type 0} (takes : S → ℕ → TraceEvent → S → Type 0) (x y : S) (w : Workload) (now : ℕ)
-    (processors : List ℕ) (a : Accounts) (s t : Simulation)
-    → Lived takes w.tasks.items (AreJust (last_ticks now processors a)) x s y t → SimulationGoesWell w now s
-    → SimulationGoesWell w now t
-ticked-well takes x y w now processors a s t lived h =
-    goes-well takes (AreJust (last_ticks now processors a)) x y w now s t
-    (ticks_keep w s.seed now (filter (is_busy a) processors) h.sound) lived h
+-- a simulation goes on well by ticks of this many processors, and has as many processors as before
+pub ticked-well : {S : Type 0} (takes : S → ℕ → TraceEvent → S → Type 0) (x y : S) (w : Workload) (now processors : ℕ)
+    (s t : Simulation)
+    → Lived takes w.tasks.items (AreJust (last_ticks now processors)) x s y t → SimulationGoesWell w now s
+    → SimulationGoesWell w now t × (length t.roster.by_processor.items ≡ length s.roster.by_processor.items)
+ticked-well takes x y w now processors s t lived h =
+    let g = lived h.drawn h.streams h.firsts in
+    let well =
+    goes-well takes (AreJust (last_ticks now processors)) x y w now s t
+    (ticks_keep w s.seed now (all_processors processors) h.sound) lived h in
+    let still =
+    processors_kept w.tasks.items s.seed s.roster.periods s.driver t.driver (book_of s h.drawn) (book_of t g.after) g.deeds
+    g.reports.reported g.reports.holds in
+    (well, well.kept.agrees.mirrors.processors.many ∙ still ∙ sym h.kept.agrees.mirrors.processors.many)
 
 -- once nothing comes any more it has come to its end
 pub ended-well : (w : Workload) (s : Simulation) → NothingComes s.roster.periods.end (accounts_of s.roster) → HasGoneWell w s
@@ -144,9 +148,3 @@ keep_phases now a h = all a.by_task (λ task c at. (h.tasks task c at).phase)
     all (c ∷ cs) each =
         and_from (keeps_phase c) (list_all keeps_phase cs) (le-leb c.got c.due (each 0 c refl))
         (all cs (λ task k at. each (suc task) k at))
-
--- a processor whose number is below the number of processors is there
-pub within_there : (processor : ℕ) (ls : List ProcessorState) → processor < length ls → slice_get ls processor ≢ None
-within_there processor [] low none = omega (arith, low)
-within_there zero (l ∷ ls) low none = none-some l (sym none)
-within_there (suc processor) (l ∷ ls) low none = within_there processor ls (omega (arith, low)) none

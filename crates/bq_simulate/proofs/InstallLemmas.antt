@@ -1,24 +1,19 @@
 -- Policies that are installed one after another.
-use Rattle.std.proofs.Common.{◌≡◌, ℕ, ◌+◌, List, [], ◌∷◌, ◌++◌, Some, map, take, refl, sym, ap, ◌∙◌, subst, arith, append_assoc, append-nil}
+use Rattle.std.proofs.Common.{◌≡◌, ℕ, ◌+◌, List, [], ◌∷◌, ◌++◌, Some, take, refl, sym, ap, ◌∙◌, subst, append_assoc, append-nil}
 use Rattle.std.specs.Prelude.{slice_get}
-use Rattle.std.proofs.lemmas.List.{map-append, take_more}
+use Rattle.std.proofs.lemmas.List.{take_more}
 use Rattle.std.proofs.lemmas.Option.{get_or_from_slice_get, slice_get_within}
-use Rattle.bq_parts.specs.declared.event.Event.{Event}
 use Rattle.bq_parts.specs.declared.event.Event.TheVariants.{Install}
 use Rattle.bq_verify.specs.Accepted.{Accepted}
 use Rattle.bq_simulate.specs.Chronicles.{Deed}
-use Rattle.bq_simulate.specs.Steps.{AreInstalled, IsInstalled, all_processors, installs_of}
-use Rattle.bq_simulate.proofs.ProcessorStateLemmas.{numbers_more}
+use Rattle.bq_simulate.specs.Steps.{AreInstalled, IsInstalled, installs_of}
+use Rattle.bq_simulate.proofs.ProcessorStateLemmas.{each_more}
 
 -- the policy at one processor more
 pub installs_more : (count generation : ℕ) (policy : Accepted)
     → installs_of (count + 1) generation policy
     ≡ installs_of count generation policy ++ Install count policy.hook generation (Some policy) ∷ []
-installs_more count generation policy =
-    let at : 0 + count ≡ count = omega arith in
-    let all = all_processors count in
-    let install : ℕ → Event = λ processor. Install processor policy.hook generation (Some policy) in
-    ap (map install) (numbers_more 0 count) ∙ ap (λ (k : ℕ). map install (all ++ k ∷ [])) at ∙ map-append install all (count ∷ [])
+installs_more count generation policy = each_more (λ processor. Install processor policy.hook generation (Some policy)) count
 
 -- one policy more
 AreInstalled-more : (processors : ℕ) (policies : List Accepted) (policy : Accepted) (xs ys : List Deed)

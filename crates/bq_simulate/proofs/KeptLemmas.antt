@@ -137,7 +137,7 @@ by_kept kinds seed periods d e b c now (Reaches task ∷ deeds) reported are (k,
     by_kept kinds seed periods d e b c now deeds reported are lives low
 by_kept kinds seed periods d e b c now (Misses task ∷ deeds) reported are (k, there, waits, lives) low =
     by_kept kinds seed periods d e b c now deeds reported are lives low
-by_kept kinds seed periods d e b c now (Beats at then ∷ deeds) reported are (ticks, lives) low =
+by_kept kinds seed periods d e b c now (Beats at then ∷ deeds) reported are (ticks, busy, lives) low =
     by_kept kinds seed periods d e (after_beat periods at then b) c now deeds reported are lives low
 by_kept kinds seed periods d e b c now (Looks at then source ∷ deeds) reported are (looks, from, lives) low =
     by_kept kinds seed periods d e (after_look periods at then b) c now deeds reported are lives low

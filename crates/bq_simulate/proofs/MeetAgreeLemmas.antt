@@ -472,7 +472,7 @@ meetings_agree kinds seed periods d e b c (due.Wake task) now deeds reported (ho
     let (k, there, asleep, timer, rest) = subst (λ l. Lives kinds seed periods d b l reported e c) is lives in
     wake_met kinds seed periods d e b c home task now more reported wake rest h
 meetings_agree kinds seed periods d e b c (due.Tick processor) now deeds reported (more, is, just) lives h =
-    let (ticks, rest) = subst (λ l. Lives kinds seed periods d b l reported e c) is lives in
+    let (ticks, busy, rest) = subst (λ l. Lives kinds seed periods d b l reported e c) is lives in
     event_met (Tick processor now) (λ p x y k reply some does agree. tick_agrees p x y k processor now reply some does agree)
     kinds seed periods d e (after_beat periods processor now b) c more reported just rest
     (agrees_processor (λ l. record l { tick = Some (next_multiple periods.tick now) }) (λ l. refl)

@@ -85,8 +85,8 @@ tick-takes : (kinds : List TaskKind) (seed : ℕ) (periods : Periods) (d e : Dri
     → steps_left_at kinds now c.accounts + 1 ≤ steps_left_at kinds now b.accounts
 tick-takes kinds seed periods d e b c processor now deeds reported some (more, is, (reply, rest, just, none)) lives =
     let whole : more ≡ Happens (Tick processor now) reply ∷ [] = just ∙ ap (λ l. Happens (Tick processor now) reply ∷ l) none in
-    let (ticks, after) = subst (λ l. Lives kinds seed periods d b l reported e c) is lives in
-    let (busy, mid, first, last, does, (nothing, same, kept), all) =
+    let (ticks, runs, after) = subst (λ l. Lives kinds seed periods d b l reported e c) is lives in
+    let (may, mid, first, last, does, (nothing, same, kept), all) =
     subst (λ l. Lives kinds seed periods d (after_beat periods processor now b) l reported e c) whole after in
     let f : ProcessorState → ProcessorState = λ l. record l { tick = Some (next_multiple periods.tick now) } in
     let l : ProcessorState = ticks.processor_state in

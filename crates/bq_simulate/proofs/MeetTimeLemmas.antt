@@ -1,6 +1,6 @@
 -- Nothing is past after a thing that is met.
-use Rattle.std.proofs.Common.{◌≡◌, ◌≢◌, ℕ, ◌+◌, ◌-◌, ◌<◌, ◌≤◌, ◌^◌, inl, inr, true, false, List, [], ◌∷◌, length, Option, Some, None, refl, sym, subst, ap, ◌∙◌, arith}
-use Rattle.std.specs.Prelude.{if◌then◌else◌, is_some, slice_get}
+use Rattle.std.proofs.Common.{◌≡◌, ◌≢◌, ℕ, ◌+◌, ◌-◌, ◌<◌, ◌≤◌, ◌^◌, inl, inr, false, List, [], ◌∷◌, length, Option, Some, None, refl, sym, subst, ap, ◌∙◌, arith}
+use Rattle.std.specs.Prelude.{if◌then◌else◌, slice_get}
 use Rattle.std.specs.Option.{option_map_or}
 use Rattle.std.proofs.lemmas.Bool.{cases_eq, true≢false}
 use Rattle.std.proofs.lemmas.Option.{none-some, same_Some}
@@ -23,7 +23,7 @@ use Rattle.bq_simulate.specs.declared.driver.Driver.{Driver}
 use Rattle.bq_simulate.specs.Actions.{acted, action_count, asked_by, next_action}
 use Rattle.bq_simulate.specs.Agreement.{AgreesWith, IsOnTime, ProcessorIsOnTime, RunsOnTime, StandsAs, can_run, runner_at}
 use Rattle.bq_simulate.specs.AgreementLaws.{BookAgrees, MeetingsAreOnTime, RunsAlone}
-use Rattle.bq_simulate.specs.Chronicles.{Book, Deed, Happens, Lives, after_act, after_beat, after_look, is_busy, length_taken}
+use Rattle.bq_simulate.specs.Chronicles.{Book, Deed, Happens, Lives, after_act, after_beat, after_look, length_taken}
 use Rattle.bq_simulate.specs.Drives.{count_entered, runs_now, task_pulled}
 use Rattle.bq_simulate.specs.Steps.{AreJust, AreWake, Follow, Meet, WakesTask, pulls_of}
 use Rattle.bq_simulate.proofs.AccountLemmas.{charged_there, read_kept}
@@ -82,16 +82,16 @@ sized_alone at processor g a alone other task here there =
 tick_time : (kinds : List TaskKind) (seed : ℕ) (periods : Periods) (d e : Driver) (b c : Book) (processor now : ℕ)
     (deeds : List Deed) (reported : Reported)
     → 1 ≤ periods.tick → AreJust (Tick processor now ∷ []) deeds → Lives kinds seed periods d b deeds reported e c → BookAgrees d b
-    → BookAgrees e c → (is_busy b.accounts processor ≡ true → IsOnTime now b.accounts)
+    → BookAgrees e c → IsOnTime now b.accounts
     → IsOnTime now c.accounts
 tick_time kinds seed periods d e b c processor now deeds reported some (reply, more, is, none) lives h after time =
     let whole : deeds ≡ Happens (Tick processor now) reply ∷ [] = is ∙ ap (λ l. Happens (Tick processor now) reply ∷ l) none in
-    let (busy, mid, first, rest, does, (nothing, same, kept), all) = subst (λ l. Lives kinds seed periods d b l reported e c) whole lives in
+    let (due, mid, first, rest, does, (nothing, same, kept), all) = subst (λ l. Lives kinds seed periods d b l reported e c) whole lives in
     let a : Accounts = b.accounts in
     let its : c.accounts ≡ accounts_switched processor (runs_now reply) now periods a = ap (λ (x : Book). x.accounts) kept in
     same_accounts now (accounts_switched processor (runs_now reply) now periods a) c.accounts its
     (switched_any periods now processor (runs_now reply) (world_of e) a some (tasks_run_alone (world_of d) a processor h)
-    (subst (λ (x : Accounts). AgreesWith (world_of e) x) its after) (time busy))
+    (subst (λ (x : Accounts). AgreesWith (world_of e) x) its after) time)
 
 passed_on_time : (now processor from : ℕ) (task : Option ℕ) (a : Accounts)
     → IsOnTime now a → IsOnTime now (option_map_or (λ _. accounts_passed from processor a) task a)
@@ -355,12 +355,10 @@ meetings_are_on_time kinds seed periods d e b c (due.Wake task) now deeds report
 meetings_are_on_time kinds seed periods d e b c (due.Tick processor) now deeds reported tick balance early meet lives h time =
     let after : BookAgrees e c = meetings_agree kinds seed periods d e b c (due.Tick processor) now deeds reported meet lives h in
     let (more, is, just) = meet in
-    let (ticks, rest) = subst (λ l. Lives kinds seed periods d b l reported e c) is lives in
-    let f : ProcessorState → ProcessorState = λ l. record l { tick = Some (next_multiple periods.tick now) } in
+    let (ticks, busy, rest) = subst (λ l. Lives kinds seed periods d b l reported e c) is lives in
     tick_time kinds seed periods d e (after_beat periods processor now b) c processor now more reported tick just rest
-    (agrees_processor f (λ l. refl) (λ l. refl) (world_of d) b.accounts processor h) after (λ busy.
-    beaten_kept now processor periods.tick b.accounts tick
-    (sym (read_kept f (λ (l : ProcessorState). is_some l.run) false (λ l. refl) b.accounts.by_processor processor processor) ∙ busy) time)
+    (agrees_processor (λ l. record l { tick = Some (next_multiple periods.tick now) }) (λ l. refl)
+    (λ l. refl) (world_of d) b.accounts processor h) after (beaten_kept now processor periods.tick b.accounts tick busy time)
 meetings_are_on_time kinds seed periods d e b c (due.Pull processor) now deeds reported tick balance early meet lives h time =
     let after : BookAgrees e c = meetings_agree kinds seed periods d e b c (due.Pull processor) now deeds reported meet lives h in
     let (source, more, is, just) = meet in

@@ -35,7 +35,7 @@ kept-by kinds seed periods d e a b (Reaches task ∷ xs) reported (c, there, wai
     kept-by kinds seed periods d e a b xs reported lives
 kept-by kinds seed periods d e a b (Misses task ∷ xs) reported (c, there, waits, lives) =
     kept-by kinds seed periods d e a b xs reported lives
-kept-by kinds seed periods d e a b (Beats at now ∷ xs) reported (ticks, lives) =
+kept-by kinds seed periods d e a b (Beats at now ∷ xs) reported (ticks, busy, lives) =
     kept-by kinds seed periods d e (after_beat periods at now a) b xs reported lives
 kept-by kinds seed periods d e a b (Looks at now source ∷ xs) reported (looks, from, lives) =
     kept-by kinds seed periods d e (after_look periods at now a) b xs reported lives

@@ -90,9 +90,9 @@ part kinds seed periods d e b c (Reaches task ∷ xs) ys reported (k, there, wai
 part kinds seed periods d e b c (Misses task ∷ xs) ys reported (k, there, waits, lives) =
     let s = part kinds seed periods d e b c xs ys reported lives in
     record { mid = s.mid; book = s.book; first = s.first; more = s.more; one = (k, there, waits, s.one); two = s.two }
-part kinds seed periods d e b c (Beats at now ∷ xs) ys reported (ticks, lives) =
+part kinds seed periods d e b c (Beats at now ∷ xs) ys reported (ticks, busy, lives) =
     let s = part kinds seed periods d e (after_beat periods at now b) c xs ys reported lives in
-    record { mid = s.mid; book = s.book; first = s.first; more = s.more; one = (ticks, s.one); two = s.two }
+    record { mid = s.mid; book = s.book; first = s.first; more = s.more; one = (ticks, busy, s.one); two = s.two }
 part kinds seed periods d e b c (Looks at now source ∷ xs) ys reported (looks, from, lives) =
     let s = part kinds seed periods d e (after_look periods at now b) c xs ys reported lives in
     record { mid = s.mid; book = s.book; first = s.first; more = s.more; one = (looks, from, s.one); two = s.two }

@@ -338,7 +338,7 @@ standing_is_kept w d e b c (Reaches task ∷ deeds) reported sound (k, there, wa
     standing_is_kept w d e b c deeds reported sound lives h
 standing_is_kept w d e b c (Misses task ∷ deeds) reported sound (k, there, waits, lives) h =
     standing_is_kept w d e b c deeds reported sound lives h
-standing_is_kept w d e b c (Beats at now ∷ deeds) reported sound (ticks, lives) h =
+standing_is_kept w d e b c (Beats at now ∷ deeds) reported sound (ticks, busy, lives) h =
     standing_is_kept w d e (after_beat (periods_of w.machine) at now b) c deeds reported sound lives
     (record { tasks = h.tasks; streams = h.streams })
 standing_is_kept w d e b c (Looks at now source ∷ deeds) reported sound (looks, from, lives) h =

@@ -1,5 +1,5 @@
 -- While a simulation goes well what comes due is met: a timer rings, a clock beats and a processor looks as they are to.
-use Rattle.std.proofs.Common.{◌≡◌, ◌≢◌, ℕ, ◌<◌, ◌≤◌, inl, inr, true, Option, Some, None, refl, sym, subst, ap, ◌∙◌, arith}
+use Rattle.std.proofs.Common.{◌≡◌, ℕ, ◌<◌, ◌≤◌, inl, inr, true, Option, Some, refl, sym, subst, ap, ◌∙◌, arith}
 use Rattle.std.specs.Prelude.{is_some, slice_get}
 use Rattle.std.proofs.lemmas.Option.{none-some, slice_get_within}
 use Rattle.bq_workload.specs.declared.processor_state.ProcessorState.{ProcessorState}
@@ -9,7 +9,7 @@ use Rattle.bq_workload.specs.Accounts.{Accounts, LooksAt, TicksAt, accounts_of, 
 use Rattle.bq_workload.specs.Dues.{next_multiple}
 use Rattle.bq_workload.specs.Next.{StaysAgreed}
 use Rattle.bq_workload.specs.Strays.{IsStrayBeat, IsStrayLook}
-use Rattle.bq_workload.proofs.AgreeLemmas.{changed_at-here, some_or_none}
+use Rattle.bq_workload.proofs.AgreeLemmas.{some_or_none}
 use Rattle.bq_simulate.specs.declared.simulation.Simulation.{Simulation}
 use Rattle.bq_simulate.specs.Agreement.{IsOnTime, ProcessorIsOnTime}
 use Rattle.bq_simulate.specs.Chronicles.{is_busy}
@@ -90,21 +90,6 @@ well_beaten w now s r processor h ticks periods is agrees =
     well_timed (λ l. record l { tick = Some (next_multiple tick now) })
     (λ l. refl) (λ l. refl) w now s r processor h periods is agrees
     (beaten_kept now processor tick (accounts_of s.roster) some (ticks_busy w now s processor h ticks) h.kept.on_time)
-
--- what runs there ran before
-pub beaten_runs : (w : Workload) (now : ℕ) (s : Simulation) (r : Roster) (processor : ℕ)
-    → SimulationGoesWell w now s → TicksAt (accounts_of s.roster) processor now
-    → accounts_of r ≡ beaten processor now s.roster.periods.tick (accounts_of s.roster)
-    → (l : ProcessorState) × (slice_get r.by_processor.items processor ≡ Some l) × (l.run ≢ None)
-beaten_runs w now s r processor h ticks is =
-    let f : ProcessorState → ProcessorState = λ l. record l { tick = Some (next_multiple s.roster.periods.tick now) } in
-    let l : ProcessorState = ticks.processor_state in
-    let p : ProcessorIsOnTime now s.roster.by_task.items l = h.kept.on_time.processors processor l ticks.at in (
-      f l,
-      ap (λ (a : Accounts). slice_get a.by_processor processor) is
-          ∙ changed_at-here f s.roster.by_processor.items processor l ticks.at,
-      λ none. none-some now (sym (p.rests none) ∙ ticks.tick),
-    )
 
 -- Looks
 

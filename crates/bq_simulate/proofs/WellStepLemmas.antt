@@ -81,32 +81,22 @@ well_can_switch w now s processor h low =
 
 -- Ticks
 
--- a processor that runs something is one of the accounts
-pub busy_there : (a : Accounts) (processor : ℕ) → is_busy a processor ≡ true → processor < length a.by_processor
-busy_there a processor busy = elim (some_or_none (slice_get a.by_processor processor)) [
-  | inl none ↦
-      absurd
-      (false≢true (sym (ap (λ (o : Option ProcessorState). option_map_or (λ (l : ProcessorState). is_some l.run) o false) none) ∙ busy))
-  | inr (l, at) ↦ slice_get_within a.by_processor processor l at
-]
-
--- the tick of a processor that runs something fails only if memory is wanted
+-- the tick of a processor fails only if memory is wanted
 pub tick_fails : (w : Workload) (now : ℕ) (s : Simulation) (processor : ℕ)
-    → SimulationGoesWell w now s → is_busy (accounts_of s.roster) processor ≡ true
+    → SimulationGoesWell w now s → processor < length s.roster.by_processor.items
     → FailsForMemory s.driver (Tick processor now)
-tick_fails w now s processor h busy =
-    calls_fail_for_memory.ticks s.driver (accounts_of s.roster) processor now (well_ready w now s h)
-    (well_there w now s processor h (busy_there (accounts_of s.roster) processor busy))
+tick_fails w now s processor h few =
+    calls_fail_for_memory.ticks s.driver (accounts_of s.roster) processor now (well_ready w now s h) (well_there w now s processor h few)
 
 -- after its tick a processor runs what it is to run
 pub tick_switches : (w : Workload) (now : ℕ) (s : Simulation) (e : Driver) (processor : ℕ) (run : Option ℕ) (reply : Reply)
     (reported : Reported)
-    → SimulationGoesWell w now s → is_busy (accounts_of s.roster) processor ≡ true
+    → SimulationGoesWell w now s → processor < length s.roster.by_processor.items
     → runs_now reply ≡ run → DrivesEvent s.driver (Tick processor now) reply reported e
     → IsStraySwitch s.roster.periods processor run now (accounts_of s.roster)
     → ⊥
-tick_switches w now s e processor run reply reported h busy runs does astray =
-    let low = well_there w now s processor h (busy_there (accounts_of s.roster) processor busy) in
+tick_switches w now s e processor run reply reported h few runs does astray =
+    let low = well_there w now s processor h few in
     no_stray_switch s.roster.periods (world_of e) processor (runs_now reply) now
     (accounts_of s.roster) (well_can_switch w now s processor h low)
     (tick_agrees s.roster.periods s.driver e (book_of s h.drawn) processor now reply reported does h.kept.agrees)
@@ -189,6 +179,15 @@ pull_switches w now s e processor from task run reply reported h low runs takes 
     (pull_agrees periods s.driver e (book_of s h.drawn) processor from now reply reported does h.kept.agrees) mine
 
 -- Wakes
+
+-- a processor that runs something is one of the accounts
+busy_there : (a : Accounts) (processor : ℕ) → is_busy a processor ≡ true → processor < length a.by_processor
+busy_there a processor busy = elim (some_or_none (slice_get a.by_processor processor)) [
+  | inl none ↦
+      absurd
+      (false≢true (sym (ap (λ (o : Option ProcessorState). option_map_or (λ (l : ProcessorState). is_some l.run) o false) none) ∙ busy))
+  | inr (l, at) ↦ slice_get_within a.by_processor processor l at
+]
 
 -- a task that may be woken is woken from one of the processors
 from_there : (w : World) (a : Accounts) (state : TaskState) (home from : ℕ)

@@ -56,10 +56,9 @@ pub record IsWoken (a : Accounts) (from task : ℕ) : Type 0 where
   pub there : slice_get a.by_task task ≡ Some progress
   pub place : IsWokenFrom a progress.task_state progress.home from
 
--- a task that is woken sleeps, and is woken from the right processor; a tick comes only if something runs
+-- a task that is woken sleeps, and is woken from the right processor
 abbrev pub MayCome : Event → Accounts → Type 0
 MayCome (BeginWake from task) a = IsWoken a from task
-MayCome (Tick c now) a = is_busy a c ≡ true
 MayCome event a = Unit {0}
 
 -- what is kept of a simulation: the accounts, and how many lengths each task's stream has given
@@ -137,8 +136,8 @@ after_deeds kinds seed periods b (deed ∷ deeds) = after_deeds kinds seed perio
 -- Deeds one after another: what the sink gets of them, and what becomes of the machine and of what is kept. Tasks do what their
 -- kinds say. Lengths are drawn from this seed. The periods give the times between ticks and between looks, and what a change of
 -- processor costs. A wake comes to the tasks of its kind one after another, by number. A timer that rings is of a task that is
--- asleep until exactly then. A clock beats and a processor looks exactly when it is to, and the look finds the processor with
--- the most tasks.
+-- asleep until exactly then. A clock beats exactly when it is to, at a processor that runs something. A processor looks exactly
+-- when it is to, and finds the processor with the most tasks.
 abbrev pub Lives : List TaskKind → ℕ → Periods → Driver → Book → List Deed → Reported → Driver → Book → Type 0
 Lives kinds seed periods d b [] reported e f = (reported ≡ []) × (e ≡ d) × (f ≡ b)
 Lives kinds seed periods d b (Happens event reply ∷ deeds) reported e f =
@@ -156,7 +155,7 @@ Lives kinds seed periods d b (Reaches task ∷ deeds) reported e f =
 Lives kinds seed periods d b (Misses task ∷ deeds) reported e f =
     (c : TaskProgress) × (slice_get b.accounts.by_task task ≡ Some c) × (c.task_state ≢ Waiting) × Lives kinds seed periods d b deeds reported e f
 Lives kinds seed periods d b (Beats processor now ∷ deeds) reported e f =
-    TicksAt b.accounts processor now × Lives kinds seed periods d (after_beat periods processor now b) deeds reported e f
+    TicksAt b.accounts processor now × (is_busy b.accounts processor ≡ true) × Lives kinds seed periods d (after_beat periods processor now b) deeds reported e f
 Lives kinds seed periods d b (Looks processor now source ∷ deeds) reported e f =
     LooksAt b.accounts processor now × IsSource b.accounts.by_processor processor source × Lives kinds seed periods d (after_look periods processor now b) deeds reported e f
 

@@ -18,7 +18,7 @@ use Rattle.bq_simulate.specs.Actions.{IsTaskOfKind, first_task_of, next_length, 
 use Rattle.bq_workload.specs.Bounds.{most_steps}
 use Rattle.bq_workload.specs.Next.{IsAgreed, NothingComes, StaysAgreed}
 use Rattle.bq_simulate.specs.Chronicles.{Book, Deed, Lives, after_deeds, events_of}
-use Rattle.bq_simulate.specs.Steps.{AreAllMet, AreJust, AreMet, IsJoin, Opens, all_processors, last_ticks}
+use Rattle.bq_simulate.specs.Steps.{AreAllMet, AreJust, AreMet, IsJoin, Opens, last_ticks}
 
 -- a workload with another seed
 abbrev pub with_seed : Workload → ℕ → Workload
@@ -54,8 +54,8 @@ ProceedsIn policies w seed periods = Proceeds policies (processors_in w.machine.
 abbrev pub ProceedsOut : List Accepted → Workload → ℕ → Periods → Book → List Deed → Type 0
 ProceedsOut policies w seed periods = ProceedsBy policies (processors_in w.machine.size) w.tasks.items seed periods (most_steps w) w.machine.duration
 
--- when nothing comes any more, and no timer, no end of a phase, no tick and no look for a task is left until the end, each processor that
--- runs something ticks then, by number, and nothing else is done
+-- when nothing comes any more, and no timer, no end of a phase, no tick and no look for a task is left until the end, each processor
+-- ticks then, by number, and nothing else is done
 pub record SimulationEnds (policies : List Accepted) (w : Workload) (d : Driver) (deeds : List Deed) : Type 0 where
   pub until : List Deed
   pub last : List Deed
@@ -67,7 +67,7 @@ pub record SimulationEnds (policies : List Accepted) (w : Workload) (d : Driver)
   pub lives : Lives w.tasks.items w.machine.seed (periods_of w.machine) d (opening_book w.machine) until reported driver book
   pub none : NothingComes w.machine.duration book.accounts
   pub over : is_over w.machine.duration book.accounts ≡ true
-  pub ticks : AreJust (last_ticks w.machine.duration (all_processors (processors_in w.machine.size)) book.accounts) last
+  pub ticks : AreJust (last_ticks w.machine.duration (processors_in w.machine.size)) last
 
 -- It makes the machine that the workload asks for, with these policies at all processors. Then events are done one after
 -- another; none is refused, and readings never fall. So it is the trace of those events, with their answers, and the answers say
@@ -78,7 +78,7 @@ pub record SimulationEnds (policies : List Accepted) (w : Workload) (d : Driver)
 -- multiples of the time between two looks and when it falls idle, and pulls one from the processor with the most tasks. All is
 -- done when something comes due, except for what opens the simulation and the ticks at its end. What is met is, by the accounts
 -- before it, the first that comes: by time, at one instant by kind, and of one kind by number. When it ends, no timer, no end of
--- a phase, no tick and no look is left that comes until the end.
+-- a phase, no tick and no look is left that comes until the end, and each processor ticks at the end.
 pub record IsSimulation (policies : List Accepted) (w : Workload) (reported : Reported) : Type 0 where
   pub opening : Driver
   pub closing : Driver
@@ -190,7 +190,7 @@ JoinsNext kind home start s t =
     (kinds : List TaskKind) → IsTaskOfKind kinds (length s.roster.by_task.items) kind → start ≡ kind_start kinds kind →
     length s.streams.items ≡ length s.roster.by_task.items → Silent kinds (IsJoin kind home) s t
 
--- a simulation goes on until no timer, no end of a phase, no tick and no look is left, and then to its end
+-- a simulation goes on until no timer, no end of a phase, no tick and no look is left, and then each processor ticks at the end
 pub record Runs {S : Type 0} (takes : SinkTakes S) (policies : List Accepted) (kinds : List TaskKind) (most end processors : ℕ)
     (old : S) (s : Simulation) (new : S) (t : Simulation) : Type 0 where
   pub sink : S
@@ -198,7 +198,7 @@ pub record Runs {S : Type 0} (takes : SinkTakes S) (policies : List Accepted) (k
   pub proceeds : LivedFrom takes kinds (Proceeds policies processors kinds s.seed s.roster.periods most end) old s sink ended
   pub none : IsAgreed ended.roster → NothingComes ended.roster.periods.end (accounts_of ended.roster)
   pub over : is_over end (accounts_of ended.roster) ≡ true
-  pub ticks : Lived takes kinds (AreJust (last_ticks end (all_processors processors) (accounts_of ended.roster))) sink ended new t
+  pub ticks : Lived takes kinds (AreJust (last_ticks end processors)) sink ended new t
 
 -- the simulation of a workload is opened, and goes on by some of what comes due in it until its end
 abbrev pub HasProceeded : {S : Type 0} → SinkTakes S → List Accepted → Workload → S → Simulation → S → Simulation → Type 0

@@ -1,5 +1,5 @@
 -- What comes due in a simulation, and what is done then.
-use Rattle.std.specs.Prelude.{◌≡◌, ◌≢◌, ◌⊎◌, ◌<◌, ◌≤◌, ◌+◌, ℕ, true, zero, suc, List, [], ◌∷◌, ◌++◌, Option, None, Some, length, map, filter, slice_get}
+use Rattle.std.specs.Prelude.{◌≡◌, ◌⊎◌, ◌<◌, ◌≤◌, ◌+◌, ℕ, true, zero, suc, List, [], ◌∷◌, ◌++◌, Option, None, Some, length, map}
 use Rattle.std.specs.List.{flat_map, range_with_len}
 use Rattle.bq_disc.specs.declared.limits.TheConstants.{TASKS}
 use Rattle.bq_workload.specs.declared.action.Action.{Action}
@@ -14,12 +14,11 @@ use Rattle.bq_parts.specs.declared.reply.Reply.{Reply}
 use Rattle.bq_parts.specs.declared.reply.Reply.TheVariants.{Drawn}
 use Rattle.bq_verify.specs.Accepted.{Accepted}
 use Rattle.bq_words.specs.Sizes.{processors_in}
-use Rattle.bq_workload.specs.Accounts.{Accounts}
 use Rattle.bq_workload.specs.declared.roster.Periods.{Periods}
 use Rattle.bq_workload.specs.Next.{IsNextDue}
 use Rattle.bq_workload.specs.Soundness.{IsFirstAllowed, has_numbers}
 use Rattle.bq_simulate.specs.Actions.{first_task_of}
-use Rattle.bq_simulate.specs.Chronicles.{Acts, Beats, Book, Deed, Happens, Joins, Looks, Misses, Reaches, Rings, after_deeds, is_busy}
+use Rattle.bq_simulate.specs.Chronicles.{Acts, Beats, Book, Deed, Happens, Joins, Looks, Misses, Reaches, Rings, after_deeds}
 use Rattle.bq_simulate.specs.Drives.{placed_at}
 
 -- these events happen, whatever their answers are, and nothing beside them
@@ -162,10 +161,6 @@ pub record AreMet (kinds : List TaskKind) (seed : ℕ) (periods : Periods) (most
 abbrev pub AreAllMet : List TaskKind → ℕ → Periods → ℕ → ℕ → Book → List Deed → Type 0
 AreAllMet kinds seed periods count last b deeds = (met : AreMet kinds seed periods count last b deeds) × (length met.steps ≡ count)
 
--- which of these processors run something: each of them ticks at the end
-abbrev pub last_ticks : ℕ → List ℕ → Accounts → List Event
-last_ticks end processors a = map (λ processor. Tick processor end) (filter (is_busy a) processors)
-
--- only this processor may run something else
-abbrev pub KeepsOthers : ℕ → Accounts → Accounts → Type 0
-KeepsOthers processor a b = (other : ℕ) → other ≢ processor → slice_get b.by_processor other ≡ slice_get a.by_processor other
+-- each of this many processors ticks at the end, by number
+abbrev pub last_ticks : ℕ → ℕ → List Event
+last_ticks end processors = map (λ processor. Tick processor end) (all_processors processors)

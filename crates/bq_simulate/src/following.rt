@@ -1,5 +1,5 @@
 //! A simulation from its beginning to its end.
-ghost use Rattle.std.specs.Prelude.{◌≡◌, ◌≢◌, ◌≤◌, None, false, true, [], ◌∷◌, OnOk, IfOk, IfErr, length, slice_get};
+ghost use Rattle.std.specs.Prelude.{◌≡◌, ◌≢◌, ◌≤◌, None, false, true, [], OnOk, IfOk, IfErr, length};
 ghost use Rattle.bq_workload.specs.Accounts.{accounts_of};
 ghost use Rattle.bq_workload.specs.Bounds.{most_steps};
 ghost use Rattle.bq_workload.specs.Kinds.{tasks_in};
@@ -9,7 +9,7 @@ ghost use Rattle.bq_workload.specs.declared.workload.Workload.{Workload};
 ghost use Rattle.bq_simulate.specs.Faults.{reported_flaw};
 ghost use Rattle.bq_simulate.specs.Order.{EndsEarly, SimulationGoesWell, HasGoneWell, HasProcessors, IfEndless, IsCutOff, StartsWell, WantsMemory};
 ghost use Rattle.bq_simulate.specs.Simulations.{Befell, RunsToEnd, RunsToLimit, HasEnough, HasProceeded, IsFollowed, IsSimulation, IsTooLong, ComesToBound, RunsToEndOrEnough, opening_book, periods_of, with_seed};
-ghost use Rattle.bq_simulate.specs.Steps.{AreJust, KeepsOthers, all_processors, last_ticks};
+ghost use Rattle.bq_simulate.specs.Steps.{AreJust, last_ticks};
 ghost use Rattle.bq_simulate.specs.declared.fault.SimulateFault.TheVariants as why;
 ghost use Rattle.bq_trace.specs.TraceEvents.{Gets};
 
@@ -26,8 +26,8 @@ use std::alloc::Global;
 /// Follows a workload to its end, with these policies at all processors, and reports its events to a sink: line 1 of their trace
 /// makes the machine, and each event is a line. Returns the counts of tasks, run phases and missed wakes. Each sleep lasts
 /// exactly its length. Each tick and each look for a task to pull comes exactly when it is to. What comes first is done next.
-/// When it ends, no timer, no end of a phase, no tick and no look is left that comes until the end. If the sink has enough
-/// before the end, that is the fault, and the sink got all that came until then.
+/// When it ends, no timer, no end of a phase, no tick and no look is left that comes until the end, and each processor ticks at the
+/// end. If the sink has enough before the end, that is the fault, and the sink got all that came until then.
 ///
 /// A workload with a flaw is refused for the first of its flaws, as `Unsound`, and nothing is reported. One without a flaw is
 /// followed to its end, unless memory runs out, the sink has enough, or 2^64 - 1 things came due. The last comes only if 64 bits
@@ -235,7 +235,7 @@ impl Simulation {
         Err(SimulateFault::Endless)
     }
 
-    /// Each processor that runs something ticks at the end.
+    /// Each processor ticks at the end, by number.
     fn finish<S: Sink>(
         &mut self,
         alloc: Global,
@@ -243,31 +243,12 @@ impl Simulation {
         end: u64,
         sink: &mut S,
     ) -> Result<(), SimulateFault>
-        ensures befell { OnOk result (Befell S.takes (AreJust (last_ticks end (all_processors processors) (accounts_of self.old.roster))) sink.old self.old sink.new self.new) }
+        ensures befell { OnOk result (Befell S.takes (AreJust (last_ticks end processors)) sink.old self.old sink.new self.new) }
         ensures ends { (w : Workload) → SimulationGoesWell w end self.old → processors ≤ length self.old.roster.by_processor.items → IfErr result WantsMemory }
     {
         'processors: for processor in 0..processors {
-            self.tick_at_end(alloc, processor, end, sink)?;
+            self.tick(alloc, processor, end, sink)?;
         }
         Ok(())
-    }
-
-    /// A processor ticks at the end, if it runs something.
-    fn tick_at_end<S: Sink>(
-        &mut self,
-        alloc: Global,
-        processor: u8,
-        end: u64,
-        sink: &mut S,
-    ) -> Result<(), SimulateFault>
-        ensures befell { OnOk result (Befell S.takes (AreJust (last_ticks end (processor ∷ []) (accounts_of self.old.roster))) sink.old self.old sink.new self.new) }
-        ensures others { OnOk result (KeepsOthers processor (accounts_of self.old.roster) (accounts_of self.new.roster)) }
-        ensures ends { (w : Workload) → SimulationGoesWell w end self.old → slice_get self.old.roster.by_processor.items processor ≢ None → IfErr result WantsMemory }
-    {
-        let processor_state = self.roster.processor_state(processor)?;
-        match processor_state.run {
-            Some(_) => self.tick(alloc, processor, end, sink),
-            None => Ok(()),
-        }
     }
 }

@@ -1,16 +1,16 @@
 //! A simulation on its way.
-ghost use Rattle.std.specs.Prelude.{◌≡◌, ◌≢◌, ◌⊎◌, ℕ, true, false, [], ◌∷◌, IfOk, IfErr, None, OnOk, slice_get};
+ghost use Rattle.std.specs.Prelude.{◌≡◌, ◌≢◌, ◌⊎◌, ℕ, ◌<◌, false, [], ◌∷◌, IfOk, IfErr, None, OnOk, length, slice_get};
 ghost use Rattle.bq_parts.specs.declared.event.Event.TheVariants.{BeginWake, EndWake, Drain, Pull, Tick};
 ghost use Rattle.bq_simulate.specs.Drives.{Drove};
 ghost use Rattle.bq_workload.specs.Accounts.{accounts_of, accounts_switched};
 ghost use Rattle.bq_workload.specs.Next.{IsNextDue, StaysAgreed};
 ghost use Rattle.bq_workload.specs.Strays.{IsStrayPass};
-ghost use Rattle.bq_simulate.specs.Chronicles.{IsWoken, is_busy, accounts_pulled};
+ghost use Rattle.bq_simulate.specs.Chronicles.{IsWoken, accounts_pulled};
 ghost use Rattle.bq_workload.specs.Lengths.{is_length};
 ghost use Rattle.bq_workload.specs.declared.workload.Workload.{Workload};
 ghost use Rattle.bq_simulate.specs.Order.{SimulationGoesWell, HasBoth, IsStrayPull, WantsMemory};
 ghost use Rattle.bq_simulate.specs.Simulations.{Befell, DrawsLength, Lived};
-ghost use Rattle.bq_simulate.specs.Steps.{AreJust, AreWake, KeepsOthers, Meet};
+ghost use Rattle.bq_simulate.specs.Steps.{AreJust, AreWake, Meet};
 
 use crate::Driver;
 use crate::calls::Moved;
@@ -106,15 +106,15 @@ impl Simulation {
         ensures befell { OnOk result (Befell S.takes (Meet (Due.Tick processor) now) sink.old self.old sink.new self.new) }
         ensures ends { (w : Workload) → SimulationGoesWell w now self.old → IsNextDue w.machine.duration (accounts_of self.old.roster) (Due.Tick processor) now → IfErr result WantsMemory }
     {
-        self.roster.beat(processor, now)?;
         let processor_state = self.roster.processor_state(processor)?;
-        match processor_state.run {
-            Some(_) => self.tick(alloc, processor, now, sink),
-            None => Err(SimulateFault::BrokenInvariant),
-        }
+        let Some(_) = processor_state.run else {
+            return Err(SimulateFault::BrokenInvariant);
+        };
+        self.roster.beat(processor, now)?;
+        self.tick(alloc, processor, now, sink)
     }
 
-    /// A processor that runs something ticks.
+    /// A processor ticks, whether it runs something or not.
     pub(crate) fn tick<S: Sink>(
         &mut self,
         alloc: Global,
@@ -122,10 +122,8 @@ impl Simulation {
         now: u64,
         sink: &mut S,
     ) -> Result<(), SimulateFault>
-        requires { is_busy (accounts_of self.old.roster) processor ≡ true }
         ensures befell { OnOk result (Befell S.takes (AreJust (Tick processor now ∷ [])) sink.old self.old sink.new self.new) }
-        ensures others { OnOk result (KeepsOthers processor (accounts_of self.old.roster) (accounts_of self.new.roster)) }
-        ensures ends { (w : Workload) → SimulationGoesWell w now self.old → IfErr result WantsMemory }
+        ensures ends { (w : Workload) → SimulationGoesWell w now self.old → processor < length self.old.roster.by_processor.items → IfErr result WantsMemory }
     {
         let run = self.driver.tick(alloc, processor, now, sink)?;
         self.roster.switch(processor, run, now)?;

@@ -5,7 +5,7 @@ use Rattle.bq_workload.specs.Next.{NothingComes}
 use Rattle.bq_simulate.specs.Chronicles.{Deed}
 use Rattle.bq_simulate.specs.Order.{EndsEarly}
 use Rattle.bq_simulate.specs.Simulations.{ProceedsIn}
-use Rattle.bq_simulate.specs.Steps.{AreJust, all_processors, last_ticks}
+use Rattle.bq_simulate.specs.Steps.{AreJust, last_ticks}
 use Rattle.bq_simulate.proofs.DeedLemmas.{Lived-weaker}
 use Rattle.bq_simulate.proofs.EndWellLemmas.{ended-well, keep_phases}
 use Rattle.bq_simulate.proofs.OpenWellLemmas.{processors-there}
@@ -22,7 +22,7 @@ returns-clause-runs g c =
     let kinds = c.args.workload.now.tasks.items in
     let end = c.args.workload.now.machine.duration in
     let ended = c.proceed.new.self in
-    let ticks : ℕ → List Deed → Type 0 = λ n. AreJust (last_ticks end (all_processors n) (accounts_of ended.roster)) in
+    let ticks : ℕ → List Deed → Type 0 = λ n. AreJust (last_ticks end n) in
     inl (record {
       sink = c.proceed.new.sink;
       ended = ended;
