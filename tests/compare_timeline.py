@@ -6,13 +6,15 @@
 
 BQSIM is the path of the program. Of each trace `csv` must have the model's slices, `json` its figures of tasks and
 processors (times, waits, latencies, fair times and counts, to the nanosecond), `report` its tables of latencies, of processors and of
-bounds, and `map` its columns and its legend: of all tasks and of half of them, to the end and to the middle. The second form draws ticks,
-wakes and blocks at processors where no policy stands, and says how much of the bounds was reached.
+bounds, and `map` its columns and its legend: of all tasks and of half of them, to the end and to the middle. With each form standard error
+must name the lines that the model finds bad or refused, and standard output none of them. The second form draws ticks, wakes and blocks at
+processors where no policy stands, and says how much of the bounds was reached.
 
 `tests/quick.py` compares some of these. Last seen: 300 traces, 39,873 slices alike, the figures of `json` and the table of bounds too; of the second form 200 histories.
 """
 import json
 import random
+import re
 import subprocess
 import sys
 
@@ -64,6 +66,7 @@ class Watched:
 
     def __init__(self, world):
         self.world, self.slices, self.tasks = world, [], {}
+        self.troubles = []  # the numbers of the lines that are bad or refused
         self.places = [Place() for _ in world.processors]
         self.ran = [None] * len(world.processors)
 
@@ -380,25 +383,30 @@ class Teller:
 def watched(lines):
     """What the model has of a trace; None where it has no machine."""
     seen, begun = None, False
-    for line in lines:
+    for number, line in enumerate(lines, 1):
         try:
             words = cut(line.removesuffix("\r"))
             if not words:
                 continue
             if begun:
-                if seen:
-                    said(Teller(seen), words)
+                if seen and any(answer.startswith("refused") for answer in said(Teller(seen), words)):
+                    seen.troubles.append(number)
                 continue
             begun = True
             seen = Watched(machine(words))
         except Bad:
             begun = True
+            if seen:
+                seen.troubles.append(number)
     return seen
 
 
 def timeline(program, form, text, *options):
+    """What stands on standard output, and the numbers of the lines that standard error names as bad or refused, with their count."""
     done = subprocess.run([program, "timeline", "--as", form, *options], input=text, capture_output=True, text=True, timeout=600)
-    return done.stdout
+    named = [int(number) for number in re.findall(r"^line (\d+): (?!the clock )", done.stderr, re.M)]
+    count = re.findall(r"^lines bad or refused: (\d+)$", done.stderr, re.M)
+    return done.stdout, named, count
 
 
 def table(report, head):
@@ -414,15 +422,23 @@ def compare(program, lines):
     text, ours = "\n".join(lines) + "\n", watched(lines)
     if not ours:
         return 0, None
-    if timeline(program, "csv", text) != ours.csv():
+    shown = {}
+    for form in ("csv", "json", "report"):
+        shown[form], *notes = timeline(program, form, text)
+        if notes != [ours.troubles, [str(len(ours.troubles))] if ours.troubles else []]:
+            first = min(set(notes[0]) ^ set(ours.troubles), default="of their count")
+            raise SystemExit(leave(lines, f"the notes of {form} differ, first that on line {first}"))
+        if re.search(r"^line \d+: ", shown[form], re.M):
+            raise SystemExit(leave(lines, f"a note stands on the standard output of {form}"))
+    if shown["csv"] != ours.csv():
         raise SystemExit(leave(lines, "csv differs"))
-    theirs = json.loads(timeline(program, "json", text))
+    theirs = json.loads(shown["json"])
     if theirs != ours.json():
         for one, other in zip(ours.json()["tasks"] + ours.json()["processors"], theirs["tasks"] + theirs["processors"]):
             if one != other:
                 raise SystemExit(leave(lines, f"json differs: the model has\n{one}\nthe program\n{other}"))
         raise SystemExit(leave(lines, "json differs"))
-    report = timeline(program, "report", text)
+    report = shown["report"]
     tables = ("  cpu law ", ours.bounds()), (" task name               wakes ", ours.latencies()), ("  cpu  busy % ", ours.busy())
     for head, rows in tables:
         if table(report, head) != rows:
@@ -430,9 +446,9 @@ def compare(program, lines):
     half = sorted(to for _, _, _, to in ours.slices)[len(ours.slices) // 2] if ours.slices else 0
     for some, to in (list(ours.tasks), 2**64 - 1), (list(ours.tasks), half), (list(ours.tasks)[::2], half):
         options = ["--to", f"{to}ns", *(["--tasks", ",".join(map(str, some))] if some else [])]
-        drawn, wanted = timeline(program, "map", text, *options), ours.map(some, to, 80)
-        if not f"\n{drawn}".endswith(f"\n{wanted}"):
-            raise SystemExit(leave(lines, f"the map with {options} differs: the model has\n{wanted}\nthe program\n{drawn[drawn.find(' ' * 8 + '|') :]}"))
+        drawn, wanted = timeline(program, "map", text, *options)[0], ours.map(some, to, 80)
+        if drawn != wanted:
+            raise SystemExit(leave(lines, f"the map with {options} differs: the model has\n{wanted}\nthe program\n{drawn}"))
     return len(ours.slices), ours
 
 

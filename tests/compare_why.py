@@ -5,8 +5,7 @@
     tests/compare_why.py BQSIM FILE..            the traces in these files
 
 BQSIM is the path of the program. The model computes each mean, lag, deadline and size anew from its lists of tasks, and writes each
-sentence itself; both texts must be the same, to the byte. Lines about bad and refused lines are left out.
-
+sentence itself; both texts must be the same, to the byte. Notes on bad and refused lines go to standard error, and are not compared here.
 """
 import pathlib
 import random
@@ -212,7 +211,7 @@ def compare(program, lines, place):
     seen = explained(lines)
     text = "\n".join(lines) + "\n"
     done = subprocess.run([program, "timeline", "--as", "why"], input=text, capture_output=True, text=True, timeout=600)
-    theirs = [line for line in done.stdout.splitlines(keepends=True) if not line.startswith("line ")]
+    theirs = done.stdout.splitlines(keepends=True)
     ours = seen.text if seen else []
     for number, (one, other) in enumerate(zip(ours + [""], theirs + [""]), 1):
         if one != other:

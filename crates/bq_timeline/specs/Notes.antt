@@ -1,11 +1,16 @@
--- What goes to standard error once a trace is over.
-use Rattle.std.specs.Prelude.{ℕ, zero, suc, ◌==◌, ◌%◌, ◌-◌, ◌^◌, nat_le, nat_lt, ◌&&◌, ◌||◌, not, Bool, false, List, [], ◌++◌, length, Option, Some, None, if◌then◌else◌, codes}
+-- What goes to standard error: notes on lines as they come, and notes once a trace is over.
+use Rattle.std.specs.Prelude.{◌≡◌, ℕ, zero, suc, ◌==◌, ◌%◌, ◌-◌, ◌^◌, nat_le, nat_lt, ◌&&◌, ◌||◌, not, Bool, false, List, [], ◌++◌, length, Option, Some, None, if◌then◌else◌, codes}
 use Rattle.std.specs.Fmt.{decimal}
 use Rattle.std.specs.List.{list_any}
 use Rattle.bq_disc.specs.declared.limits.TheConstants.{PROCESSORS, TASKS}
 use Rattle.bq_schedule.specs.Figures.{Figures, processor_in_figures, task_in_figures}
 use Rattle.bq_schedule.specs.Runnable.{undrained}
 use Rattle.bq_timeline.specs.declared.screen.Part.{Part}
+use Rattle.bq_timeline.specs.declared.screen.Screen.{Screen}
+
+-- only the notes of a screen have changed, and its text is as it was
+abbrev pub ChangesOnlyNotes : Screen → Screen → Type 0
+ChangesOnlyNotes old new = new ≡ record old { notes = new.notes }
 
 -- the note on a task that was placed on a processor that was never drained after, if there is such a processor
 abbrev pub waiting_note : ℕ → Option ℕ → List ℕ

@@ -1,5 +1,5 @@
 -- The form in which a schedule is shown.
-use Rattle.std.specs.Prelude.{◌≡◌, Bool, true, false, ◌++◌, Option, Some, None}
+use Rattle.std.specs.Prelude.{◌≡◌, ◌++◌, Option, Some, None}
 use Rattle.bq_report.specs.Names.{NamedTasks}
 use Rattle.bq_report.specs.declared.window.Window.{Window}
 use Rattle.bq_timeline.specs.Called.{tasks_for}
@@ -8,17 +8,6 @@ use Rattle.bq_timeline.specs.declared.form_names.FormName.TheVariants as named
 use Rattle.bq_timeline.specs.declared.settings.Settings.{Settings}
 use Rattle.bq_timeline.specs.declared.shown.Shown.{Shown}
 use Rattle.bq_timeline.specs.declared.shown.Shown.TheVariants as form
-
--- a person reads the form line by line, so that it may contain notes on lines
-abbrev pub is_read_by_lines : FormName → Bool
-is_read_by_lines named.Report = true
-is_read_by_lines named.Map = true
-is_read_by_lines named.Timehist = true
-is_read_by_lines named.Why = true
-is_read_by_lines named.Csv = false
-is_read_by_lines named.Json = false
-is_read_by_lines named.Svg = false
-is_read_by_lines named.Perfetto = false
 
 -- the name of a form
 abbrev pub form_name_of : Shown → FormName

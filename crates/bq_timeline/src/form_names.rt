@@ -1,7 +1,6 @@
 //! The forms by name.
 ghost use Rattle.std.specs.Prelude.{◌≡◌};
 ghost use Rattle.bq_timeline.specs.Settings.{form_named, has_look, has_stretch, has_width};
-ghost use Rattle.bq_timeline.specs.Shown.{is_read_by_lines};
 
 /// A form in which a schedule is shown.
 #[derive(Clone, Copy)]
@@ -69,15 +68,5 @@ impl FormName {
         ensures { result ≡ has_look self }
     {
         matches!(self, FormName::Svg)
-    }
-
-    /// Whether a person reads the form line by line, so that it may contain notes on lines.
-    pub fn has_notes(self) -> bool
-        ensures { result ≡ is_read_by_lines self }
-    {
-        match self {
-            FormName::Report | FormName::Map | FormName::Timehist | FormName::Why => true,
-            FormName::Csv | FormName::Json | FormName::Svg | FormName::Perfetto => false,
-        }
     }
 }

@@ -1,12 +1,12 @@
-//! What is written of a trace: the form, with notes on lines if a person reads it, and what goes to standard error.
+//! What is written of a trace: the form, and the notes, which go to standard error.
 ghost use Rattle.std.specs.Prelude.{◌≡◌, ◌++◌, ℕ, IfOk, OnOk, None, Some, string_bytes};
 ghost use Rattle.std.specs.List.{list_any};
 ghost use Rattle.bq_report.specs.Names.{Learns, name_of};
 ghost use Rattle.bq_timeline.specs.Called.{tasks_for};
 ghost use Rattle.bq_timeline.specs.Beginning.{FormBegins, BeginsForm};
-ghost use Rattle.bq_timeline.specs.Notes.{absent_notes, is_number, lacks_processors, lacks_tasks, last_notes, past_note, processors_note, reaches, tasks_note, trouble_note, unmade_note, waiting_note, waiting_notes};
+ghost use Rattle.bq_timeline.specs.Notes.{ChangesOnlyNotes, absent_notes, is_number, lacks_processors, lacks_tasks, last_notes, past_note, processors_note, reaches, tasks_note, trouble_note, unmade_note, waiting_note, waiting_notes};
 ghost use Rattle.bq_schedule.specs.Figures.{task_in_figures};
-ghost use Rattle.bq_timeline.specs.Shown.{IsAskedFor, is_read_by_lines};
+ghost use Rattle.bq_timeline.specs.Shown.{IsAskedFor};
 
 use crate::bounds_table::BoundsTable;
 use crate::called::{NO_TASK, add_called, note_uncalled};
@@ -44,15 +44,14 @@ pub struct Screen {
     rule: Option<Rule>,
     /// The form, once it has begun.
     shown: Option<Shown>,
-    has_notes: bool,
     /// How near the bounds of the rule are, once the form has begun, if it is the report.
     near: Option<BoundsTable>,
     part: Part,
     /// The tasks that are shown, once the form has begun. Empty if all are shown.
     tasks: Vec<u16>,
-    /// What goes to the output, since the text was cleared last.
+    /// What goes to the output, since the text was cleared last: the form, and nothing else.
     pub text: String,
-    /// What goes to standard error.
+    /// What goes to standard error, since the notes were cleared last.
     pub notes: String,
 }
 
@@ -61,7 +60,6 @@ impl Screen {
     pub fn new(alloc: Global, settings: Settings) -> Screen
         ensures asked { result.asked ≡ Some settings }
         ensures names { (task : ℕ) → name_of result.names task ≡ None }
-        ensures notes { result.has_notes ≡ is_read_by_lines settings.form }
         ensures part { (result.part.processors ≡ settings.window.processors) × (result.part.from ≡ settings.window.from) }
     {
         Screen {
@@ -70,7 +68,6 @@ impl Screen {
                 processors: settings.window.processors,
                 from: settings.window.from,
             },
-            has_notes: settings.form.has_notes(),
             tasks: Vec::new(alloc),
             names: Names::new(alloc),
             asked: Some(settings),
@@ -78,15 +75,6 @@ impl Screen {
             shown: None,
             text: String::new(alloc),
             notes: String::new(alloc),
-        }
-    }
-
-    /// The text for notes on lines: the form if a person reads it, otherwise what goes to standard error.
-    fn notes(&mut self) -> &mut String {
-        if self.has_notes {
-            &mut self.text
-        } else {
-            &mut self.notes
         }
     }
 
@@ -243,39 +231,49 @@ impl Screen {
     }
 
     /// An event was refused.
-    fn refused(&mut self, number: u64, event: &Event, refusal: Refusal) -> Result<(), AllocError> {
+    fn refused(&mut self, number: u64, event: &Event, refusal: Refusal) -> Result<(), AllocError>
+        ensures { ChangesOnlyNotes self.old self.new }
+    {
         let refused = Refused { event, refusal };
-        write!(self.notes(), "line {number}: {refused}\n")
+        write!(self.notes, "line {number}: {refused}\n")
     }
 
     /// The clock of a processor was read, and had gone back.
-    fn goes_back(&mut self, number: u64, reading: &ClockReading) -> Result<(), AllocError> {
+    fn goes_back(&mut self, number: u64, reading: &ClockReading) -> Result<(), AllocError>
+        ensures { ChangesOnlyNotes self.old self.new }
+    {
         let processor = reading.processor;
         let last = reading.to;
         write!(
-            self.notes(),
+            self.notes,
             "line {number}: the clock of processor {processor} goes back; the reading counts as {last}\n"
         )
     }
 
     /// The word of an image is not hex.
-    pub fn unspelled(&mut self, number: u64) -> Result<(), AllocError> {
-        write!(self.notes(), "line {number}: the image is no hex\n")
+    pub fn unspelled(&mut self, number: u64) -> Result<(), AllocError>
+        ensures { ChangesOnlyNotes self.old self.new }
+    {
+        write!(self.notes, "line {number}: the image is no hex\n")
     }
 
     /// An image does not load.
-    pub fn unloaded(&mut self, number: u64, fault: LoadFault) -> Result<(), AllocError> {
+    pub fn unloaded(&mut self, number: u64, fault: LoadFault) -> Result<(), AllocError>
+        ensures { ChangesOnlyNotes self.old self.new }
+    {
         let why = FaultInWords(fault);
         write!(
-            self.notes(),
+            self.notes,
             "line {number}: the image does not load: {why}\n"
         )
     }
 
     /// A processor is asked for that the machine does not have.
-    pub fn not_there(&mut self, number: u64, processor: u8) -> Result<(), AllocError> {
+    pub fn not_there(&mut self, number: u64, processor: u8) -> Result<(), AllocError>
+        ensures { ChangesOnlyNotes self.old self.new }
+    {
         let because = Because(Refusal::NoProcessor);
-        write!(self.notes(), "line {number}: show {processor}: {because}\n")
+        write!(self.notes, "line {number}: show {processor}: {because}\n")
     }
 
     /// A line is bad. If it should have made the machine, the rest of the trace is not read.
@@ -285,15 +283,17 @@ impl Screen {
         number: u64,
         line: Option<&[u8]>,
         is_open: bool,
-    ) -> Result<(), AllocError> {
+    ) -> Result<(), AllocError>
+        ensures { ChangesOnlyNotes self.old self.new }
+    {
         if let (Some(line), false) = (line, is_open) {
             if let Some(what) = foreign_text(line) {
-                return write!(self.notes(), "line {number}: {what}\n");
+                return write!(self.notes, "line {number}: {what}\n");
             }
         }
         let fault = why_bad(line, is_open);
         let meant = meant_keyword(alloc, &fault)?;
-        let notes = self.notes();
+        let notes = &mut self.notes;
         write!(notes, "line {number}: {fault}")?;
         if let Some(meant) = meant {
             write!(notes, "; did you mean {meant}?")?;
