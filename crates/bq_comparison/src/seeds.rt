@@ -90,7 +90,7 @@ fn runs<T: Threads + Sync>(
     if first.checked_add(others).is_none() {
         return Err(SeedsFault::Last);
     }
-    let most = hands(threads);
+    let most = runs_at_once(threads);
     let count = usize::from(count);
     let mut runs = Vec::new(alloc);
     'numbers: while runs.len() < count {
@@ -117,11 +117,11 @@ fn show_runs(shown: &RunsShown<'_>, runs: &[RunFigures]) {
 }
 
 /// How many runs are done at once: as many as there are processors available.
-fn hands<T: Threads + Sync>(threads: &T) -> usize
+fn runs_at_once<T: Threads + Sync>(threads: &T) -> usize
     ensures { 1 ≤ result }
 {
     match available_parallelism(threads) {
-        Ok(hands) => hands.get().max(1).min(MOST_AT_ONCE),
+        Ok(count) => count.get().max(1).min(MOST_AT_ONCE),
         Err(_) => 1,
     }
 }
