@@ -1,6 +1,7 @@
 pub mod Beginning
 pub mod Called
 pub mod Comments
+pub mod FormTexts
 pub mod Notes
 pub mod Settings
 pub mod Shown

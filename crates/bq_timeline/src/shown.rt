@@ -1,4 +1,6 @@
 //! All forms as one type.
+ghost use Rattle.std.specs.Prelude.{OnOk, string_bytes};
+ghost use Rattle.bq_timeline.specs.FormTexts.{FormAdmits, FormEnds, FormOpens, FormTakes};
 ghost use Rattle.bq_timeline.specs.Shown.{ShowsForm, StaysShown};
 
 use crate::form_names::FormName;
@@ -48,7 +50,8 @@ impl Shown {
         names: &Names,
         text: &mut String,
     ) -> Result<(), AllocError>
-        ensures { StaysShown self.old self.new }
+        ensures stays { StaysShown self.old self.new }
+        ensures opens { OnOk result (FormOpens schedule.now self.old self.new (string_bytes text.old) (string_bytes text.new)) }
     {
         match self {
             Shown::Report(form) => form.begin(schedule, names, text),
@@ -66,7 +69,9 @@ impl Shown {
     }
 
     /// A task is admitted.
-    pub fn admit(&mut self, task: u16) -> Result<(), AllocError> {
+    pub fn admit(&mut self, task: u16) -> Result<(), AllocError>
+        ensures { OnOk result (FormAdmits task self.old self.new) }
+    {
         match self {
             Shown::Map(form) => form.admit(task),
             Shown::Svg(form) => form.admit(task),
@@ -90,7 +95,9 @@ impl Shown {
         schedule: &Schedule,
         names: &Names,
         text: &mut String,
-    ) -> Result<(), AllocError> {
+    ) -> Result<(), AllocError>
+        ensures { OnOk result (FormTakes change.now schedule.now names.now self.old self.new (string_bytes text.old) (string_bytes text.new)) }
+    {
         match self {
             Shown::Report(form) => form.take(change, schedule, names, text),
             Shown::Map(form) => form.take(change, schedule, names, text),
@@ -109,7 +116,9 @@ impl Shown {
         schedule: &Schedule,
         names: &Names,
         text: &mut String,
-    ) -> Result<(), AllocError> {
+    ) -> Result<(), AllocError>
+        ensures { OnOk result (FormEnds schedule.now names.now self.old (string_bytes text.old) (string_bytes text.new)) }
+    {
         match self {
             Shown::Report(form) => form.end(schedule, names, text),
             Shown::Map(form) => form.end(schedule, names, text),

@@ -8,7 +8,7 @@ pub returns : goal.returns
 returns c =
     let old = c.args.self.now in
     record {
-      shown = stays_asked c.args.settings old.names _ _ c.in_ok-shown.ensures.form c.begin.ensures;
+      shown = stays_asked c.args.settings old.names _ _ c.in_ok-shown.ensures.form c.begin.ensures.stays;
       tasks = cc (c.begin_near.ensures.tasks, c.in_ok-shown.ensures.tasks);
       part = c.begin_near.ensures.part ∙ c.form_of.ensures.part;
       notes =
