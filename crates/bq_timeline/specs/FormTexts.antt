@@ -1,14 +1,16 @@
 -- What each form adds to its text when it begins, at each change, and when it ends. Nothing is said of `why`, which is written from the
 -- machine and not from changes.
-use Rattle.std.specs.Prelude.{◌≡◌, ℕ, List, ◌++◌, length, replicate, Option}
+use Rattle.std.specs.Prelude.{◌≡◌, ℕ, List, [], ◌++◌, length, replicate, Option}
 use Rattle.bq_disc.specs.declared.limits.TheConstants.{TASKS}
+use Rattle.bq_parts.specs.declared.event.Event.{Event}
+use Rattle.bq_parts.specs.declared.event.Event.TheVariants.{Admit}
 use Rattle.bq_schedule.specs.declared.change.Change.{Change}
 use Rattle.bq_schedule.specs.declared.change.Start.{Start}
 use Rattle.bq_schedule.specs.declared.change.Stop.{Stop}
 use Rattle.bq_schedule.specs.declared.change.Wake.{Wake}
 use Rattle.bq_schedule.specs.declared.slice.Slice.{Slice}
 use Rattle.bq_schedule.specs.Figures.{Figures}
-use Rattle.bq_schedule.specs.WakeLatencies.{TakesStart}
+use Rattle.bq_schedule.specs.WakeLatencies.{TakesStart, latencies_of}
 use Rattle.bq_report.specs.declared.map.Map.{Map}
 use Rattle.bq_report.specs.MapRows.{RunsRow}
 use Rattle.bq_report.specs.Maps.{HoldsLast, IsMap, RowsHold, empty_map_row}
@@ -28,6 +30,14 @@ use Rattle.bq_timeline.specs.declared.shown.Shown.TheVariants as form
 -- the map has the same window, width and letters as before
 abbrev pub KeepsLook : Map → Map → Type 0
 KeepsLook old new = (new.window ≡ old.window) × (new.width ≡ old.width) × (new.roster ≡ old.roster)
+
+-- A form to which nothing has happened; a map of this width.
+abbrev pub IsEmptyForm : ℕ → Shown → Type 0
+IsEmptyForm width (form.Report r) = ((task : ℕ) → latencies_of r.latencies task ≡ []) × (r.missed ≡ 0)
+IsEmptyForm width (form.Map m) = (m.width ≡ width) × (m.roster ≡ []) × (m.rows.items ≡ [])
+IsEmptyForm width (form.Json j) = ((task : ℕ) → latencies_of j.latencies task ≡ []) × (j.missed ≡ 0)
+IsEmptyForm width (form.Svg p) = (p.roster ≡ []) × (p.drawing ≡ nothing_of 0)
+IsEmptyForm width other = Unit {0}
 
 -- A form begins, with a schedule to which nothing has happened: it and its text, before and after.
 abbrev pub FormOpens : Figures → Shown → Shown → List ℕ → List ℕ → Type 0
@@ -49,6 +59,11 @@ abbrev pub FormAdmits : ℕ → Shown → Shown → Type 0
 FormAdmits task (form.Map old) new = new ≡ form.Map (record old { roster = enlisted task old.roster })
 FormAdmits task (form.Svg old) new = new ≡ form.Svg (record old { roster = enlisted task old.roster })
 FormAdmits task old new = new ≡ old
+
+-- The form is given the task of an event that admits one.
+abbrev pub FormHeeds : Event → Shown → Shown → Type 0
+FormHeeds (Admit task nice mask slice) old new = FormAdmits task old new
+FormHeeds event old new = new ≡ old
 
 -- A form takes a change, and the schedule after it: it and its text, before and after.
 abbrev pub FormTakes : Change → Figures → NamedTasks → Shown → Shown → List ℕ → List ℕ → Type 0
@@ -73,6 +88,12 @@ FormTakes change s names (form.Perfetto old) (form.Perfetto new) before after =
     (new.window ≡ old.window) × GrowsByPart (IsPerfettoOf old.window names s change old.history new.history) before after
 FormTakes change s names (form.Why old) (form.Why new) before after = Unit {0}
 FormTakes change s names old new before after = ⊥
+
+-- An event was done. The form is given its task, if it admits one, and then what it changed.
+pub record FormAnswers (event : Event) (change : Change) (s : Figures) (names : NamedTasks) (old new : Shown) (before after : List ℕ) : Type 0 where
+  pub given : Shown
+  pub heeds : FormHeeds event old given
+  pub takes : FormTakes change s names given new before after
 
 -- A form ends, with the schedule of the whole trace: its text before and after.
 abbrev pub FormEnds : Figures → NamedTasks → Shown → List ℕ → List ℕ → Type 0

@@ -3,6 +3,7 @@ pub mod Called
 pub mod Comments
 pub mod FormTexts
 pub mod Notes
+pub mod ScreenTexts
 pub mod Settings
 pub mod Shown
 pub mod Timelines
