@@ -7,4 +7,5 @@ pub mod ScreenTexts
 pub mod Settings
 pub mod Shown
 pub mod Timelines
+pub mod TraceTexts
 pub mod Watching
