@@ -11,10 +11,10 @@ use Rattle.bq_simulate.specs.Faults.{ReportsNoOther, reported_flaw}
 use Rattle.bq_simulate.specs.Simulations.{Accepted, IsSimulation}
 use Rattle.bq_simulate.specs.declared.driver.Driver.{Driver}
 use Rattle.bq_simulate.specs.declared.fault.SimulateFault.{SimulateFault}
-use Rattle.bq_timeline.specs.Timelines.{TakesEvent}
+use Rattle.bq_timeline.specs.Timelines.{TakesEvent, WatchesEvent}
 use Rattle.bq_timeline.specs.Watching.{schedule_after, troubles_after}
 use Rattle.bq_timeline.specs.declared.viewer.Viewer.{Viewer}
-use Rattle.bq_timeline.proofs.WatchLemmas.{Takes, takes_all, troubles_after-append}
+use Rattle.bq_timeline.proofs.WatchLemmas.{Watched, troubles_after-append, watched_all}
 use Rattle.bq_trace.specs.TraceEvents.{Gets, TraceEvent, TakesAll, Reported}
 use Rattle.bq_experiment.specs.Faults.{IsRunStopped}
 use Rattle.bq_experiment.specs.Limits.{PassesWithin, events_in}
@@ -40,25 +40,25 @@ pending below = string_bytes below.viewer.screen.text
 abbrev pub Clears : OffsetViewer → OffsetViewer → Type 0
 Clears old new = (new.viewer.schedule ≡ old.viewer.schedule) × (new.viewer.troubles ≡ old.viewer.troubles)
 
--- what it takes its viewer takes, whatever is passed on
+-- what it takes its viewer watches, whatever is passed on
 keeps_one : (old new : OffsetViewer) (was now : Option (List ℕ)) (n : ℕ) (traced : TraceEvent)
     → TakesAndPasses TakesByOffset pending Clears old was n traced new now
-    → TakesEvent old.viewer traced new.viewer
+    → WatchesEvent old.viewer traced new.viewer
 keeps_one old new was now n traced h = elim h.passed [
   | inl same ↦ (
-    ap (λ (l : OffsetViewer). l.viewer.schedule) same.0 ∙ h.taken.1.0,
-    ap (λ (l : OffsetViewer). l.viewer.troubles) same.0 ∙ h.taken.1.1,
+    ap (λ (l : OffsetViewer). l.viewer.schedule) same.0 ∙ h.taken.1.watches.0,
+    ap (λ (l : OffsetViewer). l.viewer.troubles) same.0 ∙ h.taken.1.watches.1,
   )
-  | inr emptied ↦ (emptied.cleared.0 ∙ h.taken.1.0, emptied.cleared.1 ∙ h.taken.1.1)
+  | inr emptied ↦ (emptied.cleared.0 ∙ h.taken.1.watches.0, emptied.cleared.1 ∙ h.taken.1.watches.1)
 ]
 
--- all that it takes its viewer takes, whatever is passed on
-pub viewer_takes : {P : Type 0} (sink : P → OffsetViewer) (got : P → Option (List ℕ)) (old new : P) (reported : Reported)
+-- all that it takes its viewer watches, whatever is passed on
+pub viewer_watches : {P : Type 0} (sink : P → OffsetViewer) (got : P → Option (List ℕ)) (old new : P) (reported : Reported)
     → TakesAll (λ o n x w. TakesAndPasses TakesByOffset pending Clears (sink o) (got o) n x (sink w) (got w)) old reported new
-    → TakesAll Takes (sink old).viewer reported (sink new).viewer
-viewer_takes {P} sink got old new [] h = ap (λ (p : P). (sink p).viewer) h
-viewer_takes sink got old new ((n, traced) ∷ more) h =
-    ((sink h.0).viewer, keeps_one (sink old) (sink h.0) (got old) (got h.0) n traced h.1, viewer_takes sink got h.0 new more h.2)
+    → TakesAll Watched (sink old).viewer reported (sink new).viewer
+viewer_watches {P} sink got old new [] h = ap (λ (p : P). (sink p).viewer) h
+viewer_watches sink got old new ((n, traced) ∷ more) h =
+    ((sink h.0).viewer, keeps_one (sink old) (sink h.0) (got old) (got h.0) n traced h.1, viewer_watches sink got h.0 new more h.2)
 
 -- events that are done, of which none is refused, are no trouble
 troubles_driven : (n : ℕ) (d : Driver) (events : List Event) (reported : Reported) (e : Driver)
@@ -92,13 +92,13 @@ IsStopped-by P why (fault.Simulation reported) failures h k = (subst P (sym k.0)
 IsStopped-by P why fault.Write failures h k = k
 IsStopped-by P why fault.Events failures h k = (subst P (sym k.0) h, k.1)
 
--- a viewer that took a simulation has viewed it
+-- a viewer that watched a simulation has viewed it
 pub views_simulation : (old new : Viewer) (policies : List Accepted) (w : Workload) (reported : Reported) (most left : ℕ)
-    → old.schedule ≡ None → old.troubles ≡ 0 → first_flaw w ≡ None → TakesAll Takes old reported new
+    → old.schedule ≡ None → old.troubles ≡ 0 → first_flaw w ≡ None → TakesAll Watched old reported new
     → IsSimulation policies w reported → most ≡ events_in reported + left
     → IsViewed policies w most new
 views_simulation old new policies w reported most left empty zero sound taken simulation limit =
-    let all = takes_all old new reported taken in
+    let all = watched_all old new reported taken in
     record {
       reported = reported;
       sound = sound;
@@ -129,6 +129,6 @@ pub run_viewed : {W E : Type 0} (contents : W → Option (List ℕ)) (old new : 
     → IsViewed policies w old.left new.sink.sink.viewer
 run_viewed {W} {E} contents old new policies w g not empty zero sound =
     let through = lets_through (TakesRun contents) old new g.reported g.taken not in
-    let taken = viewer_takes (λ (r : ViewedRun W E). r.sink) (got contents) old.sink new.sink g.reported through.0 in
+    let taken = viewer_watches (λ (r : ViewedRun W E). r.sink) (got contents) old.sink new.sink g.reported through.0 in
     views_simulation old.sink.sink.viewer new.sink.sink.viewer policies w g.reported old.left new.left
     empty zero sound taken g.holds through.1

@@ -4,4 +4,5 @@ pub mod NameLemmas
 pub mod NoteLemmas
 pub mod ShownLemmas
 pub mod TaskLemmas
+pub mod TextLemmas
 pub mod WatchLemmas

@@ -1,6 +1,13 @@
 -- A form that is asked for, once it has begun.
-use Rattle.std.proofs.Common.{◌∙◌}
+use Rattle.std.specs.Bool.{if◌then◌else◌}
+use Rattle.std.specs.Result.{is_ok}
+use Rattle.std.specs.Prelude.{ℤ}
+use Rattle.std.proofs.Common.{◌≡◌, ◌∙◌, ◌∷◌, ◌++◌, ℕ, List, [], Err, Ok, OnOk, Result, refl}
+use Rattle.bq_parts.specs.declared.event.Event.{Event}
+use Rattle.bq_parts.specs.declared.event.Event.TheVariants.{Admit}
 use Rattle.bq_report.specs.Names.{NamedTasks}
+use Rattle.bq_timeline.specs.FormTexts.{FormAdmits, FormHeeds}
+use Rattle.bq_timeline.specs.ScreenTexts.{bounds_head, under_bounds_head}
 use Rattle.bq_timeline.specs.Shown.{IsAskedFor, StaysShown}
 use Rattle.bq_timeline.specs.declared.settings.Settings.{Settings}
 use Rattle.bq_timeline.specs.declared.shown.Shown.{Shown}
@@ -16,3 +23,29 @@ stays_asked s named old new asked stays = (
     window_is = stays.window_is ∙ asked.2.window_is;
   },
 )
+
+-- two facts that hold on success hold together on success
+pub both : {T E : Type 0} (A B : Type 0) (r : Result T E) → OnOk r A → OnOk r B → OnOk r (A × B)
+both A B (Ok x) a b = (a, b)
+both A B (Err e) a b = tt
+
+-- lines that are there stand under the head of the table of bounds
+pub under_head : (lines : List ℕ) → (lines ≡ [] → ⊥) → under_bounds_head lines ≡ bounds_head ++ lines
+under_head [] there = absurd (there refl)
+under_head (byte ∷ lines) there = refl
+
+-- what holds if a result is a success holds on success
+pub if_ok : {T E : Type 0} (r : Result T E) (now here there : List ℕ) → now ≡ (if is_ok r then here else there) → OnOk r (now ≡ here)
+if_ok (Ok x) now here there e = e
+if_ok (Err e) now here there h = tt
+
+-- the form is given the task of an event that admits it
+pub heeds_admit : (event : Event) (task : ℕ) (nice : ℤ) (mask slice : ℕ) (old new : Shown)
+    → event ≡ Admit task nice mask slice → FormAdmits task old new → FormHeeds event old new
+heeds_admit event task nice mask slice old new is h = rw is h
+
+-- the form is given no task of another event
+pub heeds_other : (event : Event) (old : Shown) → ((task : ℕ) (nice : ℤ) (mask slice : ℕ) → event ≡ Admit task nice mask slice → ⊥)
+    → FormHeeds event old old
+heeds_other (Admit task nice mask slice) old other = absurd (other task nice mask slice refl)
+heeds_other event old other = refl

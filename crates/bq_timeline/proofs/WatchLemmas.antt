@@ -1,9 +1,9 @@
 -- What a viewer keeps of the events of a trace that comes in pieces.
-use Rattle.std.proofs.Common.{◌≡◌, ℕ, ◌==◌, List, [], ◌∷◌, ◌++◌, map, refl, sym, ap, ◌∙◌, append-nil, subst, Some, None, Option}
+use Rattle.std.proofs.Common.{◌≡◌, ℕ, ◌==◌, List, [], ◌∷◌, ◌++◌, map, refl, sym, ap, ◌∙◌, append-nil, subst, string_bytes, Some, None, Option}
 use Rattle.std.specs.List.{AllByRecursion}
 use Rattle.std.specs.Str.Lines.{lines, strip_carriage_return}
-use Rattle.std.specs.Io.KnownBytes.{Consumes, IsAtEnd}
-use Rattle.std.proofs.KnownBytes.{Consumes-nil, Consumes-trans}
+use Rattle.std.specs.Io.KnownBytes.{Appends, Consumes, IsAtEnd}
+use Rattle.std.proofs.KnownBytes.{Appends-nil, Appends-trans, Consumes-nil, Consumes-trans}
 use Rattle.std.proofs.lemmas.List.{map-append}
 use Rattle.bq_lines.specs.Kept.{IsOneLine, KeepsLine}
 use Rattle.bq_schedule.specs.Figures.{Figures}
@@ -15,31 +15,70 @@ use Rattle.bq_trace.proofs.LineLemmas.{lines-with_feeds}
 use Rattle.bq_trace.proofs.ReplayLemmas.{with_feeds-join, AllByRecursion-append}
 use Rattle.bq_trace.proofs.StandingLemmas.{Story-append, stands_for_nothing}
 use Rattle.bq_timeline.specs.Notes.{last_notes}
-use Rattle.bq_timeline.specs.Timelines.{Closes, IsTimeline, TakesEvent, Watches}
+use Rattle.bq_timeline.specs.ScreenTexts.{ScreenState, state_of}
+use Rattle.bq_timeline.specs.Timelines.{Closes, IsTimeline, TakesEvent, Watches, WatchesAndWrites, WatchesEvent}
+use Rattle.bq_timeline.specs.TraceTexts.{IsBlank, ScreenTakesAll, TextCloses}
 use Rattle.bq_timeline.specs.Watching.{schedule_after, troubled, troubles_after, watched}
+use Rattle.bq_timeline.specs.declared.settings.Settings.{Settings}
 use Rattle.bq_timeline.specs.declared.showing.Outcome.{Outcome}
 use Rattle.bq_timeline.specs.declared.showing.Showing.{Showing}
 use Rattle.bq_timeline.specs.declared.viewer.Viewer.{Viewer}
+use Rattle.bq_timeline.proofs.TextLemmas.{all_append, all_behind, closes_behind}
+
+-- the schedule and the count of a viewer go on with an event
+abbrev pub Watched : Viewer → ℕ → TraceEvent → Viewer → Type 0
+Watched old n traced new = WatchesEvent old traced new
 
 -- a viewer takes an event
 abbrev pub Takes : Viewer → ℕ → TraceEvent → Viewer → Type 0
 Takes old n traced new = TakesEvent old traced new
 
--- events that a viewer takes leave it their schedule and their count
-pub takes_all : (old new : Viewer) (reported : Reported) → TakesAll Takes old reported new
+-- events that a viewer watches leave it their schedule and their count
+pub watched_all : (old new : Viewer) (reported : Reported) → TakesAll Watched old reported new
     → (new.schedule ≡ schedule_after old.schedule reported) × (new.troubles ≡ troubles_after old.troubles reported)
-takes_all old new [] h = (ap (λ (v : Viewer). v.schedule) h, ap (λ (v : Viewer). v.troubles) h)
-takes_all old new ((n, x) ∷ more) h =
-    let rest = takes_all h.0 new more h.2 in
+watched_all old new [] h = (ap (λ (v : Viewer). v.schedule) h, ap (λ (v : Viewer). v.troubles) h)
+watched_all old new ((n, x) ∷ more) h =
+    let rest = watched_all h.0 new more h.2 in
     (rest.0 ∙ ap (λ s. schedule_after s more) h.1.0, rest.1 ∙ ap (λ k. troubles_after k more) h.1.1)
 
--- what a sink gets, where the viewer is one; what is written and cleared besides changes nothing of it
+-- a viewer watches the events that it takes
+watches_all : (old new : Viewer) (reported : Reported) → TakesAll Takes old reported new → TakesAll Watched old reported new
+watches_all old new [] h = h
+watches_all old new ((n, x) ∷ more) h = (h.0, h.1.watches, watches_all h.0 new more h.2)
+
+-- the screen of a viewer shows trace events, with the schedule before them
+abbrev pub ShowsAll : Option Figures → Viewer → Reported → Viewer → Type 0
+ShowsAll s old reported new =
+    ScreenTakesAll s (state_of old.screen) reported (state_of new.screen) (string_bytes old.screen.text) (string_bytes new.screen.text)
+
+-- the screen of a viewer shows the events that the viewer takes
+shows_all : (old new : Viewer) (reported : Reported) → TakesAll Takes old reported new → ShowsAll old.schedule old reported new
+shows_all old new [] h = (ap (λ (v : Viewer). state_of v.screen) h, ap (λ (v : Viewer). string_bytes v.screen.text) h)
+shows_all old new ((n, x) ∷ more) h =
+    let mid = h.0 in (
+      state_of mid.screen,
+      string_bytes mid.screen.text,
+      h.1.shows,
+      subst (λ (s : Option Figures). ShowsAll s mid more new) h.1.watches.0 (shows_all mid new more h.2),
+    )
+
+-- what a sink gets, where the viewer is one; what is written and cleared besides changes nothing else of it
 pub watches_what_it_gets : (old new then : Viewer) (Holds : Reported → Type 0)
-    → Gets Takes old new Holds → then.schedule ≡ new.schedule → then.troubles ≡ new.troubles
-    → Watches old then Holds
-watches_what_it_gets old new then Holds g schedule troubles =
-    let kept = takes_all old new g.reported g.taken in
-    record { reported = g.reported; schedule = schedule ∙ kept.0; troubles = troubles ∙ kept.1; holds = g.holds }
+    → Gets Takes old new Holds → then.schedule ≡ new.schedule → then.troubles ≡ new.troubles → state_of then.screen ≡ state_of new.screen
+    → Watches old then (string_bytes new.screen.text) Holds
+watches_what_it_gets old new then Holds g schedule troubles state =
+    let kept = watched_all old new g.reported (watches_all old new g.reported g.taken) in
+    record {
+      reported = g.reported;
+      schedule = schedule ∙ kept.0;
+      troubles = troubles ∙ kept.1;
+      shows =
+          subst
+          (λ (t : ScreenState).
+          ScreenTakesAll old.schedule (state_of old.screen) g.reported t (string_bytes old.screen.text) (string_bytes new.screen.text))
+          (sym state) (shows_all old new g.reported g.taken);
+      holds = g.holds;
+    }
 
 -- the schedule of events and of more behind them
 pub schedule_after-append : (s : Option Figures) (xs ys : Reported) → schedule_after s (xs ++ ys) ≡ schedule_after (schedule_after s xs) ys
@@ -51,8 +90,8 @@ pub troubles_after-append : (k : ℕ) (xs ys : Reported) → troubles_after k (x
 troubles_after-append k [] ys = refl
 troubles_after-append k ((n, x) ∷ xs) ys = troubles_after-append (troubled k x) xs ys
 
--- The reader gave input, whose whole lines the viewer got, and the rest has begun.
-pub record Underway (from to : Option (List ℕ)) (showing : Showing) : Type 0 where
+-- The reader gave input, whose whole lines the viewer got, and the rest has begun. The output got the text of these lines.
+pub record Underway (asked : Settings) (from to was now : Option (List ℕ)) (showing : Showing) : Type 0 where
   pub input : List ℕ
   pub reported : Reported
   pub ended : List (List ℕ)
@@ -64,13 +103,19 @@ pub record Underway (from to : Option (List ℕ)) (showing : Showing) : Type 0 w
   pub stands : KeepsLine showing.position.begun rest
   pub schedule : showing.viewer.schedule ≡ schedule_after None reported
   pub troubles : showing.viewer.troubles ≡ troubles_after 0 reported
+  pub first : ScreenState
+  pub text : List ℕ
+  pub blank : IsBlank asked first
+  pub takes : ScreenTakesAll None first reported (state_of showing.viewer.screen) [] text
+  pub wrote : Appends was now text
+  pub empty : string_bytes showing.viewer.screen.text ≡ []
 
--- at the start nothing has been read and nothing told
-pub Underway-none : (from : Option (List ℕ)) (showing : Showing)
+-- at the start nothing has been read, and nothing written
+pub Underway-none : (asked : Settings) (from was : Option (List ℕ)) (showing : Showing)
     → showing.position.progress ≡ opening_progress → showing.position.begun ≡ Some [] → showing.viewer.schedule ≡ None
-    → showing.viewer.troubles ≡ 0
-    → Underway from from showing
-Underway-none from showing first empty schedule troubles = record {
+    → showing.viewer.troubles ≡ 0 → IsBlank asked (state_of showing.viewer.screen) → string_bytes showing.viewer.screen.text ≡ []
+    → Underway asked from from was was showing
+Underway-none asked from was showing first nothing schedule troubles blank empty = record {
   input = [];
   reported = [];
   ended = [];
@@ -79,15 +124,35 @@ Underway-none from showing first empty schedule troubles = record {
   whole = refl;
   each = tt;
   story = (refl, first);
-  stands = subst (λ k. KeepsLine k []) (sym empty) stands_for_nothing;
+  stands = subst (λ k. KeepsLine k []) (sym nothing) stands_for_nothing;
   schedule = schedule;
   troubles = troubles;
+  first = state_of showing.viewer.screen;
+  text = [];
+  blank = blank;
+  takes = (refl, refl);
+  wrote = Appends-nil was;
+  empty = empty;
 }
 
--- a piece that is read and told leaves the timeline underway
-pub Underway-more : (from mid to : Option (List ℕ)) (s t : Showing) (piece : List ℕ) → (h : Underway from mid s) → Consumes mid to piece
-    → Watches s.viewer t.viewer (λ reported. ReportsPiece s.position h.rest piece reported t.position) → Underway from to t
-Underway-more from mid to s t piece h consumed w =
+-- what a screen whose text is cleared shows, as it is shown behind the text that was written before
+shown_behind : (p pending after : List ℕ) (s : Option Figures) (before : Reported) (old new : ScreenState) (reported : Reported)
+    → s ≡ schedule_after None before → pending ≡ [] → ScreenTakesAll s old reported new pending after
+    → ScreenTakesAll (schedule_after None before) old reported new p (p ++ after)
+shown_behind p pending after s before old new reported schedule empty h =
+    subst (λ (t : List ℕ). ScreenTakesAll (schedule_after None before) old reported new t (p ++ after)) (append-nil p)
+    (subst (λ (t : List ℕ). ScreenTakesAll (schedule_after None before) old reported new (p ++ t) (p ++ after)) empty
+    (subst (λ (s : Option Figures). ScreenTakesAll s old reported new (p ++ pending) (p ++ after)) schedule
+    (all_behind p s old reported new pending after h)))
+
+-- a piece that is read, told and written leaves the timeline underway
+pub Underway-more : (asked : Settings) (from mid to was between now : Option (List ℕ)) (s t : Showing) (piece : List ℕ)
+    → (h : Underway asked from mid was between s) → Consumes mid to piece
+    → WatchesAndWrites s.viewer t.viewer between now (λ reported. ReportsPiece s.position h.rest piece reported t.position)
+    → string_bytes t.viewer.screen.text ≡ []
+    → Underway asked from to was now t
+Underway-more asked from mid to was between now s t piece h consumed written empty =
+    let w = written.watches in
     let on = w.holds in
     record {
       input = h.input ++ piece;
@@ -105,13 +170,22 @@ Underway-more from mid to s t piece h consumed w =
       stands = on.stands;
       schedule = w.schedule ∙ ap (λ k. schedule_after k w.reported) h.schedule ∙ sym (schedule_after-append None h.reported w.reported);
       troubles = w.troubles ∙ ap (λ k. troubles_after k w.reported) h.troubles ∙ sym (troubles_after-append 0 h.reported w.reported);
+      first = h.first;
+      text = h.text ++ written.text;
+      blank = h.blank;
+      takes =
+          all_append None h.first (state_of s.viewer.screen) (state_of t.viewer.screen) h.reported w.reported [] h.text (h.text ++ written.text) h.takes
+          (shown_behind h.text (string_bytes s.viewer.screen.text) written.text s.viewer.schedule h.reported (state_of s.viewer.screen)
+          (state_of t.viewer.screen) w.reported h.schedule h.empty w.shows);
+      wrote = Appends-trans was between now h.text written.text h.wrote written.wrote;
+      empty = empty;
     }
 
 -- a timeline whose reader has no more and whose last line is reported is done
-pub Underway-ends : (from mid to : Option (List ℕ)) (showing : Showing) (outcome : Outcome)
-    → (h : Underway from mid showing) → Consumes mid to [] → IsAtEnd to → Closes showing h.rest outcome
-    → IsTimeline from to outcome
-Underway-ends from mid to showing outcome h consumed at_end f =
+pub Underway-ends : (asked : Settings) (from mid to was between now : Option (List ℕ)) (showing : Showing) (outcome : Outcome)
+    → (h : Underway asked from mid was between showing) → Consumes mid to [] → IsAtEnd to → Closes showing h.rest between now outcome
+    → IsTimeline asked from to was now outcome
+Underway-ends asked from mid to was between now showing outcome h consumed at_end f =
     let count : troubles_after showing.viewer.troubles f.reported ≡ troubles_after 0 (h.reported ++ f.reported) =
     ap (λ k. troubles_after k f.reported) h.troubles ∙ sym (troubles_after-append 0 h.reported f.reported) in
     let last : schedule_after showing.viewer.schedule f.reported ≡ schedule_after None (h.reported ++ f.reported) =
@@ -131,4 +205,19 @@ Underway-ends from mid to showing outcome h consumed at_end f =
       before = f.before;
       notes = f.notes ∙ ap (λ k. f.before ++ last_notes (schedule_after showing.viewer.schedule f.reported) k) count
           ∙ ap (λ s. f.before ++ last_notes s (troubles_after 0 (h.reported ++ f.reported))) last;
+      text = h.text ++ f.text;
+      shown = record {
+        first = h.first;
+        last = f.last;
+        taken = h.text ++ f.taken;
+        blank = h.blank;
+        takes =
+            all_append None h.first (state_of showing.viewer.screen) f.last h.reported f.reported [] h.text (h.text ++ f.taken) h.takes
+            (shown_behind h.text (string_bytes showing.viewer.screen.text) f.taken showing.viewer.schedule h.reported
+            (state_of showing.viewer.screen) f.last f.reported h.schedule h.empty f.takes);
+        closes =
+            subst (λ (s : Option Figures). TextCloses s f.last (h.text ++ f.taken) (h.text ++ f.text)) last
+            (closes_behind h.text (schedule_after showing.viewer.schedule f.reported) f.last f.taken f.text f.closes);
+      };
+      wrote = Appends-trans was between now h.text f.text h.wrote f.wrote;
     }

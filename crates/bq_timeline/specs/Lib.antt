@@ -1,8 +1,11 @@
 pub mod Beginning
 pub mod Called
 pub mod Comments
+pub mod FormTexts
 pub mod Notes
+pub mod ScreenTexts
 pub mod Settings
 pub mod Shown
 pub mod Timelines
+pub mod TraceTexts
 pub mod Watching

@@ -1,4 +1,6 @@
 //! How near each processor came to the bounds of its rule: a table below the report.
+ghost use Rattle.std.specs.Prelude.{◌≡◌, ◌++◌, ℕ, List, OnOk, string_bytes};
+ghost use Rattle.bq_timeline.specs.ScreenTexts.{under_bounds_head};
 
 use bq_bounds::{Bounds, Charge, Glance, RunningTask, how_it_stands};
 use bq_disc::RunQueue;
@@ -13,8 +15,9 @@ use bq_why::{place_of, present};
 use bq_words::Rule;
 use std::alloc::{AllocError, Global};
 
-/// The head of the table, above the lines of the bounds.
-const HEAD: &str = "  cpu law                 charges left out  greatest ms   at most ms   of it\n";
+/// The head of the table, above the lines of the bounds. It begins with an empty line.
+const HEAD: &str =
+    "\n  cpu law                 charges left out  greatest ms   at most ms   of it\n";
 
 /// The charges of all processors, measured against the bounds of the rule, event by event.
 #[derive(Drop)]
@@ -87,7 +90,9 @@ impl BoundsTable {
     }
 
     /// Adds the lines of each of these processors at which a law was measured. Adds nothing if none was.
-    pub fn write(&self, processors: u64, text: &mut String) -> Result<(), AllocError> {
+    pub fn write(&self, processors: u64, text: &mut String) -> Result<(), AllocError>
+        ensures { OnOk result ((lines : List ℕ) × (string_bytes text.new ≡ string_bytes text.old ++ under_bounds_head lines)) }
+    {
         let mut lines = String::new(self.alloc);
         for number in 0..PROCESSORS {
             if allows(processors, number) {
@@ -95,12 +100,7 @@ impl BoundsTable {
                 self.write_lags(number, &mut lines)?;
             }
         }
-        if lines.is_empty() {
-            return Ok(());
-        }
-        text.push_str("\n")?;
-        text.push_str(HEAD)?;
-        text.push_str(lines.as_str())
+        write_table(lines.as_str(), text)
     }
 
     /// Adds the line of what a processor charged.
@@ -136,6 +136,17 @@ impl BoundsTable {
             None => Ok(()),
         }
     }
+}
+
+/// Adds the table of these lines. Adds nothing if there are none.
+fn write_table(lines: &str, text: &mut String) -> Result<(), AllocError>
+    ensures { OnOk result (string_bytes text.new ≡ string_bytes text.old ++ under_bounds_head lines.now) }
+{
+    if lines.is_empty() {
+        return Ok(());
+    }
+    text.push_str(HEAD)?;
+    text.push_str(lines)
 }
 
 /// What is known of a processor's tasks right after a charge, by its mark and by the running and the first waiting task. `None` if no

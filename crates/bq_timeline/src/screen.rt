@@ -1,11 +1,13 @@
 //! What is written of a trace: the form, and the notes, which go to standard error.
-ghost use Rattle.std.specs.Prelude.{◌≡◌, ◌++◌, ℕ, IfOk, OnOk, None, Some, string_bytes};
+ghost use Rattle.std.specs.Prelude.{◌≡◌, ◌++◌, ℕ, [], IfOk, OnOk, None, Some, string_bytes};
 ghost use Rattle.std.specs.List.{list_any};
 ghost use Rattle.bq_report.specs.Names.{Learns, name_of};
 ghost use Rattle.bq_timeline.specs.Called.{tasks_for};
 ghost use Rattle.bq_timeline.specs.Beginning.{FormBegins, BeginsForm};
 ghost use Rattle.bq_timeline.specs.Notes.{ChangesOnlyNotes, absent_notes, is_number, lacks_processors, lacks_tasks, last_notes, past_note, processors_note, reaches, tasks_note, trouble_note, unmade_note, waiting_note, waiting_notes};
 ghost use Rattle.bq_schedule.specs.Figures.{task_in_figures};
+ghost use Rattle.bq_timeline.specs.FormTexts.{FormAnswers, IsEmptyForm};
+ghost use Rattle.bq_timeline.specs.ScreenTexts.{FormAppears, FormEndsIf, HasTable, IfShown, KeepsTable, ScreenAnswers, ScreenBegins, ScreenComes, ScreenEnds, StandsBehind, state_of};
 ghost use Rattle.bq_timeline.specs.Shown.{IsAskedFor};
 
 use crate::bounds_table::BoundsTable;
@@ -60,6 +62,8 @@ impl Screen {
     pub fn new(alloc: Global, settings: Settings) -> Screen
         ensures asked { result.asked ≡ Some settings }
         ensures names { (task : ℕ) → name_of result.names task ≡ None }
+        ensures none { (result.rule ≡ None) × (result.shown ≡ None) × (result.near ≡ None) }
+        ensures text { string_bytes result.text ≡ [] }
         ensures part { (result.part.processors ≡ settings.window.processors) × (result.part.from ≡ settings.window.from) }
     {
         Screen {
@@ -80,8 +84,7 @@ impl Screen {
 
     /// The machine is made, under a rule.
     pub fn opened(&mut self, rule: Rule)
-        ensures rule { self.new.rule ≡ Some rule }
-        ensures kept { (self.new.asked ≡ self.old.asked) × (self.new.names ≡ self.old.names) }
+        ensures { self.new ≡ record self.old { rule = Some rule } }
     {
         self.rule = Some(rule);
     }
@@ -89,7 +92,8 @@ impl Screen {
     /// Begins the form that is asked for, if there is a machine and the form has not begun. It shows the tasks that are asked for by number,
     /// or by a name that a comment has given so far.
     pub fn begin(&mut self, alloc: Global, schedule: &Schedule) -> Result<(), AllocError>
-        ensures { OnOk result (FormBegins self.old self.new) }
+        ensures form { OnOk result (FormBegins self.old self.new) }
+        ensures text { OnOk result (ScreenBegins (Some schedule.now) (state_of self.old) (state_of self.new) (string_bytes self.old.text) (string_bytes self.new.text)) }
     {
         let Some(rule) = self.rule else {
             return Ok(());
@@ -113,7 +117,9 @@ impl Screen {
         settings: Settings,
         schedule: &Schedule,
     ) -> Result<(), AllocError>
-        ensures { OnOk result (BeginsForm settings self.old self.new) }
+        ensures form { OnOk result (BeginsForm settings self.old self.new) }
+        ensures text { OnOk result (FormAppears schedule.now settings (state_of self.old) (state_of self.new) (string_bytes self.old.text) (string_bytes self.new.text)) }
+        ensures asked { self.new.asked ≡ self.old.asked }
     {
         let asked = settings.names.as_slice();
         note_uncalled(alloc, &mut self.notes, asked, &self.names)?;
@@ -132,27 +138,22 @@ impl Screen {
         shown: &Shown,
         schedule: &Schedule,
     ) -> Result<(), AllocError>
-        ensures names { self.new.names ≡ self.old.names }
-        ensures tasks { self.new.tasks ≡ self.old.tasks }
-        ensures part { self.new.part ≡ self.old.part }
-        ensures notes { self.new.notes ≡ self.old.notes }
+        ensures table { OnOk result (HasTable shown.now self.new.near) }
+        ensures rest { self.new ≡ record self.old { near = self.new.near } }
     {
-        match shown {
-            Shown::Report(_) => {
-                self.near = Some(BoundsTable::new(alloc, rule, schedule.processors())?);
-                Ok(())
-            }
-            _ => Ok(()),
-        }
+        self.near = match shown {
+            Shown::Report(_) => Some(BoundsTable::new(alloc, rule, schedule.processors())?),
+            _ => None,
+        };
+        Ok(())
     }
 
     /// The form that is asked for. Its window also has the tasks that are asked for by name.
     fn form_of(&mut self, alloc: Global, settings: Settings) -> Result<Shown, AllocError>
         ensures form { IfOk result (IsAskedFor settings self.old.names) }
+        ensures empty { IfOk result (IsEmptyForm settings.width) }
         ensures tasks { OnOk result (self.new.tasks.items ≡ settings.window.tasks.items ++ tasks_for self.old.names settings.names.items) }
-        ensures names { self.new.names ≡ self.old.names }
-        ensures notes { self.new.notes ≡ self.old.notes }
-        ensures part { self.new.part ≡ self.old.part }
+        ensures rest { self.new ≡ record self.old { tasks = self.new.tasks } }
     {
         let Settings {
             form,
@@ -169,18 +170,16 @@ impl Screen {
     /// A comment came, which may name a task.
     pub(crate) fn comment(&mut self, line: &[u8]) -> Result<(), AllocError>
         ensures learned { OnOk result (Learns line.now self.old.names self.new.names) }
-        ensures asked { self.new.asked ≡ self.old.asked }
+        ensures rest { self.new ≡ record self.old { names = self.new.names } }
     {
         self.names.learn(line)
     }
 
     /// The event of a line is about to be done.
-    pub fn comes(
-        &mut self,
-        number: u64,
-        event: &Event,
-        machine: &AnyCore,
-    ) -> Result<(), AllocError> {
+    pub fn comes(&mut self, number: u64, event: &Event, machine: &AnyCore) -> Result<(), AllocError>
+        ensures comes { OnOk result (ScreenComes (state_of self.old) (state_of self.new)) }
+        ensures text { self.new.text ≡ self.old.text }
+    {
         if let Some(Shown::Why(form)) = &mut self.shown {
             form.comes(number, event, machine)?;
         }
@@ -199,35 +198,58 @@ impl Screen {
         machine: &AnyCore,
         change: &Change,
         schedule: &Schedule,
-    ) -> Result<(), AllocError> {
-        let reply = match answer {
-            Ok(reply) => reply,
-            Err(refusal) => return self.refused(number, event, *refusal),
-        };
-        if let Some(reading) = &change.reading {
-            if reading.is_back {
-                self.goes_back(number, reading)?;
+    ) -> Result<(), AllocError>
+        ensures { OnOk result (ScreenAnswers event.now answer.now change.now schedule.now (state_of self.old) (state_of self.new)
+            (string_bytes self.old.text) (string_bytes self.new.text)) }
+    {
+        match answer {
+            Ok(reply) => {
+                self.note_reading(number, change.reading)?;
+                self.measure(event, reply, machine, change)?;
+                let done = Occurrence {
+                    number,
+                    event,
+                    reply,
+                    change,
+                };
+                self.show(&done, machine, schedule)
             }
+            Err(refusal) => self.refused(number, event, *refusal),
         }
-        if let Some(Shown::Why(form)) = &self.shown {
-            let done = Occurrence {
-                number,
-                event,
-                reply,
-                change,
-            };
-            return form.answered(&done, machine, &self.names, &mut self.text);
+    }
+
+    /// Measures how near the bounds of the rule an event came, if the form is the report.
+    fn measure(
+        &mut self,
+        event: &Event,
+        reply: &Reply,
+        machine: &AnyCore,
+        change: &Change,
+    ) -> Result<(), AllocError>
+        ensures table { KeepsTable self.old.near self.new.near }
+        ensures rest { self.new ≡ record self.old { near = self.new.near } }
+    {
+        match &mut self.near {
+            Some(near) => near.answered(event, reply, machine, change),
+            None => Ok(()),
         }
-        if let Some(near) = &mut self.near {
-            near.answered(event, reply, machine, change)?;
+    }
+
+    /// Shows an event that was done, if the form has begun.
+    fn show(
+        &mut self,
+        done: &Occurrence<'_>,
+        machine: &AnyCore,
+        schedule: &Schedule,
+    ) -> Result<(), AllocError>
+        ensures form { OnOk result (IfShown (FormAnswers done.now.event.now done.now.change.now schedule.now self.old.names)
+            self.old.shown self.new.shown (string_bytes self.old.text) (string_bytes self.new.text)) }
+        ensures rest { self.new ≡ record self.old { shown = self.new.shown; text = self.new.text } }
+    {
+        match &mut self.shown {
+            Some(shown) => shown.answered(done, machine, schedule, &self.names, &mut self.text),
+            None => Ok(()),
         }
-        let Some(shown) = &mut self.shown else {
-            return Ok(());
-        };
-        if let Event::Admit { task, .. } = event {
-            shown.admit(*task)?;
-        }
-        shown.take(change, schedule, &self.names, &mut self.text)
     }
 
     /// An event was refused.
@@ -236,6 +258,16 @@ impl Screen {
     {
         let refused = Refused { event, refusal };
         write!(self.notes, "line {number}: {refused}\n")
+    }
+
+    /// Notes that the clock of a processor was read and had gone back, if it had.
+    fn note_reading(&mut self, number: u64, reading: Option<ClockReading>) -> Result<(), AllocError>
+        ensures { ChangesOnlyNotes self.old self.new }
+    {
+        match reading {
+            Some(reading) if reading.is_back => self.goes_back(number, &reading),
+            _ => Ok(()),
+        }
     }
 
     /// The clock of a processor was read, and had gone back.
@@ -306,8 +338,7 @@ impl Screen {
 
     /// Notes how many wakes did nothing because their task did not wait. No trace shows these wakes.
     pub fn count_missed(&mut self, wakes: u64)
-        ensures notes { self.new.notes ≡ self.old.notes }
-        ensures named { (self.new.tasks ≡ self.old.tasks) × (self.new.part ≡ self.old.part) }
+        ensures { self.new ≡ record self.old { shown = self.new.shown } }
     {
         if let Some(shown) = &mut self.shown {
             shown.count_missed(wakes);
@@ -316,13 +347,12 @@ impl Screen {
 
     /// The trace is over. `troubles` is how many lines were bad or refused.
     pub fn end(&mut self, schedule: &Schedule, troubles: u64) -> Result<(), AllocError>
-        ensures { OnOk result (string_bytes self.new.notes ≡ (string_bytes self.old.notes ++ absent_notes (Some schedule.now) self.old.tasks.items self.old.part)
+        ensures notes { OnOk result (string_bytes self.new.notes ≡ (string_bytes self.old.notes ++ absent_notes (Some schedule.now) self.old.tasks.items self.old.part)
             ++ last_notes (Some schedule.now) troubles) }
+        ensures text { OnOk result (ScreenEnds schedule.now (state_of self.old) (string_bytes self.old.text) (string_bytes self.new.text)) }
     {
         self.end_form(schedule)?;
-        if let Some(near) = &self.near {
-            near.write(self.part.processors, &mut self.text)?;
-        }
+        self.write_bounds()?;
         note_absent(&mut self.notes, schedule, self.tasks.as_slice(), self.part)?;
         note_waiting(&mut self.notes, schedule)?;
         note_troubles(&mut self.notes, troubles)
@@ -330,9 +360,8 @@ impl Screen {
 
     /// Ends the form, if it has begun.
     fn end_form(&mut self, schedule: &Schedule) -> Result<(), AllocError>
-        ensures tasks { self.new.tasks ≡ self.old.tasks }
-        ensures part { self.new.part ≡ self.old.part }
-        ensures notes { self.new.notes ≡ self.old.notes }
+        ensures form { OnOk result (FormEndsIf schedule.now self.old.names self.old.shown (string_bytes self.old.text) (string_bytes self.new.text)) }
+        ensures rest { self.new ≡ record self.old { shown = self.new.shown; text = self.new.text } }
     {
         match &mut self.shown {
             Some(shown) => shown.end(schedule, &self.names, &mut self.text),
@@ -340,9 +369,21 @@ impl Screen {
         }
     }
 
+    /// Adds the table of bounds, if there is one.
+    fn write_bounds(&mut self) -> Result<(), AllocError>
+        ensures table { OnOk result (StandsBehind self.old.near (string_bytes self.old.text) (string_bytes self.new.text)) }
+        ensures rest { self.new ≡ record self.old { text = self.new.text } }
+    {
+        match &self.near {
+            Some(near) => near.write(self.part.processors, &mut self.text),
+            None => Ok(()),
+        }
+    }
+
     /// The trace is over and made no machine. `troubles` is how many lines were bad or refused.
     pub fn end_unmade(&mut self, troubles: u64) -> Result<(), AllocError>
-        ensures { OnOk result (string_bytes self.new.notes ≡ string_bytes self.old.notes ++ last_notes None troubles) }
+        ensures notes { OnOk result (string_bytes self.new.notes ≡ string_bytes self.old.notes ++ last_notes None troubles) }
+        ensures rest { ChangesOnlyNotes self.old self.new }
     {
         note_unmade(&mut self.notes, troubles)?;
         note_troubles(&mut self.notes, troubles)

@@ -1,11 +1,13 @@
 //! A timeline of a whole trace, from any reader to any writer.
-ghost use Rattle.std.specs.Prelude.{◌≡◌, ℕ, List, [], IfOk, IfErr, OnOk};
+ghost use Rattle.std.specs.Prelude.{◌≡◌, ℕ, List, [], IfOk, IfErr, OnOk, string_bytes};
 ghost use Rattle.bq_lines.specs.Kept.{KeepsLine};
 ghost use Rattle.bq_streams.specs.Counts.{counted_inner, call_count, failures_of};
 ghost use Rattle.bq_streams.specs.Faults.{IsStreamFault, IsWriteFault};
 ghost use Rattle.bq_trace.specs.Reporting.{ReportsPiece};
 ghost use Rattle.bq_trace.specs.Trace.{opening_progress};
-ghost use Rattle.bq_timeline.specs.Timelines.{Watches, Closes, IsTimeline};
+ghost use Rattle.bq_timeline.specs.ScreenTexts.{state_of};
+ghost use Rattle.bq_timeline.specs.Timelines.{Closes, IsTimeline, WatchesAndWrites};
+ghost use Rattle.bq_timeline.specs.TraceTexts.{IsBlank};
 
 use crate::settings::Settings;
 use crate::viewer::Viewer;
@@ -32,8 +34,9 @@ pub fn show<R: Read, W: Write, E: Write>(
     output: &mut Counted<W>,
     errors: &mut E,
 ) -> Result<Outcome, StreamFault>
-    // The timeline shows all lines that the reader gave.
-    ensures timeline { IfOk result (IsTimeline (R.remaining (counted_inner input.old)) (R.remaining (counted_inner input.new))) }
+    // The output gets the form of all lines that the reader gave, and nothing else.
+    ensures timeline { IfOk result (IsTimeline settings (R.remaining (counted_inner input.old)) (R.remaining (counted_inner input.new))
+        (W.contents (counted_inner output.old)) (W.contents (counted_inner output.new))) }
 
     // No read and no write failed: the first failure ends the timeline.
     ensures reads { OnOk result (failures_of input.new ≡ failures_of input.old) }
@@ -79,6 +82,8 @@ impl Showing {
         ensures begun { result.position.begun ≡ Some [] }
         ensures schedule { result.viewer.schedule ≡ None }
         ensures troubles { result.viewer.troubles ≡ 0 }
+        ensures blank { IsBlank settings (state_of result.viewer.screen) }
+        ensures text { string_bytes result.viewer.screen.text ≡ [] }
     {
         Showing {
             alloc,
@@ -95,7 +100,9 @@ impl Showing {
         errors: &mut E,
     ) -> Result<(), StreamFault>
         ensures reported { OnOk result ((begun : List ℕ) → KeepsLine self.old.position.begun begun
-            → Watches self.old.viewer self.new.viewer (λ reported. ReportsPiece self.old.position begun piece.now reported self.new.position)) }
+            → WatchesAndWrites self.old.viewer self.new.viewer (W.contents (counted_inner output.old)) (W.contents (counted_inner output.new))
+            (λ reported. ReportsPiece self.old.position begun piece.now reported self.new.position)) }
+        ensures empty { OnOk result (string_bytes self.new.viewer.screen.text ≡ []) }
         ensures kept { OnOk result (failures_of output.new ≡ failures_of output.old) }
         ensures fault { IfErr result (λ e. IsWriteFault e (failures_of output.old) (failures_of output.new)) }
     {
@@ -110,7 +117,7 @@ impl Showing {
     /// The trace is over: writes what is left, and answers the last notes.
     fn finish<W: Write>(&mut self, output: &mut Counted<W>) -> Result<Outcome, StreamFault>
         ensures reported { IfOk result (λ outcome. (begun : List ℕ) → KeepsLine self.old.position.begun begun
-            → Closes self.old begun outcome) }
+            → Closes self.old begun (W.contents (counted_inner output.old)) (W.contents (counted_inner output.new)) outcome) }
         ensures kept { OnOk result (failures_of output.new ≡ failures_of output.old) }
         ensures fault { IfErr result (λ e. IsWriteFault e (failures_of output.old) (failures_of output.new)) }
     {

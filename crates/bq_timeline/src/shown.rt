@@ -1,11 +1,15 @@
 //! All forms as one type.
+ghost use Rattle.std.specs.Prelude.{OnOk, string_bytes};
+ghost use Rattle.bq_timeline.specs.FormTexts.{FormAdmits, FormAnswers, FormEnds, FormOpens, FormTakes, IsEmptyForm};
 ghost use Rattle.bq_timeline.specs.Shown.{ShowsForm, StaysShown};
 
 use crate::form_names::FormName;
 use bq_drawing::{Look, Perfetto, Svg};
+use bq_parts::Event;
 use bq_report::{Csv, Json, Map, Names, Report, ScheduleForm, Timehist, Window};
-use bq_schedule::{Change, Schedule};
-use bq_why::Why;
+use bq_schedule::Schedule;
+use bq_trace::AnyCore;
+use bq_why::{Occurrence, Why};
 use bq_words::Rule;
 use std::alloc::{AllocError, Global};
 
@@ -26,7 +30,8 @@ pub enum Shown {
 impl Shown {
     /// The form of this name, for what the window shows.
     pub fn of(alloc: Global, form: FormName, window: Window, width: usize, look: Look) -> Shown
-        ensures { ShowsForm form window result }
+        ensures shows { ShowsForm form window result }
+        ensures empty { IsEmptyForm width result }
     {
         match form {
             FormName::Report => Shown::Report(Report::new(alloc, window)),
@@ -48,7 +53,8 @@ impl Shown {
         names: &Names,
         text: &mut String,
     ) -> Result<(), AllocError>
-        ensures { StaysShown self.old self.new }
+        ensures stays { StaysShown self.old self.new }
+        ensures opens { OnOk result (FormOpens schedule.now self.old self.new (string_bytes text.old) (string_bytes text.new)) }
     {
         match self {
             Shown::Report(form) => form.begin(schedule, names, text),
@@ -66,7 +72,9 @@ impl Shown {
     }
 
     /// A task is admitted.
-    pub fn admit(&mut self, task: u16) -> Result<(), AllocError> {
+    fn admit(&mut self, task: u16) -> Result<(), AllocError>
+        ensures { OnOk result (FormAdmits task self.old self.new) }
+    {
         match self {
             Shown::Map(form) => form.admit(task),
             Shown::Svg(form) => form.admit(task),
@@ -83,24 +91,45 @@ impl Shown {
         }
     }
 
-    /// Takes what one answer changed.
-    pub fn take(
+    /// Takes what an event changed. `why` is written from the machine.
+    fn take(
         &mut self,
-        change: &Change,
+        done: &Occurrence<'_>,
+        machine: &AnyCore,
         schedule: &Schedule,
         names: &Names,
         text: &mut String,
-    ) -> Result<(), AllocError> {
+    ) -> Result<(), AllocError>
+        ensures { OnOk result (FormTakes done.now.change.now schedule.now names.now self.old self.new (string_bytes text.old) (string_bytes text.new)) }
+    {
         match self {
-            Shown::Report(form) => form.take(change, schedule, names, text),
-            Shown::Map(form) => form.take(change, schedule, names, text),
-            Shown::Timehist(form) => form.take(change, schedule, names, text),
-            Shown::Csv(form) => form.take(change, schedule, names, text),
-            Shown::Json(form) => form.take(change, schedule, names, text),
-            Shown::Svg(form) => form.take(change, schedule, names, text),
-            Shown::Perfetto(form) => form.take(change, schedule, names, text),
-            Shown::Why(_) => Ok(()),
+            Shown::Report(form) => form.take(done.change, schedule, names, text),
+            Shown::Map(form) => form.take(done.change, schedule, names, text),
+            Shown::Timehist(form) => form.take(done.change, schedule, names, text),
+            Shown::Csv(form) => form.take(done.change, schedule, names, text),
+            Shown::Json(form) => form.take(done.change, schedule, names, text),
+            Shown::Svg(form) => form.take(done.change, schedule, names, text),
+            Shown::Perfetto(form) => form.take(done.change, schedule, names, text),
+            Shown::Why(form) => form.answered(done, machine, names, text),
         }
+    }
+
+    /// Takes an event that was done: the task that it admits, if it admits one, and then what it changed.
+    pub fn answered(
+        &mut self,
+        done: &Occurrence<'_>,
+        machine: &AnyCore,
+        schedule: &Schedule,
+        names: &Names,
+        text: &mut String,
+    ) -> Result<(), AllocError>
+        ensures { OnOk result (FormAnswers done.now.event.now done.now.change.now schedule.now names.now self.old self.new
+            (string_bytes text.old) (string_bytes text.new)) }
+    {
+        if let Event::Admit { task, .. } = done.event {
+            self.admit(*task)?;
+        }
+        self.take(done, machine, schedule, names, text)
     }
 
     /// Ends the form, with the schedule of the whole trace.
@@ -109,7 +138,9 @@ impl Shown {
         schedule: &Schedule,
         names: &Names,
         text: &mut String,
-    ) -> Result<(), AllocError> {
+    ) -> Result<(), AllocError>
+        ensures { OnOk result (FormEnds schedule.now names.now self.old (string_bytes text.old) (string_bytes text.new)) }
+    {
         match self {
             Shown::Report(form) => form.end(schedule, names, text),
             Shown::Map(form) => form.end(schedule, names, text),

@@ -3,11 +3,13 @@ ghost use Rattle.bq_streams.specs.Counts.{one_more};
 ghost use Rattle.bq_timeline.specs.Notes.{absent_notes, last_notes};
 ghost use Rattle.bq_report.specs.Names.{name_of};
 ghost use Rattle.bq_timeline.specs.Beginning.{FormBeginsWith, TraceEnds};
+ghost use Rattle.bq_timeline.specs.ScreenTexts.{ScreenBegins, state_of};
 ghost use Rattle.bq_timeline.specs.Timelines.{TakesEvent};
+ghost use Rattle.bq_timeline.specs.TraceTexts.{IsBlank, TextCloses, TextEnds};
 ghost use Rattle.bq_timeline.specs.Comments.{ReadsComment, IsSkipped, ViewerRests};
 ghost use Rattle.bq_trace.specs.Borrowed.{event_of};
 ghost use Rattle.bq_trace.specs.TraceEvents.{Answered};
-ghost use Rattle.std.specs.Prelude.{◌≡◌, ◌++◌, ℕ, OnOk, string_bytes};
+ghost use Rattle.std.specs.Prelude.{◌≡◌, ◌++◌, ℕ, [], OnOk, string_bytes};
 
 use crate::screen::Screen;
 use crate::settings::Settings;
@@ -32,6 +34,8 @@ impl Viewer {
         ensures troubles { result.troubles ≡ 0 }
         ensures asked { result.screen.asked ≡ Some settings }
         ensures names { (task : ℕ) → name_of result.screen.names task ≡ None }
+        ensures blank { IsBlank settings (state_of result.screen) }
+        ensures text { string_bytes result.screen.text ≡ [] }
     {
         Viewer {
             alloc,
@@ -56,6 +60,8 @@ impl Viewer {
         ensures schedule { self.new.schedule ≡ self.old.schedule }
         ensures troubles { self.new.troubles ≡ self.old.troubles }
         ensures form { OnOk result (FormBeginsWith self.old.schedule self.old.screen self.new.screen) }
+        ensures text { OnOk result (ScreenBegins self.old.schedule (state_of self.old.screen) (state_of self.new.screen)
+            (string_bytes self.old.screen.text) (string_bytes self.new.screen.text)) }
     {
         match &self.schedule {
             Some(schedule) => self.screen.begin(self.alloc, schedule),
@@ -67,6 +73,8 @@ impl Viewer {
     fn begin_trouble(&mut self) -> Result<(), AllocError>
         ensures schedule { self.new.schedule ≡ self.old.schedule }
         ensures troubles { OnOk result (self.new.troubles ≡ one_more self.old.troubles) }
+        ensures text { OnOk result (ScreenBegins self.old.schedule (state_of self.old.screen) (state_of self.new.screen)
+            (string_bytes self.old.screen.text) (string_bytes self.new.screen.text)) }
     {
         self.begin()?;
         self.troubles = self.troubles.saturating_add(1);
@@ -102,6 +110,8 @@ impl Viewer {
         ensures schedule { self.new.schedule ≡ self.old.schedule }
         ensures troubles { self.new.troubles ≡ self.old.troubles }
         ensures notes { OnOk result (TraceEnds self.old self.new) }
+        ensures text { OnOk result (TextCloses self.old.schedule (state_of self.old.screen)
+            (string_bytes self.old.screen.text) (string_bytes self.new.screen.text)) }
     {
         self.begin()?;
         self.close()?;
@@ -115,6 +125,8 @@ impl Viewer {
         ensures notes { OnOk result (string_bytes self.new.screen.notes
             ≡ (string_bytes self.old.screen.notes ++ absent_notes self.old.schedule self.old.screen.tasks.items self.old.screen.part)
             ++ last_notes self.old.schedule self.old.troubles) }
+        ensures text { OnOk result (TextEnds self.old.schedule (state_of self.old.screen)
+            (string_bytes self.old.screen.text) (string_bytes self.new.screen.text)) }
     {
         match &self.schedule {
             Some(schedule) => self.screen.end(schedule, self.troubles),

@@ -13,7 +13,7 @@ returns-then-count-eq0-clause-timeline g c =
     let nothing : take c.in_ok-count.count c.read.new.buf ≡ [] = rw c.if-count-eq0.true refl in
     let consumed : Consumes from to [] = subst (Consumes from to) nothing c.in_ok-count.ensures.bytes.0 in
     let at_end : IsAtEnd to = c.in_ok-count.ensures.bytes.1 c.if-count-eq0.true (search rules) in
-    IfOk-weaker c.finish.result _ _ (λ outcome f. Underway-ends _ _ _ _ outcome so_far consumed at_end (f so_far.rest so_far.stands))
+    IfOk-weaker c.finish.result _ _ (λ outcome f. Underway-ends _ _ _ _ _ _ _ _ outcome so_far consumed at_end (f so_far.rest so_far.stands))
     c.finish.ensures.reported
 
 pub loop-preserved : goal.loop-preserved
@@ -23,7 +23,9 @@ loop-preserved g c =
       reads = search rules;
       writes = search rules;
       calls = omega arith;
-      so_far = Underway-more _ _ _ _ _ _ so_far c.in_ok-count.ensures.bytes.0 (c.in_ok-feed.ensures.reported so_far.rest so_far.stands);
+      so_far =
+          Underway-more _ _ _ _ _ _ _ _ _ _ so_far c.in_ok-count.ensures.bytes.0 (c.in_ok-feed.ensures.reported so_far.rest so_far.stands)
+          c.in_ok-feed.ensures.empty;
     }
 
 pub loop-init : goal.loop-init
@@ -32,6 +34,6 @@ loop-init g c = record {
   writes = refl;
   calls = omega arith;
   so_far =
-      Underway-none _ _ c.new-showing.ensures.progress c.new-showing.ensures.begun c.new-showing.ensures.schedule
-      c.new-showing.ensures.troubles;
+      Underway-none _ _ _ _ c.new-showing.ensures.progress c.new-showing.ensures.begun c.new-showing.ensures.schedule
+      c.new-showing.ensures.troubles c.new-showing.ensures.blank c.new-showing.ensures.text;
 }

@@ -9,5 +9,6 @@ invariant-loop g l = record {
   reads : failures_of l.input ≡ failures_of l.initial.input;
   writes : failures_of l.output ≡ failures_of l.initial.output;
   calls : HasCounted l.counter (call_count l.initial.input) (call_count l.input);
-  so_far : Underway (g.R.Read.remaining (counted_inner l.initial.input)) (g.R.Read.remaining (counted_inner l.input)) l.showing;
+  so_far : Underway l.fn.settings (g.R.Read.remaining (counted_inner l.initial.input)) (g.R.Read.remaining (counted_inner l.input))
+      (g.W.Write.contents (counted_inner l.initial.output)) (g.W.Write.contents (counted_inner l.output)) l.showing;
 }

@@ -1,19 +1,44 @@
--- The form begins as it was made, of the tasks and with the notes that the names bring.
-use Rattle.std.proofs.Common.{◌++◌, List, String, Global, ap, string_bytes, ◌∙◌}
+-- The form begins as it was made, of the tasks and with the notes that the names bring. What it adds stands behind the text.
+use Rattle.std.proofs.Common.{◌++◌, ℕ, List, String, Global, ap, refl, string_bytes, subst, ◌∙◌}
 use Rattle.bq_timeline.specs.Called.{uncalled_notes}
+use Rattle.bq_timeline.specs.FormTexts.{FormOpens}
+use Rattle.bq_timeline.specs.declared.screen.Screen.{Screen}
 use Rattle.bq_timeline.proofs.ShownLemmas.{stays_asked}
 use Rattle.bq_timeline.proofs.screen.Screen.begin_form.Goals as goal
 
-pub returns : goal.returns
-returns c =
+pub returns-clause-form : goal.returns-clause-form
+returns-clause-form c =
     let old = c.args.self.now in
+    let rest = c.begin_near.ensures.rest in
+    let made = c.form_of.ensures.rest in
     record {
-      shown = stays_asked c.args.settings old.names _ _ c.in_ok-shown.ensures.form c.begin.ensures;
-      tasks = cc (c.begin_near.ensures.tasks, c.in_ok-shown.ensures.tasks);
-      part = c.begin_near.ensures.part ∙ c.form_of.ensures.part;
+      shown = stays_asked c.args.settings old.names _ _ c.in_ok-shown.ensures.form c.begin.ensures.stays;
+      tasks = ap (λ (s : Screen). s.tasks.items) rest ∙ c.in_ok-shown.ensures.tasks;
+      part = ap (λ (s : Screen). s.part) rest ∙ ap (λ (s : Screen). s.part) made;
       notes =
-          ap (λ (notes : String Global). string_bytes notes) (c.begin_near.ensures.notes ∙ c.form_of.ensures.notes)
+          ap (λ (s : Screen). string_bytes s.notes) rest ∙ ap (λ (s : Screen). string_bytes s.notes) made
           ∙ c.in_ok-note_uncalled.ensures
           ∙ ap (λ (names : List (String Global)). string_bytes old.notes ++ uncalled_notes old.names names)
           c.as_slice-asked.ensures.value;
+    }
+
+pub returns-clause-text : goal.returns-clause-text
+returns-clause-text c =
+    let rest = c.begin_near.ensures.rest in
+    let made = c.form_of.ensures.rest in
+    let text = ap (λ (s : Screen). string_bytes s.text) rest ∙ ap (λ (s : Screen). string_bytes s.text) made in
+    record {
+      fresh = c.in_ok-shown.shown;
+      is_asked = c.in_ok-shown.ensures.form;
+      is_empty = c.in_ok-shown.ensures.empty;
+      form = c.begin.new.self;
+      opens =
+          subst (λ (before : List ℕ). FormOpens c.args.schedule.now c.in_ok-shown.shown c.begin.new.self before (string_bytes c.begin.new.text))
+          text c.in_ok-begin.ensures.opens;
+      shown = refl;
+      table = c.in_ok-begin_near.ensures.table;
+      rest = (
+        ap (λ (s : Screen). s.names) rest ∙ ap (λ (s : Screen). s.names) made,
+        ap (λ (s : Screen). s.rule) rest ∙ ap (λ (s : Screen). s.rule) made,
+      );
     }

@@ -15,5 +15,5 @@ returns-clause-form c =
             c.in_ok-add_called.ensures
             ∙ ap (λ (names : List (String Global)). asked.tasks.items ++ tasks_for c.args.self.now.names names) c.as_slice.ensures.value;
       },
-      c.of.ensures,
+      c.of.ensures.shows,
     )

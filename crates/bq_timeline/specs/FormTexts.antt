@@ -1,0 +1,110 @@
+-- What each form adds to its text when it begins, at each change, and when it ends. Nothing is said of `why`, which is written from the
+-- machine and not from changes.
+use Rattle.std.specs.Prelude.{◌≡◌, ℕ, List, [], ◌++◌, length, replicate, Option}
+use Rattle.bq_disc.specs.declared.limits.TheConstants.{TASKS}
+use Rattle.bq_parts.specs.declared.event.Event.{Event}
+use Rattle.bq_parts.specs.declared.event.Event.TheVariants.{Admit}
+use Rattle.bq_schedule.specs.declared.change.Change.{Change}
+use Rattle.bq_schedule.specs.declared.change.Start.{Start}
+use Rattle.bq_schedule.specs.declared.change.Stop.{Stop}
+use Rattle.bq_schedule.specs.declared.change.Wake.{Wake}
+use Rattle.bq_schedule.specs.declared.slice.Slice.{Slice}
+use Rattle.bq_schedule.specs.Figures.{Figures}
+use Rattle.bq_schedule.specs.WakeLatencies.{TakesStart, latencies_of}
+use Rattle.bq_report.specs.declared.map.Map.{Map}
+use Rattle.bq_report.specs.MapRows.{RunsRow}
+use Rattle.bq_report.specs.Maps.{HoldsLast, IsMap, RowsHold, empty_map_row}
+use Rattle.bq_report.specs.Names.{NamedTasks}
+use Rattle.bq_report.specs.Reports.{GrowsByPart, IsJsonReport, IsReport}
+use Rattle.bq_report.specs.Rosters.{enlisted}
+use Rattle.bq_report.specs.Rows.{head_row, optional_slice_row}
+use Rattle.bq_report.specs.Timehist.{AreLastLines, IsShownMigration, IsShownStop, IsShownWake, change_text, head_lines}
+use Rattle.bq_report.specs.Windows.{IsShownPart}
+use Rattle.bq_drawing.specs.Histories.{empty_past}
+use Rattle.bq_drawing.specs.Holdings.{HoldsChange, nothing_of}
+use Rattle.bq_drawing.specs.Perfetto.{IsPerfettoHead, IsPerfettoOf, IsPerfettoTail}
+use Rattle.bq_drawing.specs.Pictures.{IsPictureOf}
+use Rattle.bq_timeline.specs.declared.shown.Shown.{Shown}
+use Rattle.bq_timeline.specs.declared.shown.Shown.TheVariants as form
+
+-- the map has the same window, width and letters as before
+abbrev pub KeepsLook : Map → Map → Type 0
+KeepsLook old new = (new.window ≡ old.window) × (new.width ≡ old.width) × (new.roster ≡ old.roster)
+
+-- A form to which nothing has happened; a map of this width.
+abbrev pub IsEmptyForm : ℕ → Shown → Type 0
+IsEmptyForm width (form.Report r) = ((task : ℕ) → latencies_of r.latencies task ≡ []) × (r.missed ≡ 0)
+IsEmptyForm width (form.Map m) = (m.width ≡ width) × (m.roster ≡ []) × (m.rows.items ≡ [])
+IsEmptyForm width (form.Json j) = ((task : ℕ) → latencies_of j.latencies task ≡ []) × (j.missed ≡ 0)
+IsEmptyForm width (form.Svg p) = (p.roster ≡ []) × (p.drawing ≡ nothing_of 0)
+IsEmptyForm width other = Unit {0}
+
+-- A form begins, with a schedule to which nothing has happened: it and its text, before and after.
+abbrev pub FormOpens : Figures → Shown → Shown → List ℕ → List ℕ → Type 0
+FormOpens s (form.Report old) (form.Report new) before after = (new ≡ old) × (after ≡ before)
+FormOpens s (form.Map old) (form.Map new) before after =
+    (new.rows.items ≡ old.rows.items ++ replicate (length s.processors) empty_map_row) × KeepsLook old new × (after ≡ before)
+FormOpens s (form.Timehist old) (form.Timehist new) before after = (new ≡ old) × (after ≡ before ++ head_lines)
+FormOpens s (form.Csv old) (form.Csv new) before after = (new ≡ old) × (after ≡ before ++ head_row)
+FormOpens s (form.Json old) (form.Json new) before after = (new ≡ old) × (after ≡ before)
+FormOpens s (form.Svg old) (form.Svg new) before after =
+    (new ≡ record old { rule = new.rule; drawing = nothing_of (length s.processors) }) × (after ≡ before)
+FormOpens s (form.Perfetto old) (form.Perfetto new) before after =
+    (new ≡ record old { history = empty_past (length s.processors) TASKS }) × GrowsByPart (IsPerfettoHead (length s.processors)) before after
+FormOpens s (form.Why old) (form.Why new) before after = Unit {0}
+FormOpens s old new before after = ⊥
+
+-- A task is admitted. The map and the picture give it the next letter or colour. No other form heeds it.
+abbrev pub FormAdmits : ℕ → Shown → Shown → Type 0
+FormAdmits task (form.Map old) new = new ≡ form.Map (record old { roster = enlisted task old.roster })
+FormAdmits task (form.Svg old) new = new ≡ form.Svg (record old { roster = enlisted task old.roster })
+FormAdmits task old new = new ≡ old
+
+-- The form is given the task of an event that admits one.
+abbrev pub FormHeeds : Event → Shown → Shown → Type 0
+FormHeeds (Admit task nice mask slice) old new = FormAdmits task old new
+FormHeeds event old new = new ≡ old
+
+-- A form takes a change, and the schedule after it: it and its text, before and after.
+abbrev pub FormTakes : Change → Figures → NamedTasks → Shown → Shown → List ℕ → List ℕ → Type 0
+FormTakes change s names (form.Report old) (form.Report new) before after =
+    TakesStart change.start old.latencies new.latencies × (new.window ≡ old.window) × (new.missed ≡ old.missed) × (after ≡ before)
+FormTakes change s names (form.Map old) (form.Map new) before after =
+    RowsHold old.window change.run old.rows.items new.rows.items × KeepsLook old new × (after ≡ before)
+FormTakes change s names (form.Timehist old) (form.Timehist new) before after =
+    (new ≡ old)
+    × ((wake : Option Wake) × (stop : Option Stop) × (migration : Option Start)
+    × IsShownWake old change.wake wake × IsShownStop old change.stop stop × IsShownMigration old change.start migration
+    × (after ≡ before ++ change_text names s wake stop migration))
+FormTakes change s names (form.Csv old) (form.Csv new) before after =
+    (new ≡ old)
+    × ((part : Option Slice) × IsShownPart old change.slice part × (after ≡ before ++ optional_slice_row part))
+FormTakes change s names (form.Json old) (form.Json new) before after =
+    TakesStart change.start old.latencies new.latencies × (new.window ≡ old.window) × (new.missed ≡ old.missed) × (after ≡ before)
+FormTakes change s names (form.Svg old) (form.Svg new) before after =
+    HoldsChange old.window change old.stops.entries new.stops.entries old.drawing new.drawing
+    × (new ≡ record old { drawing = new.drawing; stops = new.stops }) × (after ≡ before)
+FormTakes change s names (form.Perfetto old) (form.Perfetto new) before after =
+    (new.window ≡ old.window) × GrowsByPart (IsPerfettoOf old.window names s change old.history new.history) before after
+FormTakes change s names (form.Why old) (form.Why new) before after = Unit {0}
+FormTakes change s names old new before after = ⊥
+
+-- An event was done. The form is given its task, if it admits one, and then what it changed.
+pub record FormAnswers (event : Event) (change : Change) (s : Figures) (names : NamedTasks) (old new : Shown) (before after : List ℕ) : Type 0 where
+  pub given : Shown
+  pub heeds : FormHeeds event old given
+  pub takes : FormTakes change s names given new before after
+
+-- A form ends, with the schedule of the whole trace: its text before and after.
+abbrev pub FormEnds : Figures → NamedTasks → Shown → List ℕ → List ℕ → Type 0
+FormEnds s names (form.Report old) before after = GrowsByPart (IsReport old.window names s old.latencies old.missed) before after
+FormEnds s names (form.Map old) before after =
+    (rows : List RunsRow) × HoldsLast old.window s 64 old.rows.items rows
+    × GrowsByPart (IsMap old.window names s old.roster old.width rows) before after
+FormEnds s names (form.Timehist old) before after = GrowsByPart (AreLastLines old names s 64) before after
+FormEnds s names (form.Csv old) before after = after ≡ before
+FormEnds s names (form.Json old) before after = GrowsByPart (IsJsonReport old.window names s old.latencies old.missed) before after
+FormEnds s names (form.Svg old) before after =
+    GrowsByPart (IsPictureOf old.window old.look old.rule s names old.roster old.drawing) before after
+FormEnds s names (form.Perfetto old) before after = GrowsByPart (IsPerfettoTail old.window names s old.history) before after
+FormEnds s names (form.Why old) before after = Unit {0}

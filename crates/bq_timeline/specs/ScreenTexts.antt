@@ -1,0 +1,121 @@
+-- What a screen holds besides its text and its notes, and what each call adds to the text. Nothing is said of the text of `why`.
+use Rattle.std.specs.Prelude.{◌≡◌, ◌⊎◌, ℕ, List, [], ◌∷◌, ◌++◌, Option, Some, None, IsSome, Result, Ok, Err, codes}
+use Rattle.bq_parts.specs.declared.event.Event.{Event}
+use Rattle.bq_parts.specs.declared.refusal.Refusal.{Refusal}
+use Rattle.bq_parts.specs.declared.reply.Reply.{Reply}
+use Rattle.bq_schedule.specs.declared.change.Change.{Change}
+use Rattle.bq_schedule.specs.Figures.{Figures}
+use Rattle.bq_report.specs.Names.{NamedTasks}
+use Rattle.bq_words.specs.declared.rule.Rule.{Rule}
+use Rattle.bq_timeline.specs.FormTexts.{FormAnswers, FormEnds, FormOpens, IsEmptyForm}
+use Rattle.bq_timeline.specs.Shown.{IsAskedFor}
+use Rattle.bq_timeline.specs.declared.bounds_table.BoundsTable.{BoundsTable}
+use Rattle.bq_timeline.specs.declared.screen.Screen.{Screen}
+use Rattle.bq_timeline.specs.declared.settings.Settings.{Settings}
+use Rattle.bq_timeline.specs.declared.shown.Shown.{Shown}
+use Rattle.bq_timeline.specs.declared.shown.Shown.TheVariants as form
+
+-- what a screen holds besides its text and its notes
+pub record ScreenState : Type 0 where
+  pub names : NamedTasks
+  pub asked : Option Settings
+  pub rule : Option Rule
+  pub shown : Option Shown
+  pub near : Option BoundsTable
+
+-- what this screen holds besides its text and its notes
+abbrev pub state_of : Screen → ScreenState
+state_of screen = record { names = screen.names; asked = screen.asked; rule = screen.rule; shown = screen.shown; near = screen.near }
+
+-- ---- the form begins
+
+-- only the report has a table of bounds
+abbrev pub HasTable : Shown → Option BoundsTable → Type 0
+HasTable (form.Report report) near = IsSome near
+HasTable other near = near ≡ None
+
+-- The form that the settings ask for appears, and what it adds when it begins stands behind the text.
+pub record FormAppears (s : Figures) (asked : Settings) (old new : ScreenState) (before after : List ℕ) : Type 0 where
+  pub fresh : Shown
+  pub is_asked : IsAskedFor asked old.names fresh
+  pub is_empty : IsEmptyForm asked.width fresh
+  pub form : Shown
+  pub opens : FormOpens s fresh form before after
+  pub shown : new.shown ≡ Some form
+  pub table : HasTable fresh new.near
+  pub rest : (new.names ≡ old.names) × (new.rule ≡ old.rule)
+
+-- the form begins if there is a schedule and a rule, and its settings are still there
+abbrev pub BeginsText : Option Figures → Option Rule → Option Settings → ScreenState → ScreenState → List ℕ → List ℕ → Type 0
+BeginsText (Some s) (Some rule) (Some asked) old new before after = FormAppears s asked old new before after × (new.asked ≡ None)
+BeginsText s rule asked old new before after = (new ≡ old) × (after ≡ before)
+
+-- the form begins if it can; otherwise nothing changes
+abbrev pub ScreenBegins : Option Figures → ScreenState → ScreenState → List ℕ → List ℕ → Type 0
+ScreenBegins s old new before after = BeginsText s old.rule old.asked old new before after
+
+-- ---- an event
+
+-- both forms are `why`
+abbrev pub AreWhy : Option Shown → Option Shown → Type 0
+AreWhy (Some (form.Why old)) (Some (form.Why new)) = Unit {0}
+AreWhy old new = ⊥
+
+-- the form stays as it is; of `why` nothing is said
+abbrev pub FormRests : Option Shown → Option Shown → Type 0
+FormRests old new = (new ≡ old) ⊎ AreWhy old new
+
+-- a table of bounds is there if one was there before
+abbrev pub KeepsTable : Option BoundsTable → Option BoundsTable → Type 0
+KeepsTable None near = near ≡ None
+KeepsTable (Some table) near = IsSome near
+
+-- An event is about to be done. No form but `why` heeds that, and the text stays as it is.
+pub record ScreenComes (old new : ScreenState) : Type 0 where
+  pub form : FormRests old.shown new.shown
+  pub table : KeepsTable old.near new.near
+  pub rest : new ≡ record old { shown = new.shown; near = new.near }
+
+-- what a form does if there is one; without a form nothing changes
+abbrev pub IfShown : (Shown → Shown → List ℕ → List ℕ → Type 0) → Option Shown → Option Shown → List ℕ → List ℕ → Type 0
+IfShown Does None new before after = (new ≡ None) × (after ≡ before)
+IfShown Does (Some old) (Some new) before after = Does old new before after
+IfShown Does (Some old) None before after = ⊥
+
+-- An event was done. What the form adds for it stands behind the text.
+pub record ScreenShows (event : Event) (change : Change) (s : Figures) (old new : ScreenState) (before after : List ℕ) : Type 0 where
+  pub form : IfShown (FormAnswers event change s old.names) old.shown new.shown before after
+  pub table : KeepsTable old.near new.near
+  pub rest : new ≡ record old { shown = new.shown; near = new.near }
+
+-- An event was done or refused. The text stays as it is if the event was refused.
+abbrev pub ScreenAnswers : Event → Result Reply Refusal → Change → Figures → ScreenState → ScreenState → List ℕ → List ℕ → Type 0
+ScreenAnswers event (Ok reply) change s old new before after = ScreenShows event change s old new before after
+ScreenAnswers event (Err refusal) change s old new before after = (new ≡ old) × (after ≡ before)
+
+-- ---- the end
+
+-- the form ends, if there is one
+abbrev pub FormEndsIf : Figures → NamedTasks → Option Shown → List ℕ → List ℕ → Type 0
+FormEndsIf s names None before after = after ≡ before
+FormEndsIf s names (Some shown) before after = FormEnds s names shown before after
+
+-- the head of the table of bounds, after an empty line
+abbrev pub bounds_head : List ℕ
+bounds_head = codes "\n  cpu law                 charges left out  greatest ms   at most ms   of it\n"
+
+-- lines under the head of the table of bounds; no head if there are no lines
+abbrev pub under_bounds_head : List ℕ → List ℕ
+under_bounds_head [] = []
+under_bounds_head (byte ∷ lines) = bounds_head ++ (byte ∷ lines)
+
+-- if there is a table of bounds, it stands behind the text; nothing is said of its lines
+abbrev pub StandsBehind : Option BoundsTable → List ℕ → List ℕ → Type 0
+StandsBehind None before after = after ≡ before
+StandsBehind (Some table) before after = (lines : List ℕ) × (after ≡ before ++ under_bounds_head lines)
+
+-- The trace is over. What the form adds at its end stands behind the text, and the table of bounds behind that.
+pub record ScreenEnds (s : Figures) (old : ScreenState) (before after : List ℕ) : Type 0 where
+  pub formed : List ℕ
+  pub ends : FormEndsIf s old.names old.shown before formed
+  pub bounds : StandsBehind old.near formed after
