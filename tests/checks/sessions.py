@@ -1,7 +1,7 @@
 """The sessions of tests/sessions: commands, and exactly what they write.
 
-A session is a page whose blocks are those of the other pages (documents.py), but nothing is left unsaid: below a command stands all that
-it writes, on standard output and standard error, and then its exit status in brackets, as `[1]`, unless that is 0. A command below which
+A session is a page whose blocks are those of the other pages (documents.py). Below a command stands what it writes, on standard output
+and standard error, and then its exit status in brackets, as `[1]`, unless that is 0. A command below which
 nothing stands writes nothing. A line `..` stands for any lines, and ` ..` at the end of a line for any text.
 """
 import re
