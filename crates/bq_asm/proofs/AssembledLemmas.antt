@@ -14,8 +14,8 @@ use Rattle.bq_insn.specs.Slots.{slots_of}
 use Rattle.bq_insn.specs.Spelling.{slot_count, is_insn, is_well_formed}
 use Rattle.bq_insn.specs.Laws.{AllFit}
 use Rattle.bq_insn.proofs.CountLemmas.{slots_positive, slot_count-cons}
-use Rattle.bq_asm.specs.declared.fault.Cause.{Cause}
-use Rattle.bq_asm.specs.declared.fault.Cause.TheVariants.{Word, LabelTwice, Slots}
+use Rattle.bq_asm.specs.declared.fault.AssemblyCause.{AssemblyCause}
+use Rattle.bq_asm.specs.declared.fault.AssemblyCause.TheVariants.{Word, LabelTwice, Slots}
 use Rattle.bq_asm.specs.Lines.{Line, Blank, Label, Instruction, lines_of, last_word}
 use Rattle.bq_asm.specs.Operands.{is_label, instruction_of}
 use Rattle.bq_asm.specs.Assembly.{slots_read, slots_of_line, label_at, places_from, distance_to, AssemblesFrom, AreNewLabels, Assembles}
@@ -180,7 +180,7 @@ assembles_from text insns clean some few assembles =
       few = omega (arith, count, few);
     }
 
-insn_within : (slots : ℕ) (read : Result Insn Cause) → cause_of_insn slots read ≡ None → slots + slots_read read ≤ 4096
+insn_within : (slots : ℕ) (read : Result Insn AssemblyCause) → cause_of_insn slots read ≡ None → slots + slots_read read ≤ 4096
 insn_within slots (Err c) h = absurd (let no : Some c ≡ None = h in cc)
 insn_within slots (Ok i) h = by (nat_le (slots + slots_of i) 4096) refl h
   where

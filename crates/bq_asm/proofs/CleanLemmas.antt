@@ -5,8 +5,8 @@ use Rattle.std.specs.List.{AllByRecursion}
 use Rattle.std.proofs.lemmas.Option.{slice_get-get_or}
 use Rattle.std.proofs.lemmas.List.Elements.{recursion_from_All}
 use Rattle.bq_insn.specs.declared.Insn.{Insn}
-use Rattle.bq_asm.specs.declared.fault.Cause.{Cause}
-use Rattle.bq_asm.specs.declared.fault.Cause.TheVariants.{LabelMissing}
+use Rattle.bq_asm.specs.declared.fault.AssemblyCause.{AssemblyCause}
+use Rattle.bq_asm.specs.declared.fault.AssemblyCause.TheVariants.{LabelMissing}
 use Rattle.bq_asm.specs.Lines.{Line, Blank, Label, Instruction}
 use Rattle.bq_asm.specs.Operands.{instruction_of}
 use Rattle.bq_asm.specs.Assembly.{places_from}
@@ -14,7 +14,7 @@ use Rattle.bq_asm.specs.Faults.{slots_in, labels_in, cause_of_insn, cause_at_lin
 use Rattle.bq_asm.specs.Jumps.{Awaited, drafts_of, jumps_from, with_jumps}
 use Rattle.bq_asm.proofs.PassLemmas.{IsReadable, IsFirstMissing, Passes, readable_lines_pass}
 
-read_from_cause : (slots : ℕ) (read : Result Insn Cause) → cause_of_insn slots read ≡ None → (i : Insn) × (read ≡ Ok i)
+read_from_cause : (slots : ℕ) (read : Result Insn AssemblyCause) → cause_of_insn slots read ≡ None → (i : Insn) × (read ≡ Ok i)
 read_from_cause slots (Err c) h = absurd (let no : Some c ≡ None = h in cc)
 read_from_cause slots (Ok i) h = (i, refl)
 

@@ -1,22 +1,22 @@
 -- A wrong count of operands.
 use Rattle.std.proofs.Common.{◌≡◌, ℕ, suc, List, [], ◌∷◌, length, refl, ap, ◌∙◌}
 use Rattle.std.specs.Prelude.{Option, Result, Ok, Err, ℤ}
-use Rattle.bq_asm.specs.declared.fault.Cause.{Cause}
-use Rattle.bq_asm.specs.declared.fault.Cause.TheVariants as cause
+use Rattle.bq_asm.specs.declared.fault.AssemblyCause.{AssemblyCause}
+use Rattle.bq_asm.specs.declared.fault.AssemblyCause.TheVariants as cause
 use Rattle.bq_asm.specs.declared.operand.Operand.{Operand}
 use Rattle.bq_asm.specs.declared.place.OperandKind.{OperandKind}
 use Rattle.bq_asm.specs.Operands.{operand_of, each_operand, with_next, lesser}
 
-lesser_word : (c : Cause) → lesser c cause.Word ≡ cause.Word
+lesser_word : (c : AssemblyCause) → lesser c cause.Word ≡ cause.Word
 lesser_word cause.Word = refl
 lesser_word cause.Number = refl
 lesser_word cause.LabelTwice = refl
 lesser_word cause.LabelMissing = refl
 lesser_word cause.Slots = refl
 
-word_wins : (r : Result Operand Cause) → with_next r (Err cause.Word) ≡ Err cause.Word
+word_wins : (r : Result Operand AssemblyCause) → with_next r (Err cause.Word) ≡ Err cause.Word
 word_wins (Ok o) = refl
-word_wins (Err c) = ap (λ (x : Cause). Err x) (lesser_word c)
+word_wins (Err c) = ap (λ (x : AssemblyCause). Err x) (lesser_word c)
 
 -- more words or fewer than there are operands are refused for a word, whatever they write
 pub count_wrong : (ks : List OperandKind) (ws : List (List ℕ)) (d : Option ℤ)

@@ -4,7 +4,7 @@ use Rattle.std.proofs.lemmas.List.{map-append}
 use Rattle.std.specs.Prelude.{Option, if◌then◌else◌, nat_le, ◌≤◌, ◌<◌, ◌-◌, Result, Ok, Err, ℤ, pos}
 use Rattle.std.proofs.lemmas.Bool.Decides.{nat_tests}
 use Rattle.bq_insn.specs.Slots.{slots_of}
-use Rattle.bq_asm.specs.declared.fault.Cause.{Cause}
+use Rattle.bq_asm.specs.declared.fault.AssemblyCause.{AssemblyCause}
 use Rattle.std.specs.Borrow.{Bor}
 use Rattle.std.specs.List.{list_any}
 use Rattle.std.specs.Map.{lookup, keys_of}
@@ -18,7 +18,7 @@ use Rattle.bq_asm.specs.declared.instruction.Kinds.TheVariants as kinds
 use Rattle.bq_asm.specs.Named.{named}
 use Rattle.bq_asm.specs.Lines.{Line, Blank, Label, label_set, parsed, line_of_words}
 use Rattle.bq_asm.specs.Assembly.{slots_of_line, label_at, places_from}
-use Rattle.bq_asm.specs.declared.fault.Cause.TheVariants.{Word, LabelTwice, Slots}
+use Rattle.bq_asm.specs.declared.fault.AssemblyCause.TheVariants.{Word, LabelTwice, Slots}
 use Rattle.bq_asm.specs.Operands.{is_label, word_texts, kind_list, kinds_of, made, instruction_from}
 use Rattle.bq_asm.specs.Faults.{slots_in, cause_at_line, cause_of_label, cause_of_insn}
 use Rattle.bq_asm.proofs.JumpLemmas.{lookup_places}
@@ -149,14 +149,14 @@ places_kept places before line same none =
     ∙ sym (places_from-append 0 before (line ∷ []))
 
 -- an instruction that is read, and ends within the slots
-pub insn_fits : (slots : ℕ) (i : Insn) (read : Result Insn Cause)
+pub insn_fits : (slots : ℕ) (i : Insn) (read : Result Insn AssemblyCause)
     → read ≡ Ok i → slots + slots_of i ≤ 4096 → cause_of_insn slots read ≡ None
 insn_fits slots i read is fits =
     let e : nat_le (slots + slots_of i) 4096 ≡ true = grind (arith, nat_tests) in
     ap (cause_of_insn slots) is ∙ ap (λ b. if b then None else Some Slots) e
 
 -- an instruction that is read, and ends past the slots
-pub insn_over : (slots : ℕ) (i : Insn) (read : Result Insn Cause)
+pub insn_over : (slots : ℕ) (i : Insn) (read : Result Insn AssemblyCause)
     → read ≡ Ok i → 4096 < slots + slots_of i → cause_of_insn slots read ≡ Some Slots
 insn_over slots i read is over =
     let e : nat_le (slots + slots_of i) 4096 ≡ false = grind (arith, nat_tests) in

@@ -11,8 +11,8 @@ use Rattle.bq_insn.specs.declared.Insn.{Insn}
 use Rattle.bq_insn.specs.Slots.{slots_of}
 use Rattle.bq_insn.specs.Spelling.{slot_count}
 use Rattle.bq_insn.proofs.CountLemmas.{slot_count-cons}
-use Rattle.bq_asm.specs.declared.fault.Cause.{Cause}
-use Rattle.bq_asm.specs.declared.fault.Cause.TheVariants.{LabelMissing, Slots}
+use Rattle.bq_asm.specs.declared.fault.AssemblyCause.{AssemblyCause}
+use Rattle.bq_asm.specs.declared.fault.AssemblyCause.TheVariants.{LabelMissing, Slots}
 use Rattle.bq_asm.specs.declared.mnemonic.Mnemonic.{Mnemonic}
 use Rattle.bq_asm.specs.Names.{mnemonic_word}
 use Rattle.bq_asm.specs.Named.{named, entry_with, table}
@@ -122,7 +122,7 @@ no_label_missing : (places : List (List ℕ × ℕ)) (slot : ℕ) (first : List 
     → cause_of_jump (keys_of places) (Instruction first operands) ≡ None
 no_label_missing places slot first operands i h = by (lookup (bytes_eq (last_word operands)) places) refl h
   where
-    answer : Bool → Bool → Option Cause
+    answer : Bool → Bool → Option AssemblyCause
     answer awaits known = if awaits && not known then Some LabelMissing else None
 
     by : (o : Option ℕ) → lookup (bytes_eq (last_word operands)) places ≡ o
@@ -167,7 +167,7 @@ no_program_is_faulty text insns line c h f =
     (λ missing. none_is_some (missing_at (lines_of text) line) c (missing_none text insns h line) missing.2.0) whole) f
 
 -- the first is one
-one_first : (f : ℕ → Option Cause) (m n : ℕ) (c d : Cause) → IsFirstCause f m c → IsFirstCause f n d → (m ≡ n) × (c ≡ d)
+one_first : (f : ℕ → Option AssemblyCause) (m n : ℕ) (c d : AssemblyCause) → IsFirstCause f m c → IsFirstCause f n d → (m ≡ n) × (c ≡ d)
 one_first f m n c d h k = ⊎_elim
     (λ e. let both : Some c ≡ Some d = sym h.0 ∙ ap f e ∙ k.0 in (e, cc))
     (λ apart. ⊎_elim (λ lt. absurd (none_is_some (f m) c (k.1 m lt) h.0)) (λ gt. absurd (none_is_some (f n) d (h.1 n gt) k.0)) apart)
@@ -197,15 +197,15 @@ one_fault text m n c d h k =
     whole (inr a) (inr b) = one_first (missing_at (lines_of text)) m n c d a.2 b.2
 
 -- the first of some that has a cause, or none has
-IsNoneBelow : (ℕ → Option Cause) → ℕ → Type 0
+IsNoneBelow : (ℕ → Option AssemblyCause) → ℕ → Type 0
 IsNoneBelow f n = (k : ℕ) → k < n → f k ≡ None
 
-sought : (f : ℕ → Option Cause) (n : ℕ) → IsNoneBelow f n ⊎ ((line : ℕ) × (c : Cause) × IsFirstCause f line c)
+sought : (f : ℕ → Option AssemblyCause) (n : ℕ) → IsNoneBelow f n ⊎ ((line : ℕ) × (c : AssemblyCause) × IsFirstCause f line c)
 unfolding IsNoneBelow
 sought f zero = inl (λ k lt. absurd (omega arith))
 sought f (suc n) = ⊎_elim (λ none. by (f n) refl none) (λ found. inr found) (sought f n)
   where
-    by : (o : Option Cause) → f n ≡ o → IsNoneBelow f n → IsNoneBelow f (suc n) ⊎ ((line : ℕ) × (c : Cause) × IsFirstCause f line c)
+    by : (o : Option AssemblyCause) → f n ≡ o → IsNoneBelow f n → IsNoneBelow f (suc n) ⊎ ((line : ℕ) × (c : AssemblyCause) × IsFirstCause f line c)
     by None e none =
         inl (λ k lt.
         ⊎_elim (λ below. none k below) (λ above. let same : n ≡ k = omega arith in subst (λ m. f m ≡ None) same e)
@@ -233,12 +233,12 @@ each_text_is_judged text =
 
     passed : IsClean (lines_of text) → 0 < slots_in (lines_of text) → slots_in (lines_of text) ≤ 4096
         → (r : Result (List Insn) ℕ) → Passes (places_from 0 (lines_of text)) 0 1 [] (lines_of text) r
-        → ((insns : List Insn) × Assembles text insns) ⊎ ((line : ℕ) × (c : Cause) × FaultyLines (lines_of text) line c)
+        → ((insns : List Insn) × Assembles text insns) ⊎ ((line : ℕ) × (c : AssemblyCause) × FaultyLines (lines_of text) line c)
     passed h some few (Ok insns) p = inl (p.0, assembles_from text p.0 h some few p.2)
     passed h some few (Err line) p = inr (line, LabelMissing, inr (inr (h, some, first_from_missing (lines_of text) line p)))
 
     clean : IsClean (lines_of text)
-        → ((insns : List Insn) × Assembles text insns) ⊎ ((line : ℕ) × (c : Cause) × FaultyLines (lines_of text) line c)
+        → ((insns : List Insn) × Assembles text insns) ⊎ ((line : ℕ) × (c : AssemblyCause) × FaultyLines (lines_of text) line c)
     clean h =
         let bound = clean_few [] (lines_of text) (omega arith) (clean_after (lines_of text) h) in
         let few : slots_in (lines_of text) ≤ 4096 = omega (arith, bound) in

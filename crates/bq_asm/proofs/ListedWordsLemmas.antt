@@ -17,7 +17,7 @@ use Rattle.bq_insn.specs.declared.Insn.{Insn}
 use Rattle.bq_insn.specs.declared.Insn.TheVariants as insn
 use Rattle.bq_insn.specs.Spelling.{is_insn, is_register, is_source}
 use Rattle.bq_insn.specs.Laws.{Fits, SourceFits}
-use Rattle.bq_asm.specs.declared.fault.Cause.TheVariants as cause
+use Rattle.bq_asm.specs.declared.fault.AssemblyCause.TheVariants as cause
 use Rattle.bq_asm.specs.declared.operand.Operand.{Operand}
 use Rattle.bq_asm.specs.declared.operand.Operand.TheVariants as operand
 use Rattle.bq_asm.specs.declared.place.OperandKind.{OperandKind}

@@ -9,8 +9,8 @@ use Rattle.std.proofs.lemmas.Map.Made.{is_some-lookup}
 use Rattle.bq_insn.specs.declared.Insn.{Insn}
 use Rattle.bq_insn.specs.declared.Insn.TheVariants as insn
 use Rattle.bq_insn.specs.Slots.{slots_of}
-use Rattle.bq_asm.specs.declared.fault.Cause.{Cause}
-use Rattle.bq_asm.specs.declared.fault.Cause.TheVariants.{LabelMissing}
+use Rattle.bq_asm.specs.declared.fault.AssemblyCause.{AssemblyCause}
+use Rattle.bq_asm.specs.declared.fault.AssemblyCause.TheVariants.{LabelMissing}
 use Rattle.bq_asm.specs.Lines.{Line, Blank, Label, Instruction, last_word}
 use Rattle.bq_asm.specs.Operands.{instruction_of}
 use Rattle.bq_asm.specs.Assembly.{slots_read, distance_to, AssemblesFrom}
@@ -24,7 +24,7 @@ IsReadable (Instruction first operands) = (i : Insn) × (instruction_of first op
 IsReadable line = Unit {0}
 
 -- the label of the jump at the line of this number, from 0 on, is not one of these
-abbrev pub missing_in : List (List ℕ) → List Line → ℕ → Option Cause
+abbrev pub missing_in : List (List ℕ) → List Line → ℕ → Option AssemblyCause
 missing_in labels lines k = option_and_then (cause_of_jump labels) (slice_get lines k)
 
 -- where the first line has this number, the first jump whose label is not one of these is at that line
@@ -77,7 +77,7 @@ passes_insn places slot number done first operands v size lines (Err found) none
     later_missing (keys_of places) (Instruction first operands) lines number found none p
 
 -- a jump whose label is looked for
-sought : (places : List (List ℕ × ℕ)) (operands : List (List ℕ)) (read : Result Insn Cause) (found : Option ℕ)
+sought : (places : List (List ℕ × ℕ)) (operands : List (List ℕ)) (read : Result Insn AssemblyCause) (found : Option ℕ)
     → read ≡ Err LabelMissing → lookup (bytes_eq (last_word operands)) places ≡ found
     → (if awaits_label read && not (list_any (bytes_eq (last_word operands)) (keys_of places)) then Some LabelMissing else None)
     ≡ (if is_some found then None else Some LabelMissing)

@@ -9,8 +9,8 @@ use Rattle.bq_insn.specs.declared.Condition.{Condition}
 use Rattle.bq_insn.specs.declared.Insn.{Insn}
 use Rattle.bq_insn.specs.declared.Insn.TheVariants as insn
 use Rattle.bq_insn.specs.Slots.{slots_of}
-use Rattle.bq_asm.specs.declared.fault.Cause.{Cause}
-use Rattle.bq_asm.specs.declared.fault.Cause.TheVariants as cause
+use Rattle.bq_asm.specs.declared.fault.AssemblyCause.{AssemblyCause}
+use Rattle.bq_asm.specs.declared.fault.AssemblyCause.TheVariants as cause
 use Rattle.bq_asm.specs.declared.mnemonic.Mnemonic.{Mnemonic}
 use Rattle.bq_asm.specs.declared.mnemonic.Mnemonic.TheVariants as name
 use Rattle.bq_asm.specs.declared.operand.Operand.{Operand}
@@ -76,17 +76,17 @@ some_from_ok None i h = absurd (let e : Err cause.Word ≡ Ok i = h in cc)
 some_from_ok (Some j) i h = let e : Ok j ≡ Ok i = h in cc
 
 -- an instruction is made of operands
-pub made_from : (m : Mnemonic) (r : Result (List Operand) Cause) (i : Insn)
+pub made_from : (m : Mnemonic) (r : Result (List Operand) AssemblyCause) (i : Insn)
     → made m r ≡ Ok i → (os : List Operand) × (r ≡ Ok os) × (insn_from m os ≡ Some i)
 made_from m (Err c) i h = absurd (let e : Err c ≡ Ok i = h in cc)
 made_from m (Ok os) i h = (os, refl, some_from_ok (insn_from m os) i h)
 
 -- an instruction that is made is a jump, and has its size, by its first word
-pub made_shape : (m : Mnemonic) (r : Result (List Operand) Cause) (i : Insn) → made m r ≡ Ok i → HasShape m i
+pub made_shape : (m : Mnemonic) (r : Result (List Operand) AssemblyCause) (i : Insn) → made m r ≡ Ok i → HasShape m i
 made_shape m r i h = let from = made_from m r i h in shaped_by m from.0 i from.2
 
 -- what the words after this first word say
-abbrev pub read : Mnemonic → List (List ℕ) → Option ℤ → Result Insn Cause
+abbrev pub read : Mnemonic → List (List ℕ) → Option ℤ → Result Insn AssemblyCause
 read m operands d = made m (each_operand (kind_list (kinds_of m)) operands d)
 
 is_steady : OperandKind → Bool
@@ -114,7 +114,7 @@ pub record IsSteady (m : Mnemonic) (operands : List (List ℕ)) : Type 0 where
   pub none : (i : Insn) → read m operands (Some (pos 0)) ≡ Ok i → target_of i operands ≡ None
 
 -- what is read, with this distance where it is a jump
-abbrev pub aimed_by : ℤ → Result Insn Cause → Result Insn Cause
+abbrev pub aimed_by : ℤ → Result Insn AssemblyCause → Result Insn AssemblyCause
 aimed_by z (Ok i) = Ok (jump_aimed i z)
 aimed_by z (Err c) = Err c
 
@@ -197,10 +197,10 @@ goto32 w true e =
 
 -- a branch, by what stands in the places before its target
 module _ (width : Width) (cond : Condition) where
-  branch : Result Operand Cause → Result Operand Cause → Result Operand Cause → Result Insn Cause
+  branch : Result Operand AssemblyCause → Result Operand AssemblyCause → Result Operand AssemblyCause → Result Insn AssemblyCause
   branch a b t = made (name.Branch width cond) (with_next a (with_next b (with_next t (Ok []))))
 
-  branch_set : (a b : Result Operand Cause) (y z : ℤ) → branch a b (Ok (operand.Near z)) ≡ aimed_by z (branch a b (Ok (operand.Near y)))
+  branch_set : (a b : Result Operand AssemblyCause) (y z : ℤ) → branch a b (Ok (operand.Near z)) ≡ aimed_by z (branch a b (Ok (operand.Near y)))
   unfolding branch
   branch_set (Ok (operand.Register d)) (Ok (operand.Number n)) y z = refl
   branch_set (Ok (operand.Register d)) (Ok (operand.Register s)) y z = refl
@@ -209,7 +209,7 @@ module _ (width : Width) (cond : Condition) where
   branch_set (Err c) (Ok p) y z = refl
   branch_set (Err c) (Err d) y z = refl
 
-  branch_unset : (a b : Result Operand Cause) (y : ℤ) (i : Insn)
+  branch_unset : (a b : Result Operand AssemblyCause) (y : ℤ) (i : Insn)
       → branch a b (Ok (operand.Near y)) ≡ Ok i
       → branch a b (Err cause.LabelMissing) ≡ Err cause.LabelMissing
   unfolding branch
@@ -218,7 +218,7 @@ module _ (width : Width) (cond : Condition) where
   branch_unset (Err c) (Ok p) y i h = absurd (let no : Err c ≡ Ok i = h in cc)
   branch_unset (Err c) (Err d) y i h = absurd (let no : Err (lesser c d) ≡ Ok i = h in cc)
 
-  branch_never : (a b : Result Operand Cause) (c : Cause) (i : Insn) → branch a b (Err c) ≡ Ok i → ⊥
+  branch_never : (a b : Result Operand AssemblyCause) (c : AssemblyCause) (i : Insn) → branch a b (Err c) ≡ Ok i → ⊥
   unfolding branch
   branch_never (Ok o) (Ok p) c i h = let no : Err c ≡ Ok i = h in cc
   branch_never (Ok o) (Err d) c i h = let no : Err (lesser d c) ≡ Ok i = h in cc
@@ -296,7 +296,7 @@ plain_or_awaiting first operands i h = by (named first) refl h
           set = λ z. ap (λ x. instruction_from x operands (Some z)) n ∙ a.set z ∙ ap (aimed_by z) k;
         })) (steady_or_aimed m operands)
 
-abbrev what_is_read : Mnemonic → List (List ℕ) → Option ℤ → Result Insn Cause
+abbrev what_is_read : Mnemonic → List (List ℕ) → Option ℤ → Result Insn AssemblyCause
 what_is_read m operands d = read m operands d
 
 -- a line's words are read, with no distance known yet, as an instruction of this many slots
@@ -305,7 +305,7 @@ pub record IsRead (first : List ℕ) (operands : List (List ℕ)) (size : ℕ) :
   pub read : instruction_of first operands (Some (pos 0)) ≡ Ok insn
   pub slots : slots_of insn ≡ size
 
-aimed_from : (z : ℤ) (r : Result Insn Cause) (i : Insn) → aimed_by z r ≡ Ok i → (j : Insn) × (r ≡ Ok j)
+aimed_from : (z : ℤ) (r : Result Insn AssemblyCause) (i : Insn) → aimed_by z r ≡ Ok i → (j : Insn) × (r ≡ Ok j)
 aimed_from z (Ok j) i h = (j, refl)
 aimed_from z (Err c) i h = absurd (let bad : Err c ≡ Ok i = h in cc)
 

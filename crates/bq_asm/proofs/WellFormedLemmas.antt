@@ -13,8 +13,8 @@ use Rattle.bq_insn.specs.declared.Size.TheVariants.{Byte, Half, Word, Double}
 use Rattle.bq_insn.specs.declared.Insn.{Insn}
 use Rattle.bq_insn.specs.Spelling.{is_insn, is_register}
 use Rattle.bq_insn.specs.Laws.{Fits}
-use Rattle.bq_asm.specs.declared.fault.Cause.{Cause}
-use Rattle.bq_asm.specs.declared.fault.Cause.TheVariants as cause
+use Rattle.bq_asm.specs.declared.fault.AssemblyCause.{AssemblyCause}
+use Rattle.bq_asm.specs.declared.fault.AssemblyCause.TheVariants as cause
 use Rattle.bq_asm.specs.declared.mnemonic.Mnemonic.{Mnemonic}
 use Rattle.bq_asm.specs.declared.mnemonic.Mnemonic.TheVariants as name
 use Rattle.bq_asm.specs.declared.operand.Operand.{Operand}
@@ -40,7 +40,7 @@ IsInRange (operand.Memory r z) = (r ≤ 10) × FitsSigned w16 z
 IsInRange (operand.Near z) = FitsSigned w16 z
 IsInRange (operand.Far z) = FitsSigned w32 z
 
-abbrev refused : Bool → Result Operand Cause
+abbrev refused : Bool → Result Operand AssemblyCause
 refused b = if b then Err cause.Number else Err cause.Word
 
 refused_good : (b : Bool) → IfOk (refused b) IsInRange
@@ -132,7 +132,7 @@ operand_good kind.Memory w d h = memory_good (inside w)
 operand_good kind.Near w d h = near_good w d h
 operand_good kind.Far w d h = far_good w d h
 
-next_good : (a : Result Operand Cause) (b : Result (List Operand) Cause)
+next_good : (a : Result Operand AssemblyCause) (b : Result (List Operand) AssemblyCause)
     → IfOk a IsInRange → IfOk b (AllByRecursion IsInRange) → IfOk (with_next a b) (AllByRecursion IsInRange)
 next_good (Ok o) (Ok os) h k = (h, k)
 next_good (Ok o) (Err c) h k = tt
@@ -237,7 +237,7 @@ is_named : (word : List ℕ) → IfSome (named word) (λ m. is_name m ≡ true)
 unfolding is_name
 is_named word = entries_named word table refl
 
-made_fine : (m : Mnemonic) (r : Result (List Operand) Cause) (i : Insn)
+made_fine : (m : Mnemonic) (r : Result (List Operand) AssemblyCause) (i : Insn)
     → is_name m ≡ true → IfOk r (AllByRecursion IsInRange) → made m r ≡ Ok i → IsFine i
 unfolding IfFine
 made_fine m r i h g e =

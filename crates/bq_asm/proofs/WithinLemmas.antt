@@ -5,7 +5,7 @@ use Rattle.std.specs.List.{All, AllByRecursion}
 use Rattle.std.proofs.lemmas.List.Elements.{All-from_recursion}
 use Rattle.bq_insn.specs.declared.Insn.{Insn}
 use Rattle.bq_insn.specs.Slots.{slots_of}
-use Rattle.bq_asm.specs.declared.fault.Cause.{Cause}
+use Rattle.bq_asm.specs.declared.fault.AssemblyCause.{AssemblyCause}
 use Rattle.bq_asm.specs.Lines.{Line, Blank, Label, Instruction}
 use Rattle.bq_asm.specs.Operands.{instruction_of}
 use Rattle.bq_asm.specs.Assembly.{slots_read, slots_of_line, places_from}
@@ -40,7 +40,7 @@ awaited_near : (limit count index next line : ℕ) (target : Option (List ℕ)) 
 awaited_near limit count index next line None more h k rest = rest
 awaited_near limit count index next line (Some label) more h k rest = ((h, k), rest)
 
-read_near : (limit count index slot line : ℕ) (operands : List (List ℕ)) (read : Result Insn Cause) (more : List Awaited)
+read_near : (limit count index slot line : ℕ) (operands : List (List ℕ)) (read : Result Insn AssemblyCause) (more : List Awaited)
     → slot + slots_read read ≤ limit → index + length (insn_read read) ≤ count → AllByRecursion (IsNear limit count) more
     → AllByRecursion (IsNear limit count) (jump_read index slot line operands read ++ more)
 read_near limit count index slot line operands (Err c) more h k rest = rest

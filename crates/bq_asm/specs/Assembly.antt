@@ -6,12 +6,12 @@ use Rattle.std.specs.Str.{bytes_eq}
 use Rattle.bq_insn.specs.declared.Insn.{Insn}
 use Rattle.bq_insn.specs.Slots.{slots_of}
 use Rattle.bq_insn.specs.Spelling.{slot_count}
-use Rattle.bq_asm.specs.declared.fault.Cause.{Cause}
+use Rattle.bq_asm.specs.declared.fault.AssemblyCause.{AssemblyCause}
 use Rattle.bq_asm.specs.Lines.{Line, Blank, Label, Instruction, lines_of, last_word}
 use Rattle.bq_asm.specs.Operands.{is_label, instruction_of}
 
 -- how many slots the instruction that was read takes; none if none was read
-abbrev pub slots_read : Result Insn Cause → ℕ
+abbrev pub slots_read : Result Insn AssemblyCause → ℕ
 slots_read (Ok insn) = slots_of insn
 slots_read (Err c) = 0
 

@@ -1,13 +1,13 @@
 -- The numbers of what is wrong with a text, and how a fault is written.
 use Rattle.std.specs.Prelude.{ℕ, List, codes}
 use Rattle.bq_insn.specs.Causes.{cause_and_place}
-use Rattle.bq_asm.specs.declared.fault.Cause.{Cause}
-use Rattle.bq_asm.specs.declared.fault.Cause.TheVariants.{Word, Number, LabelTwice, LabelMissing, Slots}
+use Rattle.bq_asm.specs.declared.fault.AssemblyCause.{AssemblyCause}
+use Rattle.bq_asm.specs.declared.fault.AssemblyCause.TheVariants.{Word, Number, LabelTwice, LabelMissing, Slots}
 use Rattle.bq_asm.specs.declared.fault.AsmFault.{AsmFault}
 use Rattle.bq_asm.specs.declared.fault.AsmFault.TheVariants.{At, OutOfMemory}
 
 -- the number of a cause, after the letter A
-abbrev pub assembly_cause_number : Cause → ℕ
+abbrev pub assembly_cause_number : AssemblyCause → ℕ
 assembly_cause_number Word = 1
 assembly_cause_number Number = 2
 assembly_cause_number LabelTwice = 3

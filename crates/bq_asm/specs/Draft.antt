@@ -1,7 +1,7 @@
 -- What the first pass keeps of the lines that it has read.
 use Rattle.std.specs.Prelude.{◌≡◌, ℕ, ◌+◌, ◌<◌, ◌⊎◌, List, [], ◌∷◌, ◌++◌, length, map, Some, None}
 use Rattle.bq_insn.specs.declared.Insn.{Insn}
-use Rattle.bq_asm.specs.declared.fault.Cause.TheVariants.{Slots}
+use Rattle.bq_asm.specs.declared.fault.AssemblyCause.TheVariants.{Slots}
 use Rattle.bq_asm.specs.declared.fault.AsmFault.{AsmFault}
 use Rattle.bq_asm.specs.declared.fault.AsmFault.TheVariants.{At, OutOfMemory}
 use Rattle.bq_asm.specs.declared.draft.Draft.{Draft}

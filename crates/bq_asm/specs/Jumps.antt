@@ -10,7 +10,7 @@ use Rattle.indexmap.specs.IndexMap.{IndexMap}
 use Rattle.bq_insn.specs.declared.Insn.{Insn}
 use Rattle.bq_insn.specs.declared.Insn.TheVariants as insn
 use Rattle.bq_insn.specs.Slots.{slots_of}
-use Rattle.bq_asm.specs.declared.fault.Cause.{Cause}
+use Rattle.bq_asm.specs.declared.fault.AssemblyCause.{AssemblyCause}
 use Rattle.bq_asm.specs.declared.jump.Jump.{Jump}
 use Rattle.bq_asm.specs.Lines.{Line, Instruction, last_word}
 use Rattle.bq_asm.specs.Operands.{is_label, instruction_of}
@@ -51,7 +51,7 @@ awaited_at index next line None = []
 awaited_at index next line (Some label) = record { index = index; next = next; line = line; label = label } ∷ []
 
 -- a list with the instruction that was read, or an empty list if none was
-abbrev pub insn_read : Result Insn Cause → List Insn
+abbrev pub insn_read : Result Insn AssemblyCause → List Insn
 insn_read (Err c) = []
 insn_read (Ok i) = i ∷ []
 
@@ -65,7 +65,7 @@ abbrev pub drafts_of : List Line → List Insn
 drafts_of lines = flat_map draft_of lines
 
 -- the waiting jump of an instruction that was read, if it is a jump to a label
-abbrev pub jump_read : ℕ → ℕ → ℕ → List (List ℕ) → Result Insn Cause → List Awaited
+abbrev pub jump_read : ℕ → ℕ → ℕ → List (List ℕ) → Result Insn AssemblyCause → List Awaited
 jump_read index slot line operands (Err c) = []
 jump_read index slot line operands (Ok i) = awaited_at index (slot + slots_of i) line (target_of i operands)
 

@@ -4,7 +4,7 @@ use Rattle.std.specs.Prelude.{◌≡◌, ℕ, true, List, ◌⊎◌, Some}
 use Rattle.bq_insn.specs.declared.Insn.{Insn}
 use Rattle.bq_insn.specs.Spelling.{is_well_formed}
 use Rattle.bq_insn.specs.Laws.{AllFit}
-use Rattle.bq_asm.specs.declared.fault.Cause.{Cause}
+use Rattle.bq_asm.specs.declared.fault.AssemblyCause.{AssemblyCause}
 use Rattle.bq_asm.specs.declared.mnemonic.Mnemonic.{Mnemonic}
 use Rattle.bq_asm.specs.Names.{mnemonic_word}
 use Rattle.bq_asm.specs.Named.{named}
@@ -23,15 +23,15 @@ TextHasOneProgram = (text : List ℕ) (a b : List Insn) → Assembles text a →
 
 -- a text has at most one fault, with one line and one cause
 abbrev pub TextHasOneFault : Type 0
-TextHasOneFault = (text : List ℕ) (m n : ℕ) (c d : Cause) → FaultyLines (lines_of text) m c → FaultyLines (lines_of text) n d → (m ≡ n) × (c ≡ d)
+TextHasOneFault = (text : List ℕ) (m n : ℕ) (c d : AssemblyCause) → FaultyLines (lines_of text) m c → FaultyLines (lines_of text) n d → (m ≡ n) × (c ≡ d)
 
 -- a text that stands for instructions has no fault
 abbrev pub NoAssemblyIsFaulty : Type 0
-NoAssemblyIsFaulty = (text : List ℕ) (insns : List Insn) (line : ℕ) (c : Cause) → Assembles text insns → FaultyLines (lines_of text) line c → ⊥
+NoAssemblyIsFaulty = (text : List ℕ) (insns : List Insn) (line : ℕ) (c : AssemblyCause) → Assembles text insns → FaultyLines (lines_of text) line c → ⊥
 
 -- each text stands for instructions or has a fault
 abbrev pub EachTextIsJudged : Type 0
-EachTextIsJudged = (text : List ℕ) → ((insns : List Insn) × Assembles text insns) ⊎ ((line : ℕ) × (c : Cause) × FaultyLines (lines_of text) line c)
+EachTextIsJudged = (text : List ℕ) → ((insns : List Insn) × Assembles text insns) ⊎ ((line : ℕ) × (c : AssemblyCause) × FaultyLines (lines_of text) line c)
 
 -- if a text stands for instructions, they are well formed, and their numbers fit the types of their fields
 abbrev pub ProgramsAreWellFormed : Type 0

@@ -5,8 +5,8 @@ use Rattle.std.specs.List.{list_all}
 use Rattle.bq_insn.specs.declared.Source.TheVariants.{Imm, Reg}
 use Rattle.bq_insn.specs.declared.Insn.{Insn}
 use Rattle.bq_insn.specs.declared.Insn.TheVariants as insn
-use Rattle.bq_asm.specs.declared.fault.Cause.{Cause}
-use Rattle.bq_asm.specs.declared.fault.Cause.TheVariants as cause
+use Rattle.bq_asm.specs.declared.fault.AssemblyCause.{AssemblyCause}
+use Rattle.bq_asm.specs.declared.fault.AssemblyCause.TheVariants as cause
 use Rattle.bq_asm.specs.declared.mnemonic.Mnemonic.{Mnemonic}
 use Rattle.bq_asm.specs.declared.mnemonic.Mnemonic.TheVariants as name
 use Rattle.bq_asm.specs.declared.operand.Operand.{Operand}
@@ -22,17 +22,17 @@ use Rattle.std.specs.Option.{ok_or}
 use Rattle.bq_asm.specs.Numbers.{imm_of, offset_of, distance_in_word, wide_of, register_named, begins_number}
 
 -- the operand in a number's place, or a cause: Number if the word begins as a number, else Word
-abbrev pub number_place : Option Operand → List ℕ → Result Operand Cause
+abbrev pub number_place : Option Operand → List ℕ → Result Operand AssemblyCause
 number_place (Some o) word = Ok o
 number_place None word = if begins_number word then Err cause.Number else Err cause.Word
 
 -- the operand in a register's place, or Word if the word names no register
-abbrev pub register_place : Option ℕ → Result Operand Cause
+abbrev pub register_place : Option ℕ → Result Operand AssemblyCause
 register_place (Some r) = Ok (operand.Register r)
 register_place None = Err cause.Word
 
 -- the operand in a second operand's place: a register or a number, or why the word is neither
-abbrev pub source_place : Option ℕ → List ℕ → Result Operand Cause
+abbrev pub source_place : Option ℕ → List ℕ → Result Operand AssemblyCause
 source_place (Some r) word = Ok (operand.Register r)
 source_place None word = number_place (option_map (λ z. operand.Number z) (imm_of word)) word
 
@@ -46,18 +46,18 @@ inside word =
     if nat_le 2 (length word) && ((slice_index word 0 == 91) && (slice_index word (length word - 1) == 93)) then Some (take (length word - 2) (drop 1 word)) else None
 
 -- the place in memory of a register and the offset that follows it; without an offset it is 0
-abbrev pub based : Option ℕ → List ℕ → Result Operand Cause
+abbrev pub based : Option ℕ → List ℕ → Result Operand AssemblyCause
 based None rest = Err cause.Word
 based (Some r) rest =
     if length rest == 0 then Ok (operand.Memory r (pos 0)) else number_place (option_map (λ z. operand.Memory r z) (offset_of rest)) rest
 
 -- the place in memory that is written inside the brackets, cut into register and offset at the first sign
-abbrev pub cut_at : Option ℕ → List ℕ → Result Operand Cause
+abbrev pub cut_at : Option ℕ → List ℕ → Result Operand AssemblyCause
 cut_at None inner = based (register_named inner) []
 cut_at (Some i) inner = based (register_named (take i inner)) (drop i inner)
 
 -- the operand in a memory place: a register and an offset in brackets
-abbrev pub memory_place : Option (List ℕ) → Result Operand Cause
+abbrev pub memory_place : Option (List ℕ) → Result Operand AssemblyCause
 memory_place None = Err cause.Word
 memory_place (Some inner) = cut_at (position is_sign inner) inner
 
@@ -74,12 +74,12 @@ abbrev pub is_label : List ℕ → Bool
 is_label word = nat_le 1 (length word) && (nat_le (length word) 32 && (is_letter (slice_index word 0) && list_all is_label_byte word))
 
 -- the distance to a label, or LabelMissing if it is not known
-abbrev pub label_place : Option Operand → Result Operand Cause
+abbrev pub label_place : Option Operand → Result Operand AssemblyCause
 label_place None = Err cause.LabelMissing
 label_place (Some o) = Ok o
 
 -- the operand of this kind that a word writes; a label in the place of a target stands for `distance`
-abbrev pub operand_of : OperandKind → List ℕ → Option ℤ → Result Operand Cause
+abbrev pub operand_of : OperandKind → List ℕ → Option ℤ → Result Operand AssemblyCause
 operand_of kind.Register word distance = register_place (register_named word)
 operand_of kind.Source word distance = source_place (register_named word) word
 operand_of kind.Number word distance = number_place (option_map (λ z. operand.Number z) (imm_of word)) word
@@ -109,7 +109,7 @@ kinds_of name.Call = kinds.One kind.Number
 kinds_of name.Exit = kinds.Zero
 
 -- the lesser of two causes: Word before Number before any other
-abbrev pub lesser : Cause → Cause → Cause
+abbrev pub lesser : AssemblyCause → AssemblyCause → AssemblyCause
 lesser cause.Word c = cause.Word
 lesser c cause.Word = cause.Word
 lesser cause.Number c = cause.Number
@@ -117,19 +117,19 @@ lesser c cause.Number = cause.Number
 lesser c d = c
 
 -- an operand and those after it as one list, or the least cause among them
-abbrev pub with_next : Result Operand Cause → Result (List Operand) Cause → Result (List Operand) Cause
+abbrev pub with_next : Result Operand AssemblyCause → Result (List Operand) AssemblyCause → Result (List Operand) AssemblyCause
 with_next (Ok o) (Ok rest) = Ok (o ∷ rest)
 with_next (Ok o) (Err c) = Err c
 with_next (Err c) (Ok rest) = Err c
 with_next (Err c) (Err d) = Err (lesser c d)
 
 -- two operands as a list
-abbrev pub both_operands : Result (Operand × Operand) Cause → Result (List Operand) Cause
+abbrev pub both_operands : Result (Operand × Operand) AssemblyCause → Result (List Operand) AssemblyCause
 both_operands (Err c) = Err c
 both_operands (Ok p) = Ok (p.0 ∷ p.1 ∷ [])
 
 -- the operands that words write, or the least cause among them
-abbrev pub each_operand : List OperandKind → List (List ℕ) → Option ℤ → Result (List Operand) Cause
+abbrev pub each_operand : List OperandKind → List (List ℕ) → Option ℤ → Result (List Operand) AssemblyCause
 each_operand [] [] distance = Ok []
 each_operand (k ∷ ks) (w ∷ ws) distance = with_next (operand_of k w distance) (each_operand ks ws distance)
 each_operand ks ws distance = Err cause.Word
@@ -142,7 +142,7 @@ kind_list (kinds.Two a b) = a ∷ b ∷ []
 kind_list (kinds.Three a b c) = a ∷ b ∷ c ∷ []
 
 -- the operands that follow, as a list
-abbrev pub listed_operands : Result Operands Cause → Result (List Operand) Cause
+abbrev pub listed_operands : Result Operands AssemblyCause → Result (List Operand) AssemblyCause
 listed_operands (Err c) = Err c
 listed_operands (Ok Zero) = Ok []
 listed_operands (Ok (One a)) = Ok (a ∷ [])
@@ -171,17 +171,17 @@ insn_from name.Exit [] = Some insn.Exit
 insn_from m operands = None
 
 -- the instruction of a mnemonic and the operands that were read, or the cause why they make no instruction
-abbrev pub made : Mnemonic → Result (List Operand) Cause → Result Insn Cause
+abbrev pub made : Mnemonic → Result (List Operand) AssemblyCause → Result Insn AssemblyCause
 made m (Err c) = Err c
 made m (Ok operands) = ok_or (insn_from m operands) cause.Word
 
 -- what an optional mnemonic and the words after it say, or the least cause; without a mnemonic the cause is Word
-abbrev pub instruction_from : Option Mnemonic → List (List ℕ) → Option ℤ → Result Insn Cause
+abbrev pub instruction_from : Option Mnemonic → List (List ℕ) → Option ℤ → Result Insn AssemblyCause
 instruction_from None words distance = Err cause.Word
 instruction_from (Some m) words distance = made m (each_operand (kind_list (kinds_of m)) words distance)
 
 -- the instruction that a first word and the words after it say, or the least cause why they say none
-abbrev pub instruction_of : List ℕ → List (List ℕ) → Option ℤ → Result Insn Cause
+abbrev pub instruction_of : List ℕ → List (List ℕ) → Option ℤ → Result Insn AssemblyCause
 instruction_of first words distance = instruction_from (named first) words distance
 
 -- the bytes of each word

@@ -3,7 +3,7 @@ ghost use Rattle.std.specs.Prelude.{◌≡◌, ◌≤◌, ◌<◌, ◌+◌, [], 
 ghost use Rattle.bq_asm.specs.Lines.{Line, label_set, line_of_words, parsed_line, Instruction, Label};
 ghost use Rattle.bq_asm.specs.Operands.{word_texts};
 
-use crate::fault::{AsmFault, Cause, refusal};
+use crate::fault::{AsmFault, AssemblyCause, refusal};
 use crate::instruction::instruction_of;
 use crate::jump::{Jump, push_jump, set_jumps, target_of};
 use crate::line::{is_label, without_comment, words};
@@ -46,7 +46,7 @@ impl<'a> Draft<'a> {
         ensures fault { IfErr result (RefusesLine self.old number (parsed_line line.entry.now)) }
     {
         let Some(words) = words(without_comment(line)) else {
-            return Err(refusal(number, Cause::Word));
+            return Err(refusal(number, AssemblyCause::Word));
         };
         self.take_words(number, words.as_slice())
     }
@@ -59,7 +59,7 @@ impl<'a> Draft<'a> {
         ensures fault { IfErr result (Fails self.entry) }
     {
         if self.slots == 0 {
-            return Err(refusal(0, Cause::Slots));
+            return Err(refusal(0, AssemblyCause::Slots));
         }
         let Draft {
             labels,
@@ -69,7 +69,7 @@ impl<'a> Draft<'a> {
         } = self;
         match set_jumps(&labels, jumps.as_slice(), insns.as_mut_slice()) {
             Ok(()) => Ok(insns),
-            Err(line) => Err(refusal(line, Cause::LabelMissing)),
+            Err(line) => Err(refusal(line, AssemblyCause::LabelMissing)),
         }
     }
 
@@ -91,10 +91,10 @@ impl<'a> Draft<'a> {
         ensures fault { IfErr result (RefusesLine self.old number (Label name.entry.now)) }
     {
         if !is_label(name) {
-            return Err(refusal(number, Cause::Word));
+            return Err(refusal(number, AssemblyCause::Word));
         }
         if self.labels.insert(name, self.slots)?.is_some() {
-            return Err(refusal(number, Cause::LabelTwice));
+            return Err(refusal(number, AssemblyCause::LabelTwice));
         }
         Ok(())
     }
@@ -114,7 +114,7 @@ impl<'a> Draft<'a> {
         };
         let next = self.slots + insn.slots();
         if next > SLOTS {
-            return Err(refusal(number, Cause::Slots));
+            return Err(refusal(number, AssemblyCause::Slots));
         }
         let index = self.insns.len();
         push_jump(

@@ -8,7 +8,7 @@ use std::fmt;
 
 /// What is wrong with a line. If a line has several causes, the first in this order counts.
 #[derive(Clone, Copy, Debug, PartialEq, Eq)]
-pub enum Cause {
+pub enum AssemblyCause {
     /// A1: the first word is unknown, there are too few or too many operands, an operand has not the form that its
     /// place wants, or a label is no valid name.
     Word,
@@ -22,17 +22,17 @@ pub enum Cause {
     Slots,
 }
 
-impl Cause {
+impl AssemblyCause {
     /// The number of the cause, as texts name it after the letter A.
     pub fn number(self) -> u8
         ensures { result ≡ assembly_cause_number self }
     {
         match self {
-            Cause::Word => 1,
-            Cause::Number => 2,
-            Cause::LabelTwice => 3,
-            Cause::LabelMissing => 4,
-            Cause::Slots => 5,
+            AssemblyCause::Word => 1,
+            AssemblyCause::Number => 2,
+            AssemblyCause::LabelTwice => 3,
+            AssemblyCause::LabelMissing => 4,
+            AssemblyCause::Slots => 5,
         }
     }
 }
@@ -43,7 +43,7 @@ pub enum AsmFault {
     /// The first line with a fault, counted from 1, and the least of its causes. Two faults come only if no line has a
     /// fault by itself: a text with no instruction is `Slots` at line 0; else the first jump whose label is set nowhere
     /// is `LabelMissing`.
-    At { line: usize, cause: Cause },
+    At { line: usize, cause: AssemblyCause },
     /// Memory ran out.
     OutOfMemory,
 }
@@ -69,7 +69,7 @@ impl fmt::Display for AsmFault {
 impl Error for AsmFault {}
 
 /// The fault with this line and cause.
-pub fn refusal(line: usize, cause: Cause) -> AsmFault
+pub fn refusal(line: usize, cause: AssemblyCause) -> AsmFault
     ensures { result ≡ AsmFault.At line cause }
 {
     AsmFault::At { line, cause }

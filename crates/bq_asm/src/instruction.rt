@@ -3,7 +3,7 @@ ghost use Rattle.std.specs.Prelude.{◌≡◌, [], ◌∷◌, length, Some, pos}
 ghost use Rattle.bq_asm.specs.Operands.{kinds_of, lesser, with_next, both_operands, listed_operands, each_operand, kind_list, word_texts, insn_from, instruction_of};
 ghost use Rattle.bq_asm.specs.Text.{list_of};
 
-use crate::fault::Cause;
+use crate::fault::AssemblyCause;
 use crate::mnemonic::Mnemonic;
 use crate::operand::{Operand, Operands};
 use crate::place::{OperandKind, operand_of};
@@ -21,11 +21,11 @@ pub enum Kinds {
 
 /// The instruction that a first word and its operands say, or the least cause why they say none. A label in the place
 /// of a target stands for the distance 0.
-pub fn instruction_of(first: &[u8], words: &[&[u8]]) -> Result<Insn, Cause>
+pub fn instruction_of(first: &[u8], words: &[&[u8]]) -> Result<Insn, AssemblyCause>
     ensures { result ≡ instruction_of first.now (word_texts words.now) (Some (pos 0)) }
 {
     let Some(mnemonic) = named(first) else {
-        return Err(Cause::Word);
+        return Err(AssemblyCause::Word);
     };
     let operands = match operands_of(kinds_of(mnemonic), words) {
         Ok(operands) => operands,
@@ -33,7 +33,7 @@ pub fn instruction_of(first: &[u8], words: &[&[u8]]) -> Result<Insn, Cause>
     };
     match insn_from(mnemonic, operands) {
         Some(insn) => Ok(insn),
-        None => Err(Cause::Word),
+        None => Err(AssemblyCause::Word),
     }
 }
 
@@ -66,16 +66,16 @@ pub fn kinds_of(mnemonic: Mnemonic) -> Kinds
 }
 
 /// The operands that the words write, or the least cause among them.
-fn operands_of(kinds: Kinds, words: &[&[u8]]) -> Result<Operands, Cause>
+fn operands_of(kinds: Kinds, words: &[&[u8]]) -> Result<Operands, AssemblyCause>
     ensures { listed_operands result ≡ each_operand (kind_list kinds) (word_texts words.now) (Some (pos 0)) }
 {
     if words.len() != count_of(kinds) {
-        return Err(Cause::Word);
+        return Err(AssemblyCause::Word);
     }
     each_of(kinds, words)
 }
 
-fn each_of(kinds: Kinds, words: &[&[u8]]) -> Result<Operands, Cause>
+fn each_of(kinds: Kinds, words: &[&[u8]]) -> Result<Operands, AssemblyCause>
     requires { length words.now ≡ length (kind_list kinds) }
     ensures { listed_operands result ≡ each_operand (kind_list kinds) (word_texts words.now) (Some (pos 0)) }
 {
@@ -103,13 +103,13 @@ fn count_of(kinds: Kinds) -> usize
     }
 }
 
-fn one_of(only: Result<Operand, Cause>) -> Result<Operands, Cause>
+fn one_of(only: Result<Operand, AssemblyCause>) -> Result<Operands, AssemblyCause>
     ensures { listed_operands result ≡ with_next only (Ok []) }
 {
     Ok(Operands::One(only?))
 }
 
-fn two_of(pair: Result<(Operand, Operand), Cause>) -> Result<Operands, Cause>
+fn two_of(pair: Result<(Operand, Operand), AssemblyCause>) -> Result<Operands, AssemblyCause>
     ensures { listed_operands result ≡ both_operands pair }
 {
     let (a, b) = pair?;
@@ -121,7 +121,7 @@ fn pair_of(
     first: OperandKind,
     second: OperandKind,
     words: &[&[u8]],
-) -> Result<(Operand, Operand), Cause>
+) -> Result<(Operand, Operand), AssemblyCause>
     requires { length words.now ≡ 2 }
     ensures { both_operands result ≡ each_operand (first ∷ second ∷ []) (word_texts words.now) (Some (pos 0)) }
 {
@@ -133,9 +133,9 @@ fn pair_of(
 }
 
 fn three_of(
-    first: Result<Operand, Cause>,
-    others: Result<(Operand, Operand), Cause>,
-) -> Result<Operands, Cause>
+    first: Result<Operand, AssemblyCause>,
+    others: Result<(Operand, Operand), AssemblyCause>,
+) -> Result<Operands, AssemblyCause>
     ensures { listed_operands result ≡ with_next first (both_operands others) }
 {
     match (first, others) {
@@ -145,12 +145,12 @@ fn three_of(
     }
 }
 
-fn lesser(a: Cause, b: Cause) -> Cause
+fn lesser(a: AssemblyCause, b: AssemblyCause) -> AssemblyCause
     ensures { result ≡ lesser a b }
 {
     match (a, b) {
-        (Cause::Word, _) | (_, Cause::Word) => Cause::Word,
-        (Cause::Number, _) | (_, Cause::Number) => Cause::Number,
+        (AssemblyCause::Word, _) | (_, AssemblyCause::Word) => AssemblyCause::Word,
+        (AssemblyCause::Number, _) | (_, AssemblyCause::Number) => AssemblyCause::Number,
         _ => a,
     }
 }

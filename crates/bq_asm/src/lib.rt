@@ -20,7 +20,7 @@ mod table;
 
 pub use assembler::assemble;
 pub use canonical::listing;
-pub use fault::{AsmFault, Cause};
+pub use fault::{AsmFault, AssemblyCause};
 pub use instruction_line::is_instruction_line;
 pub use mnemonic::Mnemonic;
 pub use table::{mnemonics, named};

@@ -2,7 +2,7 @@
 ghost use Rattle.std.specs.Prelude.{◌≡◌, option_map, position, Some, pos};
 ghost use Rattle.bq_asm.specs.Operands.{number_place, is_sign, inside, based, operand_of};
 
-use crate::fault::Cause;
+use crate::fault::AssemblyCause;
 use crate::line::is_label;
 use crate::number::{begins_number, distance_of, imm_of, offset_of, register_of, wide_of};
 use crate::operand::Operand;
@@ -27,7 +27,7 @@ pub enum OperandKind {
 }
 
 /// The operand of this kind that a word writes. Until all labels are known, a label stands for the distance 0.
-pub fn operand_of(kind: OperandKind, word: &[u8]) -> Result<Operand, Cause>
+pub fn operand_of(kind: OperandKind, word: &[u8]) -> Result<Operand, AssemblyCause>
     ensures { result ≡ operand_of kind word.now (Some (pos 0)) }
 {
     match kind {
@@ -51,30 +51,30 @@ pub fn operand_of(kind: OperandKind, word: &[u8]) -> Result<Operand, Cause>
     }
 }
 
-fn number_place(value: Option<Operand>, word: &[u8]) -> Result<Operand, Cause>
+fn number_place(value: Option<Operand>, word: &[u8]) -> Result<Operand, AssemblyCause>
     ensures { result ≡ number_place value word.now }
 {
     match value {
         Some(operand) => Ok(operand),
         None => {
             if begins_number(word) {
-                return Err(Cause::Number);
+                return Err(AssemblyCause::Number);
             }
-            Err(Cause::Word)
+            Err(AssemblyCause::Word)
         }
     }
 }
 
-fn register_place(word: &[u8]) -> Result<Operand, Cause>
+fn register_place(word: &[u8]) -> Result<Operand, AssemblyCause>
     ensures { result ≡ operand_of OperandKind.Register word.now (Some (pos 0)) }
 {
     match register_of(word) {
         Some(register) => Ok(Operand::Register(register)),
-        None => Err(Cause::Word),
+        None => Err(AssemblyCause::Word),
     }
 }
 
-fn source_place(word: &[u8]) -> Result<Operand, Cause>
+fn source_place(word: &[u8]) -> Result<Operand, AssemblyCause>
     ensures { result ≡ operand_of OperandKind.Source word.now (Some (pos 0)) }
 {
     match register_of(word) {
@@ -83,11 +83,11 @@ fn source_place(word: &[u8]) -> Result<Operand, Cause>
     }
 }
 
-fn memory_place(word: &[u8]) -> Result<Operand, Cause>
+fn memory_place(word: &[u8]) -> Result<Operand, AssemblyCause>
     ensures { result ≡ operand_of OperandKind.Memory word.now (Some (pos 0)) }
 {
     let Some(inner) = inside(word) else {
-        return Err(Cause::Word);
+        return Err(AssemblyCause::Word);
     };
     match first_sign(inner) {
         None => based(register_of(inner), b"".as_slice()),
@@ -116,11 +116,11 @@ fn is_sign(byte: u8) -> bool
     byte == b'+' || byte == b'-'
 }
 
-fn based(register: Option<u8>, rest: &[u8]) -> Result<Operand, Cause>
+fn based(register: Option<u8>, rest: &[u8]) -> Result<Operand, AssemblyCause>
     ensures { result ≡ based register rest.now }
 {
     let Some(base) = register else {
-        return Err(Cause::Word);
+        return Err(AssemblyCause::Word);
     };
     if rest.is_empty() {
         return Ok(Operand::Memory { base, offset: 0 });

@@ -6,7 +6,7 @@ use Rattle.bq_disc.specs.Tasks.{Task}
 use Rattle.bq_disc.specs.Orders.{Contains-later}
 use Rattle.bq_disc.specs.Totals.{total_weight}
 use Rattle.bq_disc.specs.OneProcessor.{Running, present_at, reading, charge, rise}
-use Rattle.bq_disc.proofs.SetLemmas.{with_id-Contains}
+use Rattle.bq_disc.proofs.SetLemmas.{find_task-Contains}
 use Rattle.bq_cfs.specs.Spread.{AreTasksSound}
 use Rattle.bq_eevdf.specs.Eevdf.{eevdf}
 use Rattle.bq_fairness.specs.Steps.{ProcessorStep, Pass, Decide, Enter, Leave, Mark, stepped, after_steps, DecidesWithin, EntersNew}
@@ -115,7 +115,7 @@ most_keeps p ss sound k =
     let formed = formed_after p ss (well_formed p sound) k in
     let within = decides_within p ss start 0 s.most refl (omega arith) (omega arith) k (omega arith) in
     most_within (lag_by s (mean_at xs) (length xs) (total_weight xs)) xs (λ t c.
-    let there = with_id-Contains xs t c.0 formed.distinct c.1 c.2 in
+    let there = find_task-Contains xs t c.0 formed.distinct c.1 c.2 in
     lag_bound s start.ahead (mean_at xs) (length xs) (total_weight xs) t (ahead_stays p ss start)
     (eevdf_owes_within s.most p ss t.id t sound k within there))
 

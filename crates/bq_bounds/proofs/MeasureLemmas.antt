@@ -3,11 +3,11 @@ use Rattle.std.proofs.Common.{◌≡◌, ℕ, ◌+◌, ◌-◌, ◌^◌, ◌≤�
 use Rattle.std.specs.Prelude.{Contains, IfSome}
 use Rattle.std.specs.Option.{option_map}
 use Rattle.bq_weights.specs.VirtualTime.{IsWeight, vdelta_of, advance_of}
-use Rattle.bq_disc.specs.Tasks.{Task, with_id, present}
+use Rattle.bq_disc.specs.Tasks.{Task, find_task, present}
 use Rattle.bq_disc.specs.Queues.{HasDistinctIds}
 use Rattle.bq_disc.specs.Discipline.{Discipline, charged}
 use Rattle.bq_disc.specs.OneProcessor.{Running, present_at, reading, charge, own_preempt, rise}
-use Rattle.bq_disc.proofs.SetLemmas.{with_id-Contains}
+use Rattle.bq_disc.proofs.SetLemmas.{find_task-Contains}
 use Rattle.bq_cfs.specs.Cfs.{cfs}
 use Rattle.bq_cfs.specs.Spread.{AreTasksSound}
 use Rattle.bq_eevdf.specs.Eevdf.{eevdf}
@@ -76,9 +76,9 @@ stands_by : (o : Option Task) (queue : List Task) (s : RunningTask)
 stands_by None queue s h = absurd h
 stands_by (Some t) queue s h = (t, refl, record { v = h.0; weight = h.1; least = h.2 })
 
-waits_by : (q : List Task) (o : Option Task) (b : Task) → HasDistinctIds (present o q) → Contains q b → with_id b.id (present o q) ≡ Some b
-waits_by q None b d c = with_id-Contains q b c.0 d c.1 c.2
-waits_by q (Some a) b d c = with_id-Contains (a ∷ q) b (suc c.0) d (let k = c.1 in omega arith) c.2
+waits_by : (q : List Task) (o : Option Task) (b : Task) → HasDistinctIds (present o q) → Contains q b → find_task b.id (present o q) ≡ Some b
+waits_by q None b d c = find_task-Contains q b c.0 d c.1 c.2
+waits_by q (Some a) b d c = find_task-Contains (a ∷ q) b (suc c.0) d (let k = c.1 in omega arith) c.2
 
 -- what is known of it: when the discipline had decided it ran, as a task of a sound processor, and it runs once it is charged
 record Runs (d : Discipline) (p : Running) (nows : List ℕ) (now : ℕ) (s : RunningTask) : Type 0 where

@@ -9,7 +9,7 @@ use Rattle.bq_disc.specs.Totals.{total_weight, weighted_sum}
 use Rattle.bq_disc.specs.Discipline.{charged}
 use Rattle.bq_disc.specs.OneProcessor.{Running, present_at, reading}
 use Rattle.bq_cfs.specs.Cfs.{cfs}
-use Rattle.bq_cfs.proofs.MoveLemmas.{each-with_id}
+use Rattle.bq_cfs.proofs.MoveLemmas.{each-find_task}
 use Rattle.bq_cfs.proofs.SpreadStayLemmas.{busy_processor}
 use Rattle.bq_eevdf.specs.Eevdf.{eevdf, is_eligible}
 use Rattle.bq_fairness.specs.Steps.{Decide, Pass, stepped, after_steps}
@@ -27,7 +27,7 @@ cfs_stays_near p nows j a b u distinct weight decides there runs =
     let rest = ran_at cfs q a nows decides weight.0 in
     let same : u ≡ rest.task = same_Some u rest.task (sym runs ∙ rest.runs) in
     let near = of_some (IsNearEach (present_at p)) q.current a (runs_near_each p distinct) decides in
-    let le = of_some (λ t. a.v ≤ t.v + 1000000) _ b (each-with_id (λ t. a.v ≤ t.v + 1000000) j (present_at p) near) there in
+    let le = of_some (λ t. a.v ≤ t.v + 1000000) _ b (each-find_task (λ t. a.v ≤ t.v + 1000000) j (present_at p) near) there in
     let up = rest.v in
     (ap (λ (t : Task). t.weight) same ∙ rest.weight, omega (arith, ap (λ (t : Task). t.v) same))
 

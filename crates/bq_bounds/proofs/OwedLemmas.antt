@@ -7,7 +7,7 @@ use Rattle.std.proofs.lemmas.Nat.{le-div}
 use Rattle.std.proofs.Math.Nat.{div-mul-le_self, mul-le-mul_left}
 use Rattle.std.proofs.lemmas.Option.{same_Some}
 use Rattle.bq_weights.specs.VirtualTime.{vdelta_of}
-use Rattle.bq_disc.specs.Tasks.{Task, with_id, without}
+use Rattle.bq_disc.specs.Tasks.{Task, find_task, without}
 use Rattle.bq_disc.specs.Totals.{total_weight, weighted_sum}
 use Rattle.bq_disc.specs.Discipline.{charged}
 use Rattle.bq_disc.specs.OneProcessor.{Running, present_at, reading, charge, own_preempt, ticked, rise}
@@ -227,7 +227,7 @@ behind_by W M w v a r m o false e pos split law =
     let whole = numbers W M w v (M / W) g a r m o x split mean (omega arith) lag law in
     within_by x (m * r) (1024 * W) (o * a * W + 1024 * r * w) (leb x (m * r)) refl (omega arith) whole
 
-mean_is : (j : ℕ) (xs : List Task) (b : Task) → with_id j xs ≡ Some b → mean_at xs ≡ weighted_sum xs / total_weight xs
+mean_is : (j : ℕ) (xs : List Task) (b : Task) → find_task j xs ≡ Some b → mean_at xs ≡ weighted_sum xs / total_weight xs
 mean_is j [] b f = cc
 mean_is j (t ∷ xs) b f = refl
 

@@ -50,17 +50,17 @@ macro_rules! with_helpers {
 /// the answer.
 #[derive(Clone, Copy)]
 pub enum Helper {
-    /// Answers the address of an entry of a map, or 0 if there is no such entry.
+    /// Returns the address of an entry of a map, or 0 if there is no such entry.
     Lookup,
-    /// Writes a value into an entry; the answer is 0, or 2^64 - 1 if there is no such entry.
+    /// Writes a value into an entry; returns 0, or 2^64 - 1 if there is no such entry.
     Update,
-    /// Answers the time, in nanoseconds.
+    /// Returns the time, in nanoseconds.
     Now,
-    /// Answers the number of the processor.
+    /// Returns the number of the processor.
     Processor,
-    /// Adds to a counter that all processors share, and answers what the counter was before.
+    /// Adds to a counter that all processors share, and returns what the counter was before.
     AddCounter,
-    /// Answers the value of a counter that all processors share.
+    /// Returns the value of a counter that all processors share.
     ReadCounter,
 }
 

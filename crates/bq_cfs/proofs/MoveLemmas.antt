@@ -3,9 +3,9 @@ use Rattle.std.proofs.Common.{◌≡◌, ℕ, Bool, true, false, cond, eqb, List
 use Rattle.std.specs.Prelude.{IfSome}
 use Rattle.std.specs.List.{AllByRecursion}
 use Rattle.std.proofs.lemmas.Bool.Decides.{nat_tests}
-use Rattle.bq_disc.specs.Tasks.{Task, with_id, without, place, runs_before}
+use Rattle.bq_disc.specs.Tasks.{Task, find_task, without, inserted, runs_before}
 use Rattle.bq_disc.specs.Queues.{HasDistinctIds}
-use Rattle.bq_disc.proofs.QueueLemmas.{HasDistinctIds-place, HasDistinctIds-without, with_id-place_other, with_id-without, with_id-without_same}
+use Rattle.bq_disc.proofs.QueueLemmas.{HasDistinctIds-inserted, HasDistinctIds-without, find_task-inserted_other, find_task-without, find_task-without_same}
 
 -- of the tasks but one
 pub each-without : (P : Task → Type 0) (i : ℕ) (xs : List Task) → AllByRecursion P xs → AllByRecursion P (without i xs)
@@ -17,12 +17,12 @@ each-without P i (x ∷ xs) h =
     ]
 
 -- of the tasks and one more
-pub each-place : (P : Task → Type 0) (t : Task) (xs : List Task) → P t → AllByRecursion P xs → AllByRecursion P (place t xs)
-each-place P t [] p h = (p, tt)
-each-place P t (x ∷ xs) p h =
-    elim (runs_before t x) as (λ b. AllByRecursion P (cond b (t ∷ x ∷ xs) (x ∷ place t xs))) [
+pub each-inserted : (P : Task → Type 0) (t : Task) (xs : List Task) → P t → AllByRecursion P xs → AllByRecursion P (inserted t xs)
+each-inserted P t [] p h = (p, tt)
+each-inserted P t (x ∷ xs) p h =
+    elim (runs_before t x) as (λ b. AllByRecursion P (cond b (t ∷ x ∷ xs) (x ∷ inserted t xs))) [
       | true ↦ (p, h)
-      | false ↦ (h.0, each-place P t xs p h.1)
+      | false ↦ (h.0, each-inserted P t xs p h.1)
     ]
 
 found_by_test : (P : Task → Type 0) (b : Bool) (x : Task) (o : Option Task) → P x → IfSome o P → IfSome (cond b (Some x) o) P
@@ -30,28 +30,28 @@ found_by_test P true x o p h = p
 found_by_test P false x o p h = h
 
 -- of the task that is found
-pub each-with_id : (P : Task → Type 0) (i : ℕ) (xs : List Task) → AllByRecursion P xs → IfSome (with_id i xs) P
-each-with_id P i [] h = tt
-each-with_id P i (x ∷ xs) h = found_by_test P (eqb x.id i) x (with_id i xs) h.0 (each-with_id P i xs h.1)
+pub each-find_task : (P : Task → Type 0) (i : ℕ) (xs : List Task) → AllByRecursion P xs → IfSome (find_task i xs) P
+each-find_task P i [] h = tt
+each-find_task P i (x ∷ xs) h = found_by_test P (eqb x.id i) x (find_task i xs) h.0 (each-find_task P i xs h.1)
 
 -- a task of the queue runs, where none did
 pub distinct-started : (m : Task) (q : List Task) → HasDistinctIds q → HasDistinctIds (m ∷ without m.id q)
-distinct-started m q d = (with_id-without_same m.id q d, HasDistinctIds-without m.id q d)
+distinct-started m q d = (find_task-without_same m.id q d, HasDistinctIds-without m.id q d)
 
-another : (u m : Task) (q : List Task) (b : Bool) → eqb u.id m.id ≡ b → with_id u.id q ≡ None → with_id m.id q ≡ Some m
+another : (u m : Task) (q : List Task) (b : Bool) → eqb u.id m.id ≡ b → find_task u.id q ≡ None → find_task m.id q ≡ Some m
     → eqb u.id m.id ≡ false
 another u m q true e n s =
     let same : u.id ≡ m.id = grind (arith, nat_tests) in
-    let found = ap (λ i. with_id i q) same in
+    let found = ap (λ i. find_task i q) same in
     cc
 another u m q false e n s = e
 
 -- a task of the queue and the current one change places
-pub distinct-exchanged : (u m : Task) (q : List Task) → with_id m.id q ≡ Some m → HasDistinctIds (u ∷ q)
-    → HasDistinctIds (m ∷ place u (without m.id q))
+pub distinct-exchanged : (u m : Task) (q : List Task) → find_task m.id q ≡ Some m → HasDistinctIds (u ∷ q)
+    → HasDistinctIds (m ∷ inserted u (without m.id q))
 distinct-exchanged u m q s d =
     let rest = without m.id q in
     let apart = another u m q (eqb u.id m.id) refl d.0 s in (
-      with_id-place_other m.id u rest apart ∙ with_id-without_same m.id q d.1,
-      HasDistinctIds-place u rest (with_id-without u.id m.id q d.0) (HasDistinctIds-without m.id q d.1),
+      find_task-inserted_other m.id u rest apart ∙ find_task-without_same m.id q d.1,
+      HasDistinctIds-inserted u rest (find_task-without u.id m.id q d.0) (HasDistinctIds-without m.id q d.1),
     )

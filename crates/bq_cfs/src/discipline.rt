@@ -1,4 +1,4 @@
-//! CFS as a rule over any timeline.
+//! The CFS discipline.
 ghost use Rattle.std.specs.Prelude.{◌≡◌, ◌≤◌, ◌^◌, List, IfSome};
 ghost use Rattle.std.specs.Option.{option_map};
 ghost use Rattle.bq_disc.specs.Tasks.{Task, present};
@@ -7,7 +7,7 @@ ghost use Rattle.bq_disc.specs.Chains.{task_of};
 ghost use Rattle.bq_cfs.specs.Cfs.{cfs, least};
 ghost use Rattle.bq_cfs.specs.Lawful.{cfs_lawful};
 
-use bq_disc::{Discipline, Node, RuledQueue, Timeline};
+use bq_disc::{Discipline, Node, RuledQueue, TaskOrder};
 use bq_tree::{NoSums, Tree};
 
 /// The current task gives way to one that is more than this behind it, in virtual nanoseconds (sched-design-CFS.rst).
@@ -44,21 +44,21 @@ fn first(current: Option<&Node>, queue: Option<(u64, u16)>) -> Option<(u64, u16)
 impl Discipline for Cfs {
     ghost discipline = { cfs };
 
-    fn choice<T: Timeline>(current: Option<&Node>, queue: &T) -> Option<u16> {
+    fn choice<T: TaskOrder>(current: Option<&Node>, queue: &T) -> Option<u16> {
         match first(current, queue.least()) {
             None => None,
             Some(least) => Some(least.1),
         }
     }
 
-    fn wants_preempt<T: Timeline>(current: &Node, queue: &T) -> bool {
+    fn wants_preempt<T: TaskOrder>(current: &Node, queue: &T) -> bool {
         match queue.least() {
             None => false,
             Some(least) => least.0 + GRANULARITY < current.entity.v(),
         }
     }
 
-    fn mark<T: Timeline>(old: u64, current: Option<&Node>, queue: &T) -> u64 {
+    fn mark<T: TaskOrder>(old: u64, current: Option<&Node>, queue: &T) -> u64 {
         match first(current, queue.least()) {
             None => old,
             Some(least) => old.max(least.0),

@@ -14,7 +14,9 @@ use bq_console::{
 };
 use bq_explain::{Limits, explain, explanation_text};
 use bq_hooks::Version;
-use bq_import::{ImportFault, ImportRefusal, ImportSettings, ImportedText, Reason, imported_text};
+use bq_import::{
+    ImportFault, ImportRefusal, ImportSettings, ImportedText, SlotReason, imported_text,
+};
 use bq_object::{SourceLine, is_object, others, source_lines};
 use bq_policy_check::{PolicyWords, given_head};
 use bq_policy_file::{Head, read_policy};
@@ -115,7 +117,10 @@ fn import_bytes(rt: &HostRuntime, name: &str, settings: &ImportSettings, bytes: 
 /// Whether the program is refused for the number of its bytes.
 fn is_of_wrong_length(refusal: &ImportRefusal) -> bool {
     match refusal {
-        ImportRefusal::Import(ImportFault::At { reason, .. }) => matches!(reason, Reason::Length),
+        ImportRefusal::Import(ImportFault::At { reason, .. }) => matches!(
+            reason,
+            SlotReason::Length
+        ),
         _ => false,
     }
 }

@@ -11,7 +11,7 @@ use bq_load::LoadFault;
 use bq_policy_file::{Head, fault_text, read_policy};
 use bq_words::Rule;
 use bq_workload::Workload;
-use bq_workload_file::{Changes, Fault, read};
+use bq_workload_file::{Changes, WorkloadFault, read};
 use std::io::{Error, ErrorKind};
 use std::process::ExitCode;
 use std::str::from_utf8;
@@ -51,7 +51,7 @@ pub(crate) fn workload(
     };
     match read(rt.alloc(), text, changes) {
         Ok(workload) => Ok(workload),
-        Err(Fault::OutOfMemory) => Err(report_out_of_memory(rt)),
+        Err(WorkloadFault::OutOfMemory) => Err(report_out_of_memory(rt)),
         Err(fault) => match foreign_text(bytes.as_slice()) {
             Some(what) => Err(report_no_workload(rt, name, what)),
             None => {

@@ -4,7 +4,7 @@ use Rattle.std.specs.Fmt.{decimal}
 use Rattle.std.specs.Str.{IsUtf8}
 use Rattle.bq_insn.specs.Appending.{StartsWith}
 use Rattle.bq_insn.specs.declared.Insn.{Insn}
-use Rattle.bq_asm.specs.declared.fault.Cause.{Cause}
+use Rattle.bq_asm.specs.declared.fault.AssemblyCause.{AssemblyCause}
 use Rattle.bq_asm.specs.Lines.{lines_of}
 use Rattle.bq_asm.specs.Assembly.{Assembles}
 use Rattle.bq_asm.specs.Faults.{FaultyLines}
@@ -25,6 +25,6 @@ line_words line = if line == 0 then codes "the text has no instruction" else cod
 -- what is said of a text begins with the line of its fault
 pub record NamesLine (text reported : List ℕ) : Type 0 where
   pub line : ℕ
-  pub cause : Cause
+  pub cause : AssemblyCause
   pub fault : FaultyLines (lines_of text) line cause
   pub begins : StartsWith (line_words line) reported

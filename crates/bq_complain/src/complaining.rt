@@ -6,7 +6,7 @@ ghost use Rattle.bq_complain.specs.Complaints.{ComplainsOf, NamesLine, line_word
 
 use crate::line_reason::line_reason;
 use crate::text_kind::{TextKind, kind_of_text};
-use bq_asm::{AsmFault, Cause, assemble};
+use bq_asm::{AsmFault, AssemblyCause, assemble};
 use std::alloc::{AllocError, Global};
 
 /// One line on what is wrong with the text, by the number of the line at fault; None exactly if the assembler takes it.
@@ -29,7 +29,7 @@ fn line_complaint(
     alloc: Global,
     text: &str,
     number: usize,
-    cause: Cause,
+    cause: AssemblyCause,
 ) -> Result<String, AllocError>
     ensures { IfOk result (λ reported. StartsWith (line_words number) (string_bytes reported)) }
 {
@@ -45,7 +45,7 @@ pub fn assembly_words(
     alloc: Global,
     text: &str,
     number: usize,
-    cause: Cause,
+    cause: AssemblyCause,
 ) -> Result<String, AllocError> {
     if number == 0 {
         return String::from_str(alloc, "the text has no instruction");
@@ -66,7 +66,12 @@ fn line_numbered(text: &str, number: usize) -> &str {
 }
 
 /// Says why the assembler refuses the line of that number. If the text is not the assembler's, says what it is.
-fn reason(alloc: Global, text: &str, number: usize, cause: Cause) -> Result<String, AllocError> {
+fn reason(
+    alloc: Global,
+    text: &str,
+    number: usize,
+    cause: AssemblyCause,
+) -> Result<String, AllocError> {
     match foreign_text(text) {
         Some(what) => String::from_str(alloc, what),
         None => line_reason(alloc, line_numbered(text, number), cause),

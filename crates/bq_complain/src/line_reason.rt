@@ -2,31 +2,35 @@
 use crate::forms::form_of;
 use crate::number_reason::number_reason;
 use crate::vocabulary::nearest;
-use bq_asm::{Cause, named};
+use bq_asm::{AssemblyCause, named};
 use bq_console::Quoted;
 use bq_insn::SLOTS;
 use std::alloc::{AllocError, Global};
 
 /// Why the assembler refuses the line, for that cause.
-pub(crate) fn line_reason(alloc: Global, line: &str, cause: Cause) -> Result<String, AllocError> {
+pub(crate) fn line_reason(
+    alloc: Global,
+    line: &str,
+    cause: AssemblyCause,
+) -> Result<String, AllocError> {
     let shown = with_nul_shown(alloc, line)?;
     let line = shown.as_str();
     match cause {
-        Cause::Word => word_reason(alloc, line),
-        Cause::Number => number_reason(alloc, without_comment(line).trim()),
-        Cause::LabelTwice => {
+        AssemblyCause::Word => word_reason(alloc, line),
+        AssemblyCause::Number => number_reason(alloc, without_comment(line).trim()),
+        AssemblyCause::LabelTwice => {
             let written = Quoted(without_comment(line).trim());
             format!(in alloc;
                 "the label \"{written}\" was set before; one of them wants another name"
             )
         }
-        Cause::LabelMissing => {
+        AssemblyCause::LabelMissing => {
             let written = Quoted(without_comment(line).trim());
             format!(in alloc;
                 "\"{written}\" jumps to a label that is set nowhere; a label is set by a line of its own, as end:"
             )
         }
-        Cause::Slots => format!(in alloc; "the program has more than {SLOTS} slots"),
+        AssemblyCause::Slots => format!(in alloc; "the program has more than {SLOTS} slots"),
     }
 }
 

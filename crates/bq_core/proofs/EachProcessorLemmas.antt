@@ -1,11 +1,11 @@
 -- What each event keeps of every processor: its queue rises, and whatever stands at its hooks may stand there.
 use Rattle.std.proofs.Common.{◌≡◌, ℕ, zero, suc, Bool, true, false, List, [], ◌∷◌, Option, Some, None, refl, sym, subst, get_or, set}
 use Rattle.std.specs.Prelude.{◌==◌}
-use Rattle.bq_disc.specs.Tasks.{Task, with_id, without, place, id_of}
+use Rattle.bq_disc.specs.Tasks.{Task, find_task, without, inserted, id_of}
 use Rattle.bq_disc.specs.Rising.{IsRising}
 use Rattle.bq_disc.specs.Discipline.{Discipline, woken, pulled, next_of}
 use Rattle.bq_disc.specs.OneProcessor.{Running, run_id, choice_started, exchanged, switched, decided, entered}
-use Rattle.bq_disc.proofs.RisingLemmas.{IsRising-place, IsRising-without}
+use Rattle.bq_disc.proofs.RisingLemmas.{IsRising-inserted, IsRising-without}
 use Rattle.bq_bpf.specs.declared.board.CounterCall.{CounterCall}
 use Rattle.bq_hooks.specs.declared.hook.Hook.{Hook}
 use Rattle.bq_hooks.specs.declared.hook.Hook.TheVariants.{Place, Preempt, Pull}
@@ -21,7 +21,7 @@ use Rattle.bq_parts.specs.Processors.{Processor, new_processor}
 use Rattle.bq_parts.specs.World.{World, processor_at, inbox, with_processor}
 use Rattle.bq_parts.specs.Choices.{PolicySemantics, SettledChoice, SettlesBy, SettlesPreempt, decided_by}
 use Rattle.bq_parts.specs.Moves.{taken_from, without_task, with_pulled, started_if_idle}
-use Rattle.bq_parts.specs.Shares.{after_time, remarked, Decides}
+use Rattle.bq_parts.specs.Shares.{after_time, mark_updated, Decides}
 use Rattle.bq_parts.specs.Steps.{Performs}
 
 -- a processor's queue rises, and whatever stands at its hooks may stand there
@@ -63,11 +63,11 @@ rising_run p (Some id) h = IsRising-without id p.queue h
 
 rising_exchanged : (p : Running) (old : Task) (o : Option Task) → IsRising p.queue → IsRising (exchanged p old o).queue
 rising_exchanged p old None h = h
-rising_exchanged p old (Some new) h = IsRising-place old (without new.id p.queue) (IsRising-without new.id p.queue h)
+rising_exchanged p old (Some new) h = IsRising-inserted old (without new.id p.queue) (IsRising-without new.id p.queue h)
 
 rising_switched : (d : Discipline) (p : Running) (o : Option Task) → IsRising p.queue → IsRising (switched d p o).queue
 rising_switched d p None h = h
-rising_switched d p (Some t) h = rising_exchanged p t (with_id (next_of d t p.queue) p.queue) h
+rising_switched d p (Some t) h = rising_exchanged p t (find_task (next_of d t p.queue) p.queue) h
 
 rising_start : (d : Discipline) (p : Running) → IsRising p.queue → IsRising (choice_started d p).queue
 rising_start d p h = rising_run p (id_of (d.choice p.queue)) h
@@ -78,14 +78,14 @@ rising_decided d p None b h = rising_start d p h
 rising_decided d p (Some t) true h = rising_switched d p (Some t) h
 rising_decided d p (Some t) false h = h
 
-rising_entered : (d : Discipline) (kept : ℕ) (queue tasks : List Task) → IsRising queue → IsRising (entered d kept queue tasks)
-rising_entered d kept queue [] h = h
-rising_entered d kept queue (t ∷ tasks) h =
-    rising_entered d kept (place (woken d kept t) queue) tasks (IsRising-place (woken d kept t) queue h)
+rising_entered : (d : Discipline) (mark : ℕ) (queue tasks : List Task) → IsRising queue → IsRising (entered d mark queue tasks)
+rising_entered d mark queue [] h = h
+rising_entered d mark queue (t ∷ tasks) h =
+    rising_entered d mark (inserted (woken d mark t) queue) tasks (IsRising-inserted (woken d mark t) queue h)
 
 rising_pulled : (d : Discipline) (p : Running) (o : Option Task) → IsRising p.queue → IsRising (with_pulled d p o).queue
 rising_pulled d p None h = h
-rising_pulled d p (Some t) h = IsRising-place (pulled d p.kept t) p.queue h
+rising_pulled d p (Some t) h = IsRising-inserted (pulled d p.mark t) p.queue h
 
 rising_started : (d : Discipline) (p : Running) (o : Option Task) → IsRising p.queue → IsRising (started_if_idle d p o).queue
 rising_started d p None h = rising_start d p h
@@ -175,7 +175,7 @@ performs_well s w (event.Drain processor now) calls r w' all k =
     let c = after_time s.discipline now (processor_at w processor) in
     let well = all processor in
     let q = decides_well s processor _ k.1.0 k.0 k.1.1 (record {
-      rising = rising_entered s.discipline c.running.kept c.running.queue (inbox w processor) well.rising;
+      rising = rising_entered s.discipline c.running.mark c.running.queue (inbox w processor) well.rising;
       ready = well.ready;
     }) in
     rw k.2 (well_at w processor k.0 all q)
@@ -193,7 +193,7 @@ performs_well s w (event.Pull processor from now) calls r w' all k =
     let c = after_time d now (processor_at w processor) in
     let other = processor_at w from in
     let x = k.2 in
-    let source : Running = (remarked d other).running in
+    let source : Running = (mark_updated d other).running in
     let task = task_numbered x.settled.choice in
     let taken = taken_from source task in
     let well = all processor in

@@ -3,7 +3,7 @@ use Rattle.std.proofs.Common.{◌≡◌, ◌≢◌, ℕ, ◌+◌, ◌<◌, true,
 use Rattle.std.specs.Prelude.{◌==◌, is_some}
 use Rattle.std.specs.Option.{option_map, option_to_list}
 use Rattle.std.proofs.lemmas.List.{get_or-set_other, set_comm}
-use Rattle.bq_disc.specs.Tasks.{Task, with_id}
+use Rattle.bq_disc.specs.Tasks.{Task, find_task}
 use Rattle.bq_disc.specs.Discipline.{Discipline, left_at}
 use Rattle.bq_disc.specs.OneProcessor.{Running, present_at, charge, marked, enter_all}
 use Rattle.bq_parts.specs.declared.carried.Carried.{Carried}
@@ -159,14 +159,14 @@ block_tidy d count w processor now t y l e =
     enters_lobby count (with_processor w processor q) t (as_it_leaves p.running processor t) free refl fits.place
 
 taken_by_cases : (count processor from id : ℕ) (p : Running) (o : Option Task)
-    → tally (unsuited count from) (present_at p) ≡ 0 → is_movable_to processor id p.queue ≡ true → with_id id p.queue ≡ o
-    → tally (unsuited count processor) (option_to_list (option_map (left_at p.kept) o)) ≡ 0
+    → tally (unsuited count from) (present_at p) ≡ 0 → is_movable_to processor id p.queue ≡ true → find_task id p.queue ≡ o
+    → tally (unsuited count processor) (option_to_list (option_map (left_at p.mark) o)) ≡ 0
 taken_by_cases count processor from id p None fit may e = refl
 taken_by_cases count processor from id p (Some t) fit may e =
     let left =
     suits_of count from t
     (omega (arith, fit, tally-present (unsuited count from) p.current [] p.queue, tally-without (unsuited count from) id p.queue t e)) in
-    omega (arith, of_suits count processor (left_at p.kept t) (may_go processor id p.queue t may e) left.place)
+    omega (arith, of_suits count processor (left_at p.mark t) (may_go processor id p.queue t may e) left.place)
 
 -- a task that is pulled fits where it goes
 taken_fits : (count processor from n : ℕ) (p : Running) (task : Option ℕ)
@@ -174,7 +174,7 @@ taken_fits : (count processor from n : ℕ) (p : Running) (task : Option ℕ)
     → tally (unsuited count processor) (option_to_list (taken_from p task)) ≡ 0
 taken_fits count processor from n p None fit may e = refl
 taken_fits count processor from n p (Some id) fit may e =
-    taken_by_cases count processor from id p (with_id id p.queue) fit (may_pull_names processor p.queue n id may e) refl
+    taken_by_cases count processor from id p (find_task id p.queue) fit (may_pull_names processor p.queue n id may e) refl
 
 -- a task goes from another processor's queue to this one's
 pub pull_tidy : (d : Discipline) (count : ℕ) (w : World) (processor from now n : ℕ) (task : Option ℕ) (hooks : Attachments)

@@ -1,12 +1,12 @@
 -- What a task that goes from one processor to another leaves of every tally.
 use Rattle.std.proofs.Common.{◌≡◌, ℕ, ◌+◌, Option, Some, None, [], ◌∷◌, refl, ap, ◌∙◌, arith}
 use Rattle.std.specs.Option.{option_map, option_to_list}
-use Rattle.bq_disc.specs.Tasks.{Task, with_id, without, place, present}
+use Rattle.bq_disc.specs.Tasks.{Task, find_task, without, inserted, present}
 use Rattle.bq_disc.specs.Discipline.{Discipline, pulled, left_at}
 use Rattle.bq_disc.specs.OneProcessor.{Running, present_at}
 use Rattle.bq_disc.proofs.QueueLemmas.{without-absent}
 use Rattle.bq_parts.specs.Moves.{after_leaving, taken_from, without_task, with_pulled, started_if_idle}
-use Rattle.bq_parts.proofs.TallyLemmas.{tally, worth, tally-place, tally-without, tally-present, tally-start}
+use Rattle.bq_parts.proofs.TallyLemmas.{tally, worth, tally-inserted, tally-without, tally-present, tally-start}
 
 -- the task that leaves and those that stay are those that were there
 pub tally-after_leaving : (g : ℕ → ℕ → ℕ) (d : Discipline) (p : Running) (t : Task)
@@ -18,8 +18,8 @@ tally-after_leaving g d p t e =
     omega (arith, was, tally-start g d rest refl)
 
 taken_by_case : (g : ℕ → ℕ → ℕ) (id : ℕ) (p : Running) (o : Option Task)
-    → with_id id p.queue ≡ o
-    → tally g (without id p.queue) + tally g (option_to_list (option_map (left_at p.kept) o)) ≡ tally g p.queue
+    → find_task id p.queue ≡ o
+    → tally g (without id p.queue) + tally g (option_to_list (option_map (left_at p.mark) o)) ≡ tally g p.queue
 taken_by_case g id p None e = omega (arith, ap (λ xs. tally g xs) (without-absent id p.queue e))
 taken_by_case g id p (Some t) e = omega (arith, tally-without g id p.queue t e)
 
@@ -28,14 +28,14 @@ pub tally-without_task : (g : ℕ → ℕ → ℕ) (p : Running) (task : Option 
     → tally g (present_at (without_task p task)) + tally g (option_to_list (taken_from p task)) ≡ tally g (present_at p)
 tally-without_task g p None = omega arith
 tally-without_task g p (Some id) =
-    omega (arith, taken_by_case g id p (with_id id p.queue) refl, tally-present g p.current p.queue (without id p.queue))
+    omega (arith, taken_by_case g id p (find_task id p.queue) refl, tally-present g p.current p.queue (without id p.queue))
 
 -- the task that enters comes to those that were there
 pub tally-with_pulled : (g : ℕ → ℕ → ℕ) (d : Discipline) (p : Running) (o : Option Task)
     → tally g (present_at (with_pulled d p o)) ≡ tally g (present_at p) + tally g (option_to_list o)
 tally-with_pulled g d p None = omega arith
 tally-with_pulled g d p (Some t) =
-    omega (arith, tally-place g (pulled d p.kept t) p.queue, tally-present g p.current p.queue (place (pulled d p.kept t) p.queue))
+    omega (arith, tally-inserted g (pulled d p.mark t) p.queue, tally-present g p.current p.queue (inserted (pulled d p.mark t) p.queue))
 
 -- a task that enters doesn't run
 current_kept : (d : Discipline) (p : Running) (o : Option Task) → (with_pulled d p o).current ≡ p.current

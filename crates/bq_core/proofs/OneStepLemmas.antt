@@ -31,7 +31,7 @@ use Rattle.bq_parts.specs.Processors.{Processor, size_of}
 use Rattle.bq_parts.specs.World.{World}
 use Rattle.bq_parts.specs.Refusals.{refusal}
 use Rattle.bq_parts.specs.Choices.{SettledChoice, SettlesBy, SettlesPlace, SettlesPreempt, SettlesPull, place_bytes, own_pull, by_programs, decided_by}
-use Rattle.bq_parts.specs.Shares.{after_time, remarked, Decides, Ticks, Drains, Blocks, BeginsWake, Places, Pulls}
+use Rattle.bq_parts.specs.Shares.{after_time, mark_updated, Decides, Ticks, Drains, Blocks, BeginsWake, Places, Pulls}
 use Rattle.bq_parts.specs.Steps.{Performs, WorldStep}
 use Rattle.bq_core.specs.Laws.{HadMemory, StepIsOne}
 
@@ -199,7 +199,7 @@ module _ (d : Discipline) where
       → (r ≡ r') × (q ≡ q') × (u ≡ u') × (calls ≡ calls')
   pulls_one processor from now p o calls calls' r r' q q' u u' h k alike =
       let same =
-      pull_one processor from (after_time d now p) (remarked d o) h.settled k.settled h.settles k.settles
+      pull_one processor from (after_time d now p) (mark_updated d o) h.settled k.settled h.settles k.settles
       (alike_settled calls calls' h.settled k.settled h.asks k.asks alike) in
       let here : q ≡ q' = h.here ∙ rw same refl ∙ sym k.here in (
         h.replies ∙ rw (same, here) refl ∙ sym k.replies,

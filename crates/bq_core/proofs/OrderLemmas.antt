@@ -24,7 +24,7 @@ use Rattle.bq_parts.specs.World.{World, opening_world, processor_at, entry_of_id
 use Rattle.bq_parts.specs.Refusals.{refusal, argument_refusal, is_absent, is_away}
 use Rattle.bq_parts.specs.Choices.{PolicySemantics, SettledChoice, by_programs, place_bytes, own_pull, under_any_answers}
 use Rattle.bq_parts.specs.Moves.{admitted}
-use Rattle.bq_parts.specs.Shares.{after_time, remarked}
+use Rattle.bq_parts.specs.Shares.{after_time, mark_updated}
 use Rattle.bq_parts.specs.Steps.{WorldStep, Performs}
 use Rattle.bq_parts.specs.StandsOnce.{IsOrderly}
 use Rattle.bq_core.specs.Laws.{OpeningIsOrderly, StepKeeps, RunKeeps, StepKeepsOrder, StepKeepsOrderAnyhow, RunKeepsOrder, HistoryIsOrderly}
@@ -146,7 +146,7 @@ pull_keeps s w processor from now calls r w' o y h k =
     let g = not_refused_is_there (count_in w) from _ f.1 in
     let apart = eqb-false processor from (first_refusal_passed (processor == from) no.SameProcessor None g.1).0 in
     let p : Processor = after_time s.discipline now (processor_at w processor) in
-    let source : Processor = remarked s.discipline (processor_at w from) in
+    let source : Processor = mark_updated s.discipline (processor_at w from) in
     let x = k.2 in
     let settled : SettledChoice = x.settled in
     let once : HasEachOnce source.running.queue = each_once_queue (processor_at w from).running (each_once_running w from o) in

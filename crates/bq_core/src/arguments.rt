@@ -3,7 +3,8 @@ ghost use Rattle.std.specs.Prelude.{◌≡◌, ◌<◌, ◌≤◌, Some, None};
 ghost use Rattle.bq_parts.specs.Refusals.{argument_refusal};
 
 use bq_disc::limits::{GREATEST_SLICE, LEAST_SLICE, PROCESSORS, TASKS};
-use bq_hooks::{Hook, low_bits};
+use bq_disc::mask::low_bits;
+use bq_hooks::Hook;
 use bq_installed::Policy;
 use bq_parts::{Event, Refusal};
 use bq_weights::is_nice;

@@ -9,7 +9,6 @@ ghost use Rattle.bq_parts.specs.StandsOnce.{IsOrderly};
 ghost use Rattle.bq_parts.specs.declared.refusal.Refusal.TheVariants as no;
 ghost use Rattle.bq_core.specs.Laws.{StaysOrderly};
 
-use crate::arguments::argument_refusal;
 use crate::parts::Parts;
 use bq_bpf::Board;
 use bq_disc::RunQueue;
@@ -181,53 +180,5 @@ impl<Q: RunQueue> DynamicCore<Q> {
         ensures few { result ≤ PROCESSORS }
     {
         self.parts.processors()
-    }
-}
-
-impl<Q: RunQueue> Parts<Q> {
-    /// Does one event. The scratch space holds the event's calls of counters afterwards.
-    pub(crate) fn step<B: Board>(
-        &mut self,
-        alloc: Global,
-        event: Event,
-        scratch: &mut Scratch,
-        board: &mut B,
-    ) -> Result<Reply, Refusal>
-        requires orderly { IsOrderly self.old }
-        ensures step { WorldStep (by_programs Q.R.discipline) self.old event scratch.new result self.new }
-        ensures board { Through B.leads board.old scratch.new board.new }
-    {
-        // Reading the processors brings into the proof what always holds of them.
-        let _ = &self.cpus;
-        scratch.clear();
-        if let Some(refusal) = argument_refusal(self.processors(), &event) {
-            return Err(refusal);
-        }
-        match event {
-            Event::Admit {
-                task,
-                nice,
-                mask,
-                slice,
-            } => self.admit(alloc, task, nice, mask, slice),
-            Event::Retire { task } => self.retire(task),
-            Event::Draw => self.draw(),
-            Event::Install {
-                processor,
-                hook,
-                generation,
-                policy,
-            } => self.install(alloc, processor, hook, generation, policy),
-            Event::BeginWake { processor, task } => self.begin_wake(processor, task),
-            Event::EndWake { processor, now } => self.end_wake(processor, now, scratch, board),
-            Event::Drain { processor, now } => self.drain(processor, now, scratch, board),
-            Event::Tick { processor, now } => self.tick(processor, now, scratch, board),
-            Event::Block { processor, now } => self.block(processor, now),
-            Event::Pull {
-                processor,
-                from,
-                now,
-            } => self.pull(processor, from, now, scratch, board),
-        }
     }
 }

@@ -13,18 +13,18 @@ use Rattle.bq_disc.proofs.SetLemmas.{IsOrder, first_by-same, first_by-least, IfS
 use Rattle.bq_disc.proofs.SameSumLemmas.{HasDistinctIds-filter, Contains-filter, filter-Contains, SameSet-filter}
 use Rattle.bq_disc.proofs.GreatestLemmas.{greatest_named}
 
-two_more : (size from : ℕ) → size + 2 ≤ from → nat_le (size + 2) from ≡ true
-two_more size from l = grind (arith, nat_tests)
+two_more : (puller_size source_size : ℕ) → puller_size + 2 ≤ source_size → nat_le (puller_size + 2) source_size ≡ true
+two_more puller_size source_size l = grind (arith, nat_tests)
 
-are_two_more : (size from : ℕ) → nat_le (size + 2) from ≡ true → size + 2 ≤ from
-are_two_more size from e = grind (arith, nat_tests)
+are_two_more : (puller_size source_size : ℕ) → nat_le (puller_size + 2) source_size ≡ true → puller_size + 2 ≤ source_size
+are_two_more puller_size source_size e = grind (arith, nat_tests)
 
 -- where the difference is two at least, it is the first that a queue names
-pub pulls_first_named : (processor size from : ℕ) (queue : List Task) (named : List ℕ)
-    → 2 ≤ from - size → IsRising queue → named ≡ take 8 (ids (movable_to processor queue))
-    → slice_get named 0 ≡ id_of (pull_of processor size from queue)
-pulls_first_named processor size from queue named l h e =
-    rw (two_more size from (omega (arith, l))) (greatest_named processor queue named h e)
+pub pulls_first_named : (processor puller_size source_size : ℕ) (queue : List Task) (named : List ℕ)
+    → 2 ≤ source_size - puller_size → IsRising queue → named ≡ take 8 (ids (movable_to processor queue))
+    → slice_get named 0 ≡ id_of (pull_of processor puller_size source_size queue)
+pulls_first_named processor puller_size source_size queue named l h e =
+    rw (two_more puller_size source_size (omega (arith, l))) (greatest_named processor queue named h e)
 
 pulled_before-IsOrder : IsOrder pulled_before
 pulled_before-IsOrder = record {
@@ -42,11 +42,11 @@ if_pulled : (b : Bool) (o : Option Task) (P : Task → Type 0) → IfSome o P �
 if_pulled true o P h = h
 if_pulled false o P h = tt
 
-if_enough : (b : Bool) (size from : ℕ) (o : Option Task) → nat_le (size + 2) from ≡ b
-    → IfSome (if b then o else None) (λ t. size + 2 ≤ from)
-if_enough true size from None e = tt
-if_enough true size from (Some t) e = are_two_more size from e
-if_enough false size from o e = tt
+if_enough : (b : Bool) (puller_size source_size : ℕ) (o : Option Task) → nat_le (puller_size + 2) source_size ≡ b
+    → IfSome (if b then o else None) (λ t. puller_size + 2 ≤ source_size)
+if_enough true puller_size source_size None e = tt
+if_enough true puller_size source_size (Some t) e = are_two_more puller_size source_size e
+if_enough false puller_size source_size o e = tt
 
 first_movable : (processor : ℕ) (queue : List Task)
     → IfSome (first_by pulled_before (movable processor queue)) (λ t. Contains queue t × (can_use processor t ≡ true))
@@ -68,16 +68,16 @@ none_greater processor queue =
 -- the rule by which a task is pulled meets the laws of pulling
 pub pull_is_lawful : IsLawfulPull pull_of
 pull_is_lawful = record {
-  exists = λ processor size from queue t l c k.
-      rw (two_more size from l) (first_by-exists pulled_before (movable processor queue)
+  exists = λ processor puller_size source_size queue t l c k.
+      rw (two_more puller_size source_size l) (first_by-exists pulled_before (movable processor queue)
       (not_empty (movable processor queue) t (filter-Contains (can_use processor) queue t c.0 c.1 c.2 k)));
-  fewer = λ processor size from queue. if_enough (nat_le (size + 2) from) size from (first_by pulled_before (movable processor queue)) refl;
-  member = λ processor size from queue.
-      if_pulled (nat_le (size + 2) from) (first_by pulled_before (movable processor queue)) _ (first_movable processor queue);
-  greatest = λ processor size from queue.
-      if_pulled (nat_le (size + 2) from) (first_by pulled_before (movable processor queue)) _ (none_greater processor queue);
-  same = λ processor size from xs ys dx dy s.
-      ap (λ o. if nat_le (size + 2) from then o else None)
+  fewer = λ processor puller_size source_size queue. if_enough (nat_le (puller_size + 2) source_size) puller_size source_size (first_by pulled_before (movable processor queue)) refl;
+  member = λ processor puller_size source_size queue.
+      if_pulled (nat_le (puller_size + 2) source_size) (first_by pulled_before (movable processor queue)) _ (first_movable processor queue);
+  greatest = λ processor puller_size source_size queue.
+      if_pulled (nat_le (puller_size + 2) source_size) (first_by pulled_before (movable processor queue)) _ (none_greater processor queue);
+  same = λ processor puller_size source_size xs ys dx dy s.
+      ap (λ o. if nat_le (puller_size + 2) source_size then o else None)
       (first_by-same pulled_before pulled_before-IsOrder (movable processor xs) (movable processor ys)
       (HasDistinctIds-filter (can_use processor) xs dx) (HasDistinctIds-filter (can_use processor) ys dy)
       (SameSet-filter (can_use processor) xs ys s));

@@ -4,7 +4,7 @@ use Rattle.std.specs.Prelude.{IsSome}
 use Rattle.std.specs.List.{list_any, AllByRecursion, IsDistinct}
 use Rattle.std.proofs.lemmas.Bool.Decides.{nat_tests}
 use Rattle.std.proofs.lemmas.Map.Steps.{length-le_from_distinct_below}
-use Rattle.bq_disc.specs.Tasks.{Task, with_id, without, place, runs_before}
+use Rattle.bq_disc.specs.Tasks.{Task, find_task, without, inserted, runs_before}
 use Rattle.bq_disc.specs.Queues.{HasDistinctIds, HasSmallIds}
 use Rattle.bq_disc.specs.Movable.{ids}
 
@@ -18,13 +18,13 @@ cond_none true x o h = cc
 cond_none false x o h = (refl, h)
 
 -- no task of that id is in a list: not its first, and not in the rest
-pub with_id-none : (i : ℕ) (x : Task) (xs : List Task) → with_id i (x ∷ xs) ≡ None → (eqb x.id i ≡ false) × (with_id i xs ≡ None)
-with_id-none i x xs h = cond_none (eqb x.id i) x (with_id i xs) h
+pub find_task-none : (i : ℕ) (x : Task) (xs : List Task) → find_task i (x ∷ xs) ≡ None → (eqb x.id i ≡ false) × (find_task i xs ≡ None)
+find_task-none i x xs h = cond_none (eqb x.id i) x (find_task i xs) h
 
-apart : (i : ℕ) (xs : List Task) → with_id i xs ≡ None → AllByRecursion (λ y. eqb i y ≡ false) (ids xs)
+apart : (i : ℕ) (xs : List Task) → find_task i xs ≡ None → AllByRecursion (λ y. eqb i y ≡ false) (ids xs)
 apart i [] h = tt
 apart i (x ∷ xs) h =
-    let s = with_id-none i x xs h in
+    let s = find_task-none i x xs h in
     (eqb_comm x.id i s.0, apart i xs s.1)
 
 distinct : (xs : List Task) → HasDistinctIds xs → IsDistinct eqb (ids xs)
@@ -50,50 +50,50 @@ pub length-few : (xs : List Task) → HasDistinctIds xs → HasSmallIds xs → l
 length-few xs d s = rw length-ids at (length-le_from_distinct_below (ids xs) (2 ^ 16) (distinct xs d) (λ q h. small xs q s h))
 
 -- what is found by an id stays when a task of another id comes
-pub with_id-place_other : (i : ℕ) (t : Task) (xs : List Task) → eqb t.id i ≡ false → with_id i (place t xs) ≡ with_id i xs
-with_id-place_other i t [] h = rw h refl
-with_id-place_other i t (x ∷ xs) h =
-    elim (runs_before t x) as (λ b. with_id i (cond b (t ∷ x ∷ xs) (x ∷ place t xs)) ≡ with_id i (x ∷ xs)) [
+pub find_task-inserted_other : (i : ℕ) (t : Task) (xs : List Task) → eqb t.id i ≡ false → find_task i (inserted t xs) ≡ find_task i xs
+find_task-inserted_other i t [] h = rw h refl
+find_task-inserted_other i t (x ∷ xs) h =
+    elim (runs_before t x) as (λ b. find_task i (cond b (t ∷ x ∷ xs) (x ∷ inserted t xs)) ≡ find_task i (x ∷ xs)) [
       | true ↦ rw h refl
-      | false ↦ ap (λ o. cond (eqb x.id i) (Some x) o) (with_id-place_other i t xs h)
+      | false ↦ ap (λ o. cond (eqb x.id i) (Some x) o) (find_task-inserted_other i t xs h)
     ]
 
 -- ids stay distinct when a task comes whose id none has yet
-pub HasDistinctIds-place : (t : Task) (xs : List Task) → with_id t.id xs ≡ None → HasDistinctIds xs → HasDistinctIds (place t xs)
-HasDistinctIds-place t [] n d = (refl, tt)
-HasDistinctIds-place t (x ∷ xs) n d =
-    let s = with_id-none t.id x xs n in
-    elim (runs_before t x) as (λ b. HasDistinctIds (cond b (t ∷ x ∷ xs) (x ∷ place t xs))) [
+pub HasDistinctIds-inserted : (t : Task) (xs : List Task) → find_task t.id xs ≡ None → HasDistinctIds xs → HasDistinctIds (inserted t xs)
+HasDistinctIds-inserted t [] n d = (refl, tt)
+HasDistinctIds-inserted t (x ∷ xs) n d =
+    let s = find_task-none t.id x xs n in
+    elim (runs_before t x) as (λ b. HasDistinctIds (cond b (t ∷ x ∷ xs) (x ∷ inserted t xs))) [
       | true ↦ (n, d)
-      | false ↦ (with_id-place_other x.id t xs (eqb_comm x.id t.id s.0) ∙ d.0, HasDistinctIds-place t xs s.1 d.1)
+      | false ↦ (find_task-inserted_other x.id t xs (eqb_comm x.id t.id s.0) ∙ d.0, HasDistinctIds-inserted t xs s.1 d.1)
     ]
 
 -- ids still fit 16 bits when a task comes whose id does
-pub HasSmallIds-place : (t : Task) (xs : List Task) → t.id < 2 ^ 16 → HasSmallIds xs → HasSmallIds (place t xs)
-HasSmallIds-place t [] l s = (l, tt)
-HasSmallIds-place t (x ∷ xs) l s =
-    elim (runs_before t x) as (λ b. HasSmallIds (cond b (t ∷ x ∷ xs) (x ∷ place t xs))) [
+pub HasSmallIds-inserted : (t : Task) (xs : List Task) → t.id < 2 ^ 16 → HasSmallIds xs → HasSmallIds (inserted t xs)
+HasSmallIds-inserted t [] l s = (l, tt)
+HasSmallIds-inserted t (x ∷ xs) l s =
+    elim (runs_before t x) as (λ b. HasSmallIds (cond b (t ∷ x ∷ xs) (x ∷ inserted t xs))) [
       | true ↦ (l, s)
-      | false ↦ (s.0, HasSmallIds-place t xs l s.1)
+      | false ↦ (s.0, HasSmallIds-inserted t xs l s.1)
     ]
 
 -- a task that comes makes a queue longer by one
-pub length-place : (t : Task) (xs : List Task) → length (place t xs) ≡ length xs + 1
-length-place t [] = refl
-length-place t (x ∷ xs) =
-    elim (runs_before t x) as (λ b. length (cond b (t ∷ x ∷ xs) (x ∷ place t xs)) ≡ length (x ∷ xs) + 1) [
+pub length-inserted : (t : Task) (xs : List Task) → length (inserted t xs) ≡ length xs + 1
+length-inserted t [] = refl
+length-inserted t (x ∷ xs) =
+    elim (runs_before t x) as (λ b. length (cond b (t ∷ x ∷ xs) (x ∷ inserted t xs)) ≡ length (x ∷ xs) + 1) [
       | true ↦ omega arith
-      | false ↦ omega (arith, length-place t xs)
+      | false ↦ omega (arith, length-inserted t xs)
     ]
 
 -- an id that no task has, none has once a task has left
-pub with_id-without : (i j : ℕ) (xs : List Task) → with_id i xs ≡ None → with_id i (without j xs) ≡ None
-with_id-without i j [] h = refl
-with_id-without i j (x ∷ xs) h =
-    let s = with_id-none i x xs h in
-    elim (eqb x.id j) as (λ b. with_id i (cond b xs (x ∷ without j xs)) ≡ None) [
+pub find_task-without : (i j : ℕ) (xs : List Task) → find_task i xs ≡ None → find_task i (without j xs) ≡ None
+find_task-without i j [] h = refl
+find_task-without i j (x ∷ xs) h =
+    let s = find_task-none i x xs h in
+    elim (eqb x.id j) as (λ b. find_task i (cond b xs (x ∷ without j xs)) ≡ None) [
       | true ↦ s.1
-      | false ↦ rw s.0 (with_id-without i j xs s.1)
+      | false ↦ rw s.0 (find_task-without i j xs s.1)
     ]
 
 -- ids stay distinct when a task leaves
@@ -102,7 +102,7 @@ HasDistinctIds-without j [] d = tt
 HasDistinctIds-without j (x ∷ xs) d =
     elim (eqb x.id j) as (λ b. HasDistinctIds (cond b xs (x ∷ without j xs))) [
       | true ↦ d.1
-      | false ↦ (with_id-without x.id j xs d.0, HasDistinctIds-without j xs d.1)
+      | false ↦ (find_task-without x.id j xs d.0, HasDistinctIds-without j xs d.1)
     ]
 
 -- ids still fit 16 bits when a task leaves
@@ -121,33 +121,33 @@ length_by_test true x xs ys o k rest = omega arith
 length_by_test false x xs ys o k rest = omega (arith, rest k)
 
 -- a task that is there leaves one task less
-pub length-without : (j : ℕ) (xs : List Task) → IsSome (with_id j xs) → length (without j xs) + 1 ≡ length xs
+pub length-without : (j : ℕ) (xs : List Task) → IsSome (find_task j xs) → length (without j xs) + 1 ≡ length xs
 length-without j [] h = cc
-length-without j (x ∷ xs) h = length_by_test (eqb x.id j) x xs (without j xs) (with_id j xs) h (length-without j xs)
+length-without j (x ∷ xs) h = length_by_test (eqb x.id j) x xs (without j xs) (find_task j xs) h (length-without j xs)
 
 -- a task that is not there leaves them all
-pub without-absent : (j : ℕ) (xs : List Task) → with_id j xs ≡ None → without j xs ≡ xs
+pub without-absent : (j : ℕ) (xs : List Task) → find_task j xs ≡ None → without j xs ≡ xs
 without-absent j [] h = refl
 without-absent j (x ∷ xs) h =
-    let s = with_id-none j x xs h in
+    let s = find_task-none j x xs h in
     rw s.0 (ap (λ ys. x ∷ ys) (without-absent j xs s.1))
 
 gone_by_test : (i : ℕ) (b : Bool) (x : Task) (xs ys : List Task)
-    → eqb x.id i ≡ b → with_id x.id xs ≡ None → with_id i ys ≡ None → with_id i (cond b xs (x ∷ ys)) ≡ None
+    → eqb x.id i ≡ b → find_task x.id xs ≡ None → find_task i ys ≡ None → find_task i (cond b xs (x ∷ ys)) ≡ None
 gone_by_test i true x xs ys e d rest = rw (eqb-true x.id i e) at d
 gone_by_test i false x xs ys e d rest = rw e rest
 
 -- once taken, no task of that id is there
-pub with_id-without_same : (i : ℕ) (xs : List Task) → HasDistinctIds xs → with_id i (without i xs) ≡ None
-with_id-without_same i [] d = refl
-with_id-without_same i (x ∷ xs) d = gone_by_test i (eqb x.id i) x xs (without i xs) refl d.0 (with_id-without_same i xs d.1)
+pub find_task-without_same : (i : ℕ) (xs : List Task) → HasDistinctIds xs → find_task i (without i xs) ≡ None
+find_task-without_same i [] d = refl
+find_task-without_same i (x ∷ xs) d = gone_by_test i (eqb x.id i) x xs (without i xs) refl d.0 (find_task-without_same i xs d.1)
 
 pub ruleset queue_facts = (
   length-few,
-  HasDistinctIds-place,
-  HasSmallIds-place,
-  length-place,
+  HasDistinctIds-inserted,
+  HasSmallIds-inserted,
+  length-inserted,
   HasDistinctIds-without,
   HasSmallIds-without,
-  with_id-without_same,
+  find_task-without_same,
 )

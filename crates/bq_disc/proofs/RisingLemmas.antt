@@ -2,7 +2,7 @@
 use Rattle.std.proofs.Common.{◌≡◌, ℕ, Bool, true, false, cond, eqb, List, [], ◌∷◌, Option, Some, None, refl, ap, sym, arith}
 use Rattle.std.specs.Prelude.{IfSome, find}
 use Rattle.std.proofs.lemmas.Bool.Decides.{nat_tests}
-use Rattle.bq_disc.specs.Tasks.{Task, place, without, runs_before, first_by, former}
+use Rattle.bq_disc.specs.Tasks.{Task, inserted, without, runs_before, first_by, former}
 use Rattle.bq_disc.specs.Queues.{follows}
 use Rattle.bq_disc.specs.Rising.{IsRising, NoneRunsBefore}
 
@@ -17,23 +17,23 @@ none_later : (t x : Task) (xs : List Task) → runs_before t x ≡ true → None
 none_later t x [] b h = tt
 none_later t x (y ∷ xs) b h = (not_before y x t h.0 (before_not t x b), none_later t x xs b h.1)
 
-none_place : (x t : Task) (xs : List Task) → runs_before t x ≡ false → NoneRunsBefore x xs → NoneRunsBefore x (place t xs)
-none_place x t [] b h = (b, tt)
-none_place x t (y ∷ xs) b h =
-    elim (runs_before t y) as (λ c. NoneRunsBefore x (cond c (t ∷ y ∷ xs) (y ∷ place t xs))) [
+none_inserted : (x t : Task) (xs : List Task) → runs_before t x ≡ false → NoneRunsBefore x xs → NoneRunsBefore x (inserted t xs)
+none_inserted x t [] b h = (b, tt)
+none_inserted x t (y ∷ xs) b h =
+    elim (runs_before t y) as (λ c. NoneRunsBefore x (cond c (t ∷ y ∷ xs) (y ∷ inserted t xs))) [
       | true ↦ (b, h)
-      | false ↦ (h.0, none_place x t xs b h.1)
+      | false ↦ (h.0, none_inserted x t xs b h.1)
     ]
 
-rising_by_test : (b : Bool) (t x : Task) (xs : List Task) → runs_before t x ≡ b → IsRising (x ∷ xs) → IsRising (place t xs)
-    → IsRising (cond b (t ∷ x ∷ xs) (x ∷ place t xs))
+rising_by_test : (b : Bool) (t x : Task) (xs : List Task) → runs_before t x ≡ b → IsRising (x ∷ xs) → IsRising (inserted t xs)
+    → IsRising (cond b (t ∷ x ∷ xs) (x ∷ inserted t xs))
 rising_by_test true t x xs e h p = ((before_not t x e, none_later t x xs e h.0), h)
-rising_by_test false t x xs e h p = (none_place x t xs e h.0, p)
+rising_by_test false t x xs e h p = (none_inserted x t xs e h.0, p)
 
 -- a task that comes in its place
-pub IsRising-place : (t : Task) (xs : List Task) → IsRising xs → IsRising (place t xs)
-IsRising-place t [] h = (tt, tt)
-IsRising-place t (x ∷ xs) h = rising_by_test (runs_before t x) t x xs refl h (IsRising-place t xs h.1)
+pub IsRising-inserted : (t : Task) (xs : List Task) → IsRising xs → IsRising (inserted t xs)
+IsRising-inserted t [] h = (tt, tt)
+IsRising-inserted t (x ∷ xs) h = rising_by_test (runs_before t x) t x xs refl h (IsRising-inserted t xs h.1)
 
 none_without : (x : Task) (j : ℕ) (xs : List Task) → NoneRunsBefore x xs → NoneRunsBefore x (without j xs)
 none_without x j [] h = tt
@@ -74,4 +74,4 @@ pub head-first_by : (xs : List Task) → IsRising xs → find (follows None) xs 
 head-first_by [] h = refl
 head-first_by (x ∷ xs) h = ap (λ y. Some y) (sym (least_by_rest x (first_by runs_before xs) (none_first x xs h.0)))
 
-pub ruleset rising_facts = (IsRising-place, IsRising-without)
+pub ruleset rising_facts = (IsRising-inserted, IsRising-without)

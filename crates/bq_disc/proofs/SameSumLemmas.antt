@@ -1,12 +1,12 @@
 -- Lists with distinct ids that hold the same tasks have the same sums, and the same tasks that pass a test.
 use Rattle.std.proofs.Common.{◌≡◌, ℕ, zero, suc, ◌+◌, ◌*◌, ◌<◌, Bool, true, false, cond, eqb, List, [], ◌∷◌, length, Option, Some, None, filter, refl, ap, sym, ◌∙◌, arith, eqb-true, eq-eqb}
 use Rattle.std.specs.Prelude.{Contains, slice_index_or}
-use Rattle.bq_disc.specs.Tasks.{Task, with_id, without}
+use Rattle.bq_disc.specs.Tasks.{Task, find_task, without}
 use Rattle.bq_disc.specs.Queues.{HasDistinctIds}
 use Rattle.bq_disc.specs.Discipline.{SameSet}
 use Rattle.bq_disc.specs.Totals.{total_weight, weighted_sum}
 use Rattle.bq_disc.specs.Orders.{Contains-later}
-use Rattle.bq_disc.proofs.QueueLemmas.{with_id-none, HasDistinctIds-without, with_id-without_same}
+use Rattle.bq_disc.proofs.QueueLemmas.{find_task-none, HasDistinctIds-without, find_task-without_same}
 use Rattle.bq_disc.proofs.SetLemmas.{SameById, SameById-SameSet}
 
 -- the sum of a number that each of some tasks has
@@ -22,40 +22,40 @@ taken_by_test f false x t xs ys o h rest = let r = rest h in omega (arith, r)
 
 -- what a task adds to a sum, and what is left without it
 pub sum_of-without : (f : Task → ℕ) (i : ℕ) (xs : List Task) (t : Task)
-    → with_id i xs ≡ Some t → sum_of f xs ≡ f t + sum_of f (without i xs)
+    → find_task i xs ≡ Some t → sum_of f xs ≡ f t + sum_of f (without i xs)
 sum_of-without f i [] t h = cc
-sum_of-without f i (x ∷ xs) t h = taken_by_test f (eqb x.id i) x t xs (without i xs) (with_id i xs) h (sum_of-without f i xs t)
+sum_of-without f i (x ∷ xs) t h = taken_by_test f (eqb x.id i) x t xs (without i xs) (find_task i xs) h (sum_of-without f i xs t)
 
 other_by_test : (i j : ℕ) (b c : Bool) (x : Task) (xs ys : List Task)
-    → eqb x.id i ≡ b → eqb x.id j ≡ c → (i ≡ j → ⊥) → with_id j ys ≡ with_id j xs
-    → with_id j (cond b xs (x ∷ ys)) ≡ cond c (Some x) (with_id j xs)
+    → eqb x.id i ≡ b → eqb x.id j ≡ c → (i ≡ j → ⊥) → find_task j ys ≡ find_task j xs
+    → find_task j (cond b xs (x ∷ ys)) ≡ cond c (Some x) (find_task j xs)
 other_by_test i j true true x xs ys e g ne rest = absurd (ne (sym (eqb-true x.id i e) ∙ eqb-true x.id j g))
 other_by_test i j true false x xs ys e g ne rest = refl
 other_by_test i j false c x xs ys e g ne rest = rw g (ap (λ o. cond c (Some x) o) rest)
 
-with_id-without_other : (i j : ℕ) (xs : List Task) → (i ≡ j → ⊥) → with_id j (without i xs) ≡ with_id j xs
-with_id-without_other i j [] ne = refl
-with_id-without_other i j (x ∷ xs) ne =
-    other_by_test i j (eqb x.id i) (eqb x.id j) x xs (without i xs) refl refl ne (with_id-without_other i j xs ne)
+find_task-without_other : (i j : ℕ) (xs : List Task) → (i ≡ j → ⊥) → find_task j (without i xs) ≡ find_task j xs
+find_task-without_other i j [] ne = refl
+find_task-without_other i j (x ∷ xs) ne =
+    other_by_test i j (eqb x.id i) (eqb x.id j) x xs (without i xs) refl refl ne (find_task-without_other i j xs ne)
 
 rest_same_at : (x : Task) (xs ys : List Task) → HasDistinctIds (x ∷ xs) → HasDistinctIds ys → SameById (x ∷ xs) ys
     → (j : ℕ) (b : Bool) → eqb x.id j ≡ b
-    → with_id j xs ≡ with_id j (without x.id ys)
+    → find_task j xs ≡ find_task j (without x.id ys)
 rest_same_at x xs ys d dy h j true e =
     let same = eqb-true x.id j e in
-    ap (λ i. with_id i xs) (sym same) ∙ d.0 ∙ sym (with_id-without_same x.id ys dy) ∙ ap (λ i. with_id i (without x.id ys)) same
+    ap (λ i. find_task i xs) (sym same) ∙ d.0 ∙ sym (find_task-without_same x.id ys dy) ∙ ap (λ i. find_task i (without x.id ys)) same
 rest_same_at x xs ys d dy h j false e =
-    let here : with_id j (x ∷ xs) ≡ with_id j xs = rw e refl in
+    let here : find_task j (x ∷ xs) ≡ find_task j xs = rw e refl in
     let ne : x.id ≡ j → ⊥ = λ same. let t = eq-eqb x.id j same in cc in
-    sym here ∙ h j ∙ sym (with_id-without_other x.id j ys ne)
+    sym here ∙ h j ∙ sym (find_task-without_other x.id j ys ne)
 
 rest_same : (x : Task) (xs ys : List Task) → HasDistinctIds (x ∷ xs) → HasDistinctIds ys → SameById (x ∷ xs) ys
     → SameById xs (without x.id ys)
 rest_same x xs ys d dy h = λ j. rest_same_at x xs ys d dy h j (eqb x.id j) refl
 
-first_there : (x : Task) (xs ys : List Task) → SameById (x ∷ xs) ys → with_id x.id ys ≡ Some x
+first_there : (x : Task) (xs ys : List Task) → SameById (x ∷ xs) ys → find_task x.id ys ≡ Some x
 first_there x xs ys h =
-    let here : with_id x.id (x ∷ xs) ≡ Some x = rw (eq-eqb x.id x.id refl) refl in
+    let here : find_task x.id (x ∷ xs) ≡ Some x = rw (eq-eqb x.id x.id refl) refl in
     sym (h x.id) ∙ here
 
 sum_of-same : (f : Task → ℕ) (xs ys : List Task) → HasDistinctIds xs → HasDistinctIds ys → SameById xs ys → sum_of f xs ≡ sum_of f ys
@@ -89,17 +89,17 @@ weighted_sum-same xs ys dx dy s =
 -- Tasks that pass a test
 
 kept_none : (p : Task → Bool) (i : ℕ) (b : Bool) (x : Task) (xs : List Task)
-    → with_id i xs ≡ None → eqb x.id i ≡ false → with_id i (cond b (x ∷ xs) xs) ≡ None
+    → find_task i xs ≡ None → eqb x.id i ≡ false → find_task i (cond b (x ∷ xs) xs) ≡ None
 kept_none p i true x xs h e = rw e h
 kept_none p i false x xs h e = h
 
-filter_none : (p : Task → Bool) (i : ℕ) (xs : List Task) → with_id i xs ≡ None → with_id i (filter p xs) ≡ None
+filter_none : (p : Task → Bool) (i : ℕ) (xs : List Task) → find_task i xs ≡ None → find_task i (filter p xs) ≡ None
 filter_none p i [] h = refl
 filter_none p i (x ∷ xs) h =
-    let s = with_id-none i x xs h in
+    let s = find_task-none i x xs h in
     kept_none p i (p x) x (filter p xs) (filter_none p i xs s.1) s.0
 
-kept_distinct : (b : Bool) (x : Task) (xs : List Task) → with_id x.id xs ≡ None → HasDistinctIds xs → HasDistinctIds (cond b (x ∷ xs) xs)
+kept_distinct : (b : Bool) (x : Task) (xs : List Task) → find_task x.id xs ≡ None → HasDistinctIds xs → HasDistinctIds (cond b (x ∷ xs) xs)
 kept_distinct true x xs n d = (n, d)
 kept_distinct false x xs n d = d
 

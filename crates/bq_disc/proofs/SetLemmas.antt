@@ -2,7 +2,7 @@
 use Rattle.std.proofs.Common.{◌≡◌, ℕ, zero, suc, ◌<◌, Bool, true, false, cond, eqb, List, [], ◌∷◌, length, Option, Some, None, refl, ap, sym, ◌∙◌, ◌⊎◌, inl, inr, arith, eqb-true, eq-eqb}
 use Rattle.std.specs.Prelude.{Contains, slice_index_or, IfSome}
 use Rattle.std.proofs.lemmas.Bool.Decides.{nat_tests}
-use Rattle.bq_disc.specs.Tasks.{Task, with_id, first_by, former, runs_before}
+use Rattle.bq_disc.specs.Tasks.{Task, find_task, first_by, former, runs_before}
 use Rattle.bq_disc.specs.Dues.{due_before}
 use Rattle.bq_disc.specs.Queues.{HasDistinctIds}
 use Rattle.bq_disc.specs.Discipline.{SameSet}
@@ -10,7 +10,7 @@ use Rattle.bq_disc.specs.Orders.{Contains-first, Contains-later}
 
 -- each id stands for the same task, or for none, in both
 abbrev pub SameById : List Task → List Task → Type 0
-SameById xs ys = (id : ℕ) → with_id id xs ≡ with_id id ys
+SameById xs ys = (id : ℕ) → find_task id xs ≡ find_task id ys
 
 found_by_test : (b : Bool) (i : ℕ) (x t : Task) (o : Option Task)
     → eqb x.id i ≡ b → cond b (Some x) o ≡ Some t → (o ≡ Some t → t.id ≡ i) → t.id ≡ i
@@ -18,25 +18,25 @@ found_by_test true i x t o e h rest = let same : x ≡ t = cc in ap (λ (s : Tas
 found_by_test false i x t o e h rest = rest h
 
 -- what is found has the id that was sought
-pub with_id-id : (i : ℕ) (xs : List Task) (t : Task) → with_id i xs ≡ Some t → t.id ≡ i
-with_id-id i [] t h = cc
-with_id-id i (x ∷ xs) t h = found_by_test (eqb x.id i) i x t (with_id i xs) refl h (with_id-id i xs t)
+pub find_task-id : (i : ℕ) (xs : List Task) (t : Task) → find_task i xs ≡ Some t → t.id ≡ i
+find_task-id i [] t h = cc
+find_task-id i (x ∷ xs) t h = found_by_test (eqb x.id i) i x t (find_task i xs) refl h (find_task-id i xs t)
 
-later_by_test : (b : Bool) (x t : Task) (xs : List Task) → eqb x.id t.id ≡ b → with_id x.id xs ≡ None
-    → with_id t.id xs ≡ Some t
-    → cond b (Some x) (with_id t.id xs) ≡ Some t
+later_by_test : (b : Bool) (x t : Task) (xs : List Task) → eqb x.id t.id ≡ b → find_task x.id xs ≡ None
+    → find_task t.id xs ≡ Some t
+    → cond b (Some x) (find_task t.id xs) ≡ Some t
 later_by_test true x t xs e none some = let same = eqb-true x.id t.id e in let here = rw same at none in cc
 later_by_test false x t xs e none some = some
 
 -- a task that a list has is the one of its id
-pub with_id-Contains : (xs : List Task) (t : Task) (k : ℕ) → HasDistinctIds xs → k < length xs → slice_index_or xs k t ≡ t
-    → with_id t.id xs ≡ Some t
-with_id-Contains [] t k d l e = absurd (omega (arith, l))
-with_id-Contains (x ∷ xs) t zero d l e =
+pub find_task-Contains : (xs : List Task) (t : Task) (k : ℕ) → HasDistinctIds xs → k < length xs → slice_index_or xs k t ≡ t
+    → find_task t.id xs ≡ Some t
+find_task-Contains [] t k d l e = absurd (omega (arith, l))
+find_task-Contains (x ∷ xs) t zero d l e =
     let here : x ≡ t = e in
     rw (eq-eqb x.id t.id (ap (λ (s : Task). s.id) here)) (ap (λ (s : Task). Some s) here)
-with_id-Contains (x ∷ xs) t (suc k) d l e =
-    let rest = with_id-Contains xs t k d.1 (omega (arith, l)) e in
+find_task-Contains (x ∷ xs) t (suc k) d l e =
+    let rest = find_task-Contains xs t k d.1 (omega (arith, l)) e in
     later_by_test (eqb x.id t.id) x t xs refl d.0 rest
 
 some_or_none : (o : Option Task) → (o ≡ None) ⊎ ((t : Task) × (o ≡ Some t))
@@ -44,33 +44,33 @@ some_or_none None = inl refl
 some_or_none (Some t) = inr (t, refl)
 
 here_or_later : (b : Bool) (x t : Task) (xs : List Task) (i : ℕ)
-    → cond b (Some x) (with_id i xs) ≡ Some t → (with_id i xs ≡ Some t → Contains xs t) → Contains (x ∷ xs) t
+    → cond b (Some x) (find_task i xs) ≡ Some t → (find_task i xs ≡ Some t → Contains xs t) → Contains (x ∷ xs) t
 here_or_later true x t xs i h rest = (0, omega arith, cc)
 here_or_later false x t xs i h rest = let l = rest h in (suc l.0, omega (arith, l.1), l.2)
 
 -- the task that is found by an id is one of the list
-pub Contains-with_id : (i : ℕ) (xs : List Task) (t : Task) → with_id i xs ≡ Some t → Contains xs t
-Contains-with_id i [] t h = cc
-Contains-with_id i (x ∷ xs) t h = here_or_later (eqb x.id i) x t xs i h (Contains-with_id i xs t)
+pub Contains-find_task : (i : ℕ) (xs : List Task) (t : Task) → find_task i xs ≡ Some t → Contains xs t
+Contains-find_task i [] t h = cc
+Contains-find_task i (x ∷ xs) t h = here_or_later (eqb x.id i) x t xs i h (Contains-find_task i xs t)
 
-carried_over : (i : ℕ) (xs ys : List Task) (o : Option Task) → with_id i xs ≡ o → HasDistinctIds ys
+carried_over : (i : ℕ) (xs ys : List Task) (o : Option Task) → find_task i xs ≡ o → HasDistinctIds ys
     → ((t : Task) → Contains xs t → Contains ys t) → ((t : Task) → Contains ys t → Contains xs t) → HasDistinctIds xs
-    → with_id i ys ≡ o
+    → find_task i ys ≡ o
 carried_over i xs ys (Some t) e d h k dx =
-    let c = h t (Contains-with_id i xs t e) in
-    rw (← (with_id-id i xs t e)) (with_id-Contains ys t c.0 d c.1 c.2)
-carried_over i xs ys None e d h k dx = elim (some_or_none (with_id i ys)) [
+    let c = h t (Contains-find_task i xs t e) in
+    rw (← (find_task-id i xs t e)) (find_task-Contains ys t c.0 d c.1 c.2)
+carried_over i xs ys None e d h k dx = elim (some_or_none (find_task i ys)) [
   | inl none ↦ none
   | inr some ↦
-      let c = k some.0 (Contains-with_id i ys some.0 some.1) in
-      let back = with_id-Contains xs some.0 c.0 dx c.1 c.2 in
-      let there = rw (with_id-id i ys some.0 some.1) at back in
+      let c = k some.0 (Contains-find_task i ys some.0 some.1) in
+      let back = find_task-Contains xs some.0 c.0 dx c.1 c.2 in
+      let there = rw (find_task-id i ys some.0 some.1) at back in
       cc
 ]
 
 -- with distinct ids, the same tasks are the same by their ids
 pub SameById-SameSet : (xs ys : List Task) → HasDistinctIds xs → HasDistinctIds ys → SameSet xs ys → SameById xs ys
-SameById-SameSet xs ys dx dy h = λ i. sym (carried_over i xs ys (with_id i xs) refl dy h.0 h.1 dx)
+SameById-SameSet xs ys dx dy h = λ i. sym (carried_over i xs ys (find_task i xs) refl dy h.0 h.1 dx)
 
 -- Order
 
@@ -153,9 +153,9 @@ same_firsts before o xs ys dx dy s (Some m) (Some n) h k =
     let one = not_before_at before m n xs n_in_xs.0 h.1 n_in_xs.1 n_in_xs.2 in
     let other = not_before_at before n m ys m_in_ys.0 k.1 m_in_ys.1 m_in_ys.2 in
     let same_id = o.apart m n other one in
-    let m_there = with_id-Contains xs m h.0.0 dx h.0.1 h.0.2 in
-    let n_there = with_id-Contains xs n n_in_xs.0 dx n_in_xs.1 n_in_xs.2 in
-    sym m_there ∙ ap (λ i. with_id i xs) same_id ∙ n_there
+    let m_there = find_task-Contains xs m h.0.0 dx h.0.1 h.0.2 in
+    let n_there = find_task-Contains xs n n_in_xs.0 dx n_in_xs.1 n_in_xs.2 in
+    sym m_there ∙ ap (λ i. find_task i xs) same_id ∙ n_there
 
 -- the same tasks have the same first
 pub first_by-same : (before : Task → Task → Bool) → IsOrder before → (xs ys : List Task) → HasDistinctIds xs

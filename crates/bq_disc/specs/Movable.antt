@@ -1,7 +1,7 @@
 -- The tasks of a queue that may go to a processor, the greatest (v, id) first.
 use Rattle.std.specs.Prelude.{◌≡◌, ℕ, ◌+◌, ◌≤◌, Bool, false, List, ◌++◌, length, map, filter, reverse, take}
 use Rattle.std.specs.Option.{option_map_or}
-use Rattle.bq_disc.specs.Tasks.{Task, with_id}
+use Rattle.bq_disc.specs.Tasks.{Task, find_task}
 use Rattle.bq_disc.specs.Queues.{can_use}
 use Rattle.bq_disc.specs.declared.movable.Movable.{Movable}
 
@@ -15,7 +15,7 @@ ids xs = map (λ (t : Task). t.id) xs
 
 -- whether the task with this id is there and may go to a processor
 abbrev pub is_movable_to : ℕ → ℕ → List Task → Bool
-is_movable_to processor id xs = option_map_or (can_use processor) (with_id id xs) false
+is_movable_to processor id xs = option_map_or (can_use processor) (find_task id xs) false
 
 -- one more stretch of the queue, looked at from its last task to its first, takes the tally from `old` to `new`
 pub record AddsMovable (processor : ℕ) (xs : List Task) (old new : Movable) : Type 0 where

@@ -2,19 +2,19 @@
 -- The choices are those of sched-design-CFS.rst and sched-eevdf.rst; marks, entries and exchanges are this project's own.
 use Rattle.std.specs.Prelude.{ℕ, ◌-◌, ◌^◌, min, max, Bool, false, List, [], ◌∷◌, Option, Some, None, if◌then◌else◌}
 use Rattle.std.specs.Option.{option_map}
-use Rattle.bq_disc.specs.Tasks.{Task, with_id, without, place, present, id_of}
+use Rattle.bq_disc.specs.Tasks.{Task, find_task, without, inserted, present, id_of}
 use Rattle.bq_disc.specs.Discipline.{Discipline, charged, woken, next_of}
 
--- the queue, the mark that was kept last, the task that runs, and the last reading of the clock
+-- the queue, the mark as it was last computed, the task that runs, and the last reading of the clock
 pub record Running : Type 0 where
   pub queue : List Task
-  pub kept : ℕ
+  pub mark : ℕ
   pub current : Option Task
   pub last : ℕ
 
 -- a processor to which nothing has come yet; its mark begins at 2^32
 abbrev pub at_rest : Running
-at_rest = record { queue = []; kept = 2 ^ 32; current = None; last = 0 }
+at_rest = record { queue = []; mark = 2 ^ 32; current = None; last = 0 }
 
 -- the tasks that run or wait in the queue
 abbrev pub present_at : Running → List Task
@@ -26,7 +26,7 @@ reading last now = max last (min now (2 ^ 48 - 1))
 
 -- the processor with its mark computed again over the tasks present
 abbrev pub marked : Discipline → Running → Running
-marked d p = record p { kept = d.mark p.kept (present_at p) }
+marked d p = record p { mark = d.mark p.mark (present_at p) }
 
 -- Charge: the current task has run since the last reading, and the mark is computed again
 abbrev pub charge : Discipline → Running → ℕ → Running
@@ -37,7 +37,7 @@ charge d p now =
 -- the task with this id leaves the queue and runs
 abbrev pub run_id : Running → Option ℕ → Running
 run_id p None = p
-run_id p (Some id) = record p { current = with_id id p.queue; queue = without id p.queue }
+run_id p (Some id) = record p { current = find_task id p.queue; queue = without id p.queue }
 
 -- the queue's choice runs
 abbrev pub choice_started : Discipline → Running → Running
@@ -46,12 +46,12 @@ choice_started d p = run_id p (id_of (d.choice p.queue))
 -- the current task goes to the queue, and the new one runs in its place; no v and no deadline changes
 abbrev pub exchanged : Running → Task → Option Task → Running
 exchanged p old None = p
-exchanged p old (Some new) = record p { current = Some new; queue = place old (without new.id p.queue) }
+exchanged p old (Some new) = record p { current = Some new; queue = inserted old (without new.id p.queue) }
 
 -- the current task and the next one change places, unless they are one and the same
 abbrev pub switched : Discipline → Running → Option Task → Running
 switched d p None = p
-switched d p (Some current) = exchanged p current (with_id (next_of d current p.queue) p.queue)
+switched d p (Some current) = exchanged p current (find_task (next_of d current p.queue) p.queue)
 
 -- Decide: if nothing runs, the queue's choice runs; else `gives_way` says whether the current task gives way
 abbrev pub decided : Discipline → Running → Option Task → Bool → Running
@@ -65,12 +65,12 @@ own_preempt d queue (Some current) = d.wants_preempt current queue
 
 -- the queue after woken tasks have entered it one after another, at this mark
 abbrev pub entered : Discipline → ℕ → List Task → List Task → List Task
-entered d kept queue [] = queue
-entered d kept queue (t ∷ tasks) = entered d kept (place (woken d kept t) queue) tasks
+entered d mark queue [] = queue
+entered d mark queue (t ∷ tasks) = entered d mark (inserted (woken d mark t) queue) tasks
 
--- the processor after some tasks have entered its queue in their order, at the kept mark
+-- the processor after some tasks have entered its queue in their order, at the mark
 abbrev pub enter_all : Discipline → Running → List Task → Running
-enter_all d p tasks = record p { queue = entered d p.kept p.queue tasks }
+enter_all d p tasks = record p { queue = entered d p.mark p.queue tasks }
 
 -- how far a reading moves the clock forward
 abbrev pub rise : Running → ℕ → ℕ

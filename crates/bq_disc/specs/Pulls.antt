@@ -13,17 +13,17 @@ pulled_before a b = runs_before b a
 abbrev pub movable : ℕ → List Task → List Task
 movable processor queue = filter (can_use processor) queue
 
--- the task to pull: `size` tasks run or wait at the puller and `from` at the other processor; if `from` is at least two
--- more, it is the movable task of greatest (v, id) of the other's queue
+-- the task to pull: `puller_size` tasks run or wait at the puller and `source_size` at the other processor; if `source_size`
+-- is at least two more, it is the movable task of greatest (v, id) of the other's queue
 abbrev pub pull_of : ℕ → ℕ → ℕ → List Task → Option Task
-pull_of processor size from queue = if nat_le (size + 2) from then first_by pulled_before (movable processor queue) else None
+pull_of processor puller_size source_size queue = if nat_le (puller_size + 2) source_size then first_by pulled_before (movable processor queue) else None
 
 -- the laws of pulling: a task is pulled exactly when the other processor has at least two more tasks and some task of its
 -- queue may use the puller; the pulled task is such a task; none of them has a greater (v, id); and equal sets of tasks give
 -- equal pulls, in whatever order they are listed
 pub record IsLawfulPull (pull : ℕ → ℕ → ℕ → List Task → Option Task) : Type 0 where
-  pub exists : (processor size from : ℕ) (queue : List Task) (t : Task) → size + 2 ≤ from → Contains queue t → can_use processor t ≡ true → IsSome (pull processor size from queue)
-  pub fewer : (processor size from : ℕ) (queue : List Task) → IfSome (pull processor size from queue) (λ t. size + 2 ≤ from)
-  pub member : (processor size from : ℕ) (queue : List Task) → IfSome (pull processor size from queue) (λ t. Contains queue t × (can_use processor t ≡ true))
-  pub greatest : (processor size from : ℕ) (queue : List Task) → IfSome (pull processor size from queue) (λ t. (u : Task) → Contains queue u → can_use processor u ≡ true → runs_before t u ≡ false)
-  pub same : (processor size from : ℕ) (xs ys : List Task) → HasDistinctIds xs → HasDistinctIds ys → SameSet xs ys → pull processor size from xs ≡ pull processor size from ys
+  pub exists : (processor puller_size source_size : ℕ) (queue : List Task) (t : Task) → puller_size + 2 ≤ source_size → Contains queue t → can_use processor t ≡ true → IsSome (pull processor puller_size source_size queue)
+  pub fewer : (processor puller_size source_size : ℕ) (queue : List Task) → IfSome (pull processor puller_size source_size queue) (λ t. puller_size + 2 ≤ source_size)
+  pub member : (processor puller_size source_size : ℕ) (queue : List Task) → IfSome (pull processor puller_size source_size queue) (λ t. Contains queue t × (can_use processor t ≡ true))
+  pub greatest : (processor puller_size source_size : ℕ) (queue : List Task) → IfSome (pull processor puller_size source_size queue) (λ t. (u : Task) → Contains queue u → can_use processor u ≡ true → runs_before t u ≡ false)
+  pub same : (processor puller_size source_size : ℕ) (xs ys : List Task) → HasDistinctIds xs → HasDistinctIds ys → SameSet xs ys → pull processor puller_size source_size xs ≡ pull processor puller_size source_size ys

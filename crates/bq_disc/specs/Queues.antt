@@ -1,23 +1,23 @@
--- Queues: sets of tasks with distinct ids, as the list of their tasks by rising (v, id), with the mark that is kept.
+-- Queues: sets of tasks with distinct ids, as the list of their tasks by rising (v, id), with their mark.
 use Rattle.std.specs.Prelude.{◌≡◌, ℕ, ◌<◌, ◌^◌, List, [], ◌∷◌, Option, Some, None, refl, Bool, true}
 use Rattle.std.specs.Coded.{Coded, code_by, coded×, coded_ℕ, coded_list}
 use Rattle.bq_disc.specs.Masks.{allows}
-use Rattle.bq_disc.specs.Tasks.{Task, coded_task, comes_before, with_id}
+use Rattle.bq_disc.specs.Tasks.{Task, coded_task, comes_before, find_task}
 
--- the waiting tasks, and the mark of virtual time that is kept for them
+-- the waiting tasks, and their mark of virtual time
 pub record Queue : Type 0 where
   pub members : List Task
-  pub kept : ℕ
+  pub mark : ℕ
 
 -- a queue is stored as the pair of its fields
 abbrev pub coded_queue : Coded Queue
 coded_queue =
-    code_by (List Task × ℕ) (coded× (coded_list coded_task) coded_ℕ) (λ q. (q.members, q.kept)) (λ p. record { members = p.0; kept = p.1 }) (λ _. refl)
+    code_by (List Task × ℕ) (coded× (coded_list coded_task) coded_ℕ) (λ q. (q.members, q.mark)) (λ p. record { members = p.0; mark = p.1 }) (λ _. refl)
 
 -- no task has the id of one after it
 abbrev pub HasDistinctIds : List Task → Type 0
 HasDistinctIds [] = Unit {0}
-HasDistinctIds (x ∷ xs) = (with_id x.id xs ≡ None) × HasDistinctIds xs
+HasDistinctIds (x ∷ xs) = (find_task x.id xs ≡ None) × HasDistinctIds xs
 
 -- each id fits 16 bits
 abbrev pub HasSmallIds : List Task → Type 0

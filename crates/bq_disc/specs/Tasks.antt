@@ -56,18 +56,18 @@ abbrev pub has_id : ℕ → Task → Bool
 has_id id t = t.id == id
 
 -- the task with this id, if there is one
-abbrev pub with_id : ℕ → List Task → Option Task
-with_id id xs = find (has_id id) xs
+abbrev pub find_task : ℕ → List Task → Option Task
+find_task id xs = find (has_id id) xs
 
 -- the tasks without the one that has this id
 abbrev pub without : ℕ → List Task → List Task
 without id [] = []
 without id (x ∷ xs) = if has_id id x then xs else x ∷ without id xs
 
--- a queue with one more task, in its place by (v, id)
-abbrev pub place : Task → List Task → List Task
-place t [] = t ∷ []
-place t (x ∷ xs) = if runs_before t x then t ∷ x ∷ xs else x ∷ place t xs
+-- a queue with one more task, inserted by (v, id)
+abbrev pub inserted : Task → List Task → List Task
+inserted t [] = t ∷ []
+inserted t (x ∷ xs) = if runs_before t x then t ∷ x ∷ xs else x ∷ inserted t xs
 
 -- the tasks present at a processor: its current task, if any, and its queue
 abbrev pub present : Option Task → List Task → List Task

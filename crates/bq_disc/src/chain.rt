@@ -1,8 +1,8 @@
-//! The plain timeline: a chain of boxes by their left links.
+//! Tasks in order, plainly: a chain of boxes by their left links.
 ghost use Rattle.std.specs.Prelude.{◌≡◌, ◌<◌, ◌≤◌, ◌^◌, ◌+◌, length, None, IfSome, find, filter};
 ghost use Rattle.std.specs.Option.{option_map};
 ghost use Rattle.bq_disc.specs.Queues.{comes_after, follows};
-ghost use Rattle.bq_disc.specs.Tasks.{place, with_id, without};
+ghost use Rattle.bq_disc.specs.Tasks.{inserted, find_task, without};
 ghost use Rattle.bq_disc.specs.Chains.{task_of, IsLone, chain_behind, IsStraightBehind};
 ghost use Rattle.bq_disc.specs.Totals.{sums_of, is_at_most_mean, HasBounds};
 ghost use Rattle.bq_disc.specs.Dues.{first_due};
@@ -10,7 +10,7 @@ ghost use Rattle.bq_disc.specs.Movable.{AddsMovable};
 
 use crate::limits::PROCESSORS;
 use crate::node::{Link, behind};
-use crate::{Deadline, Movable, Node, Timeline, Totals};
+use crate::{Deadline, Movable, Node, TaskOrder, Totals};
 use std::marker::Model;
 
 /// Nodes in their order. Each is linked to the next.
@@ -39,7 +39,7 @@ impl Model for Chain {
 }
 
 #[tactic(auto, using(crate::proofs::QueueLemmas::queue_facts, crate::proofs::RisingLemmas::rising_facts))]
-impl Timeline for Chain {
+impl TaskOrder for Chain {
     ghost tasks = { λ q. q };
 
     fn empty() -> Chain {
@@ -100,7 +100,7 @@ impl Timeline for Chain {
 pub(crate) fn insert_behind(link: &mut Link, mut node: Box<Node>)
     requires lone { IsLone node.value }
     requires straight { IsStraightBehind link.old }
-    ensures chain { chain_behind link.new ≡ place (task_of node.value) (chain_behind link.old) }
+    ensures chain { chain_behind link.new ≡ inserted (task_of node.value) (chain_behind link.old) }
     ensures straight { IsStraightBehind link.new }
 {
     match link {
@@ -119,7 +119,7 @@ pub(crate) fn insert_behind(link: &mut Link, mut node: Box<Node>)
 /// Takes the node with this id out of a chain.
 pub(crate) fn take_behind(link: &mut Link, id: u16) -> Link
     requires straight { IsStraightBehind link.old }
-    ensures taken { option_map (λ b. task_of b.value) result ≡ with_id id (chain_behind link.old) }
+    ensures taken { option_map (λ b. task_of b.value) result ≡ find_task id (chain_behind link.old) }
     ensures lone { IfSome result (λ b. IsLone b.value) }
     ensures rest { chain_behind link.new ≡ without id (chain_behind link.old) }
     ensures straight { IsStraightBehind link.new }
@@ -137,7 +137,7 @@ pub(crate) fn take_behind(link: &mut Link, id: u16) -> Link
 
 /// The node with this id in a chain.
 pub(crate) fn get_behind(link: &Link, id: u16) -> Option<&Node>
-    ensures { option_map (λ n. task_of n.now) result ≡ with_id id (chain_behind link.now) }
+    ensures { option_map (λ n. task_of n.now) result ≡ find_task id (chain_behind link.now) }
 {
     let mut link = link;
     while let Some(node) = link {

@@ -1,4 +1,4 @@
-//! Rules: what each discipline chooses, and how virtual time passes under it.
+//! What a discipline chooses, and how virtual time passes under it.
 ghost use Rattle.std.specs.Prelude.{◌≡◌, ◌<◌, ◌≤◌, ◌^◌};
 ghost use Rattle.std.specs.Option.{option_map};
 ghost use Rattle.bq_weights.specs.VirtualTime.{IsWeight};
@@ -8,38 +8,43 @@ ghost use Rattle.bq_disc.specs.Chains.{task_of};
 ghost use Rattle.bq_disc.specs.Pulls.{pull_of};
 
 use crate::limits::PROCESSORS;
-use crate::{Node, Timeline};
+use crate::{Node, TaskOrder};
 
 /// A processor pulls a task only if the other one has at least this many more.
 const WORTH_A_PULL: usize = 2;
 
-/// A discipline, with its choices over any timeline.
+/// A discipline, with its choices among tasks in order.
 pub trait Discipline {
     /// The discipline's definitions.
     ghost discipline: { Discipline };
 
-    /// The id of the task that should run, of a timeline's tasks and the current task.
-    fn choice<T: Timeline>(current: Option<&Node>, queue: &T) -> Option<u16>
+    /// The id of the task that should run, of the waiting tasks and the current one.
+    fn choice<T: TaskOrder>(current: Option<&Node>, queue: &T) -> Option<u16>
         ensures { result ≡ id_of (discipline.choice (present (option_map (λ n. task_of n.now) current.entry) (T.tasks queue.now))) };
 
-    /// Whether a task of the timeline should take the place of the current one.
-    fn wants_preempt<T: Timeline>(current: &Node, queue: &T) -> bool
+    /// Whether a waiting task should take the place of the current one.
+    fn wants_preempt<T: TaskOrder>(current: &Node, queue: &T) -> bool
         ensures { result ≡ discipline.wants_preempt (task_of current.now) (T.tasks queue.now) };
 
-    /// The new mark, from the old one, the current task and the timeline's tasks.
-    fn mark<T: Timeline>(old: u64, current: Option<&Node>, queue: &T) -> u64
+    /// The new mark, from the old one, the current task and the waiting tasks.
+    fn mark<T: TaskOrder>(old: u64, current: Option<&Node>, queue: &T) -> u64
         requires { old ≤ 2 ^ 62 }
         ensures value { result ≡ discipline.mark old (present (option_map (λ n. task_of n.now) current.entry) (T.tasks queue.now)) }
         ensures high { result ≤ 2 ^ 62 };
 
-    /// The task that an emptier processor takes from a timeline, the queue of another. `size` tasks run or wait at the
-    /// puller and `from` at the other processor. If `from` is at least two more, this is the movable task of greatest
+    /// The task that an emptier processor takes from the queue of another. `puller_size` tasks run or wait at the puller,
+    /// `source_size` at the other processor. If `source_size` is at least two more, this is the movable task of greatest
     /// (v, id); else no task is pulled.
-    fn pull<T: Timeline>(processor: u8, size: usize, from: usize, queue: &T) -> Option<u16>
+    fn pull<T: TaskOrder>(
+        processor: u8,
+        puller_size: usize,
+        source_size: usize,
+        queue: &T,
+    ) -> Option<u16>
         requires processor { processor < PROCESSORS }
-        ensures { result ≡ id_of (pull_of processor size from (T.tasks queue.now)) }
+        ensures { result ≡ id_of (pull_of processor puller_size source_size (T.tasks queue.now)) }
     {
-        if from.saturating_sub(size) < WORTH_A_PULL {
+        if source_size.saturating_sub(puller_size) < WORTH_A_PULL {
             return None;
         }
         let found = queue.movable(processor);

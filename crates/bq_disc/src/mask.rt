@@ -1,5 +1,5 @@
 //! Sets of processors: bit k of a mask is processor k.
-ghost use Rattle.std.specs.Prelude.{◌≡◌, ◌<◌};
+ghost use Rattle.std.specs.Prelude.{◌≡◌, ◌<◌, ◌≤◌, ◌%◌, ◌^◌};
 ghost use Rattle.bq_disc.specs.Masks.{allows};
 
 use crate::limits::PROCESSORS;
@@ -18,4 +18,16 @@ pub fn has(mask: u64, processor: u8) -> bool
     ensures { result ≡ allows mask processor }
 {
     (mask >> processor) % 2 == 1
+}
+
+/// The bits of a mask below bit `count`: those of the first `count` processors.
+pub fn low_bits(mask: u64, count: usize) -> u64
+    requires { count ≤ PROCESSORS }
+    ensures { result ≡ mask % 2 ^ count }
+{
+    if count == 64 {
+        mask
+    } else {
+        mask % (1 << count)
+    }
 }

@@ -1,7 +1,7 @@
 //! What the core asks of a run queue.
 ghost use Rattle.std.specs.Prelude.{◌≡◌, ◌≤◌, ◌<◌, ◌^◌, ℕ, List, [], length, Option, Some, None, IfSome, find, take};
 ghost use Rattle.std.specs.Option.{option_map};
-ghost use Rattle.bq_disc.specs.Tasks.{Task, present, id_of, place, without, with_id};
+ghost use Rattle.bq_disc.specs.Tasks.{Task, present, id_of, inserted, without, find_task};
 ghost use Rattle.bq_disc.specs.Queues.{follows, HasDistinctIds, HasSmallIds};
 ghost use Rattle.bq_disc.specs.Rising.{IsRising};
 ghost use Rattle.bq_disc.specs.Movable.{movable_to, is_movable_to, ids};
@@ -21,7 +21,7 @@ pub enum Entry {
     Pull,
 }
 
-/// A set of tasks with distinct ids, under a rule. No call takes memory: nodes move.
+/// A set of tasks with distinct ids, under a discipline. No call takes memory: nodes move.
 ///
 /// # Example
 ///
@@ -39,35 +39,35 @@ pub trait RunQueue {
     ghost members: { Self → List Task };
 
     /// The mark as it was last computed.
-    ghost kept_mark: { Self → ℕ };
+    ghost last_mark: { Self → ℕ };
 
     /// A queue without tasks, its mark at 2^32.
     fn empty() -> Self
         ensures members { members result ≡ [] }
-        ensures mark { kept_mark result ≡ 2 ^ 32 };
+        ensures mark { last_mark result ≡ 2 ^ 32 };
 
-    /// Answers how many tasks are in the queue.
+    /// How many tasks are in the queue.
     fn len(&self) -> usize
         ensures { result ≡ length (members self.now) };
 
     /// Inserts a task as it is. The queue must have no task with its id.
     fn insert(&mut self, node: Box<Node>)
         requires lone { IsLone node.value }
-        requires fresh { with_id (task_of node.value).id (members self.old) ≡ None }
-        ensures members { members self.new ≡ place (task_of node.value) (members self.old) }
-        ensures mark { kept_mark self.new ≡ kept_mark self.old };
+        requires fresh { find_task (task_of node.value).id (members self.old) ≡ None }
+        ensures members { members self.new ≡ inserted (task_of node.value) (members self.old) }
+        ensures mark { last_mark self.new ≡ last_mark self.old };
 
     /// Removes the task with this id, if it is there.
     fn take(&mut self, id: u16) -> Option<Box<Node>>
-        ensures taken { option_map (λ b. task_of b.value) result ≡ with_id id (members self.old) }
+        ensures taken { option_map (λ b. task_of b.value) result ≡ find_task id (members self.old) }
         ensures lone { IfSome result (λ b. IsLone b.value) }
         ensures rest { members self.new ≡ without id (members self.old) }
-        ensures gone { with_id id (members self.new) ≡ None }
-        ensures mark { kept_mark self.new ≡ kept_mark self.old };
+        ensures gone { find_task id (members self.new) ≡ None }
+        ensures mark { last_mark self.new ≡ last_mark self.old };
 
     /// The task with this id, if it is there.
     fn get(&self, id: u16) -> Option<&Node>
-        ensures task { option_map (λ n. task_of n.now) result ≡ with_id id (members self.now) }
+        ensures task { option_map (λ n. task_of n.now) result ≡ find_task id (members self.now) }
         ensures small { HasSmallIds (members self.now) };
 
     /// The task of least (v, id) above `last`; the task of least (v, id) of all if there is no `last`.
@@ -96,11 +96,11 @@ pub trait RunQueue {
         }
     }
 
-    /// The task that an emptier processor takes from this queue if no policy chooses. `size` tasks run or wait at the puller
-    /// and `from` at this queue's processor, the running one included.
-    fn own_pull(&self, processor: u8, size: usize, from: usize) -> Option<u16>
+    /// The task that an emptier processor takes from this queue if no policy chooses. `puller_size` tasks run or wait at
+    /// the puller, `source_size` at this queue's processor.
+    fn own_pull(&self, processor: u8, puller_size: usize, source_size: usize) -> Option<u16>
         requires processor { processor < PROCESSORS }
-        ensures { result ≡ id_of (pull_of processor size from (members self.now)) };
+        ensures { result ≡ id_of (pull_of processor puller_size source_size (members self.now)) };
 
     /// The task that should run, of the queue and the current task.
     fn choice(&self, current: Option<&Node>) -> Option<u16>
@@ -121,15 +121,15 @@ pub trait RunQueue {
         }
     }
 
-    /// Computes the mark again, and keeps it.
-    fn mark(&mut self, current: Option<&Node>) -> u64
-        ensures value { result ≡ Self.R.discipline.mark (kept_mark self.old) (present (option_map (λ n. task_of n.now) current.entry) (members self.old)) }
-        ensures kept { kept_mark self.new ≡ result }
+    /// Computes the mark again.
+    fn update_mark(&mut self, current: Option<&Node>) -> u64
+        ensures value { result ≡ Self.R.discipline.mark (last_mark self.old) (present (option_map (λ n. task_of n.now) current.entry) (members self.old)) }
+        ensures mark { last_mark self.new ≡ result }
         ensures members { members self.new ≡ members self.old };
 
     /// The mark as it was last computed.
-    fn kept(&self) -> u64
-        ensures value { result ≡ kept_mark self.now }
+    fn mark(&self) -> u64
+        ensures value { result ≡ last_mark self.now }
         ensures high { result ≤ 2 ^ 62 };
 
     /// Charges a task for the time that it ran, in nanoseconds.
@@ -144,31 +144,31 @@ pub trait RunQueue {
         entity.set_times(v, deadline);
     }
 
-    /// Gives a task its v and deadline as it enters, by the kept mark.
+    /// Gives a task its v and deadline as it enters, by the mark.
     fn enter(&self, node: &mut Node, entry: Entry)
-        ensures task { task_of node.new ≡ entered_by Self.R.discipline (kept_mark self.now) entry (task_of node.old) }
+        ensures task { task_of node.new ≡ entered_by Self.R.discipline (last_mark self.now) entry (task_of node.old) }
         ensures lone { IsLone node.old → IsLone node.new }
     {
         let entity = &mut node.entity;
         let v = match entry {
             Entry::Wake => Self::R::wake(
-                self.kept(),
+                self.mark(),
                 entity.rel(),
                 entity.slice(),
                 entity.weight(),
             ),
-            Entry::Pull => bq_weights::shift(self.kept(), entity.rel()),
+            Entry::Pull => bq_weights::shift(self.mark(), entity.rel()),
         };
         let deadline = Self::R::deadline(v, entity.slice(), entity.weight());
         entity.set_times(v, deadline);
     }
 
-    /// Records the distance of a task that leaves from the kept mark.
+    /// Records the distance of a task that leaves from the mark.
     fn leave(&self, node: &mut Node)
-        ensures task { task_of node.new ≡ left_at (kept_mark self.now) (task_of node.old) }
+        ensures task { task_of node.new ≡ left_at (last_mark self.now) (task_of node.old) }
         ensures lone { IsLone node.old → IsLone node.new }
     {
         let entity = &mut node.entity;
-        entity.set_rel(bq_weights::distance(entity.v(), self.kept()));
+        entity.set_rel(bq_weights::distance(entity.v(), self.mark()));
     }
 }

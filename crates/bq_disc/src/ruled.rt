@@ -1,14 +1,14 @@
-//! A timeline under a rule is a run queue.
+//! Tasks in order, under a discipline, are a run queue.
 ghost use Rattle.std.specs.Prelude.{◌^◌};
 ghost use Rattle.bq_disc.specs.Queues.{Queue};
 
 use crate::limits::FIRST_MARK;
-use crate::{Chain, Discipline, Movable, Node, RunQueue, Timeline};
+use crate::{Chain, Discipline, Movable, Node, RunQueue, TaskOrder};
 use std::marker::{Model, PhantomData};
 
-/// A timeline under a rule, with its mark.
+/// Tasks in order, under a discipline, with their mark.
 #[derive(Drop)]
-pub struct RuledQueue<T: Timeline, R: Discipline> {
+pub struct RuledQueue<T: TaskOrder, R: Discipline> {
     tasks: T,
     mark: u64,
     rule: PhantomData<R>,
@@ -17,7 +17,7 @@ pub struct RuledQueue<T: Timeline, R: Discipline> {
 /// The plain queue under any rule: a list of boxes.
 pub type List<R> = RuledQueue<Chain, R>;
 
-impl<T: Timeline, R: Discipline> Model for RuledQueue<T, R> {
+impl<T: TaskOrder, R: Discipline> Model for RuledQueue<T, R> {
     ghost use Rattle.std.specs.Prelude.{◌≤◌, ◌^◌};
     ghost use Rattle.bq_disc.specs.Queues.{Queue, coded_queue};
 
@@ -25,17 +25,17 @@ impl<T: Timeline, R: Discipline> Model for RuledQueue<T, R> {
 
     ghost coded = { coded_queue };
 
-    ghost view = { λ q. record { members = T.tasks q.tasks; kept = q.mark } };
+    ghost view = { λ q. record { members = T.tasks q.tasks; mark = q.mark } };
 
     ghost invariant = { λ q. q.mark ≤ 2 ^ 62 };
 }
 
-impl<T: Timeline, R: Discipline> RunQueue for RuledQueue<T, R> {
+impl<T: TaskOrder, R: Discipline> RunQueue for RuledQueue<T, R> {
     type R = R;
 
     ghost members = { λ q. q.members };
 
-    ghost kept_mark = { λ q. q.kept };
+    ghost last_mark = { λ q. q.mark };
 
     fn empty() -> RuledQueue<T, R> {
         RuledQueue {
@@ -69,8 +69,8 @@ impl<T: Timeline, R: Discipline> RunQueue for RuledQueue<T, R> {
         self.tasks.movable(processor)
     }
 
-    fn own_pull(&self, processor: u8, size: usize, from: usize) -> Option<u16> {
-        R::pull(processor, size, from, &self.tasks)
+    fn own_pull(&self, processor: u8, puller_size: usize, source_size: usize) -> Option<u16> {
+        R::pull(processor, puller_size, source_size, &self.tasks)
     }
 
     fn choice(&self, current: Option<&Node>) -> Option<u16> {
@@ -81,12 +81,12 @@ impl<T: Timeline, R: Discipline> RunQueue for RuledQueue<T, R> {
         R::wants_preempt(current, &self.tasks)
     }
 
-    fn mark(&mut self, current: Option<&Node>) -> u64 {
+    fn update_mark(&mut self, current: Option<&Node>) -> u64 {
         self.mark = R::mark(self.mark, current, &self.tasks);
         self.mark
     }
 
-    fn kept(&self) -> u64 {
+    fn mark(&self) -> u64 {
         self.mark
     }
 }

@@ -27,7 +27,7 @@ use crate::shapes::{
 };
 use crate::unit::TimeUnit;
 use bq_disc::limits::PROCESSORS;
-use bq_report::{Extent, Names, Roster, Window, round_step};
+use bq_report::{AdmittedTasks, Extent, Names, Window, round_step};
 use bq_schedule::{Slice, Start, Wake};
 use std::alloc::{AllocError, Global};
 use std::collections::{BTreeMap, BTreeSet};
@@ -185,7 +185,7 @@ impl Drawing {
         window: &Window,
         extent: Extent,
         heading: &Heading<'_>,
-        roster: &Roster,
+        roster: &AdmittedTasks,
         names: &Names,
     ) -> Result<Written, AllocError>
         ensures { IfOk result (λ d. IsDrawing window.now (drawn_in extent roster.now names.now) heading.now.title.now heading.now.rule self.now
@@ -228,7 +228,7 @@ impl Drawing {
     }
 
     /// The tasks that appear, in the order in which they were admitted.
-    fn tasks_shown(&self, roster: &Roster) -> Result<Vec<u16>, AllocError>
+    fn tasks_shown(&self, roster: &AdmittedTasks) -> Result<Vec<u16>, AllocError>
         ensures { IfOk result (λ tasks. tasks.items ≡ tasks_shown roster.now self.now.tasks) }
     {
         let mut tasks = Vec::new(self.alloc);

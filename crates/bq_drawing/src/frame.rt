@@ -7,7 +7,7 @@ use crate::colours::COLOURS;
 use crate::escaped::write_escaped;
 use crate::scale::Scale;
 use crate::unit::{Amount, TimeUnit};
-use bq_report::{Names, Roster};
+use bq_report::{AdmittedTasks, Names};
 use std::alloc::AllocError;
 
 /// What the shapes of a picture share: where a moment is, the unit of times, and the colours and the names of tasks.
@@ -15,7 +15,7 @@ use std::alloc::AllocError;
 pub struct Frame<'a> {
     pub scale: Scale,
     pub unit: TimeUnit,
-    pub roster: &'a Roster,
+    pub roster: &'a AdmittedTasks,
     pub names: &'a Names,
 }
 

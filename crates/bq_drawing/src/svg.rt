@@ -22,7 +22,7 @@ use crate::scale::PAGE;
 use crate::sheet::{write_hatches, write_styles};
 use crate::theme::Theme;
 use bq_disc::limits::{PROCESSORS, TASKS};
-use bq_report::{Extent, Names, Roster, ScheduleForm, Window};
+use bq_report::{AdmittedTasks, Extent, Names, ScheduleForm, Window};
 use bq_schedule::{Change, PulledTask, Schedule, Slice, Start, Stop, Wake};
 use bq_words::Rule;
 use std::alloc::{AllocError, Global};
@@ -37,7 +37,7 @@ pub struct Svg {
     window: Window,
     look: Look,
     rule: Option<Rule>,
-    roster: Roster,
+    roster: AdmittedTasks,
     drawing: Drawing,
     /// When each task last stopped running.
     stops: BTreeMap<u16, u64>,
@@ -54,7 +54,7 @@ impl Svg {
             window,
             look,
             rule: None,
-            roster: Roster::new(alloc),
+            roster: AdmittedTasks::new(alloc),
             drawing: Drawing::new(alloc),
             stops: BTreeMap::new(alloc),
         }

@@ -1,4 +1,4 @@
-//! EEVDF as a rule over any timeline.
+//! The EEVDF discipline.
 ghost use Rattle.std.specs.Prelude.{◌≡◌, ◌≤◌, ◌^◌, List, Option};
 ghost use Rattle.std.specs.Option.{option_map};
 ghost use Rattle.bq_disc.specs.Tasks.{Task, present};
@@ -8,7 +8,7 @@ ghost use Rattle.bq_disc.specs.Dues.{first_due};
 ghost use Rattle.bq_eevdf.specs.Eevdf.{eevdf, eligible, is_other};
 ghost use Rattle.bq_eevdf.specs.Lawful.{eevdf_lawful};
 
-use bq_disc::{Deadline, Discipline, Node, RuledQueue, Timeline, Totals};
+use bq_disc::{Deadline, Discipline, Node, RuledQueue, TaskOrder, Totals};
 use bq_tree::{Sums, Tree};
 
 /// The rule of earliest eligible virtual deadline first (sched-eevdf.rst; Stoica and Abdel-Wahab 1995, section 3).
@@ -39,7 +39,7 @@ fn considered(current: Option<&Node>, mut queue: Totals) -> Totals
 }
 
 /// The earliest deadline of the eligible tasks, of the queue's and the current task.
-fn earliest<T: Timeline>(current: Option<&Node>, queue: &T) -> Option<Deadline>
+fn earliest<T: TaskOrder>(current: Option<&Node>, queue: &T) -> Option<Deadline>
     ensures { result ≡ first_due (eligible (present (option_map (λ n. task_of n.now) current.entry) (T.tasks queue.now))) }
 {
     let all = considered(current, queue.totals());
@@ -66,18 +66,18 @@ fn is_other(chosen: Option<u16>, current: &Node) -> bool
 impl Discipline for Eevdf {
     ghost discipline = { eevdf };
 
-    fn choice<T: Timeline>(current: Option<&Node>, queue: &T) -> Option<u16> {
+    fn choice<T: TaskOrder>(current: Option<&Node>, queue: &T) -> Option<u16> {
         match earliest(current, queue) {
             None => None,
             Some(due) => Some(due.id),
         }
     }
 
-    fn wants_preempt<T: Timeline>(current: &Node, queue: &T) -> bool {
+    fn wants_preempt<T: TaskOrder>(current: &Node, queue: &T) -> bool {
         is_other(Self::choice(Some(current), queue), current)
     }
 
-    fn mark<T: Timeline>(old: u64, current: Option<&Node>, queue: &T) -> u64 {
+    fn mark<T: TaskOrder>(old: u64, current: Option<&Node>, queue: &T) -> u64 {
         match considered(current, queue.totals()).mean() {
             None => old,
             Some(mean) => mean,

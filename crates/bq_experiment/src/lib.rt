@@ -25,5 +25,5 @@ pub use fault::RunFault;
 pub use limited::Limited;
 pub use names::{shown_name, task_names, workload_names};
 pub use policies::{AttachFault, Policies};
-pub use running::{Ran, Streams, run_as};
+pub use running::{FinishedRun, Streams, run_as};
 pub use words::{HookWords, MachineWords, StudyWords};

@@ -43,7 +43,7 @@ pub struct Streams<'a, W, E> {
 
 /// What came of a run: the output, given back, and the last notes, or why the run has not come to its end.
 #[derive(Drop)]
-pub struct Ran<W> {
+pub struct FinishedRun<W> {
     pub output: Counted<W>,
     pub outcome: Result<String, RunFault>,
 }
@@ -61,7 +61,7 @@ pub fn run_as<W: Write + Drop, E: Write + Drop>(
     shown: ShownAs,
     most: u64,
     streams: Streams<'_, W, E>,
-) -> Ran<W>
+) -> FinishedRun<W>
     ensures written { IfOk result.outcome (λ notes. IsWritten shown workload.now policies.now most
         (W.contents streams.entry.output) (W.contents (counted_inner result.output)) (string_bytes notes)) }
 
@@ -109,7 +109,7 @@ fn as_trace<W: Write + Drop, E: Write + Drop>(
     policies: &Policies,
     most: u64,
     streams: Streams<'_, W, E>,
-) -> Ran<W>
+) -> FinishedRun<W>
     ensures written { IfOk result.outcome (λ notes. IsWritten shown_as.Trace workload.now policies.now most
         (W.contents streams.entry.output) (W.contents (counted_inner result.output)) (string_bytes notes)) }
     ensures writes { OnOk result.outcome (failures_of result.output ≡ 0) }
@@ -122,7 +122,7 @@ fn as_trace<W: Write + Drop, E: Write + Drop>(
         Err(fault) => Err(fault),
     };
     let passing = run.sink;
-    Ran {
+    FinishedRun {
         output: passing.into_output(),
         outcome,
     }
@@ -203,7 +203,7 @@ fn as_timeline<W: Write + Drop, E: Write + Drop>(
     settings: Settings,
     most: u64,
     streams: Streams<'_, W, E>,
-) -> Ran<W>
+) -> FinishedRun<W>
     ensures written { IfOk result.outcome (λ notes. AreNotesOf policies.now.loaded workload.now most (string_bytes notes)) }
     ensures writes { OnOk result.outcome (failures_of result.output ≡ 0) }
     ensures fault { IfErr result.outcome (λ e. IsRunFault policies.now.loaded workload.now most e (failures_of result.output)) }
@@ -212,7 +212,7 @@ fn as_timeline<W: Write + Drop, E: Write + Drop>(
     let mut run = sink_of_run(workload, OffsetViewer { viewer, offset: 0 }, most, streams);
     let outcome = write_timeline(alloc, workload, policies, &mut run);
     let passing = run.sink;
-    Ran {
+    FinishedRun {
         output: passing.into_output(),
         outcome,
     }

@@ -22,7 +22,7 @@ use Rattle.bq_needs.specs.declared.needs.Need.{Need}
 use Rattle.bq_explain.specs.Explained.{AreAsked, AreMade, IsFinding, IsOfState, IsOfVerifier, IsPlaceOfSlot, IsRefusalOf}
 use Rattle.bq_explain.specs.declared.place.Place.{Place}
 use Rattle.bq_explain.specs.declared.refusal.Finding.TheVariants as finding
-use Rattle.bq_explain.specs.declared.refusal.Refusal.{Refusal}
+use Rattle.bq_explain.specs.declared.refusal.ExplainedRefusal.{ExplainedRefusal}
 use Rattle.bq_explain.specs.declared.trail.Made.{Made}
 use Rattle.bq_explain.specs.Verdicts.{IsVerdict}
 use Rattle.bq_explain.specs.declared.limits.Limits.{Limits}
@@ -71,7 +71,7 @@ nothing_made slots slot made none one there =
     absurd (let less = (subst (λ (l : List Made). Contains l one) none there).1 in let no : ⊥ = omega arith in no)
 
 -- a refusal for a fault of the control graph
-pub refusal_of_graph : {E : Type 0} (p : PolicySource) (slot : ℕ) (named : GraphCause) (place : Place) (r : Result Refusal E)
+pub refusal_of_graph : {E : Type 0} (p : PolicySource) (slot : ℕ) (named : GraphCause) (place : Place) (r : Result ExplainedRefusal E)
     → IsPlaceOfSlot (spread p.insns.items) slot place → IfOk r (λ refusal. refusal.place ≡ place)
     → IfOk r (λ refusal. refusal.cause ≡ cause.Graph named)
     → IfOk r (λ refusal. (p : PolicySource) (slot : ℕ) → IsFinding p slot place.insn (cause.Graph named) refusal.finding)
@@ -89,7 +89,7 @@ refusal_of_graph p slot named place (Ok refusal) at same is finds none = record 
 
 -- a refusal for what is not shown of the states
 pub refusal_of_state : {E : Type 0} (p : PolicySource) (slot : ℕ) (named : Cause) (slots : List (Option Insn))
-    → slots ≡ spread p.insns.items → (place : Place) (r : Result Refusal E) → IsPlaceOfSlot (spread p.insns.items) slot place
+    → slots ≡ spread p.insns.items → (place : Place) (r : Result ExplainedRefusal E) → IsPlaceOfSlot (spread p.insns.items) slot place
     → IfOk r (λ refusal. refusal.place ≡ place) → IfOk r (λ refusal. refusal.cause ≡ named)
     → IfOk r (λ refusal. IsFinding p place.slot place.insn named refusal.finding)
     → IfOk r (λ refusal. (asked : List Bool) × AreAsked refusal.finding asked × AreMade slots place.slot asked refusal.trail.made.items)

@@ -3,10 +3,10 @@ use Rattle.std.proofs.Common.{◌≡◌, ◌∙◌, ◌++◌, ℕ, List, ap, app
 use Rattle.bq_policy_file.specs.declared.policy_source.PolicySource.{PolicySource}
 use Rattle.bq_explain.specs.Explained.{DescribesFinding, DescribesRefusal}
 use Rattle.bq_explain.specs.TrailTexts.{EndsWith, DescribesTrail, place_line}
-use Rattle.bq_explain.specs.declared.refusal.Refusal.{Refusal}
+use Rattle.bq_explain.specs.declared.refusal.ExplainedRefusal.{ExplainedRefusal}
 
 -- the parts make the whole
-pub describes_refusal : (p : PolicySource) (refusal : Refusal) (line at found after text : List ℕ)
+pub describes_refusal : (p : PolicySource) (refusal : ExplainedRefusal) (line at found after text : List ℕ)
     → EndsWith (place_line refusal.place) at → DescribesFinding p refusal.place.insn refusal.finding found
     → DescribesTrail p.form.shapes.items refusal.trail after → text ≡ line ++ (at ++ (found ++ after))
     → DescribesRefusal p refusal text

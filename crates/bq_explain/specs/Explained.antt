@@ -34,7 +34,7 @@ use Rattle.bq_explain.specs.declared.makers.Maker.{Maker}
 use Rattle.bq_explain.specs.declared.place.Place.{Place}
 use Rattle.bq_explain.specs.declared.refusal.Finding.{Finding}
 use Rattle.bq_explain.specs.declared.refusal.Finding.TheVariants as finding
-use Rattle.bq_explain.specs.declared.refusal.Refusal.{Refusal}
+use Rattle.bq_explain.specs.declared.refusal.ExplainedRefusal.{ExplainedRefusal}
 use Rattle.bq_explain.specs.declared.trail.Made.{Made}
 use Rattle.bq_explain.specs.declared.verdict.Verdict.{Verdict}
 use Rattle.bq_explain.specs.declared.verdict.Verdict.TheVariants.{Accepted, Refused}
@@ -107,7 +107,7 @@ abbrev pub AreOf : List (Option Insn) → List Maker → List Made → Type 0
 AreOf slots makers made = (one : Made) → Contains made one → (maker : Maker) × Contains makers maker × IsMadeBy slots maker one
 
 -- the instruction at the slot, what is found there, and instructions on the trail of registers of which that speaks
-pub record IsRefusalOf (p : PolicySource) (slot : ℕ) (named : Cause) (refusal : Refusal) : Type 0 where
+pub record IsRefusalOf (p : PolicySource) (slot : ℕ) (named : Cause) (refusal : ExplainedRefusal) : Type 0 where
   pub place : IsPlaceOfSlot (spread p.insns.items) slot refusal.place
   pub cause_is : refusal.cause ≡ named
   pub finds : IsFinding p slot refusal.place.insn named refusal.finding
@@ -149,7 +149,7 @@ DescribesFinding p insn (finding.State need known) text = DescribesNeedAndState 
 DescribesFinding p insn other text = Unit {0}
 
 -- the line of the instruction that is refused, then what is found there, then where the registers come from, then advice
-pub record DescribesRefusal (p : PolicySource) (refusal : Refusal) (text : List ℕ) : Type 0 where
+pub record DescribesRefusal (p : PolicySource) (refusal : ExplainedRefusal) (text : List ℕ) : Type 0 where
   pub before : List ℕ
   pub found : List ℕ
   pub describes_finding : DescribesFinding p refusal.place.insn refusal.finding found

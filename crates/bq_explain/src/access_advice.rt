@@ -5,7 +5,7 @@ use crate::advice::Advice;
 use crate::trail::Trail;
 use bq_bpf::shape::GREATEST_SIZE;
 use bq_hooks::{Hook, Version, context_length};
-use bq_needs::{Access, Lack};
+use bq_needs::{Lack, MemoryAccess};
 use bq_policy_file::PolicySource;
 use bq_states::abstract_state::{AbstractValue, ValueKind};
 
@@ -32,7 +32,7 @@ pub struct AccessRange {
 /// What helps if an access lacks this.
 pub(crate) fn access_advice(
     policy: &PolicySource,
-    access: Access,
+    access: MemoryAccess,
     pointer: AbstractValue,
     lack: Lack,
     trail: &Trail,
@@ -102,7 +102,7 @@ fn is_range(pointer: AbstractValue) -> bool {
 
 /// Whether format 2 helps: all bytes of the load are in the context of its place policies, with each address that the
 /// pointer may have.
-fn is_in_second(policy: &PolicySource, access: Access, pointer: AbstractValue) -> bool {
+fn is_in_second(policy: &PolicySource, access: MemoryAccess, pointer: AbstractValue) -> bool {
     match (policy.form.hook, policy.form.version) {
         (Hook::Place, Version::First) => {
             let longer = context_length(Hook::Place, Version::Second);
@@ -113,7 +113,7 @@ fn is_in_second(policy: &PolicySource, access: Access, pointer: AbstractValue) -
 }
 
 /// Whether all bytes of the access are below the bound, with each address that the pointer may have.
-fn is_within(access: Access, pointer: AbstractValue, bound: u64) -> bool {
+fn is_within(access: MemoryAccess, pointer: AbstractValue, bound: u64) -> bool {
     let further = i64::from(access.off).cast_unsigned();
     let lo = pointer.offset.lo.wrapping_add(further);
     let hi = pointer.offset.hi.wrapping_add(further);
@@ -122,7 +122,7 @@ fn is_within(access: Access, pointer: AbstractValue, bound: u64) -> bool {
 }
 
 /// Where in a value of this many bytes an access may begin.
-fn room_of(access: Access, pointer: AbstractValue, size: u16) -> AccessRange {
+fn room_of(access: MemoryAccess, pointer: AbstractValue, size: u16) -> AccessRange {
     AccessRange {
         is_range: is_range(pointer),
         last: usize::from(size).saturating_sub(access.bytes),

@@ -4,7 +4,7 @@ ghost use Rattle.bq_explain.specs.Explained.{Explains, IsDetail, IsOfVerifier};
 
 use crate::limits::Limits;
 use crate::place::{Place, call_of};
-use crate::refusal::{Refusal, refusal_of};
+use crate::refusal::{ExplainedRefusal, refusal_of};
 use crate::summary::{Summary, summary_of};
 use crate::verdict::{Verdict, judge};
 use bq_policy_file::PolicySource;
@@ -27,7 +27,7 @@ pub enum Detail {
     /// Of a policy that is safe and beyond a limit: the first call that is not allowed, if that is the limit.
     Limited(Option<Place>),
     /// The verifier refuses the policy: the place and the reason.
-    Refused(Refusal),
+    Refused(ExplainedRefusal),
 }
 
 /// The verdict on a policy, and what explains it. What it says of registers and stack at the slot of a refusal holds in

@@ -34,7 +34,7 @@ pub use limits::{Limits, Over};
 pub use measure::Measure;
 pub use meeting::{Coming, Meeting};
 pub use place::{Place, index_at};
-pub use refusal::{Finding, Refusal};
+pub use refusal::{ExplainedRefusal, Finding};
 pub use summary::{Summary, maps_text};
 pub use text::{explanation_text, need_words};
 pub use trail::{Clobbered, Made, Trail};

@@ -22,7 +22,7 @@ use std::alloc::{AllocError, Global};
 
 /// Why the verifier refuses a policy.
 #[derive(Drop)]
-pub struct Refusal {
+pub struct ExplainedRefusal {
     /// The instruction at which it does.
     pub place: Place,
     pub cause: Cause,
@@ -54,7 +54,7 @@ pub(crate) fn refusal_of(
     file: &[u8],
     slot: usize,
     cause: Cause,
-) -> Result<Refusal, AllocError>
+) -> Result<ExplainedRefusal, AllocError>
     requires { IsRefusedPolicy policy.now slot cause }
     ensures { IfOk result (IsRefusalOf policy.now slot cause) }
 {
@@ -75,7 +75,7 @@ fn graph_refusal(
     slots: &[Option<Insn>],
     place: Place,
     named: GraphCause,
-) -> Result<Refusal, AllocError>
+) -> Result<ExplainedRefusal, AllocError>
     ensures place { IfOk result (λ refusal. refusal.place ≡ place) }
     ensures cause { IfOk result (λ refusal. refusal.cause ≡ Cause.Graph named) }
     ensures finds { IfOk result (λ refusal. (p : Named) (slot : ℕ) → IsFinding p slot place.insn (Cause.Graph named) refusal.finding) }
@@ -84,7 +84,7 @@ fn graph_refusal(
     let fault = graph_fault(slots.len(), place.slot, place.insn, named);
     let label = label_of(alloc, file, place, named)?;
     let advice = graph_advice(fault, slots.len());
-    Ok(Refusal {
+    Ok(ExplainedRefusal {
         place,
         cause: Cause::Graph(named),
         finding: Finding::Graph(fault),
@@ -114,7 +114,7 @@ fn state_refusal(
     slots: &[Option<Insn>],
     place: Place,
     cause: Cause,
-) -> Result<Refusal, AllocError>
+) -> Result<ExplainedRefusal, AllocError>
     requires slots { slots.now ≡ spread policy.now.insns.items }
     requires faultless { IsFaultless (spread policy.now.insns.items) }
     requires inside { place.slot < length slots.now }
@@ -130,7 +130,7 @@ fn state_refusal(
     let asked = asked_in(finding);
     let trail = trail_of(alloc, policy, slots, &states, place.slot, &asked)?;
     let advice = state_advice(policy, place.insn, finding, &trail);
-    Ok(Refusal {
+    Ok(ExplainedRefusal {
         place,
         cause,
         finding,

@@ -11,7 +11,7 @@ use crate::explanation::{Detail, Explanation};
 use crate::graph_fault::graph_text;
 use crate::limits::Over;
 use crate::place::{Place, instruction_line};
-use crate::refusal::{Finding, Refusal};
+use crate::refusal::{ExplainedRefusal, Finding};
 use crate::state_words::state_text;
 use crate::summary::{accepted_words, summary_text};
 use crate::trail_words::trail_text;
@@ -118,7 +118,7 @@ fn refusal_text(
     policy: &PolicySource,
     line: String,
     name: Option<&str>,
-    refusal: &Refusal,
+    refusal: &ExplainedRefusal,
 ) -> Result<String, AllocError>
     ensures begins { IfOk result (λ text. StartsWith (string_bytes line) (string_bytes text)) }
     ensures describes { IfOk result (λ text. DescribesRefusal policy.now refusal.now (string_bytes text)) }
@@ -143,7 +143,7 @@ fn refusal_text(
 pub fn need_words(
     alloc: Global,
     policy: &PolicySource,
-    refusal: &Refusal,
+    refusal: &ExplainedRefusal,
 ) -> Result<String, AllocError> {
     match refusal.finding {
         Finding::Graph(fault) => graph_text(alloc, policy, fault, refusal.label.as_deref()),
@@ -155,7 +155,11 @@ pub fn need_words(
 }
 
 /// Says where the registers come from, and what helps.
-fn after_text(alloc: Global, policy: &PolicySource, refusal: &Refusal) -> Result<String, AllocError>
+fn after_text(
+    alloc: Global,
+    policy: &PolicySource,
+    refusal: &ExplainedRefusal,
+) -> Result<String, AllocError>
     ensures { IfOk result (λ text. DescribesTrail policy.now.form.shapes.items refusal.now.trail (string_bytes text)) }
 {
     let trail = trail_text(alloc, policy.form.shapes.as_slice(), &refusal.trail)?;

@@ -53,7 +53,7 @@ moment_up_by : (d : Discipline) (p : Running) (now : ℕ) (o : Option Task)
     → p.current ≡ o → IsWellFormed p → weighted_v_at p ≤ weighted_v_at (ticked d p now)
 moment_up_by d p now None e w = omega (arith, weighted_sum-idle d p now e)
 moment_up_by d p now (Some t) e w =
-    let f = current_present p.queue p.kept p.current p.last t e in
+    let f = current_present p.queue p.mark p.current p.last t e in
     let ends = w.ends t.id t f in
     let up : t.v ≤ min (t.v + vdelta_of (rise p now) t.weight) (2 ^ 62) = omega arith in
     omega (arith, weighted_sum-busy d p now t e, mul-le-mul_left t.weight up)
@@ -123,7 +123,7 @@ pub begins_balanced : BeginsBalanced
 begins_balanced E r p h = record {
   current =
       IfSome-from (λ t. weight_present p * t.v ≤ weighted_v_at p + E) p.current
-      (λ t e. of_each (λ x. weight_present p * x.v ≤ weighted_v_at p + E) p t.id t h (current_present p.queue p.kept p.current p.last t e));
+      (λ t e. of_each (λ x. weight_present p * x.v ≤ weighted_v_at p + E) p t.id t h (current_present p.queue p.mark p.current p.last t e));
   each =
       All-weaker (λ x. weight_present p * x.v ≤ weighted_v_at p + E)
       (λ x. weight_present p * x.v ≤ weighted_v_at p + most_ahead E r (weight_present p) x.weight)

@@ -4,13 +4,13 @@ use Rattle.std.specs.Prelude.{All, IfSome}
 use Rattle.std.specs.List.{AllByRecursion}
 use Rattle.std.proofs.lemmas.Bool.Decides.{nat_tests}
 use Rattle.bq_weights.specs.VirtualTime.{vdelta_of}
-use Rattle.bq_disc.specs.Tasks.{Task, with_id, runs_before, former}
+use Rattle.bq_disc.specs.Tasks.{Task, find_task, runs_before, former}
 use Rattle.bq_disc.specs.Queues.{HasDistinctIds}
 use Rattle.bq_disc.specs.Discipline.{next_of}
 use Rattle.bq_disc.specs.OneProcessor.{Running, present_at, charge, decided, own_preempt, exchanged, ticked, rise}
 use Rattle.bq_cfs.specs.Cfs.{cfs, least}
 use Rattle.bq_cfs.proofs.BoundLemmas.{weaker_of_each, none_below_least}
-use Rattle.bq_cfs.proofs.MoveLemmas.{each-with_id}
+use Rattle.bq_cfs.proofs.MoveLemmas.{each-find_task}
 use Rattle.bq_cfs.proofs.SpreadStayLemmas.{least_is_found, idle_processor, busy_processor, near_each, next_is_least}
 use Rattle.bq_fairness.specs.Histories.{history, TicksRiseByAtMost, task_at}
 use Rattle.bq_fairness.proofs.PlaceLemmas.{current_present}
@@ -23,47 +23,47 @@ use Rattle.bq_fairness.proofs.SoundLemmas.{of_each, vdelta_of-le, IsWellFormed, 
 abbrev pub IsNearEach : List Task → Task → Type 0
 IsNearEach xs m = AllByRecursion (λ t. m.v ≤ t.v + 1000000) xs
 
-started_near : (q : List Task) (kept last : ℕ) → HasDistinctIds q
-    → IfSome (decided cfs (idle_processor q kept last) None false).current (IsNearEach q)
-started_near [] kept last d = tt
-started_near (x ∷ xs) kept last d =
+started_near : (q : List Task) (mark last : ℕ) → HasDistinctIds q
+    → IfSome (decided cfs (idle_processor q mark last) None false).current (IsNearEach q)
+started_near [] mark last d = tt
+started_near (x ∷ xs) mark last d =
     let m = former runs_before x (least xs) in
     rw (least_is_found x xs d)
     (weaker_of_each (λ (t : Task). m.v ≤ t.v) (λ (t : Task). m.v ≤ t.v + 1000000) (λ t k. omega arith) (x ∷ xs) (none_below_least x xs))
 
-exchanged_near : (q : List Task) (kept last next : ℕ) (u m : Task)
-    → next ≡ m.id → with_id m.id q ≡ Some m → IsNearEach (u ∷ q) m
-    → IfSome (exchanged (busy_processor q kept u last) u (with_id next q)).current (IsNearEach (u ∷ q))
-exchanged_near q kept last next u m e f h = rw (e, f) h
+exchanged_near : (q : List Task) (mark last next : ℕ) (u m : Task)
+    → next ≡ m.id → find_task m.id q ≡ Some m → IsNearEach (u ∷ q) m
+    → IfSome (exchanged (busy_processor q mark u last) u (find_task next q)).current (IsNearEach (u ∷ q))
+exchanged_near q mark last next u m e f h = rw (e, f) h
 
-switched_near : (q : List Task) (kept last : ℕ) (u : Task) → HasDistinctIds (u ∷ q) → own_preempt cfs q (Some u) ≡ true
-    → IfSome (decided cfs (busy_processor q kept u last) (Some u) true).current (IsNearEach (u ∷ q))
-switched_near [] kept last u d e = cc
-switched_near (x ∷ xs) kept last u d e =
+switched_near : (q : List Task) (mark last : ℕ) (u : Task) → HasDistinctIds (u ∷ q) → own_preempt cfs q (Some u) ≡ true
+    → IfSome (decided cfs (busy_processor q mark u last) (Some u) true).current (IsNearEach (u ∷ q))
+switched_near [] mark last u d e = cc
+switched_near (x ∷ xs) mark last u d e =
     let m = former runs_before x (least xs) in
     let lt : m.v + 1000000 < u.v = grind (arith, nat_tests) in
     let near =
     weaker_of_each (λ (t : Task). m.v ≤ t.v) (λ (t : Task). m.v ≤ t.v + 1000000) (λ t k. omega arith) (x ∷ xs)
     (none_below_least x xs) in
-    exchanged_near (x ∷ xs) kept last (next_of cfs u (x ∷ xs)) u m (next_is_least u x xs (omega arith))
+    exchanged_near (x ∷ xs) mark last (next_of cfs u (x ∷ xs)) u m (next_is_least u x xs (omega arith))
     (least_is_found x xs d.1) (omega arith, near)
 
-decided_near : (q : List Task) (kept last : ℕ) (u : Task) (b : Bool)
+decided_near : (q : List Task) (mark last : ℕ) (u : Task) (b : Bool)
     → HasDistinctIds (u ∷ q) → own_preempt cfs q (Some u) ≡ b
-    → IfSome (decided cfs (busy_processor q kept u last) (Some u) b).current (IsNearEach (u ∷ q))
-decided_near q kept last u true d e = switched_near q kept last u d e
-decided_near q kept last u false d e = (omega arith, near_each u.v q e)
+    → IfSome (decided cfs (busy_processor q mark u last) (Some u) b).current (IsNearEach (u ∷ q))
+decided_near q mark last u true d e = switched_near q mark last u d e
+decided_near q mark last u false d e = (omega arith, near_each u.v q e)
 
-runs_near_by : (q : List Task) (kept : ℕ) (o : Option Task) (last : ℕ)
-    → (let p : Running = record { queue = q; kept = kept; current = o; last = last } in
+runs_near_by : (q : List Task) (mark : ℕ) (o : Option Task) (last : ℕ)
+    → (let p : Running = record { queue = q; mark = mark; current = o; last = last } in
     HasDistinctIds (present_at p) → IfSome (decided cfs p o (own_preempt cfs q o)).current (IsNearEach (present_at p)))
-runs_near_by q kept None last d = started_near q kept last d
-runs_near_by q kept (Some u) last d = decided_near q kept last u (own_preempt cfs q (Some u)) d refl
+runs_near_by q mark None last d = started_near q mark last d
+runs_near_by q mark (Some u) last d = decided_near q mark last u (own_preempt cfs q (Some u)) d refl
 
 -- the task that runs after a decision is so of all that are present
 pub runs_near_each : (p : Running) → HasDistinctIds (present_at p)
     → IfSome (decided cfs p p.current (own_preempt cfs p.queue p.current)).current (IsNearEach (present_at p))
-runs_near_each p d = runs_near_by p.queue p.kept p.current p.last d
+runs_near_each p d = runs_near_by p.queue p.mark p.current p.last d
 
 -- the task that runs after a Tick is at most 1,000,000 beyond each that is present
 pub runs_near : (p : Running) (now j : ℕ) (m t : Task) → HasDistinctIds (present_at p) → (ticked cfs p now).current ≡ Some m
@@ -71,10 +71,10 @@ pub runs_near : (p : Running) (now j : ℕ) (m t : Task) → HasDistinctIds (pre
     → m.v ≤ t.v + 1000000
 runs_near p now j m t d e f =
     let c = charge cfs p now in
-    let near = runs_near_by c.queue c.kept c.current c.last (charged_distinct cfs p now d) in
+    let near = runs_near_by c.queue c.mark c.current c.last (charged_distinct cfs p now d) in
     let each = rw e at near in
     let there = sym ((tick_keeps cfs p now d).same j) ∙ f in
-    rw there at (each-with_id (λ (x : Task). m.v ≤ x.v + 1000000) j (present_at c) each)
+    rw there at (each-find_task (λ (x : Task). m.v ≤ x.v + 1000000) j (present_at c) each)
 
 -- How far one gets beyond another
 
@@ -122,7 +122,7 @@ fair_history V r p (now ∷ nows) w fair le =
 pub fair_at_start : (V r : ℕ) (p : Running) → All (λ t. t.v ≤ V) (present_at p) → IsFair V r p
 fair_at_start V r p h = record {
   runs = λ j m t e f.
-      let le = of_each (λ (x : Task). x.v ≤ V) p m.id m h (current_present p.queue p.kept p.current p.last m e) in
+      let le = of_each (λ (x : Task). x.v ≤ V) p m.id m h (current_present p.queue p.mark p.current p.last m e) in
       omega arith;
   each = λ i j u t f g. let le = of_each (λ (x : Task). x.v ≤ V) p i u h f in omega arith;
 }

@@ -4,13 +4,13 @@ use Rattle.std.specs.Prelude.{All}
 use Rattle.std.proofs.lemmas.Bool.Decides.{nat_tests}
 use Rattle.std.proofs.Math.Nat.{mul-le-mul_left}
 use Rattle.bq_weights.specs.VirtualTime.{vdelta_of, advance_of}
-use Rattle.bq_disc.specs.Tasks.{Task, with_id}
+use Rattle.bq_disc.specs.Tasks.{Task, find_task}
 use Rattle.bq_disc.specs.Dues.{due_before}
 use Rattle.bq_disc.specs.Totals.{total_weight, weighted_sum}
 use Rattle.bq_disc.specs.Queues.{HasDistinctIds}
 use Rattle.bq_disc.specs.Discipline.{charged}
 use Rattle.bq_disc.specs.OneProcessor.{Running, present_at, charge, ticked, rise}
-use Rattle.bq_disc.proofs.SetLemmas.{Contains-with_id}
+use Rattle.bq_disc.proofs.SetLemmas.{Contains-find_task}
 use Rattle.bq_disc.proofs.SameSumLemmas.{filter-Contains}
 use Rattle.bq_eevdf.specs.Eevdf.{eevdf, is_eligible, earliest}
 use Rattle.bq_fairness.specs.Histories.{history, TicksRiseByAtMost, task_at}
@@ -97,10 +97,10 @@ before_due_by xs m t false e c first dm dt =
 
 -- the eligible task that is due first stands no later than any is due
 pub before_due : (xs : List Task) (m t : Task) (j : ℕ) → HasDistinctIds xs → earliest xs ≡ Some m
-    → with_id j xs ≡ Some t → IsDue m → IsDue t
+    → find_task j xs ≡ Some t → IsDue m → IsDue t
     → m.v ≤ t.deadline
 before_due xs m t j d e f dm dt =
-    let c = Contains-with_id j xs t f in
+    let c = Contains-find_task j xs t f in
     before_due_by xs m t (is_eligible xs t) refl (earliest_is_eligible xs m d e)
     (λ k. none_is_due_before xs m e t (filter-Contains (is_eligible xs) xs t c.0 c.1 c.2 k)) dm dt
 
@@ -114,7 +114,7 @@ runs_before_due p now j m t d due e f =
     let dc = charged_distinct eevdf p now d in
     let first = of_some (λ x. earliest (present_at c) ≡ Some x) q.current m (runs_earliest c dc) e in
     let there = sym ((tick_keeps eevdf p now d).same j) ∙ f in
-    before_due (present_at c) m t j dc first there (due m.id m (current_present q.queue q.kept q.current q.last m e)) (due j t f)
+    before_due (present_at c) m t j dc first there (due m.id m (current_present q.queue q.mark q.current q.last m e)) (due j t f)
 
 -- How far one gets beyond another's deadline
 
@@ -172,7 +172,7 @@ timely_at_start V r p due h =
     record {
       due = λ i t f. let d = of_each two p i t due f in record { low = d.0; high = d.1 };
       runs = λ j m t e f.
-          let le = of_each (λ (x : Task). x.v ≤ V) p m.id m h (current_present p.queue p.kept p.current p.last m e) in
+          let le = of_each (λ (x : Task). x.v ≤ V) p m.id m h (current_present p.queue p.mark p.current p.last m e) in
           omega arith;
       each = λ i j u t f g. let le = of_each (λ (x : Task). x.v ≤ V) p i u h f in omega arith;
     }

@@ -1,29 +1,29 @@
 -- EEVDF: the task that runs after a decision is the choice of all that are present: eligible, and due first of those.
 use Rattle.std.proofs.Common.{◌≡◌, ℕ, Bool, true, false, cond, eqb, not, List, ◌∷◌, Option, Some, None, refl, ap, sym, ◌∙◌, eqb-true, eq-eqb}
 use Rattle.std.specs.Prelude.{IfSome, IsSome, Contains, unwrap_or, if◌then◌else◌, ◌==◌}
-use Rattle.bq_disc.specs.Tasks.{Task, with_id, id_of}
+use Rattle.bq_disc.specs.Tasks.{Task, find_task, id_of}
 use Rattle.bq_disc.specs.Dues.{due_before}
 use Rattle.bq_disc.specs.Queues.{HasDistinctIds}
 use Rattle.bq_disc.specs.Discipline.{next_of}
 use Rattle.bq_disc.specs.Orders.{first_by-member}
 use Rattle.bq_disc.specs.OneProcessor.{Running, present_at, decided, own_preempt, exchanged, run_id}
-use Rattle.bq_disc.proofs.SetLemmas.{with_id-Contains, first_by-least, due_before-IsOrder}
+use Rattle.bq_disc.proofs.SetLemmas.{find_task-Contains, first_by-least, due_before-IsOrder}
 use Rattle.bq_disc.proofs.SameSumLemmas.{Contains-filter}
 use Rattle.bq_cfs.proofs.SpreadStayLemmas.{idle_processor, busy_processor}
 use Rattle.bq_eevdf.specs.Eevdf.{eevdf, earliest, eligible, is_eligible, is_other}
 use Rattle.bq_eevdf.specs.Lawful.{eevdf_lawful}
-use Rattle.bq_fairness.proofs.PlaceLemmas.{with_id-own}
+use Rattle.bq_fairness.proofs.PlaceLemmas.{find_task-own}
 use Rattle.bq_fairness.proofs.ListLemmas.{of_some}
 
 -- a task is one of some, by its id, and eligible among them
 abbrev pub IsChosen : List Task → Task → Type 0
-IsChosen xs m = (with_id m.id xs ≡ Some m) × (is_eligible xs m ≡ true)
+IsChosen xs m = (find_task m.id xs ≡ Some m) × (is_eligible xs m ≡ true)
 
 chosen_by : (xs : List Task) (o : Option Task) → IfSome o (Contains (eligible xs)) → HasDistinctIds xs → IfSome o (IsChosen xs)
 chosen_by xs None h d = tt
 chosen_by xs (Some m) h d =
     let c = Contains-filter (is_eligible xs) xs m h in
-    (with_id-Contains xs m c.0.0 d c.0.1 c.0.2, c.1)
+    (find_task-Contains xs m c.0.0 d c.0.1 c.0.2, c.1)
 
 -- the earliest is so
 earliest_is_chosen : (xs : List Task) → HasDistinctIds xs → IfSome (earliest xs) (IsChosen xs)
@@ -35,11 +35,11 @@ IsEarliestOf xs t = earliest xs ≡ Some t
 
 -- Nothing runs, and the choice starts
 
-started_by : (q : List Task) (kept last : ℕ) (o : Option Task)
+started_by : (q : List Task) (mark last : ℕ) (o : Option Task)
     → earliest q ≡ o → IfSome o (IsChosen q)
-    → IfSome (run_id (idle_processor q kept last) (id_of o)).current (IsEarliestOf q)
-started_by q kept last None f h = tt
-started_by q kept last (Some m) f h = rw h.0 f
+    → IfSome (run_id (idle_processor q mark last) (id_of o)).current (IsEarliestOf q)
+started_by q mark last None f h = tt
+started_by q mark last (Some m) f h = rw h.0 f
 
 -- The current task keeps running, or gives way
 
@@ -56,47 +56,47 @@ next_is_chosen q u m f e =
 
 -- a chosen task that is not the current one is in the queue
 later_by_test : (q : List Task) (u m : Task) (b : Bool) → eqb u.id m.id ≡ b → eqb m.id u.id ≡ false
-    → cond b (Some u) (with_id m.id q) ≡ Some m
-    → with_id m.id q ≡ Some m
+    → cond b (Some u) (find_task m.id q) ≡ Some m
+    → find_task m.id q ≡ Some m
 later_by_test q u m true g e h = let same = eq-eqb m.id u.id (sym (eqb-true u.id m.id g)) in cc
 later_by_test q u m false g e h = h
 
 abbrev RunsEarliestOf : List Task → Running → Type 0
 RunsEarliestOf xs p = IfSome p.current (IsEarliestOf xs)
 
-exchanged_earliest : (q : List Task) (kept last next : ℕ) (u m : Task)
-    → next ≡ m.id → with_id m.id q ≡ Some m → IsEarliestOf (u ∷ q) m
-    → RunsEarliestOf (u ∷ q) (exchanged (busy_processor q kept u last) u (with_id next q))
-exchanged_earliest q kept last next u m e f h = rw (e, f) h
+exchanged_earliest : (q : List Task) (mark last next : ℕ) (u m : Task)
+    → next ≡ m.id → find_task m.id q ≡ Some m → IsEarliestOf (u ∷ q) m
+    → RunsEarliestOf (u ∷ q) (exchanged (busy_processor q mark u last) u (find_task next q))
+exchanged_earliest q mark last next u m e f h = rw (e, f) h
 
 -- of the earliest, by whether it is the current task
-decided_by_test : (q : List Task) (kept last : ℕ) (u m : Task) (b : Bool)
+decided_by_test : (q : List Task) (mark last : ℕ) (u m : Task) (b : Bool)
     → eqb m.id u.id ≡ b → earliest (u ∷ q) ≡ Some m → IsChosen (u ∷ q) m
-    → RunsEarliestOf (u ∷ q) (decided eevdf (busy_processor q kept u last) (Some u) (not b))
-decided_by_test q kept last u m true e f h =
+    → RunsEarliestOf (u ∷ q) (decided eevdf (busy_processor q mark u last) (Some u) (not b))
+decided_by_test q mark last u m true e f h =
     let same = eqb-true m.id u.id e in
-    let here : u ≡ m = let one = with_id-own u q in let two = ap (λ k. with_id k (u ∷ q)) same in let three = h.0 in cc in
+    let here : u ≡ m = let one = find_task-own u q in let two = ap (λ k. find_task k (u ∷ q)) same in let three = h.0 in cc in
     f ∙ ap (λ (x : Task). Some x) (sym here)
-decided_by_test q kept last u m false e f h =
-    exchanged_earliest q kept last (next_of eevdf u q) u m (next_is_chosen q u m f e) (later_by_test q u m (eqb u.id m.id) refl e h.0) f
+decided_by_test q mark last u m false e f h =
+    exchanged_earliest q mark last (next_of eevdf u q) u m (next_is_chosen q u m f e) (later_by_test q u m (eqb u.id m.id) refl e h.0) f
 
-decided_by : (q : List Task) (kept last : ℕ) (u : Task) (o : Option Task)
+decided_by : (q : List Task) (mark last : ℕ) (u : Task) (o : Option Task)
     → earliest (u ∷ q) ≡ o → IfSome o (IsChosen (u ∷ q)) → IsSome o
-    → RunsEarliestOf (u ∷ q) (decided eevdf (busy_processor q kept u last) (Some u) (is_other o u))
-decided_by q kept last u None f h s = cc
-decided_by q kept last u (Some m) f h s = decided_by_test q kept last u m (eqb m.id u.id) refl f h
+    → RunsEarliestOf (u ∷ q) (decided eevdf (busy_processor q mark u last) (Some u) (is_other o u))
+decided_by q mark last u None f h s = cc
+decided_by q mark last u (Some m) f h s = decided_by_test q mark last u m (eqb m.id u.id) refl f h
 
-decided_earliest : (q : List Task) (kept : ℕ) (o : Option Task) (last : ℕ)
-    → (let p : Running = record { queue = q; kept = kept; current = o; last = last } in
+decided_earliest : (q : List Task) (mark : ℕ) (o : Option Task) (last : ℕ)
+    → (let p : Running = record { queue = q; mark = mark; current = o; last = last } in
     HasDistinctIds (present_at p) → RunsEarliestOf (present_at p) (decided eevdf p o (own_preempt eevdf q o)))
-decided_earliest q kept None last d = started_by q kept last (earliest q) refl (earliest_is_chosen q d)
-decided_earliest q kept (Some u) last d =
-    decided_by q kept last u (earliest (u ∷ q)) refl (earliest_is_chosen (u ∷ q) d) (eevdf_lawful.exists (u ∷ q) (λ e. cc))
+decided_earliest q mark None last d = started_by q mark last (earliest q) refl (earliest_is_chosen q d)
+decided_earliest q mark (Some u) last d =
+    decided_by q mark last u (earliest (u ∷ q)) refl (earliest_is_chosen (u ∷ q) d) (eevdf_lawful.exists (u ∷ q) (λ e. cc))
 
 -- the task that runs after a decision is the earliest of those that were present before it
 pub runs_earliest : (p : Running) → HasDistinctIds (present_at p)
     → IfSome (decided eevdf p p.current (own_preempt eevdf p.queue p.current)).current (IsEarliestOf (present_at p))
-runs_earliest p d = decided_earliest p.queue p.kept p.current p.last d
+runs_earliest p d = decided_earliest p.queue p.mark p.current p.last d
 
 -- the earliest is eligible
 pub earliest_is_eligible : (xs : List Task) (m : Task) → HasDistinctIds xs → IsEarliestOf xs m → is_eligible xs m ≡ true
@@ -109,5 +109,5 @@ none_is_due_before xs m e =
     (first_by-least due_before due_before-IsOrder (eligible xs)) e
 
 -- the earliest is the task of its id
-pub chosen_present : (xs : List Task) (m : Task) → HasDistinctIds xs → IsEarliestOf xs m → with_id m.id xs ≡ Some m
+pub chosen_present : (xs : List Task) (m : Task) → HasDistinctIds xs → IsEarliestOf xs m → find_task m.id xs ≡ Some m
 chosen_present xs m d e = (of_some (IsChosen xs) (earliest xs) m (earliest_is_chosen xs d) e).0

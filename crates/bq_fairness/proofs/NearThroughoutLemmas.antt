@@ -5,7 +5,7 @@ use Rattle.bq_weights.specs.VirtualTime.{vdelta_of}
 use Rattle.bq_disc.specs.Tasks.{Task}
 use Rattle.bq_disc.specs.Discipline.{Discipline, charged}
 use Rattle.bq_disc.specs.OneProcessor.{Running, present_at, charge, reading, own_preempt, rise}
-use Rattle.bq_disc.proofs.SetLemmas.{with_id-id}
+use Rattle.bq_disc.proofs.SetLemmas.{find_task-id}
 use Rattle.bq_fairness.specs.Histories.{task_at, tick_charge}
 use Rattle.bq_fairness.specs.Steps.{ProcessorStep, Pass, Decide, Enter, Leave, Mark, stepped, after_steps, step_charge, served_by, since, DecidesWithin, EntersNew, EachEntersNew, kept_current, is_leave_of, StaysThroughout}
 use Rattle.bq_fairness.proofs.PlaceLemmas.{current_present}
@@ -69,11 +69,11 @@ AreClose V r n i j reach p = (u : Task) × (t : Task) × IsClose V r n i j reach
 
 -- Time passes
 
-current_charged : (d : Discipline) (q : List Task) (kept : ℕ) (o : Option Task) (last now : ℕ) (m : Task)
-    → (let p : Running = record { queue = q; kept = kept; current = o; last = last } in
+current_charged : (d : Discipline) (q : List Task) (mark : ℕ) (o : Option Task) (last now : ℕ) (m : Task)
+    → (let p : Running = record { queue = q; mark = mark; current = o; last = last } in
     (charge d p now).current ≡ Some m → (c : Task) × (o ≡ Some c) × (c.id ≡ m.id))
-current_charged d q kept None last now m e = cc
-current_charged d q kept (Some c) last now m e =
+current_charged d q mark None last now m e = cc
+current_charged d q mark (Some c) last now m e =
     let same : charged d c (reading last now - last) ≡ m = cc in (c, refl, ap (λ (x : Task). x.id) same)
 
 reach_up : (d : Discipline) (reach : Task → ℕ) (P : Task → Type 0)
@@ -98,7 +98,7 @@ passes d V r n reach p now i j u t a b w c le up (Runs f e z) =
     let v = rs.v in
     let most = rs.most in
     let low = (w.weights i u c.one).0 in
-    let start = c.runs u f (with_id-id i (present_at p) u c.one) in
+    let start = c.runs u f (find_task-id i (present_at p) u c.one) in
     let sum = vdelta_of-add n (rise p now) u.weight low in
     let mono = vdelta_of-le (n + rise p now) r u.weight low le in
     let bound : a.v ≤ max V (reach b) + vdelta_of (n + rise p now) u.weight = omega arith in
@@ -119,7 +119,7 @@ close_pass d reach P law V r n p now i j u t w h le c =
       record {
         one = a.1;
         other = b.1;
-        runs = λ m f g. let k = current_charged d p.queue p.kept p.current p.last now m f in both.1 k.0 k.1 (k.2 ∙ g);
+        runs = λ m f g. let k = current_charged d p.queue p.mark p.current p.last now m f in both.1 k.0 k.1 (k.2 ∙ g);
         ever = both.0;
       },
     )
@@ -144,7 +144,7 @@ close_decide d reach P law V r n p i j u t w h c =
         other = keeps.same j ∙ c.other;
         runs = λ m f g.
             let near = law.near p j m t w h f c.other in
-            let there = current_present q.queue q.kept q.current q.last m f in
+            let there = current_present q.queue q.mark q.current q.last m f in
             let same = same_task (task_at i q) m u (ap (λ k. task_at k q) (sym g) ∙ there) one in
             let v : m.v ≡ u.v = ap (λ (x : Task). x.v) same in
             omega arith;

@@ -4,7 +4,7 @@ use Rattle.std.specs.Prelude.{◌==◌}
 use Rattle.std.specs.Option.{option_map_or}
 use Rattle.std.proofs.lemmas.List.{length-set, get_or-set_same, get_or-set_other}
 use Rattle.std.proofs.lemmas.Bool.{eqb-false}
-use Rattle.bq_disc.specs.Tasks.{Task, with_id}
+use Rattle.bq_disc.specs.Tasks.{Task, find_task}
 use Rattle.bq_disc.specs.Queues.{HasDistinctIds, can_use}
 use Rattle.bq_disc.specs.Discipline.{Discipline}
 use Rattle.bq_disc.specs.OneProcessor.{Running, present_at, charge, marked, enter_all}
@@ -25,7 +25,7 @@ use Rattle.bq_parts.specs.World.{World, processor_at, inbox, count_in, with_proc
 use Rattle.bq_parts.specs.Moves.{taken_from, without_task, with_pulled, started_if_idle}
 use Rattle.bq_parts.specs.StandsOnce.{IsOrderly}
 use Rattle.bq_parts.specs.Choices.{by_programs, SettledChoice, own_pull}
-use Rattle.bq_parts.specs.Shares.{Ticks, Drains, Blocks, Pulls, after_time, remarked}
+use Rattle.bq_parts.specs.Shares.{Ticks, Drains, Blocks, Pulls, after_time, mark_updated}
 use Rattle.bq_parts.proofs.CountLemmas.{each_once_queue, HasDistinctIds-from_counts}
 use Rattle.bq_parts.proofs.OnceLemmas.{each_once_running}
 use Rattle.bq_parts.proofs.PermittedLemmas.{settled_permitted, own_pull_permitted, may_pull_names}
@@ -82,7 +82,7 @@ tick_seen d at processor now p q calls r h alone same =
 drain_seen : (d : Discipline) (at processor now : ℕ) (p q : Processor) (tasks : List Task)
     (calls : List CounterCall) (r : Reply)
     → Drains (by_programs d) processor now p tasks calls r q → DecidesAlone at (Drain processor now) (Ok r) → at ≡ processor
-    → q.running ≡ after_steps d p.running (Pass now ∷ entries d (charge d p.running now).kept tasks)
+    → q.running ≡ after_steps d p.running (Pass now ∷ entries d (charge d p.running now).mark tasks)
 drain_seen d at processor now p q tasks calls r h alone same =
     let settled : SettledChoice = h.0 in
     let own = subst (λ x. DecidesAlone at (Drain processor now) (Ok x)) h.3 alone same in
@@ -117,7 +117,7 @@ goes_away : (d : Discipline) (processor n : ℕ) (p : Running) (task : Option �
     → without_task (marked d p) task ≡ after_steps d p (leaving task)
 goes_away d processor n p None h may e = refl
 goes_away d processor n p (Some id) h may e =
-    let found = there_is processor (with_id id p.queue) (may_pull_names processor p.queue n id may e) in
+    let found = there_is processor (find_task id p.queue) (may_pull_names processor p.queue n id may e) in
     events_are_steps.pulled_away d p id found.0 h found.1
 
 -- written at two processors, it is seen at the one, at the other, or not
@@ -148,7 +148,7 @@ pull_seen d at w processor from now q other calls r o l apart h =
     let settled : SettledChoice = h.settled in
     let task = task_numbered settled.choice in
     let c = after_time d now (processor_at w processor) in
-    let source = remarked d (processor_at w from) in
+    let source = mark_updated d (processor_at w from) in
     let queue = (running_at w from).queue in
     let once = each_once_queue (running_at w from) (each_once_running w from o) in
     let may : may_pull processor queue settled.choice ≡ true =

@@ -9,14 +9,14 @@ use Rattle.bq_disc.specs.Tasks.{Task}
 use Rattle.bq_disc.specs.Queues.{HasDistinctIds}
 use Rattle.bq_disc.specs.Discipline.{Discipline}
 use Rattle.bq_disc.specs.OneProcessor.{Running, present_at, reading, ticked, rise}
-use Rattle.bq_disc.proofs.SetLemmas.{Contains-with_id}
+use Rattle.bq_disc.proofs.SetLemmas.{Contains-find_task}
 use Rattle.bq_cfs.specs.Spread.{AreTasksSound}
 use Rattle.bq_fairness.specs.Histories.{HasRoom, history, task_at, tick_charge, served}
 use Rattle.bq_fairness.proofs.TickLemmas.{Change, Stays, Runs, tick_changed, tick_came, tick_keeps}
 
 -- what holds of all that are present holds of the one of an id
 pub of_each : (P : Task → Type 0) (p : Running) (i : ℕ) (t : Task) → All P (present_at p) → task_at i p ≡ Some t → P t
-of_each P p i t h f = All-contains P (present_at p) t h (Contains-with_id i (present_at p) t f)
+of_each P p i t h f = All-contains P (present_at p) t h (Contains-find_task i (present_at p) t f)
 
 -- a shorter time takes no more virtual time
 pub vdelta_of-le : (x r w : ℕ) → 15 ≤ w → x ≤ r → vdelta_of x w ≤ vdelta_of r w

@@ -1,14 +1,14 @@
 -- What a step does to the tasks that are present: those that do not leave stay, and none comes but the one that enters.
 use Rattle.std.proofs.Common.{◌≡◌, ℕ, ◌^◌, ◌≤◌, Bool, true, false, cond, eqb, List, ◌∷◌, Option, Some, None, ◌⊎◌, inl, inr, refl, ap, sym, ◌∙◌, subst, arith, eqb-true, eq-eqb}
 use Rattle.bq_weights.specs.VirtualTime.{IsWeight}
-use Rattle.bq_disc.specs.Tasks.{Task, with_id, without, place, present}
+use Rattle.bq_disc.specs.Tasks.{Task, find_task, without, inserted, present}
 use Rattle.bq_disc.specs.Queues.{HasDistinctIds}
 use Rattle.bq_disc.specs.Discipline.{Discipline}
 use Rattle.bq_disc.specs.OneProcessor.{Running, present_at, own_preempt}
-use Rattle.bq_disc.proofs.QueueLemmas.{with_id-none, with_id-place_other, HasDistinctIds-place, with_id-without, HasDistinctIds-without, with_id-without_same, eqb_comm}
+use Rattle.bq_disc.proofs.QueueLemmas.{find_task-none, find_task-inserted_other, HasDistinctIds-inserted, find_task-without, HasDistinctIds-without, find_task-without_same, eqb_comm}
 use Rattle.bq_fairness.specs.Histories.{task_at}
 use Rattle.bq_fairness.specs.Steps.{ProcessorStep, Pass, Decide, Enter, Leave, Mark, stepped, kept_current, EntersNew, is_leave_of}
-use Rattle.bq_fairness.proofs.PlaceLemmas.{with_id-place, with_id-without_other, either_order}
+use Rattle.bq_fairness.proofs.PlaceLemmas.{find_task-inserted, find_task-without_other, either_order}
 use Rattle.bq_fairness.proofs.DecideLemmas.{keeps_present}
 use Rattle.bq_fairness.proofs.TickLemmas.{Change, charge_changed, charge_came, charged_distinct}
 use Rattle.bq_fairness.proofs.SoundLemmas.{IsWellFormed, change_rises}
@@ -16,25 +16,25 @@ use Rattle.bq_fairness.proofs.SoundLemmas.{IsWellFormed, change_rises}
 -- A task enters
 
 entered_stays : (o : Option Task) (q : List Task) (t : Task) (i : ℕ)
-    → with_id t.id (present o q) ≡ None → with_id i (present o (place t q)) ≡ with_id i (t ∷ present o q)
-entered_stays None q t i n = with_id-place i t q n
+    → find_task t.id (present o q) ≡ None → find_task i (present o (inserted t q)) ≡ find_task i (t ∷ present o q)
+entered_stays None q t i n = find_task-inserted i t q n
 entered_stays (Some c) q t i n =
-    let s = with_id-none t.id c q n in
-    ap (λ x. cond (eqb c.id i) (Some c) x) (with_id-place i t q s.1)
-    ∙ either_order (eqb c.id i) (eqb t.id i) c t (with_id i q)
+    let s = find_task-none t.id c q n in
+    ap (λ x. cond (eqb c.id i) (Some c) x) (find_task-inserted i t q s.1)
+    ∙ either_order (eqb c.id i) (eqb t.id i) c t (find_task i q)
     (λ a b. let e = eqb-true c.id i a ∙ sym (eqb-true t.id i b) in let f = eq-eqb c.id t.id e in cc)
 
 entered_distinct : (o : Option Task) (q : List Task) (t : Task)
-    → with_id t.id (present o q) ≡ None → HasDistinctIds (present o q)
-    → HasDistinctIds (present o (place t q))
-entered_distinct None q t n d = HasDistinctIds-place t q n d
+    → find_task t.id (present o q) ≡ None → HasDistinctIds (present o q)
+    → HasDistinctIds (present o (inserted t q))
+entered_distinct None q t n d = HasDistinctIds-inserted t q n d
 entered_distinct (Some c) q t n d =
-    let s = with_id-none t.id c q n in
-    (with_id-place_other c.id t q (eqb_comm c.id t.id s.0) ∙ d.0, HasDistinctIds-place t q s.1 d.1)
+    let s = find_task-none t.id c q n in
+    (find_task-inserted_other c.id t q (eqb_comm c.id t.id s.0) ∙ d.0, HasDistinctIds-inserted t q s.1 d.1)
 
-stays_by : (i : ℕ) (t u : Task) (xs : List Task) (b : Bool) → eqb t.id i ≡ b → with_id t.id xs ≡ None → with_id i xs ≡ Some u
-    → cond b (Some t) (with_id i xs) ≡ Some u
-stays_by i t u xs true e n f = let k = ap (λ k. with_id k xs) (eqb-true t.id i e) in cc
+stays_by : (i : ℕ) (t u : Task) (xs : List Task) (b : Bool) → eqb t.id i ≡ b → find_task t.id xs ≡ None → find_task i xs ≡ Some u
+    → cond b (Some t) (find_task i xs) ≡ Some u
+stays_by i t u xs true e n f = let k = ap (λ k. find_task k xs) (eqb-true t.id i e) in cc
 stays_by i t u xs false e n f = f
 
 comes_by : (i : ℕ) (t u : Task) (o : Option Task) (b : Bool) → cond b (Some t) o ≡ Some u → (o ≡ Some u) ⊎ (t ≡ u)
@@ -46,7 +46,7 @@ comes_by i t u o false f = inl f
 left_distinct_by : (k : ℕ) (q : List Task) (c : Task) (b : Bool)
     → HasDistinctIds (c ∷ q) → HasDistinctIds (present (cond b None (Some c)) (without k q))
 left_distinct_by k q c true d = HasDistinctIds-without k q d.1
-left_distinct_by k q c false d = (with_id-without c.id k q d.0, HasDistinctIds-without k q d.1)
+left_distinct_by k q c false d = (find_task-without c.id k q d.0, HasDistinctIds-without k q d.1)
 
 left_distinct : (k : ℕ) (q : List Task) (o : Option Task) → HasDistinctIds (present o q)
     → HasDistinctIds (present (kept_current k o) (without k q))
@@ -61,30 +61,30 @@ gone a b i x c e f =
 
 left_stays_by : (k i : ℕ) (q : List Task) (c : Task) (b : Bool)
     → eqb c.id k ≡ b → eqb k i ≡ false
-    → with_id i (present (cond b None (Some c)) (without k q)) ≡ cond (eqb c.id i) (Some c) (with_id i q)
-left_stays_by k i q c true e n = with_id-without_other k i q n ∙ sym (gone c.id k i (with_id i q) c e n)
-left_stays_by k i q c false e n = ap (λ x. cond (eqb c.id i) (Some c) x) (with_id-without_other k i q n)
+    → find_task i (present (cond b None (Some c)) (without k q)) ≡ cond (eqb c.id i) (Some c) (find_task i q)
+left_stays_by k i q c true e n = find_task-without_other k i q n ∙ sym (gone c.id k i (find_task i q) c e n)
+left_stays_by k i q c false e n = ap (λ x. cond (eqb c.id i) (Some c) x) (find_task-without_other k i q n)
 
 left_stays : (k i : ℕ) (q : List Task) (o : Option Task) → eqb k i ≡ false
-    → with_id i (present (kept_current k o) (without k q)) ≡ with_id i (present o q)
-left_stays k i q None n = with_id-without_other k i q n
+    → find_task i (present (kept_current k o) (without k q)) ≡ find_task i (present o q)
+left_stays k i q None n = find_task-without_other k i q n
 left_stays k i q (Some c) n = left_stays_by k i q c (eqb c.id k) refl n
 
 left_none_by : (k : ℕ) (q : List Task) (c : Task) (b : Bool) → eqb c.id k ≡ b → HasDistinctIds (c ∷ q)
-    → with_id k (present (cond b None (Some c)) (without k q)) ≡ None
-left_none_by k q c true e d = with_id-without_same k q d.1
-left_none_by k q c false e d = rw e (with_id-without_same k q d.1)
+    → find_task k (present (cond b None (Some c)) (without k q)) ≡ None
+left_none_by k q c true e d = find_task-without_same k q d.1
+left_none_by k q c false e d = rw e (find_task-without_same k q d.1)
 
 left_none : (k : ℕ) (q : List Task) (o : Option Task) → HasDistinctIds (present o q)
-    → with_id k (present (kept_current k o) (without k q)) ≡ None
-left_none k q None d = with_id-without_same k q d
+    → find_task k (present (kept_current k o) (without k q)) ≡ None
+left_none k q None d = find_task-without_same k q d
 left_none k q (Some c) d = left_none_by k q c (eqb c.id k) refl d
 
 left_came_by : (k i : ℕ) (q : List Task) (o : Option Task) (u : Task) (b : Bool)
-    → eqb k i ≡ b → HasDistinctIds (present o q) → with_id i (present (kept_current k o) (without k q)) ≡ Some u
-    → with_id i (present o q) ≡ Some u
+    → eqb k i ≡ b → HasDistinctIds (present o q) → find_task i (present (kept_current k o) (without k q)) ≡ Some u
+    → find_task i (present o q) ≡ Some u
 left_came_by k i q o u true e d f =
-    let none = ap (λ n. with_id n (present (kept_current k o) (without k q))) (sym (eqb-true k i e)) ∙ left_none k q o d in
+    let none = ap (λ n. find_task n (present (kept_current k o) (without k q))) (sym (eqb-true k i e)) ∙ left_none k q o d in
     cc
 left_came_by k i q o u false e d f = sym (left_stays k i q o e) ∙ f
 

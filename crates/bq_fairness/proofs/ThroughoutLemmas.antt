@@ -4,7 +4,7 @@ use Rattle.bq_weights.specs.VirtualTime.{vdelta_of}
 use Rattle.bq_disc.specs.Tasks.{Task}
 use Rattle.bq_disc.specs.OneProcessor.{present_at}
 use Rattle.bq_cfs.specs.Cfs.{cfs}
-use Rattle.bq_cfs.proofs.MoveLemmas.{each-with_id}
+use Rattle.bq_cfs.proofs.MoveLemmas.{each-find_task}
 use Rattle.bq_eevdf.specs.Eevdf.{eevdf, earliest}
 use Rattle.bq_fairness.specs.Steps.{ProcessorStep, Pass, Decide, Enter, Leave, Mark, stepped, EntersDue, CfsServesThroughout, EevdfServesThroughout}
 use Rattle.bq_fairness.proofs.SoundLemmas.{of_each, each_has_room, well_formed}
@@ -32,7 +32,7 @@ cfs_reach = record {
   keeps = λ t x e h. tt;
   up = λ t x e h. omega arith;
   near = λ p j m t w h e f.
-      rw f at (each-with_id (λ (x : Task). m.v ≤ x.v + 1000000) j (present_at p)
+      rw f at (each-find_task (λ (x : Task). m.v ≤ x.v + 1000000) j (present_at p)
       (of_some (IsNearEach (present_at p)) (stepped cfs p Decide).current m (runs_near_each p w.distinct) e));
 }
 

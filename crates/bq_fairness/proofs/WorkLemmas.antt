@@ -3,7 +3,7 @@ use Rattle.std.proofs.Common.{◌≡◌, ℕ, ◌+◌, ◌-◌, ◌*◌, ◌^◌
 use Rattle.std.specs.Prelude.{IsSome}
 use Rattle.std.specs.Option.{option_map_or}
 use Rattle.bq_weights.specs.VirtualTime.{vdelta_of}
-use Rattle.bq_disc.specs.Tasks.{Task, with_id}
+use Rattle.bq_disc.specs.Tasks.{Task, find_task}
 use Rattle.bq_disc.specs.Discipline.{Discipline, next_of}
 use Rattle.bq_disc.specs.OneProcessor.{Running, reading, charge, decided, exchanged, own_preempt, ticked, rise}
 use Rattle.bq_cfs.proofs.SpreadStayLemmas.{busy_processor}
@@ -16,33 +16,33 @@ use Rattle.bq_fairness.proofs.SumLemmas.{total_weight-ticked, weighted_sum-busy,
 
 -- Where a task runs, one does after each Tick
 
-busy_exchanged : (q : List Task) (kept last : ℕ) (u : Task) (o : Option Task)
-    → IsSome (exchanged (busy_processor q kept u last) u o).current
-busy_exchanged q kept last u None = refl
-busy_exchanged q kept last u (Some m) = refl
+busy_exchanged : (q : List Task) (mark last : ℕ) (u : Task) (o : Option Task)
+    → IsSome (exchanged (busy_processor q mark u last) u o).current
+busy_exchanged q mark last u None = refl
+busy_exchanged q mark last u (Some m) = refl
 
-busy_decided : (d : Discipline) (q : List Task) (kept last : ℕ) (u : Task) (b : Bool)
-    → IsSome (decided d (busy_processor q kept u last) (Some u) b).current
-busy_decided d q kept last u false = refl
-busy_decided d q kept last u true = busy_exchanged q kept last u (with_id (next_of d u q) q)
+busy_decided : (d : Discipline) (q : List Task) (mark last : ℕ) (u : Task) (b : Bool)
+    → IsSome (decided d (busy_processor q mark u last) (Some u) b).current
+busy_decided d q mark last u false = refl
+busy_decided d q mark last u true = busy_exchanged q mark last u (find_task (next_of d u q) q)
 
-stays_busy_at : (d : Discipline) (q : List Task) (kept : ℕ) (o : Option Task) (last : ℕ)
-    → (let c : Running = record { queue = q; kept = kept; current = o; last = last } in
+stays_busy_at : (d : Discipline) (q : List Task) (mark : ℕ) (o : Option Task) (last : ℕ)
+    → (let c : Running = record { queue = q; mark = mark; current = o; last = last } in
     IsSome o → IsSome (decided d c o (own_preempt d q o)).current)
-stays_busy_at d q kept None last h = cc
-stays_busy_at d q kept (Some u) last h = busy_decided d q kept last u (own_preempt d q (Some u))
+stays_busy_at d q mark None last h = cc
+stays_busy_at d q mark (Some u) last h = busy_decided d q mark last u (own_preempt d q (Some u))
 
-stays_busy_by : (d : Discipline) (q : List Task) (kept : ℕ) (o : Option Task) (last now : ℕ)
-    → (let p : Running = record { queue = q; kept = kept; current = o; last = last } in IsSome o → IsSome (ticked d p now).current)
-stays_busy_by d q kept None last now h = cc
-stays_busy_by d q kept (Some t) last now h =
-    let p : Running = record { queue = q; kept = kept; current = Some t; last = last } in
+stays_busy_by : (d : Discipline) (q : List Task) (mark : ℕ) (o : Option Task) (last now : ℕ)
+    → (let p : Running = record { queue = q; mark = mark; current = o; last = last } in IsSome o → IsSome (ticked d p now).current)
+stays_busy_by d q mark None last now h = cc
+stays_busy_by d q mark (Some t) last now h =
+    let p : Running = record { queue = q; mark = mark; current = Some t; last = last } in
     let c = charge d p now in
-    stays_busy_at d c.queue c.kept c.current c.last refl
+    stays_busy_at d c.queue c.mark c.current c.last refl
 
 -- where a task runs, one runs after a Tick
 pub stays_busy : (d : Discipline) (p : Running) (now : ℕ) → IsSome p.current → IsSome (ticked d p now).current
-stays_busy d p now h = stays_busy_by d p.queue p.kept p.current p.last now h
+stays_busy d p now h = stays_busy_by d p.queue p.mark p.current p.last now h
 
 -- What a Tick books
 
@@ -55,7 +55,7 @@ books_by : (d : Discipline) (p : Running) (now : ℕ) (o : Option Task)
     → (booked_at p now ≤ 1024 * rise p now) × (1024 * rise p now ≤ booked_at p now + 88760)
 books_by d p now None e w h = cc
 books_by d p now (Some t) e w h =
-    let f = current_present p.queue p.kept p.current p.last t e in
+    let f = current_present p.queue p.mark p.current p.last t e in
     let range = w.weights t.id t f in
     let here : booked_at p now ≡ t.weight * vdelta_of (rise p now) t.weight =
     ap (λ o. option_map_or (λ (t : Task). t.weight * vdelta_of (rise p now) t.weight) o 0) e in
@@ -97,7 +97,7 @@ moves_by d p now None e w room =
     let here : booked_at p now ≡ 0 = ap (λ o. option_map_or (λ (t : Task). t.weight * vdelta_of (rise p now) t.weight) o 0) e in
     omega (arith, weighted_sum-idle d p now e)
 moves_by d p now (Some t) e w room =
-    let f = current_present p.queue p.kept p.current p.last t e in
+    let f = current_present p.queue p.mark p.current p.last t e in
     let x = rise p now in
     let after = tick_leaves_room p.last now t.v t.weight (vdelta_of x t.weight) (w.weights t.id t f).0 (omega arith) (room t.id t f) in
     let here : booked_at p now ≡ t.weight * vdelta_of x t.weight =

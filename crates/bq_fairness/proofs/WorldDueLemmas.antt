@@ -30,16 +30,16 @@ pub entered_due : (v slice weight : ℕ) → v ≤ 2 ^ 62
     → (v ≤ advance_of v slice weight) × (advance_of v slice weight ≤ v + vdelta_of slice weight)
 entered_due v slice weight h = (omega arith, omega arith)
 
-entries_due : (kept : ℕ) (tasks : List Task) → EntersDue (entries eevdf kept tasks)
-entries_due kept [] = tt
-entries_due kept (t ∷ tasks) = (
-  entered_due _ t.slice t.weight (shift_ends kept (held_within (vdelta_of t.slice t.weight) t.rel)),
-  entries_due kept tasks,
+entries_due : (mark : ℕ) (tasks : List Task) → EntersDue (entries eevdf mark tasks)
+entries_due mark [] = tt
+entries_due mark (t ∷ tasks) = (
+  entered_due _ t.slice t.weight (shift_ends mark (held_within (vdelta_of t.slice t.weight) t.rel)),
+  entries_due mark tasks,
 )
 
 entry_due : (p : Running) (o : Option Task) (ss : List ProcessorStep) → EntersDue ss → EntersDue (enter_if_pulled eevdf p o ++ ss)
 entry_due p None ss h = h
-entry_due p (Some t) ss h = (entered_due _ t.slice t.weight (shift_ends p.kept t.rel), h)
+entry_due p (Some t) ss h = (entered_due _ t.slice t.weight (shift_ends p.mark t.rel), h)
 
 begins_due : (o : Option Task) → EntersDue (decide_if_idle o)
 begins_due None = tt
@@ -76,7 +76,7 @@ event_due at w w' (EndWake processor now) calls (Ok r) h =
 event_due at w w' (Tick processor now) calls (Ok r) h = either_due (own_steps eevdf w (Tick processor now) r) [] (at == processor) tt tt
 event_due at w w' (Drain processor now) calls (Ok r) h =
     either_due (own_steps eevdf w (Drain processor now) r) [] (at == processor)
-    (entries_due (charge eevdf (running_at w processor) now).kept (inbox w processor)) tt
+    (entries_due (charge eevdf (running_at w processor) now).mark (inbox w processor)) tt
 event_due at w w' (Block processor now) calls (Ok r) h =
     subst (λ x. EntersDue (steps_at eevdf at w (Block processor now) (Ok x))) (sym h.1.2.1.2)
     (either_due (own_steps eevdf w (Block processor now) (Blocked h.1.2.0.id (id_of h.1.0.running.current))) [] (at == processor) tt tt)

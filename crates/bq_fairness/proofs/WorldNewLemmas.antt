@@ -2,7 +2,7 @@
 use Rattle.std.proofs.Common.{◌≡◌, ◌≢◌, ℕ, ◌+◌, ◌≤◌, Bool, true, false, cond, List, [], ◌∷◌, ◌++◌, Option, Some, None, Result, Ok, Err, refl, ap, sym, subst, arith, eqb-true}
 use Rattle.std.specs.Prelude.{◌==◌}
 use Rattle.std.specs.Option.{option_map}
-use Rattle.bq_disc.specs.Tasks.{Task, with_id, place, present, id_of}
+use Rattle.bq_disc.specs.Tasks.{Task, find_task, inserted, present, id_of}
 use Rattle.bq_disc.specs.Discipline.{Discipline, woken, pulled, left_at}
 use Rattle.bq_disc.specs.OneProcessor.{Running, present_at, charge, marked}
 use Rattle.bq_bpf.specs.declared.board.CounterCall.{CounterCall}
@@ -20,7 +20,7 @@ use Rattle.bq_parts.specs.World.{World, inbox}
 use Rattle.bq_parts.specs.StandsOnce.{IsOrderly}
 use Rattle.bq_parts.specs.Choices.{by_programs, SettledChoice}
 use Rattle.bq_parts.specs.Steps.{WorldStep}
-use Rattle.bq_parts.proofs.CountLemmas.{one, one_self, count_of-append, count_of-place, count_of-without, queue_le_present, with_id-absent, keeps_charge}
+use Rattle.bq_parts.proofs.CountLemmas.{one, one_self, count_of-append, count_of-inserted, count_of-without, queue_le_present, find_task-absent, keeps_charge}
 use Rattle.bq_parts.proofs.OnceLemmas.{each_once_runnable, each_once_two}
 use Rattle.bq_fairness.specs.Seen.{running_at, enter_if_pulled, decide_if_idle, own_steps, leaving, steps_at}
 use Rattle.bq_fairness.proofs.SeenLemmas.{pulls_apart}
@@ -28,21 +28,21 @@ use Rattle.bq_fairness.proofs.WorldSoundLemmas.{Each, IsKept, HasWeight, IsSound
 
 -- what enters is counted
 count_entered : (id : ℕ) (t : Task) (q : List Task) (o : Option Task)
-    → count_of_id id (present o (place t q)) ≡ one id t + count_of_id id (present o q)
-count_entered id t q None = count_of-place id t q
-count_entered id t q (Some c) = omega (arith, count_of-place id t q)
+    → count_of_id id (present o (inserted t q)) ≡ one id t + count_of_id id (present o q)
+count_entered id t q None = count_of-inserted id t q
+count_entered id t q (Some c) = omega (arith, count_of-inserted id t q)
 
 -- a task that is among others once is not among those before it
-before_it : (t : Task) (xs tasks : List Task) → HasEachOnce (xs ++ t ∷ tasks) → with_id t.id xs ≡ None
-before_it t xs tasks h = with_id-absent t.id xs (omega (arith, h t.id, one_self t, count_of-append t.id xs (t ∷ tasks)))
+before_it : (t : Task) (xs tasks : List Task) → HasEachOnce (xs ++ t ∷ tasks) → find_task t.id xs ≡ None
+before_it t xs tasks h = find_task-absent t.id xs (omega (arith, h t.id, one_self t, count_of-append t.id xs (t ∷ tasks)))
 
-entries_new : (d : Discipline) (P : Task → Type 0) → IsKept d P → (p : Running) (kept : ℕ) (tasks : List Task)
+entries_new : (d : Discipline) (P : Task → Type 0) → IsKept d P → (p : Running) (mark : ℕ) (tasks : List Task)
     → HasEachOnce (present_at p ++ tasks) → Each HasWeight tasks
-    → EachEntersNew d p (entries d kept tasks)
-entries_new d P k p kept [] once w = (tt, tt)
-entries_new d P k p kept (t ∷ tasks) once w =
-    let u = woken d kept t in
-    let held = k.woken kept t w.0 in
+    → EachEntersNew d p (entries d mark tasks)
+entries_new d P k p mark [] once w = (tt, tt)
+entries_new d P k p mark (t ∷ tasks) once w =
+    let u = woken d mark t in
+    let held = k.woken mark t w.0 in
     let new : IsNew p u = record { id = before_it t (present_at p) tasks once; weight = k.weight u held; ends = k.ends u held } in
     let next = stepped d p (Enter u) in
     let rest : HasEachOnce (present_at next ++ tasks) =
@@ -53,7 +53,7 @@ entries_new d P k p kept (t ∷ tasks) once w =
       count_of-append id (present_at next) tasks,
       count_entered id u p.queue p.current,
     ) in
-    (new, entries_new d P k next kept tasks rest w.1)
+    (new, entries_new d P k next mark tasks rest w.1)
 
 -- where each task that enters over some steps, and over others after them, is new, so is each that enters over all
 pub EachEntersNew-append : (d : Discipline) (p : Running) (ss rs : List ProcessorStep)
@@ -70,35 +70,35 @@ leaving_new d p None = (tt, tt)
 leaving_new d p (Some id) = (tt, (tt, tt))
 
 entry_new : (d : Discipline) (P : Task → Type 0) → IsKept d P → (p : Running) (o : Option Task)
-    → ((t : Task) → o ≡ Some t → HasWeight t × (with_id t.id (present_at p) ≡ None))
+    → ((t : Task) → o ≡ Some t → HasWeight t × (find_task t.id (present_at p) ≡ None))
     → EachEntersNew d p (enter_if_pulled d p o)
 entry_new d P k p None h = tt
 entry_new d P k p (Some t) h =
-    let u = pulled d p.kept t in
+    let u = pulled d p.mark t in
     let f = h t refl in
-    let held = k.pulled p.kept t f.0 in
+    let held = k.pulled p.mark t f.0 in
     (record { id = f.1; weight = k.weight u held; ends = k.ends u held }, tt)
 
-found_counted : (kept id : ℕ) (q : List Task) (r : Option Task) (o : Option Task)
-    → with_id id q ≡ o → (t : Task) → option_map (left_at kept) o ≡ Some t → 1 ≤ count_of_id t.id (present r q)
-found_counted kept id q r None e t f = cc
-found_counted kept id q r (Some x) e t f =
-    let same : x.id ≡ t.id = let it : left_at kept x ≡ t = cc in ap (λ (y : Task). y.id) it in
+found_counted : (mark id : ℕ) (q : List Task) (r : Option Task) (o : Option Task)
+    → find_task id q ≡ o → (t : Task) → option_map (left_at mark) o ≡ Some t → 1 ≤ count_of_id t.id (present r q)
+found_counted mark id q r None e t f = cc
+found_counted mark id q r (Some x) e t f =
+    let same : x.id ≡ t.id = let it : left_at mark x ≡ t = cc in ap (λ (y : Task). y.id) it in
     omega (arith, count_of-without t.id id q x e, subst (λ i. one i x ≡ 1) same (one_self x), queue_le_present t.id r q)
 
 -- a task that is taken was there
 taken_counted : (p : Running) (task : Option ℕ) (t : Task) → taken_from p task ≡ Some t → 1 ≤ count_of_id t.id (present_at p)
 taken_counted p None t e = cc
-taken_counted p (Some id) t e = found_counted p.kept id p.queue p.current (with_id id p.queue) refl t e
+taken_counted p (Some id) t e = found_counted p.mark id p.queue p.current (find_task id p.queue) refl t e
 
 -- a task of one processor is not at another
 elsewhere : (d : Discipline) (w : World) (processor from now : ℕ) (task : Option ℕ) (t : Task)
     → IsOrderly w → processor ≢ from → taken_from (marked d (running_at w from)) task ≡ Some t
-    → with_id t.id (present_at (charge d (running_at w processor) now)) ≡ None
+    → find_task t.id (present_at (charge d (running_at w processor) now)) ≡ None
 elsewhere d w processor from now task t o apart e =
     let p = running_at w processor in
     let there = taken_counted (marked d (running_at w from)) task t e in
-    with_id-absent t.id (present_at (charge d p now))
+    find_task-absent t.id (present_at (charge d p now))
     (omega (
       arith,
       each_once_two w processor from apart o t.id,
@@ -147,7 +147,7 @@ event_new d P k at w w' (Drain processor now) calls (Ok r) o s h =
       keeps_charge id d p now,
     ) in
     own_new d w at processor (own_steps d w (Drain processor now) r) []
-    (tt, entries_new d P k (charge d p now) (charge d p now).kept (inbox w processor) once (s.placed processor)) tt
+    (tt, entries_new d P k (charge d p now) (charge d p now).mark (inbox w processor) once (s.placed processor)) tt
 event_new d P k at w w' (Block processor now) calls (Ok r) o s h =
     subst (λ x. EachEntersNew d (running_at w at) (steps_at d at w (Block processor now) (Ok x))) (sym h.1.2.1.2)
     (own_new d w at processor (own_steps d w (Block processor now) (Blocked h.1.2.0.id (id_of h.1.0.running.current))) []

@@ -7,7 +7,7 @@ use Rattle.std.specs.Option.{option_map}
 use Rattle.std.proofs.lemmas.Bool.{and_parts, leb-true}
 use Rattle.std.proofs.lemmas.Bool.Decides.{nat_tests}
 use Rattle.bq_weights.specs.VirtualTime.{IsWeight, is_nice, weights, weight_of}
-use Rattle.bq_disc.specs.Tasks.{Task, has_id, with_id, without, place, present, runs_before, id_of}
+use Rattle.bq_disc.specs.Tasks.{Task, has_id, find_task, without, inserted, present, runs_before, id_of}
 use Rattle.bq_disc.specs.Discipline.{Discipline, charged, woken, pulled, left_at, next_of}
 use Rattle.bq_disc.specs.OneProcessor.{Running, present_at, charge, run_id, choice_started, exchanged, decided, entered, enter_all}
 use Rattle.bq_bpf.specs.declared.board.CounterCall.{CounterCall}
@@ -23,7 +23,7 @@ use Rattle.bq_parts.specs.Refusals.{refusal}
 use Rattle.bq_parts.specs.World.{World, opening_world, processor_at, inbox, entry_of_id, count_in, with_processor, with_inbox, with_lobby}
 use Rattle.bq_parts.specs.Choices.{PolicySemantics, SettledChoice}
 use Rattle.bq_parts.specs.Moves.{taken_from, without_task, with_pulled, started_if_idle, admitted}
-use Rattle.bq_parts.specs.Shares.{Decides, after_time, remarked}
+use Rattle.bq_parts.specs.Shares.{Decides, after_time, mark_updated}
 use Rattle.bq_parts.specs.Steps.{Performs}
 use Rattle.bq_parts.proofs.RefusalLemmas.{first_refusal_passed, accepted}
 use Rattle.bq_core.proofs.EachProcessorLemmas.{at_set}
@@ -40,18 +40,18 @@ each_found_by P true x t o h rest e = let same : x ≡ t = cc in subst P same h
 each_found_by P false x t o h rest e = rest e
 
 -- what is true of each task is true of the one that is found by its id
-pub each_found : (P : Task → Type 0) (id : ℕ) (xs : List Task) (t : Task) → Each P xs → with_id id xs ≡ Some t → P t
+pub each_found : (P : Task → Type 0) (id : ℕ) (xs : List Task) (t : Task) → Each P xs → find_task id xs ≡ Some t → P t
 each_found P id [] t h e = cc
-each_found P id (x ∷ xs) t h e = each_found_by P (has_id id x) x t (with_id id xs) h.0 (each_found P id xs t h.1) e
+each_found P id (x ∷ xs) t h e = each_found_by P (has_id id x) x t (find_task id xs) h.0 (each_found P id xs t h.1) e
 
 each_place_by : (P : Task → Type 0) (b : Bool) (t x : Task) (xs rest : List Task)
     → P t → P x → Each P xs → Each P rest → Each P (cond b (t ∷ x ∷ xs) (x ∷ rest))
 each_place_by P true t x xs rest p q h r = (p, (q, h))
 each_place_by P false t x xs rest p q h r = (q, r)
 
-each_place : (P : Task → Type 0) (t : Task) (xs : List Task) → P t → Each P xs → Each P (place t xs)
+each_place : (P : Task → Type 0) (t : Task) (xs : List Task) → P t → Each P xs → Each P (inserted t xs)
 each_place P t [] p h = (p, tt)
-each_place P t (x ∷ xs) p h = each_place_by P (runs_before t x) t x xs (place t xs) p h.0 h.1 (each_place P t xs p h.1)
+each_place P t (x ∷ xs) p h = each_place_by P (runs_before t x) t x xs (inserted t xs) p h.0 h.1 (each_place P t xs p h.1)
 
 each_without_by : (P : Task → Type 0) (b : Bool) (x : Task) (xs rest : List Task)
     → P x → Each P xs → Each P rest → Each P (cond b xs (x ∷ rest))
@@ -125,22 +125,22 @@ holds_decided d P p None b e h = holds_start d P p h
 holds_decided d P p (Some t) false e h = h
 holds_decided d P p (Some t) true e h =
     let id = next_of d t p.queue in
-    holds_exchanged P p t (with_id id p.queue) h (h.current t e) (λ u f. each_found P id p.queue u h.queue f)
+    holds_exchanged P p t (find_task id p.queue) h (h.current t e) (λ u f. each_found P id p.queue u h.queue f)
 
-each_entered : (d : Discipline) (P : Task → Type 0) → IsKept d P → (kept : ℕ) (queue tasks : List Task) → Each P queue
+each_entered : (d : Discipline) (P : Task → Type 0) → IsKept d P → (mark : ℕ) (queue tasks : List Task) → Each P queue
     → Each HasWeight tasks
-    → Each P (entered d kept queue tasks)
-each_entered d P k kept queue [] h w = h
-each_entered d P k kept queue (t ∷ tasks) h w =
-    each_entered d P k kept (place (woken d kept t) queue) tasks
-    (each_place P (woken d kept t) queue (k.woken kept t w.0) h) w.1
+    → Each P (entered d mark queue tasks)
+each_entered d P k mark queue [] h w = h
+each_entered d P k mark queue (t ∷ tasks) h w =
+    each_entered d P k mark (inserted (woken d mark t) queue) tasks
+    (each_place P (woken d mark t) queue (k.woken mark t w.0) h) w.1
 
 holds_pulled : (d : Discipline) (P : Task → Type 0) → IsKept d P → (p : Running) (o : Option Task)
     → ((t : Task) → o ≡ Some t → HasWeight t) → Holds P p
     → Holds P (with_pulled d p o)
 holds_pulled d P k p None c h = h
 holds_pulled d P k p (Some t) c h =
-    record { current = h.current; queue = each_place P (pulled d p.kept t) p.queue (k.pulled p.kept t (c t refl)) h.queue }
+    record { current = h.current; queue = each_place P (pulled d p.mark t) p.queue (k.pulled p.mark t (c t refl)) h.queue }
 
 holds_started : (d : Discipline) (P : Task → Type 0) (p : Running) (o : Option Task) → Holds P p → Holds P (started_if_idle d p o)
 holds_started d P p None h = holds_start d P p h
@@ -150,18 +150,18 @@ holds_taken : (P : Task → Type 0) (p : Running) (task : Option ℕ) → Holds 
 holds_taken P p None h = h
 holds_taken P p (Some id) h = record { current = h.current; queue = each_without P id p.queue h.queue }
 
-left_weight : (d : Discipline) (P : Task → Type 0) → IsKept d P → (kept : ℕ) (o : Option Task)
-    → ((t : Task) → o ≡ Some t → P t) → (u : Task) → option_map (left_at kept) o ≡ Some u
+left_weight : (d : Discipline) (P : Task → Type 0) → IsKept d P → (mark : ℕ) (o : Option Task)
+    → ((t : Task) → o ≡ Some t → P t) → (u : Task) → option_map (left_at mark) o ≡ Some u
     → HasWeight u
-left_weight d P k kept None c u e = cc
-left_weight d P k kept (Some t) c u e = let same : left_at kept t ≡ u = cc in subst HasWeight same (k.weight t (c t refl))
+left_weight d P k mark None c u e = cc
+left_weight d P k mark (Some t) c u e = let same : left_at mark t ≡ u = cc in subst HasWeight same (k.weight t (c t refl))
 
 -- a task that is taken from a queue has a weight of the range
 pub taken_weight : (d : Discipline) (P : Task → Type 0) → IsKept d P → (p : Running) (task : Option ℕ) → Holds P p
     → (u : Task) → taken_from p task ≡ Some u
     → HasWeight u
 taken_weight d P k p None h u e = cc
-taken_weight d P k p (Some id) h u e = left_weight d P k p.kept (with_id id p.queue) (λ t f. each_found P id p.queue t h.queue f) u e
+taken_weight d P k p (Some id) h u e = left_weight d P k p.mark (find_task id p.queue) (λ t f. each_found P id p.queue t h.queue f) u e
 
 -- The world
 
@@ -291,7 +291,7 @@ performs_sound s P k w (event.Drain processor now) calls r w' y free h =
     let t = holds_charge d P k (processor_at w processor).running now (y.running processor) in
     let entered : Holds P e.running = record {
       current = t.current;
-      queue = each_entered d P k c.running.kept c.running.queue (inbox w processor) t.queue (y.placed processor);
+      queue = each_entered d P k c.running.mark c.running.queue (inbox w processor) t.queue (y.placed processor);
     } in
     let one =
     sound_processor P w processor h.0 y (decides_holds s P processor e h.1.0 h.0 h.1.1 entered)
@@ -317,7 +317,7 @@ performs_sound s P k w (event.Pull processor from now) calls r w' y free h =
     let d = s.discipline in
     let x = h.2 in
     let c = after_time d now (processor_at w processor) in
-    let source = remarked d (processor_at w from) in
+    let source = mark_updated d (processor_at w from) in
     let there : Holds P source.running = record { current = (y.running from).current; queue = (y.running from).queue } in
     let charged = holds_charge d P k (processor_at w processor).running now (y.running processor) in
     let taken = taken_from source.running _ in

@@ -2,7 +2,7 @@
 use Rattle.std.specs.Prelude.{ℕ, ◌+◌, ◌-◌, ◌*◌, ◌≤◌, ◌^◌, if◌then◌else◌, List, [], ◌∷◌, Option, All}
 use Rattle.std.specs.Option.{option_map_or}
 use Rattle.bq_weights.specs.VirtualTime.{vdelta_of}
-use Rattle.bq_disc.specs.Tasks.{Task, has_id, with_id}
+use Rattle.bq_disc.specs.Tasks.{Task, has_id, find_task}
 use Rattle.bq_disc.specs.Discipline.{Discipline}
 use Rattle.bq_disc.specs.OneProcessor.{Running, present_at, rise, ticked}
 
@@ -18,7 +18,7 @@ TicksRiseByAtMost r d p (now ∷ nows) = (rise p now ≤ r) × TicksRiseByAtMost
 
 -- the present task with this id, if there is one
 abbrev pub task_at : ℕ → Running → Option Task
-task_at id p = with_id id (present_at p)
+task_at id p = find_task id (present_at p)
 
 -- the virtual time that a Tick charges the task with this id: what the rise takes at its weight, if it runs; else 0
 abbrev pub tick_charge : ℕ → Running → ℕ → ℕ

@@ -25,7 +25,7 @@ running_at w processor = (processor_at w processor).running
 -- a pulled task, if there is one, enters
 abbrev pub enter_if_pulled : Discipline → Running → Option Task → List ProcessorStep
 enter_if_pulled d p None = []
-enter_if_pulled d p (Some t) = Enter (pulled d p.kept t) ∷ []
+enter_if_pulled d p (Some t) = Enter (pulled d p.mark t) ∷ []
 
 -- the queue's choice begins to run if nothing runs
 abbrev pub decide_if_idle : Option Task → List ProcessorStep
@@ -35,7 +35,7 @@ decide_if_idle (Some t) = []
 -- the steps of an answered event at the processor that it is for
 abbrev pub own_steps : Discipline → World → Event → Reply → List ProcessorStep
 own_steps d w (event.EndWake processor now) r = Pass now ∷ []
-own_steps d w (event.Drain processor now) r = Pass now ∷ entries d (charge d (running_at w processor) now).kept (inbox w processor)
+own_steps d w (event.Drain processor now) r = Pass now ∷ entries d (charge d (running_at w processor) now).mark (inbox w processor)
 own_steps d w (event.Tick processor now) r = Pass now ∷ Decide ∷ []
 own_steps d w (event.Block processor now) (Blocked task run) = Pass now ∷ Leave task ∷ Decide ∷ []
 own_steps d w (event.Pull processor from now) (Pulled task run by steps) =

@@ -5,7 +5,7 @@
 use Rattle.std.specs.Prelude.{◌≡◌, ℕ, ◌+◌, ◌≤◌, ◌^◌, max, Bool, false, ◌==◌, if◌then◌else◌, List, [], ◌∷◌, Option, None, Some}
 use Rattle.bq_cfs.specs.declared.discipline.TheConstants.{GRANULARITY}
 use Rattle.bq_weights.specs.VirtualTime.{IsWeight, vdelta_of}
-use Rattle.bq_disc.specs.Tasks.{Task, has_id, place, without}
+use Rattle.bq_disc.specs.Tasks.{Task, has_id, inserted, without}
 use Rattle.bq_disc.specs.Discipline.{Discipline}
 use Rattle.bq_disc.specs.OneProcessor.{Running, marked, charge, decided, own_preempt, rise}
 use Rattle.bq_cfs.specs.Cfs.{cfs}
@@ -36,7 +36,7 @@ kept_current id (Some t) = if has_id id t then None else Some t
 abbrev pub stepped : Discipline → Running → ProcessorStep → Running
 stepped d p (Pass now) = charge d p now
 stepped d p Decide = decided d p p.current (own_preempt d p.queue p.current)
-stepped d p (Enter t) = record p { queue = place t p.queue }
+stepped d p (Enter t) = record p { queue = inserted t p.queue }
 stepped d p (Leave id) = record p { current = kept_current id p.current; queue = without id p.queue }
 stepped d p Mark = marked d p
 

@@ -37,7 +37,7 @@ impl<R: Drop> Log<R> {
         }
     }
 
-    /// Answers how many records there are.
+    /// How many records there are.
     pub(crate) fn len(&self) -> u64
         ensures { result ≡ length self.now }
     {

@@ -6,7 +6,7 @@ use Rattle.bq_disc.specs.Tasks.{Task, id_of}
 use Rattle.bq_disc.specs.Queues.{HasDistinctIds, can_use}
 use Rattle.bq_disc.specs.Pulls.{pull_of}
 use Rattle.bq_disc.proofs.PullLemmas.{pull_is_lawful}
-use Rattle.bq_disc.proofs.SetLemmas.{with_id-Contains}
+use Rattle.bq_disc.proofs.SetLemmas.{find_task-Contains}
 use Rattle.bq_hooks.specs.Contexts.{nobody, or_nobody, as_number}
 use Rattle.bq_hooks.specs.OwnPlace.{own_place, HasPlace}
 use Rattle.bq_hooks.specs.Permitted.{may_place, may_preempt, may_pull}
@@ -31,7 +31,7 @@ pull_by_case : (puller : ℕ) (queue : List Task) (o : Option Task)
     → may_pull puller queue (or_nobody (id_of o)) ≡ true
 pull_by_case puller queue None d h = refl
 pull_by_case puller queue (Some t) d h =
-    let found = with_id-Contains queue t h.0.0 d h.0.1 h.0.2 in
+    let found = find_task-Contains queue t h.0.0 d h.0.1 h.0.2 in
     rw (found, h.1) (or_right (t.id == nobody) true refl)
 
 -- each own choice is permitted: the place where the mask has one, the answer about giving way, and the pull

@@ -3,28 +3,28 @@ use Rattle.std.proofs.Common.{◌≡◌, ℕ, zero, suc, ◌<◌, Bool, true, fa
 use Rattle.std.proofs.lemmas.List.{reverse-append, length-take, length-map}
 use Rattle.std.specs.Prelude.{Contains, slice_get, option_and_then}
 use Rattle.std.specs.List.{AllByRecursion}
-use Rattle.bq_disc.specs.Tasks.{Task, with_id}
+use Rattle.bq_disc.specs.Tasks.{Task, find_task}
 use Rattle.bq_disc.specs.Queues.{HasDistinctIds, can_use}
 use Rattle.bq_disc.specs.Movable.{movable_to, ids}
 use Rattle.bq_disc.specs.Orders.{Contains-first, Contains-later}
-use Rattle.bq_disc.proofs.SetLemmas.{with_id-Contains}
+use Rattle.bq_disc.proofs.SetLemmas.{find_task-Contains}
 
 -- each of some tasks is the one of its id in a queue
 abbrev AreFound : List Task → List Task → Type 0
-AreFound queue xs = AllByRecursion (λ (t : Task). with_id t.id queue ≡ Some t) xs
+AreFound queue xs = AllByRecursion (λ (t : Task). find_task t.id queue ≡ Some t) xs
 
 found_if : (queue xs : List Task) → HasDistinctIds queue → ((t : Task) → Contains xs t → Contains queue t) → AreFound queue xs
 found_if queue [] d h = tt
 found_if queue (x ∷ xs) d h =
     let here = h x (Contains-first x xs) in
-    (with_id-Contains queue x here.0 d here.1 here.2, found_if queue xs d (λ t k. h t (Contains-later x t xs k)))
+    (find_task-Contains queue x here.0 d here.1 here.2, found_if queue xs d (λ t k. h t (Contains-later x t xs k)))
 
 both_found : (queue xs ys : List Task) → AreFound queue xs → AreFound queue ys → AreFound queue (xs ++ ys)
 both_found queue [] ys h k = k
 both_found queue (x ∷ xs) ys h k = (h.0, both_found queue xs ys h.1 k)
 
 kept_by_test : (b : Bool) (queue : List Task) (x : Task) (xs : List Task)
-    → with_id x.id queue ≡ Some x → AreFound queue xs → AreFound queue (cond b (x ∷ xs) xs)
+    → find_task x.id queue ≡ Some x → AreFound queue xs → AreFound queue (cond b (x ∷ xs) xs)
 kept_by_test true queue x xs h k = (h, k)
 kept_by_test false queue x xs h k = k
 
@@ -46,7 +46,7 @@ movable_found processor queue d =
 
 -- each movable task that is shown is found
 pub shown_at : (queue xs : List Task) (n k : ℕ) → AreFound queue xs → k < n
-    → option_and_then (λ id. with_id id queue) (slice_get (take n (ids xs)) k) ≡ slice_get xs k
+    → option_and_then (λ id. find_task id queue) (slice_get (take n (ids xs)) k) ≡ slice_get xs k
 shown_at queue xs zero k h l = absurd (omega arith)
 shown_at queue [] (suc n) k h l = refl
 shown_at queue (x ∷ xs) (suc n) zero h l = h.0

@@ -128,7 +128,7 @@ macro_rules! with_longer_context {
     };
 }
 
-/// Answers how many bytes the context of a hook has.
+/// How many bytes the context of a hook has.
 pub fn context_length(hook: Hook, version: Version) -> usize
     ensures { result ≡ context_length_of hook version }
 {

@@ -17,7 +17,7 @@ pub use fields::NOBODY;
 pub use hook::{Hook, Version, context_length};
 pub use loads::Loads;
 pub use own_choice::own_place;
-pub use place::{PLACE_LENGTH, Place, WIDE_PLACE_LENGTH, low_bits, place_ctx, wide_place_ctx};
+pub use place::{PLACE_LENGTH, Place, WIDE_PLACE_LENGTH, place_ctx, wide_place_ctx};
 pub use preempt::{PREEMPT_LENGTH, Preempt, preempt_ctx};
 pub use pull::{PULL_LENGTH, Pull, SHOWN, pull_ctx};
 pub use settled::{By, Choice, settle_place, settle_preempt, settle_pull};

@@ -6,6 +6,7 @@ use crate::Loads;
 use crate::fields::{NOBODY, put_four, put_u32, put_u64};
 use bq_disc::Entity;
 use bq_disc::limits::PROCESSORS;
+use bq_disc::mask::low_bits;
 use std::marker::Model;
 
 /// The length of the place context of an image of version 1, in bytes.
@@ -92,18 +93,6 @@ fn put_header(facts: &Place, limit: usize, context: &mut [u8])
         shown as u32,
         if_shown(limit, facts.own),
     );
-}
-
-/// The bits of a mask below bit `count`: those of the first `count` processors.
-pub fn low_bits(mask: u64, count: usize) -> u64
-    requires { count ≤ PROCESSORS }
-    ensures { result ≡ mask % 2 ^ count }
-{
-    if count == 64 {
-        mask
-    } else {
-        mask % (1 << count)
-    }
 }
 
 /// A processor's number if it is below the limit, else `NOBODY`.

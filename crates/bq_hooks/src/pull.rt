@@ -2,7 +2,7 @@
 ghost use Rattle.std.specs.Prelude.{◌≡◌, ◌<◌, ◌+◌, ◌*◌, slice_get, Option, option_and_then};
 ghost use Rattle.std.specs.Option.{option_map};
 ghost use Rattle.bq_disc.specs.Chains.{task_of};
-ghost use Rattle.bq_disc.specs.Tasks.{with_id};
+ghost use Rattle.bq_disc.specs.Tasks.{find_task};
 ghost use Rattle.bq_disc.specs.Queues.{HasDistinctIds};
 ghost use Rattle.bq_disc.specs.Movable.{movable_to};
 ghost use Rattle.bq_hooks.specs.Contexts.{pull_bytes, or_nobody};
@@ -79,7 +79,7 @@ pub fn pull_ctx<Q: RunQueue>(facts: &Pull<Q>, context: &mut [u8; PULL_LENGTH])
 
 /// The task that a context shows at this place, if there is one.
 fn shown<'a, Q: RunQueue>(queue: &'a Q, first: &[u16], at: usize) -> Option<&'a Node>
-    ensures { option_map (λ n. task_of n.now) result ≡ option_and_then (λ id. with_id id (Q.members queue.now)) (slice_get first.now at) }
+    ensures { option_map (λ n. task_of n.now) result ≡ option_and_then (λ id. find_task id (Q.members queue.now)) (slice_get first.now at) }
 {
     queue.get(*first.get(at)?)
 }

@@ -3,7 +3,7 @@ use Rattle.std.specs.Prelude.{◌≡◌, ℕ, ◌+◌, ◌*◌, ◌/◌, ◌-◌
 use Rattle.std.specs.List.{list_any}
 use Rattle.bq_insn.specs.declared.Insn.{Insn}
 use Rattle.bq_insn.specs.declared.Insn.TheVariants.{Imm64}
-use Rattle.bq_insn.specs.declared.fault.Cause.{Cause}
+use Rattle.bq_insn.specs.declared.fault.DecodeCause.{DecodeCause}
 use Rattle.bq_insn.specs.declared.fault.DecodeFault.TheVariants as decode
 use Rattle.bq_insn.specs.Faults.{IsDecodeFault}
 use Rattle.bq_insn.specs.Slots.{spread}
@@ -11,8 +11,8 @@ use Rattle.bq_insn.specs.Spelling.{spelling, slot_count, is_well_formed}
 use Rattle.bq_insn.specs.Laws.{AllFit}
 use Rattle.bq_import.specs.declared.fault.Disorder.{Disorder}
 use Rattle.bq_import.specs.declared.fault.Disorder.TheVariants.{OutOfMemory}
-use Rattle.bq_import.specs.declared.reason.Reason.{Reason}
-use Rattle.bq_import.specs.declared.reason.Reason.TheVariants.{Address}
+use Rattle.bq_import.specs.declared.reason.SlotReason.{SlotReason}
+use Rattle.bq_import.specs.declared.reason.SlotReason.TheVariants.{Address}
 use Rattle.bq_import.specs.declared.section.ImportFault.{ImportFault}
 use Rattle.bq_import.specs.declared.section.ImportFault.TheVariants.{At, Order}
 use Rattle.bq_import.specs.Copies.{IsCopy}
@@ -60,8 +60,8 @@ abbrev pub byte_of_slot : List ℕ → ℕ → ℕ → ℕ
 byte_of_slot bytes slot offset = slice_index_or bytes (slot * 8 + offset) 0
 
 -- the bytes are no program, by a cause at the slot; the reason follows from the cause, the opcode and the source field there
-pub record IsNoProgram (bytes : List ℕ) (slot : ℕ) (reason : Reason) : Type 0 where
-  pub cause : Cause
+pub record IsNoProgram (bytes : List ℕ) (slot : ℕ) (reason : SlotReason) : Type 0 where
+  pub cause : DecodeCause
   pub fault : IsDecodeFault bytes (decode.At slot cause)
   pub reason_is : reason ≡ import_reason_of cause (byte_of_slot bytes slot 0) (byte_of_slot bytes slot 1 / 16)
 

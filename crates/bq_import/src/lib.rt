@@ -21,6 +21,6 @@ mod text;
 
 pub use fault::Disorder;
 pub use order::Ordered;
-pub use reason::Reason;
+pub use reason::SlotReason;
 pub use section::{ImportFault, import};
 pub use text::{ImportRefusal, ImportSettings, ImportedText, imported, imported_text};

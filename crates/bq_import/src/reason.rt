@@ -3,12 +3,12 @@ ghost use Rattle.std.specs.Prelude.{◌≡◌};
 ghost use Rattle.bq_import.specs.Reasons.{opcode_reason, import_reason_of, source_reason};
 
 use bq_bpf::with_program_bytes;
-use bq_insn::fault::Cause;
+use bq_insn::fault::DecodeCause;
 use std::fmt;
 
 /// What a slot has that is no instruction here, or that only a linker can complete.
 #[derive(Clone, Copy, Debug)]
-pub enum Reason {
+pub enum SlotReason {
     /// The length is 0, no multiple of 8, or too great.
     Length,
     /// A call of a function of the same program.
@@ -30,66 +30,67 @@ pub enum Reason {
 }
 
 /// Why the bytes at a slot are not decoded, by the cause, the opcode and the number in the source register's field.
-pub(crate) fn reason_of(cause: Cause, opcode: u8, source: u8) -> Reason
+pub(crate) fn reason_of(cause: DecodeCause, opcode: u8, source: u8) -> SlotReason
     ensures { result ≡ import_reason_of cause opcode source }
 {
     match cause {
-        Cause::Length => Reason::Length,
-        Cause::Opcode => opcode_reason(opcode),
-        Cause::Offset => source_reason(opcode, source),
-        _ => Reason::Field,
+        DecodeCause::Length => SlotReason::Length,
+        DecodeCause::Opcode => opcode_reason(opcode),
+        DecodeCause::Offset => source_reason(opcode, source),
+        _ => SlotReason::Field,
     }
 }
 
 /// Why an opcode is refused.
-fn opcode_reason(opcode: u8) -> Reason
+fn opcode_reason(opcode: u8) -> SlotReason
     ensures { result ≡ opcode_reason opcode }
 {
     match opcode {
-        0x8d => Reason::Register,
-        0xc3 | 0xdb => Reason::Atomic,
-        _ => Reason::Opcode,
+        0x8d => SlotReason::Register,
+        0xc3 | 0xdb => SlotReason::Atomic,
+        _ => SlotReason::Opcode,
     }
 }
 
 /// Why a call or a wide number is refused for its kind, which its source field names.
-fn source_reason(opcode: u8, source: u8) -> Reason
+fn source_reason(opcode: u8, source: u8) -> SlotReason
     ensures { result ≡ source_reason opcode source }
 {
     match (opcode, source) {
-        (0x85, 1) => Reason::Function,
-        (0x85, _) => Reason::Kernel,
-        (0x18, _) => Reason::Filled,
-        _ => Reason::Field,
+        (0x85, 1) => SlotReason::Function,
+        (0x85, _) => SlotReason::Kernel,
+        (0x18, _) => SlotReason::Filled,
+        _ => SlotReason::Field,
     }
 }
 
-impl Reason {
+impl SlotReason {
     /// What it is, in words.
     fn words(self) -> &'static str {
         match self {
-            Reason::Length => {
+            SlotReason::Length => {
                 with_program_bytes!("the bytes are no program: ", " of them, in eights")
             }
-            Reason::Function => {
+            SlotReason::Function => {
                 "a call of a function; put BQ_INLINE before it, so that it is copied in"
             }
-            Reason::Kernel => "a call of the kernel's; the helpers are those of bqsim.h",
-            Reason::Register => "a call through a register; call helpers by their names of bqsim.h",
-            Reason::Atomic => "an atomic operation; write a plain one, or use a counter",
-            Reason::Address => {
+            SlotReason::Kernel => "a call of the kernel's; the helpers are those of bqsim.h",
+            SlotReason::Register =>
+                "a call through a register; call helpers by their names of bqsim.h",
+            SlotReason::Atomic => "an atomic operation; write a plain one, or use a counter",
+            SlotReason::Address => {
                 "an address that a linker fills in: a global, a constant table or a map in a section; keep state in an entry of BQ_MAP(k)"
             }
-            Reason::Filled => "a number that a loader fills in; for a map write BQ_MAP(k)",
-            Reason::Opcode => {
+            SlotReason::Filled => "a number that a loader fills in; for a map write BQ_MAP(k)",
+            SlotReason::Opcode => {
                 "an instruction that there is not here; compile with -mcpu=v4 or below"
             }
-            Reason::Field => "a field of the instruction is out of range",
+            SlotReason::Field => "a field of the instruction is out of range",
         }
     }
 }
 
-impl fmt::Display for Reason {
+impl fmt::Display for SlotReason {
     fn fmt<W: fmt::Write>(&self, f: &mut fmt::Formatter<W>) -> fmt::Result {
         f.write_str(self.words())
     }

@@ -7,7 +7,7 @@ ghost use Rattle.bq_import.specs.Importing.{Imports, IsFirstAddress, IsImportFau
 
 use crate::fault::Disorder;
 use crate::order::{Ordered, order};
-use crate::reason::{Reason, reason_of};
+use crate::reason::{SlotReason, reason_of};
 use bq_insn::Insn;
 use bq_insn::decode::decode;
 use bq_insn::fault::DecodeFault;
@@ -19,7 +19,7 @@ use thiserror::Error;
 pub enum ImportFault {
     /// What is at the slot is no instruction here, or needs a linker.
     #[error("slot {slot}: {reason}")]
-    At { slot: usize, reason: Reason },
+    At { slot: usize, reason: SlotReason },
     /// The program cannot be brought into order.
     #[error("{0}")]
     Order(Disorder),
@@ -66,7 +66,7 @@ pub fn import(alloc: Global, bytes: &[u8], maps: usize) -> Result<Ordered, Impor
     if let Some(slot) = address_in(insns.as_slice()) {
         return Err(ImportFault::At {
             slot,
-            reason: Reason::Address,
+            reason: SlotReason::Address,
         });
     }
     let ordered = order(alloc, insns.as_slice(), maps)?;

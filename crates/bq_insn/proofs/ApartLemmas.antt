@@ -5,7 +5,7 @@ use Rattle.std.specs.List.{flat_map, list_all}
 use Rattle.std.proofs.lemmas.Bool.{and_parts}
 use Rattle.bq_insn.specs.declared.Insn.{Insn}
 use Rattle.bq_insn.specs.declared.slot.Slot.{Slot}
-use Rattle.bq_insn.specs.declared.fault.Cause.{Cause}
+use Rattle.bq_insn.specs.declared.fault.DecodeCause.{DecodeCause}
 use Rattle.bq_insn.specs.Spelling.{slot_bytes, spelled, is_insn, insn_bytes, spelling}
 use Rattle.bq_insn.specs.Laws.{AllFit}
 use Rattle.bq_insn.specs.Faults.{IsSlot, BeginsWith, FrontHasCause, cause_of, NoProgramIsFaulty}
@@ -14,11 +14,11 @@ use Rattle.bq_insn.proofs.CleanLemmas.{spelled_is_clean}
 use Rattle.bq_insn.proofs.UniqueLemmas.{IsRead, is_read, same_front, some_bytes, front_cancelled, one_spelling}
 
 -- one slot has not both no cause and a cause
-contradicts : (s t : Slot) (next : Option Slot) (c : Cause) → s ≡ t → cause_of s next ≡ None → cause_of t next ≡ Some c → ⊥
+contradicts : (s t : Slot) (next : Option Slot) (c : DecodeCause) → s ≡ t → cause_of s next ≡ None → cause_of t next ≡ Some c → ⊥
 contradicts s t next c e none some = let no : None ≡ Some c = sym (sym (ap (λ (x : Slot). cause_of x next) e) ∙ none) ∙ some in cc
 
 -- slots that have no fault, whatever follows, are not the front of bytes with one
-pub front_clean : (slots : List Slot) (i : Insn) (x : List ℕ) (s : Slot) (next : Option Slot) (c : Cause)
+pub front_clean : (slots : List Slot) (i : Insn) (x : List ℕ) (s : Slot) (next : Option Slot) (c : DecodeCause)
     → IsRead slots i → ((n : Option Slot) → cause_of (head_of slots) (after slots n) ≡ None) → IsSlot s
     → BeginsWith (flat_map slot_bytes slots ++ x) s next → cause_of s next ≡ Some c
     → ⊥
@@ -55,7 +55,7 @@ no_front s None e = cc
 no_front s (Some t) e = let h = e.2 in cc
 
 -- a program does not begin with instructions and then a fault
-apart : (insns before : List Insn) (rest : List ℕ) (c : Cause)
+apart : (insns before : List Insn) (rest : List ℕ) (c : DecodeCause)
     → list_all is_insn insns ≡ true → AllFit insns → list_all is_insn before ≡ true → AllFit before
     → spelling insns ≡ spelling before ++ rest → FrontHasCause rest c
     → ⊥

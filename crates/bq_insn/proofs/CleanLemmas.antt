@@ -2,7 +2,7 @@
 use Rattle.std.proofs.Common.{◌≡◌, ℕ, true, false, refl, ap, ◌∙◌, arith}
 use Rattle.std.specs.Prelude.{Option, Some, None, nat_lt, ◌&&◌, ◌||◌, if◌then◌else◌}
 use Rattle.bq_insn.specs.declared.Condition.{Condition}
-use Rattle.bq_insn.specs.declared.fault.Cause.TheVariants as cause
+use Rattle.bq_insn.specs.declared.fault.DecodeCause.TheVariants as cause
 use Rattle.std.proofs.lemmas.Bool.Decides.{nat_tests}
 use Rattle.std.proofs.lemmas.Bool.{and_parts, false≢true}
 use Rattle.bq_insn.specs.declared.Width.{Width}

@@ -7,8 +7,8 @@ use Rattle.bq_insn.specs.declared.form.Form.{Form}
 use Rattle.bq_insn.specs.declared.uses.Use.{Use}
 use Rattle.bq_insn.specs.declared.uses.Use.TheVariants.{Unused, Register, Value}
 use Rattle.bq_insn.specs.declared.slot.Slot.{Slot}
-use Rattle.bq_insn.specs.declared.fault.Cause.{Cause}
-use Rattle.bq_insn.specs.declared.fault.Cause.TheVariants as cause
+use Rattle.bq_insn.specs.declared.fault.DecodeCause.{DecodeCause}
+use Rattle.bq_insn.specs.declared.fault.DecodeCause.TheVariants as cause
 use Rattle.bq_insn.specs.Table.{form_of}
 use Rattle.bq_insn.specs.Uses.{uses_of}
 use Rattle.bq_insn.specs.declared.fault.DecodeFault.TheVariants.{At}
@@ -25,7 +25,7 @@ pub record IsClean (f : Form) (s : Slot) (next : Option Slot) : Type 0 where
   pub whole : is_cut f next ≡ false
 
 -- the least cause of five tests
-chain : Bool → Bool → Bool → Bool → Bool → Option Cause
+chain : Bool → Bool → Bool → Bool → Bool → Option DecodeCause
 chain a b c d e =
     if a then Some cause.Register else if b then Some cause.Field else if c then Some cause.Offset else if d
     then Some cause.Imm else if e then Some cause.WideCut else None
@@ -102,7 +102,7 @@ cause_is_none_of_length (Some f) s next h =
     (has_no_variant f s) (has_no_width f s) (is_cut f next) h
 
 -- a fault at a slot
-pub is_fault : (bytes : List ℕ) (slot : ℕ) (c : Cause) → is_program_length bytes ≡ true → Faulty bytes slot c → IsDecodeFault bytes (At slot c)
+pub is_fault : (bytes : List ℕ) (slot : ℕ) (c : DecodeCause) → is_program_length bytes ≡ true → Faulty bytes slot c → IsDecodeFault bytes (At slot c)
 is_fault bytes slot cause.Length h f =
     absurd (cause_is_none_of_length (form_of f.front.slot.opcode) f.front.slot f.front.next f.front.cause_is)
 is_fault bytes slot cause.Opcode h f = (h, f)
@@ -122,7 +122,7 @@ has_length bytes whole low high =
     ∙ ap (λ (x : Bool). x && nat_le (length bytes) 32768) b ∙ d
 
 -- what a fault is: that of the length, or that of a slot
-pub fault_parts : (bytes : List ℕ) (s : ℕ) (c : Cause) → IsDecodeFault bytes (At s c)
+pub fault_parts : (bytes : List ℕ) (s : ℕ) (c : DecodeCause) → IsDecodeFault bytes (At s c)
     → ((c ≡ cause.Length) × (s ≡ 0) × (is_program_length bytes ≡ false)) ⊎ ((is_program_length bytes ≡ true) × Faulty bytes s c)
 fault_parts bytes s cause.Length f = inl (refl, f.0, f.1)
 fault_parts bytes s cause.Opcode f = inr f

@@ -6,7 +6,7 @@ use Rattle.std.proofs.lemmas.Option.{same_Some}
 use Rattle.std.proofs.lemmas.Bool.{and_parts}
 use Rattle.bq_insn.specs.declared.Insn.{Insn}
 use Rattle.bq_insn.specs.declared.slot.Slot.{Slot}
-use Rattle.bq_insn.specs.declared.fault.Cause.{Cause}
+use Rattle.bq_insn.specs.declared.fault.DecodeCause.{DecodeCause}
 use Rattle.bq_insn.specs.Spelling.{slot_bytes, spelled, is_insn, insn_bytes, spelling, slot_count}
 use Rattle.bq_insn.specs.Laws.{Fits, AllFit}
 use Rattle.bq_insn.specs.Faults.{IsSlot, BeginsWith, FrontHasCause, cause_of, is_program_length, BytesHaveOneFault}
@@ -40,19 +40,19 @@ same_next s t (Some u) (Some v) x f g p q =
     (same.0, ap (λ (y : Slot). Some y) second.0)
 
 -- a front has one least cause
-one_cause : (x : List ℕ) (c d : Cause) → FrontHasCause x c → FrontHasCause x d → c ≡ d
+one_cause : (x : List ℕ) (c d : DecodeCause) → FrontHasCause x c → FrontHasCause x d → c ≡ d
 one_cause x c d p q =
     let same = same_next p.slot q.slot p.next q.next x p.is_slot q.is_slot p.begins q.begins in
     same_Some c d
     (sym p.cause_is ∙ ap (λ (s : Slot). cause_of s p.next) same.0 ∙ ap (λ (n : Option Slot). cause_of q.slot n) same.1 ∙ q.cause_is)
 
 -- an instruction in range stands in front of no fault
-no_fault_in_front : (i : Insn) (x : List ℕ) (c : Cause) → is_insn i ≡ true → Fits i → FrontHasCause (insn_bytes i ++ x) c → ⊥
+no_fault_in_front : (i : Insn) (x : List ℕ) (c : DecodeCause) → is_insn i ≡ true → Fits i → FrontHasCause (insn_bytes i ++ x) c → ⊥
 no_fault_in_front i x c h f front =
     front_clean (spelled i) i x front.slot front.next c (is_read i h f) (spelled_is_clean i h) front.is_slot front.begins front.cause_is
 
 -- two ways to a fault in the same bytes are one
-one_way : (xs ys : List Insn) (x y : List ℕ) (c d : Cause) → list_all is_insn xs ≡ true → AllFit xs → list_all is_insn ys ≡ true → AllFit ys
+one_way : (xs ys : List Insn) (x y : List ℕ) (c d : DecodeCause) → list_all is_insn xs ≡ true → AllFit xs → list_all is_insn ys ≡ true → AllFit ys
     → spelling xs ++ x ≡ spelling ys ++ y → FrontHasCause x c → FrontHasCause y d → (xs ≡ ys) × (c ≡ d)
 one_way [] [] x y c d ha fa hb fb e p q = (refl, one_cause y c d (subst (λ (l : List ℕ). FrontHasCause l c) e p) q)
 one_way [] (b ∷ ys) x y c d ha fa hb fb e p q =

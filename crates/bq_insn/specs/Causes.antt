@@ -1,13 +1,13 @@
 -- The numbers of what is wrong with bytes, and how a fault is written.
 use Rattle.std.specs.Prelude.{ℕ, List, ◌++◌, codes}
 use Rattle.std.specs.Fmt.{decimal}
-use Rattle.bq_insn.specs.declared.fault.Cause.{Cause}
-use Rattle.bq_insn.specs.declared.fault.Cause.TheVariants.{Length, Opcode, Register, Field, Offset, Imm, WideCut}
+use Rattle.bq_insn.specs.declared.fault.DecodeCause.{DecodeCause}
+use Rattle.bq_insn.specs.declared.fault.DecodeCause.TheVariants.{Length, Opcode, Register, Field, Offset, Imm, WideCut}
 use Rattle.bq_insn.specs.declared.fault.DecodeFault.{DecodeFault}
 use Rattle.bq_insn.specs.declared.fault.DecodeFault.TheVariants.{At, OutOfMemory}
 
 -- the number of a cause, after the letter I
-abbrev pub decode_cause_number : Cause → ℕ
+abbrev pub decode_cause_number : DecodeCause → ℕ
 decode_cause_number Length = 1
 decode_cause_number Opcode = 2
 decode_cause_number Register = 3

@@ -15,8 +15,8 @@ use Rattle.bq_insn.specs.declared.uses.Use.{Use}
 use Rattle.bq_insn.specs.declared.uses.Use.TheVariants.{Unused, Register}
 use Rattle.bq_insn.specs.declared.uses.Uses.{Uses}
 use Rattle.bq_insn.specs.declared.slot.Slot.{Slot}
-use Rattle.bq_insn.specs.declared.fault.Cause.{Cause}
-use Rattle.bq_insn.specs.declared.fault.Cause.TheVariants as cause
+use Rattle.bq_insn.specs.declared.fault.DecodeCause.{DecodeCause}
+use Rattle.bq_insn.specs.declared.fault.DecodeCause.TheVariants as cause
 use Rattle.bq_insn.specs.declared.fault.DecodeFault.{DecodeFault}
 use Rattle.bq_insn.specs.declared.fault.DecodeFault.TheVariants.{At, OutOfMemory}
 use Rattle.bq_insn.specs.Table.{form_of}
@@ -79,7 +79,7 @@ is_cut form.Wide None = true
 is_cut f next = false
 
 -- the least cause at a slot of a known form, with the slot after it if there is one; none if there is no fault
-abbrev pub cause_at_slot : Form → Slot → Option Slot → Option Cause
+abbrev pub cause_at_slot : Form → Slot → Option Slot → Option DecodeCause
 cause_at_slot f s next =
     if has_bad_register (uses_of f) s then Some cause.Register
     else if has_stray_field (uses_of f) s || has_stray_second f s next then Some cause.Field
@@ -89,12 +89,12 @@ cause_at_slot f s next =
     else None
 
 -- the least cause, by the form that the opcode has: without a form it is Opcode
-abbrev pub cause_of_form : Option Form → Slot → Option Slot → Option Cause
+abbrev pub cause_of_form : Option Form → Slot → Option Slot → Option DecodeCause
 cause_of_form None s next = Some cause.Opcode
 cause_of_form (Some f) s next = cause_at_slot f s next
 
 -- the least cause at a slot, with the slot after it if there is one; none if there is no fault
-abbrev pub cause_of : Slot → Option Slot → Option Cause
+abbrev pub cause_of : Slot → Option Slot → Option DecodeCause
 cause_of s next = cause_of_form (form_of s.opcode) s next
 
 -- the numbers of a slot fit its fields
@@ -111,7 +111,7 @@ BeginsWith bytes s None = bytes ≡ slot_bytes s
 BeginsWith bytes s (Some t) = IsSlot t × (rest : List ℕ) × (bytes ≡ slot_bytes s ++ (slot_bytes t ++ rest))
 
 -- the slot at the front of these bytes is faulty, and this is its least cause
-pub record FrontHasCause (bytes : List ℕ) (cause : Cause) : Type 0 where
+pub record FrontHasCause (bytes : List ℕ) (cause : DecodeCause) : Type 0 where
   pub slot : Slot
   pub next : Option Slot
   pub is_slot : IsSlot slot
@@ -119,7 +119,7 @@ pub record FrontHasCause (bytes : List ℕ) (cause : Cause) : Type 0 where
   pub cause_is : cause_of slot next ≡ Some cause
 
 -- all instructions before this slot are without a fault, and the one that begins at it has this least cause
-pub record Faulty (bytes : List ℕ) (slot : ℕ) (cause : Cause) : Type 0 where
+pub record Faulty (bytes : List ℕ) (slot : ℕ) (cause : DecodeCause) : Type 0 where
   pub before : List Insn
   pub rest : List ℕ
   pub are_insns : list_all is_insn before ≡ true
@@ -147,12 +147,12 @@ pub record HasFront (bytes : List ℕ) (insn : Insn) : Type 0 where
 
 -- no instruction in the bytes of a program is faulty
 abbrev pub NoProgramIsFaulty : Type 0
-NoProgramIsFaulty = (insns : List Insn) (slot : ℕ) (c : Cause) → list_all is_insn insns ≡ true → AllFit insns → Faulty (spelling insns) slot c → ⊥
+NoProgramIsFaulty = (insns : List Insn) (slot : ℕ) (c : DecodeCause) → list_all is_insn insns ≡ true → AllFit insns → Faulty (spelling insns) slot c → ⊥
 
 -- the bytes of a program have no fault, of length or of an instruction: they are refused only if memory runs out
 abbrev pub NoProgramIsRefused : Type 0
-NoProgramIsRefused = (insns : List Insn) (slot : ℕ) (c : Cause) → is_well_formed insns ≡ true → AllFit insns → IsDecodeFault (spelling insns) (At slot c) → ⊥
+NoProgramIsRefused = (insns : List Insn) (slot : ℕ) (c : DecodeCause) → is_well_formed insns ≡ true → AllFit insns → IsDecodeFault (spelling insns) (At slot c) → ⊥
 
 -- bytes have at most one fault, with one slot and one cause
 abbrev pub BytesHaveOneFault : Type 0
-BytesHaveOneFault = (bytes : List ℕ) (s t : ℕ) (c d : Cause) → IsDecodeFault bytes (At s c) → IsDecodeFault bytes (At t d) → (s ≡ t) × (c ≡ d)
+BytesHaveOneFault = (bytes : List ℕ) (s t : ℕ) (c d : DecodeCause) → IsDecodeFault bytes (At s c) → IsDecodeFault bytes (At t d) → (s ≡ t) × (c ≡ d)

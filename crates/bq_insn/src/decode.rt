@@ -4,7 +4,7 @@ ghost use Rattle.bq_insn.specs.Spelling.{spelling, is_well_formed};
 ghost use Rattle.bq_insn.specs.Laws.{AllFit};
 ghost use Rattle.bq_insn.specs.Faults.{IsSlot, BeginsWith, FrontHasCause, HasFront, IsDecodeFault};
 
-use crate::fault::{Cause, DecodeFault};
+use crate::fault::{DecodeCause, DecodeFault};
 use crate::form::Form;
 use crate::judge::cause_at;
 use crate::reading::insn_of;
@@ -12,7 +12,7 @@ use crate::slot::Slot;
 use crate::{Insn, SLOTS};
 use std::alloc::Global;
 
-/// Answers the instructions that the bytes spell (RFC 9669, section 3): a program of 1 to 4096 slots, with registers
+/// The instructions that the bytes spell (RFC 9669, section 3): a program of 1 to 4096 slots, with registers
 /// and widths in range. If the bytes are no program, the error names the first slot at which a faulty instruction
 /// begins, and its least cause. A wrong length is named before any other fault, at slot 0.
 pub fn decode(alloc: Global, bytes: &[u8]) -> Result<Vec<Insn>, DecodeFault>
@@ -24,7 +24,7 @@ pub fn decode(alloc: Global, bytes: &[u8]) -> Result<Vec<Insn>, DecodeFault>
     if bytes.is_empty() || bytes.len() % 8 != 0 || bytes.len() > 8 * SLOTS {
         return Err(DecodeFault::At {
             slot: 0,
-            cause: Cause::Length,
+            cause: DecodeCause::Length,
         });
     }
     let mut insns = Vec::new(alloc);
@@ -43,7 +43,7 @@ pub fn decode(alloc: Global, bytes: &[u8]) -> Result<Vec<Insn>, DecodeFault>
 }
 
 /// The instruction at the front of the bytes, or the least cause of its fault.
-fn first(bytes: &[u8]) -> Result<Insn, Cause>
+fn first(bytes: &[u8]) -> Result<Insn, DecodeCause>
     requires some { 8 ≤ length bytes.now }
     requires whole { length bytes.now % 8 ≡ 0 }
     ensures ok { IfOk result (HasFront bytes.now) }
@@ -51,7 +51,7 @@ fn first(bytes: &[u8]) -> Result<Insn, Cause>
 {
     let (slot, next) = front(bytes);
     let Some(form) = Form::of(slot.opcode) else {
-        return Err(Cause::Opcode);
+        return Err(DecodeCause::Opcode);
     };
     if let Some(cause) = cause_at(form, slot, next) {
         return Err(cause);

@@ -8,7 +8,7 @@ use crate::spelling::slots_of;
 use crate::{Bits, Insn, SLOTS, Size, Source, Width};
 use std::alloc::AllocError;
 
-/// Answers whether the list is a program: every register is at most 10, each instruction has a width that it may have,
+/// Whether the list is a program: every register is at most 10, each instruction has a width that it may have,
 /// and the instructions take from 1 to 4096 slots.
 pub fn well_formed(insns: &[Insn]) -> bool
     ensures { result ≡ is_well_formed insns.now }

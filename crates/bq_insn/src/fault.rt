@@ -9,7 +9,7 @@ use std::fmt;
 /// What is wrong with an instruction, or with the bytes as a whole. If an instruction has several causes, it is refused
 /// for the first of them in this order.
 #[derive(Clone, Copy, Debug, PartialEq, Eq)]
-pub enum Cause {
+pub enum DecodeCause {
     /// The number of bytes is 0, no multiple of 8, or over 4096 slots of 8 bytes.
     Length,
     /// The opcode is not in the table (RFC 9669, sections 4 and 5, without atomic and packet instructions).
@@ -27,19 +27,19 @@ pub enum Cause {
     WideCut,
 }
 
-impl Cause {
+impl DecodeCause {
     /// The number of the cause, as texts name it after the letter I.
     pub fn number(self) -> u8
         ensures { result ≡ decode_cause_number self }
     {
         match self {
-            Cause::Length => 1,
-            Cause::Opcode => 2,
-            Cause::Register => 3,
-            Cause::Field => 4,
-            Cause::Offset => 5,
-            Cause::Imm => 6,
-            Cause::WideCut => 7,
+            DecodeCause::Length => 1,
+            DecodeCause::Opcode => 2,
+            DecodeCause::Register => 3,
+            DecodeCause::Field => 4,
+            DecodeCause::Offset => 5,
+            DecodeCause::Imm => 6,
+            DecodeCause::WideCut => 7,
         }
     }
 }
@@ -49,7 +49,7 @@ impl Cause {
 pub enum DecodeFault {
     /// A fault of the bytes. `slot` is the slot of 8 bytes at which the faulty instruction begins, counted from 0. If
     /// the length is wrong, `slot` is 0.
-    At { slot: usize, cause: Cause },
+    At { slot: usize, cause: DecodeCause },
     /// Memory ran out.
     OutOfMemory,
 }

@@ -2,7 +2,7 @@
 ghost use Rattle.std.specs.Prelude.{◌≡◌};
 ghost use Rattle.bq_insn.specs.Faults.{is_no_register, is_stray, has_bad_register, has_stray_field, has_stray_second, is_variant, has_no_variant, has_no_width, is_cut, cause_at_slot};
 
-use crate::fault::Cause;
+use crate::fault::DecodeCause;
 use crate::form::Form;
 use crate::slot::Slot;
 use crate::uses::{Use, Uses};
@@ -10,23 +10,23 @@ use crate::{Operation, Width};
 
 /// The least cause at a slot of this form, with the slot after it if there is one; `None` if there is no fault. The
 /// decoder finds an opcode without a form and a wrong length before it asks this.
-pub fn cause_at(form: Form, slot: Slot, next: Option<Slot>) -> Option<Cause>
+pub fn cause_at(form: Form, slot: Slot, next: Option<Slot>) -> Option<DecodeCause>
     ensures { result ≡ cause_at_slot form slot next }
 {
     if has_bad_register(form.uses(), slot) {
-        return Some(Cause::Register);
+        return Some(DecodeCause::Register);
     }
     if has_stray_field(form.uses(), slot) || has_stray_second(form, slot, next) {
-        return Some(Cause::Field);
+        return Some(DecodeCause::Field);
     }
     if has_no_variant(form, slot) {
-        return Some(Cause::Offset);
+        return Some(DecodeCause::Offset);
     }
     if has_no_width(form, slot) {
-        return Some(Cause::Imm);
+        return Some(DecodeCause::Imm);
     }
     if is_cut(form, next) {
-        return Some(Cause::WideCut);
+        return Some(DecodeCause::WideCut);
     }
     None
 }

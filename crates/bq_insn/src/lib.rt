@@ -226,7 +226,7 @@ pub enum Insn {
 }
 
 impl Size {
-    /// Answers the number of bytes: 1, 2, 4 or 8.
+    /// The number of bytes: 1, 2, 4 or 8.
     pub fn bytes(self) -> usize
         ensures { result ≡ byte_count self }
     {
@@ -240,7 +240,7 @@ impl Size {
 }
 
 impl Insn {
-    /// Answers how many slots of eight bytes the instruction takes: two if it is wide (RFC 9669, section 3.2), else
+    /// How many slots of eight bytes the instruction takes: two if it is wide (RFC 9669, section 3.2), else
     /// one.
     pub fn slots(self) -> usize
         ensures { result ≡ slots_of self }

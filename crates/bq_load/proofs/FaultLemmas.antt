@@ -8,7 +8,7 @@ use Rattle.std.proofs.lemmas.List.{take_at, nil_from_length, append-nil}
 use Rattle.std.proofs.lemmas.List.Concat.{flat_map-cons}
 use Rattle.std.proofs.lemmas.Slice.Eq.{bytes_eq-Decides}
 use Rattle.byteorder.specs.Endian.{little_number}
-use Rattle.bq_insn.specs.declared.fault.Cause.TheVariants.{Length, Opcode, Register, Field, Offset, Imm, WideCut}
+use Rattle.bq_insn.specs.declared.fault.DecodeCause.TheVariants.{Length, Opcode, Register, Field, Offset, Imm, WideCut}
 use Rattle.bq_bpf.specs.declared.shape.MapShape.{MapShape}
 use Rattle.bq_hooks.specs.declared.hook.Hook.{Hook}
 use Rattle.bq_hooks.specs.declared.hook.Hook.TheVariants.{Place, Preempt, Pull}

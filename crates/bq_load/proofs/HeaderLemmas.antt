@@ -3,7 +3,7 @@ use Rattle.std.proofs.Common.{◌≡◌, ℕ, ◌*◌, ◌≤◌, List, [], ◌�
 use Rattle.std.specs.Int.{w16, w32, to_le_bytes}
 use Rattle.std.proofs.lemmas.List.{take_at}
 use Rattle.std.proofs.lemmas.List.Concat.{flat_map-cons}
-use Rattle.bq_insn.specs.declared.fault.Cause.{Cause}
+use Rattle.bq_insn.specs.declared.fault.DecodeCause.{DecodeCause}
 use Rattle.bq_bpf.specs.declared.shape.MapShape.{MapShape}
 use Rattle.bq_hooks.specs.declared.hook.Hook.{Hook}
 use Rattle.bq_hooks.specs.declared.hook.Version.{Version}
@@ -241,7 +241,7 @@ no_rest (Mapped v k n s) field h = h
 no_rest (Headed k) field h = h
 
 -- no bad field is named as a fault of the program
-pub no_decode : (slot : ℕ) (cause : Cause) (front : Front) (field : List ℕ) → IsBadNext front field (fault.Decode slot cause) → ⊥
+pub no_decode : (slot : ℕ) (cause : DecodeCause) (front : Front) (field : List ℕ) → IsBadNext front field (fault.Decode slot cause) → ⊥
 no_decode slot cause Nothing field h = h
 no_decode slot cause Marked field h = h
 no_decode slot cause (Versioned v) field h = h

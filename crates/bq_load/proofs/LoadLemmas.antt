@@ -1,8 +1,8 @@
 -- What `load` answers, by its parts.
 use Rattle.std.proofs.Common.{◌≡◌, ℕ, true, List, refl, sym, ap, subst, ◌∙◌}
-use Rattle.bq_verify.specs.declared.cause.Cause.{Cause as Reason}
+use Rattle.bq_verify.specs.declared.cause.Cause.{Cause}
 use Rattle.bq_insn.specs.declared.Insn.{Insn}
-use Rattle.bq_insn.specs.declared.fault.Cause.TheVariants.{Length, Opcode, Register, Field, Offset, Imm, WideCut}
+use Rattle.bq_insn.specs.declared.fault.DecodeCause.TheVariants.{Length, Opcode, Register, Field, Offset, Imm, WideCut}
 use Rattle.bq_insn.specs.declared.fault.DecodeFault.{DecodeFault}
 use Rattle.bq_insn.specs.declared.fault.DecodeFault.TheVariants as program
 use Rattle.bq_insn.specs.Spelling.{spelling, is_well_formed}
@@ -39,7 +39,7 @@ use Rattle.bq_load.proofs.LawLemmas.{no_image_is_faulty}
 use Rattle.bq_load.proofs.UniqueLemmas.{one_shapes, one_frame}
 
 -- no bad field is named as a refusal of the verifier
-pub no_refusal : (slot : ℕ) (cause : Reason) (front : Front) (field : List ℕ) → IsBadNext front field (fault.Refused slot cause) → ⊥
+pub no_refusal : (slot : ℕ) (cause : Cause) (front : Front) (field : List ℕ) → IsBadNext front field (fault.Refused slot cause) → ⊥
 no_refusal slot cause Nothing field h = h
 no_refusal slot cause Marked field h = h
 no_refusal slot cause (Versioned v) field h = h
@@ -76,7 +76,7 @@ unloaded_program bytes s code (program.At slot cause) parts b = record {
   faulty = b;
 }
 
-not_memory : (slot : ℕ) (cause : Reason) → refused.At slot cause ≡ refused.OutOfMemory → ⊥
+not_memory : (slot : ℕ) (cause : Cause) → refused.At slot cause ≡ refused.OutOfMemory → ⊥
 not_memory slot cause e = cc
 
 -- the verifier's verdict on the program of the image is answered, where that is not straight

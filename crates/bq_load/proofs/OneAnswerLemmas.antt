@@ -1,6 +1,6 @@
 -- Bytes with a fault of their own, of their program or of its control graph have no other answer, and at most one program is loaded.
 use Rattle.std.proofs.Common.{◌≡◌, ℕ, List, Option, Result, Ok, Err, refl, sym, ap, subst, ◌∙◌, ◌⊎◌, inl, inr, arith}
-use Rattle.bq_insn.specs.declared.fault.Cause.{Cause}
+use Rattle.bq_insn.specs.declared.fault.DecodeCause.{DecodeCause}
 use Rattle.bq_insn.specs.declared.fault.DecodeFault.TheVariants.{At}
 use Rattle.bq_insn.specs.declared.Insn.{Insn}
 use Rattle.bq_insn.specs.Faults.{IsDecodeFault as IsProgramFault}
@@ -11,7 +11,7 @@ use Rattle.bq_insn.proofs.OneFaultLemmas as insn
 use Rattle.bq_insn.proofs.UniqueLemmas.{one_program}
 use Rattle.bq_insn.proofs.LengthLemmas.{well_formed_in_range}
 use Rattle.bq_verify.specs.declared.graph_cause.GraphCause.{GraphCause}
-use Rattle.bq_verify.specs.declared.cause.Cause.{Cause as Named}
+use Rattle.bq_verify.specs.declared.cause.Cause.{Cause}
 use Rattle.bq_verify.specs.declared.cause.Cause.TheVariants.{Graph, State}
 use Rattle.bq_verify.specs.Faults.{IsFaultless, IsFirstFault}
 use Rattle.bq_verify.specs.Paths.{IsGreatest, PathOut}
@@ -56,7 +56,7 @@ by_fault bytes (fault.Refused slot cause) fits b = inr (record { header = _; pro
 by_fault bytes fault.OutOfMemory fits b = inr (record { header = _; program = _; framed = b.image.framed })
 
 -- an image's program has no fault
-no_faulty : (bytes : List ℕ) (insns : List Insn) (slot : ℕ) (cause : Cause) → HasFaultyProgram bytes slot cause → HasProgram bytes insns → ⊥
+no_faulty : (bytes : List ℕ) (insns : List Insn) (slot : ℕ) (cause : DecodeCause) → HasFaultyProgram bytes slot cause → HasProgram bytes insns → ⊥
 no_faulty bytes insns slot cause b p =
     let same =
     one_frame bytes b.header (record { version = p.version; hook = p.hook; shapes = p.shapes; slots = p.image.slots })
@@ -64,12 +64,12 @@ no_faulty bytes insns slot cause b p =
     lengths.no_program_is_refused insns slot cause p.well_formed p.numbers
     (subst (λ (x : List ℕ). IsProgramFault x (At slot cause)) same.1 b.faulty)
 
-one_faulty : (bytes : List ℕ) (s t : ℕ) (c d : Cause) → HasFaultyProgram bytes s c → HasFaultyProgram bytes t d
+one_faulty : (bytes : List ℕ) (s t : ℕ) (c d : DecodeCause) → HasFaultyProgram bytes s c → HasFaultyProgram bytes t d
     → fault.Decode t d ≡ fault.Decode s c
 one_faulty bytes s t c d a b =
     let same = one_frame bytes a.header b.header a.program b.program a.framed b.framed in
     let one = insn.one_fault b.program t s d c b.faulty (subst (λ (x : List ℕ). IsProgramFault x (At s c)) same.1 a.faulty) in
-    ap (λ (n : ℕ). fault.Decode n d) one.0 ∙ ap (λ (k : Cause). fault.Decode s k) one.1
+    ap (λ (n : ℕ). fault.Decode n d) one.0 ∙ ap (λ (k : DecodeCause). fault.Decode s k) one.1
 
 same_stop : (bytes : List ℕ) (f g : LoadFault) → frame_at bytes ≡ Err f → frame_at bytes ≡ Err g → g ≡ f
 same_stop bytes f g e d = cc
@@ -97,7 +97,7 @@ as_program bytes v l =
     record { version = v.version; hook = v.hook; shapes = v.shapes; image = l.image; well_formed = l.well_formed; numbers = l.numbers }
 
 -- a fault of the program is the answer
-faulty : (bytes : List ℕ) (slot : ℕ) (cause : Cause) (answer : Result Accepted LoadFault)
+faulty : (bytes : List ℕ) (slot : ℕ) (cause : DecodeCause) (answer : Result Accepted LoadFault)
     → AreBytes bytes → HasFaultyProgram bytes slot cause → IsAnswer bytes answer
     → IsOnly (fault.Decode slot cause) answer
 faulty bytes slot cause (Ok v) fits b a = absurd (no_faulty bytes a.insns slot cause b (as_program bytes v a))
@@ -123,7 +123,7 @@ one_list bytes a b p q =
     let images = one_image bytes p.version q.version p.hook q.hook p.shapes q.shapes (spelling a) (spelling b) p.image q.image in
     one_program a b (well_formed_in_range a p.well_formed) (well_formed_in_range b q.well_formed) p.numbers q.numbers images.3
 
-one_refusal : (p : Subject) (s t : ℕ) (c : GraphCause) (d : Named)
+one_refusal : (p : Subject) (s t : ℕ) (c : GraphCause) (d : Cause)
     → IsFirstFault p.slots c s → IsVerdictOn p (refused.At t d)
     → fault.Refused t d ≡ fault.Refused s (Graph c)
 one_refusal p s t c (Graph d) first other =
@@ -132,7 +132,7 @@ one_refusal p s t c (Graph d) first other =
 one_refusal p s t c (State d) first other = absurd (faultless_has_none p.slots c s other.0 first)
 
 -- the verdict on one list of instructions, said of the other
-moved : (hook : Hook) (version : Version) (shapes : List MapShape) (a b : List Insn) (s : ℕ) (c : Named)
+moved : (hook : Hook) (version : Version) (shapes : List MapShape) (a b : List Insn) (s : ℕ) (c : Cause)
     → a ≡ b → IsVerdictOn (subject_of_insns a hook version shapes) (refused.At s c)
     → IsVerdictOn (subject_of_insns b hook version shapes) (refused.At s c)
 moved hook version shapes a b s c same r =

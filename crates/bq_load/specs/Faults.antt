@@ -1,7 +1,7 @@
 -- The first fault of bytes that are no image, from left to right.
 use Rattle.std.specs.Prelude.{◌≡◌, ℕ, ◌*◌, ◌<◌, List, ◌++◌, length}
-use Rattle.bq_insn.specs.declared.fault.Cause.{Cause}
-use Rattle.bq_insn.specs.declared.fault.Cause.TheVariants.{Length}
+use Rattle.bq_insn.specs.declared.fault.DecodeCause.{DecodeCause}
+use Rattle.bq_insn.specs.declared.fault.DecodeCause.TheVariants.{Length}
 use Rattle.bq_insn.specs.declared.fault.DecodeFault.TheVariants.{At}
 use Rattle.bq_insn.specs.Faults.{IsDecodeFault as IsProgramFault}
 use Rattle.bq_load.specs.declared.fault.LoadFault.{LoadFault}
@@ -36,7 +36,7 @@ pub record HasMore (bytes : List ℕ) : Type 0 where
   pub more : 8 * header.slots < length rest
 
 -- header and program are whole, but the program has this fault at this slot
-pub record HasFaultyProgram (bytes : List ℕ) (slot : ℕ) (cause : Cause) : Type 0 where
+pub record HasFaultyProgram (bytes : List ℕ) (slot : ℕ) (cause : DecodeCause) : Type 0 where
   pub header : Header
   pub program : List ℕ
   pub framed : IsFramed bytes header program

@@ -27,7 +27,7 @@ pub enum LoadFault {
     /// length is named at slot 0.
     Decode {
         slot: usize,
-        cause: bq_insn::fault::Cause,
+        cause: bq_insn::fault::DecodeCause,
     },
     /// L8: the program is not accepted: the slot, and why.
     Refused {

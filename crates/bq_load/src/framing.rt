@@ -10,7 +10,7 @@ use crate::fault::LoadFault;
 use crate::header::{Header, read_header, shape};
 use bq_bpf::MapShape;
 use bq_insn::SLOTS;
-use bq_insn::fault::Cause;
+use bq_insn::fault::DecodeCause;
 use std::alloc::Global;
 
 /// The greatest number of slots, in the type in which a header counts them.
@@ -25,7 +25,7 @@ pub fn parts(bytes: &[u8]) -> Result<(Header<'_>, &[u8]), LoadFault>
     if header.slots == 0 || header.slots > MOST {
         return Err(LoadFault::Decode {
             slot: 0,
-            cause: Cause::Length,
+            cause: DecodeCause::Length,
         });
     }
     Ok((header, program))

@@ -9,7 +9,7 @@ use crate::header::read_header;
 use arrayvec::ArrayVec;
 use bq_insn::SLOTS;
 
-/// Answers how many bytes of the piece the reader must keep after the bytes that it holds; it only counts the others.
+/// How many bytes of the piece the reader must keep after the bytes that it holds; it only counts the others.
 /// The error is the fault that the piece completes.
 pub fn judge(held: &[u8], past: usize, piece: &[u8]) -> Result<usize, LoadFault>
     ensures within { IfOk result (λ kept. kept ≤ length piece.now) }

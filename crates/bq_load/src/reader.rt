@@ -13,7 +13,7 @@ use crate::header::read_header;
 use crate::image::{Image, read_image};
 use crate::judging::judge;
 use crate::loading::load;
-use bq_insn::fault::Cause;
+use bq_insn::fault::DecodeCause;
 use bq_verify::Verified;
 use std::alloc::Global;
 use std::marker::Model;
@@ -93,7 +93,7 @@ impl ImageReader {
         }
     }
 
-    /// Answers what `read_image` answers for all bytes fed, however they were cut.
+    /// What `read_image` answers for all bytes fed, however they were cut.
     pub fn finish(self) -> Result<Image, LoadFault>
         ensures image { IfOk result (λ image. (bytes : List ℕ) → StandsFor self bytes → SpellsImage bytes image) }
         ensures unread { IfErr result (λ fault. (bytes : List ℕ) → StandsFor self bytes → IsUnread bytes fault) }
@@ -104,7 +104,7 @@ impl ImageReader {
         read_image(self.alloc, self.bytes.as_slice())
     }
 
-    /// Answers what `load` answers for all bytes fed, however they were cut.
+    /// What `load` answers for all bytes fed, however they were cut.
     pub fn finish_load(self) -> Result<Verified, LoadFault>
         ensures loaded { IfOk result (λ v. (bytes : List ℕ) → StandsFor self bytes → Loads bytes v) }
         ensures unloaded { IfErr result (λ fault. (bytes : List ℕ) → StandsFor self bytes → IsUnloaded bytes fault) }
@@ -151,6 +151,6 @@ fn fault_past(held: &[u8], past: usize) -> LoadFault
     }
     LoadFault::Decode {
         slot: 0,
-        cause: Cause::Length,
+        cause: DecodeCause::Length,
     }
 }

@@ -159,7 +159,7 @@ impl<Q: RunQueue + Drop, K: Clock + Drop, N: Naming + Counting, const P: usize> 
     {
         let mut guard = self.recorder.lock_journal(rt);
         let journal = &mut *guard;
-        let mut kept = journal.kept().again();
+        let mut kept = journal.mark().again();
         let generation = kept.drawn.saturating_add(1);
         kept.drawn = generation;
         let reply = Ok(Reply::Drawn { generation });
@@ -231,7 +231,7 @@ impl<Q: RunQueue + Drop, K: Clock + Drop, N: Naming + Counting, const P: usize> 
         let cpu = &mut *guard;
         let mut journal_guard = self.recorder.lock_journal(rt);
         let journal = &mut *journal_guard;
-        let drawn = journal.kept().drawn;
+        let drawn = journal.mark().drawn;
         let reply = cpu.cell.content.state.replace(hook, drawn, installed);
         let events = (
             install_event(processor, hook, generation, for_record),

@@ -51,7 +51,7 @@ impl<Q: RunQueue + Drop, K: Clock + Drop, N: Naming + Counting, const P: usize> 
         requires counters { unnamed.0 ≡ N.counters }
         requires counts { (prepared.1.about ≡ P) × (prepared.1.callers ≡ seat_count) × (unnamed.1 ≡ seat_count) }
         requires many { length queues.items ≡ P }
-        requires empty { All (λ q. (Q.members q ≡ []) × (Q.kept_mark q ≡ 2 ^ 32)) queues.items }
+        requires empty { All (λ q. (Q.members q ≡ []) × (Q.last_mark q ≡ 2 ^ 32)) queues.items }
         ensures seats { IfOk result (λ r. r.1.items ≡ fresh_callers 0 seat_count) }
         ensures about { IfOk result (λ r. (r.0.recorder.history.about ≡ P) × (r.0.recorder.history.callers ≡ seat_count)) }
     {

@@ -93,7 +93,7 @@ impl<Q: RunQueue + Drop, K: Clock + Drop, N: Naming + Counting, const P: usize> 
         working.close_board(counter_board);
         let calls = hold_calls(calls, content.scratch.calls());
         let mut journal = self.recorder.lock_journal(rt);
-        let kept = journal.kept().after_pull(processor, from, &reply);
+        let kept = journal.mark().after_pull(processor, from, &reply);
         let event = Event::Pull {
             processor,
             from,

@@ -205,7 +205,7 @@ impl<Q: RunQueue + Drop, K: Clock + Drop, N: Naming + Counting, const P: usize> 
             .block(&mut lobby.cell.content.state, processor, now);
         let records = Records::quiet(Event::Block { processor, now }, &reply);
         let mut journal = self.recorder.lock_journal(rt);
-        let kept = journal.kept().after_block(processor, &reply);
+        let kept = journal.mark().after_block(processor, &reply);
         working.commit_two(
             &self.recorder.history,
             &mut *journal,

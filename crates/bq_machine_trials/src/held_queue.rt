@@ -17,7 +17,7 @@ pub struct HeldQueue {
 impl HeldQueue {
     /// A queue without tasks, whose calls come to the gate, if there is one.
     pub fn at(gate: Option<Arc<Gate, Global>>) -> HeldQueue
-        ensures { (result.queue.members ≡ []) × (result.queue.kept ≡ 2 ^ 32) }
+        ensures { (result.queue.members ≡ []) × (result.queue.mark ≡ 2 ^ 32) }
     {
         HeldQueue {
             queue: CfsQueue::empty(),
@@ -38,7 +38,7 @@ impl RunQueue for HeldQueue {
 
     ghost members = { λ q. q.queue.members };
 
-    ghost kept_mark = { λ q. q.queue.kept };
+    ghost last_mark = { λ q. q.queue.mark };
 
     fn empty() -> HeldQueue {
         HeldQueue {
@@ -72,8 +72,8 @@ impl RunQueue for HeldQueue {
         self.queue.movable(processor)
     }
 
-    fn own_pull(&self, processor: u8, size: usize, from: usize) -> Option<u16> {
-        self.queue.own_pull(processor, size, from)
+    fn own_pull(&self, processor: u8, puller_size: usize, source_size: usize) -> Option<u16> {
+        self.queue.own_pull(processor, puller_size, source_size)
     }
 
     fn choice(&self, current: Option<&Node>) -> Option<u16> {
@@ -86,12 +86,12 @@ impl RunQueue for HeldQueue {
         self.queue.wants_preempt(current)
     }
 
-    fn mark(&mut self, current: Option<&Node>) -> u64 {
+    fn update_mark(&mut self, current: Option<&Node>) -> u64 {
         self.come(Point::Mark);
-        self.queue.mark(current)
+        self.queue.update_mark(current)
     }
 
-    fn kept(&self) -> u64 {
-        self.queue.kept()
+    fn mark(&self) -> u64 {
+        self.queue.mark()
     }
 }

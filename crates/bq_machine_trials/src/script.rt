@@ -148,7 +148,7 @@ fn play_all<N: Naming + Counting + Send + Sync, R: Abort + Threads + Wait + Sync
     requires counters { unnamed.0 ≡ N.counters }
     requires counts { (prepared.1.about ≡ 4) × (prepared.1.callers ≡ length script.at_once.items) × (unnamed.1 ≡ length script.at_once.items) }
     requires many { length parts.queues.items ≡ 4 }
-    requires empty { All (λ q. (q.queue.members ≡ []) × (q.queue.kept ≡ 2 ^ 32)) parts.queues.items }
+    requires empty { All (λ q. (q.queue.members ≡ []) × (q.queue.mark ≡ 2 ^ 32)) parts.queues.items }
 {
     let Parts { clock, queues } = parts;
     let Script {
@@ -196,7 +196,7 @@ fn queues(
     gate: Option<Arc<Gate, Global>>,
 ) -> Result<Vec<HeldQueue>, AllocError>
     ensures many { IfOk result (λ v. vec_len v ≡ count) }
-    ensures empty { IfOk result (λ v. All (λ q. (q.queue.members ≡ []) × (q.queue.kept ≡ 2 ^ 32)) v.items) }
+    ensures empty { IfOk result (λ v. All (λ q. (q.queue.members ≡ []) × (q.queue.mark ≡ 2 ^ 32)) v.items) }
 {
     let mut queues = Vec::new(alloc);
     let mut gate = gate;

@@ -52,7 +52,7 @@ impl Maps {
         self.shapes.as_slice()
     }
 
-    /// Answers whether there is a map `m` that has an entry `k`.
+    /// Whether there is a map `m` that has an entry `k`.
     pub fn lookup(&self, m: usize, k: u32) -> bool
         ensures { IsTrue result ↔ HasEntry self.now m k }
     {

@@ -16,10 +16,10 @@ use Rattle.bq_bpf.specs.declared.shape.MapShape.{MapShape}
 use Rattle.bq_needs.specs.Operands.{access_of, known_in, reads, works_on}
 use Rattle.bq_needs.specs.declared.accesses.Lack.TheVariants as lack
 use Rattle.bq_needs.specs.declared.accesses.Lack.{Lack}
-use Rattle.bq_needs.specs.declared.operands.Access.{Access}
+use Rattle.bq_needs.specs.declared.operands.MemoryAccess.{MemoryAccess}
 
 -- what is lacking of an access is not shown of it
-pub lacks_not_shown : (p : PolicySource) (state : AbstractState) (a : Access) (k : AbstractValue) (why : Lack)
+pub lacks_not_shown : (p : PolicySource) (state : AbstractState) (a : MemoryAccess) (k : AbstractValue) (why : Lack)
     → Lacks p state a k why → IsAccessShown p state a k → ⊥
 lacks_not_shown p state a k lack.Number of shown = let e = rw of at shown.bound_is in cc
 lacks_not_shown p state a k lack.Answer (map, of) shown = let e = rw of at shown.bound_is in cc
@@ -42,19 +42,19 @@ lacks_not_shown p state a k (lack.BeyondValue map size) (of, is, (o, within, bey
 lacks_not_shown p state a k lack.InNoMap (map, of, is) shown = let e = sym is ∙ rw of at shown.bound_is in cc
 
 -- an access that is shown by what is known of its register is good
-pub shown_good : (p : PolicySource) (state : AbstractState) (insn : Insn) (a : Access) (k : AbstractValue)
+pub shown_good : (p : PolicySource) (state : AbstractState) (insn : Insn) (a : MemoryAccess) (k : AbstractValue)
     → access_of insn ≡ Some a → known_in state a.register ≡ Some k → IsAccessShown p state a k
     → IsGoodAccess p state insn
 shown_good p state insn a k is known shown b other =
     let same : a ≡ b = same_Some a b (sym is ∙ other) in
-    subst (λ (x : Access). (k : AbstractValue) × (known_in state x.register ≡ Some k) × IsAccessShown p state x k) same (k, known, shown)
+    subst (λ (x : MemoryAccess). (k : AbstractValue) × (known_in state x.register ≡ Some k) × IsAccessShown p state x k) same (k, known, shown)
 
 -- a register that points to bytes of which something is lacking does not point to what may be read
 pub lacking_not_pointing : (p : PolicySource) (state : AbstractState) (r bytes : ℕ) (k : AbstractValue) (why : Lack)
     → known_in state r ≡ Some k → Lacks p state (record { writes = false; bytes = bytes; register = r; off = pos 0 }) k why
     → ¬ (PointsTo p state r bytes)
 lacking_not_pointing p state r bytes k why known lacks (other, is, shown) =
-    let a : Access = record { writes = false; bytes = bytes; register = r; off = pos 0 } in
+    let a : MemoryAccess = record { writes = false; bytes = bytes; register = r; off = pos 0 } in
     let same : other ≡ k = same_Some _ _ (sym is ∙ known) in
     lacks_not_shown p state a k why lacks (subst (λ (x : AbstractValue). IsAccessShown p state a x) same shown)
 

@@ -17,11 +17,11 @@ use Rattle.bq_states.specs.declared.abstract_state.AbstractState.{AbstractState}
 use Rattle.bq_policy_file.specs.declared.policy_source.PolicySource.{PolicySource}
 use Rattle.bq_needs.specs.declared.accesses.Lack.TheVariants as lack
 use Rattle.bq_needs.specs.declared.accesses.Lack.{Lack}
-use Rattle.bq_needs.specs.declared.operands.Access.{Access}
+use Rattle.bq_needs.specs.declared.operands.MemoryAccess.{MemoryAccess}
 use Rattle.bq_needs.specs.Texts.{kind_text, known_text, map_name}
 
 -- the place where the access begins, as an offset, if its pointer has this offset
-abbrev pub access_begin : Access → ℕ → ℕ
+abbrev pub access_begin : MemoryAccess → ℕ → ℕ
 access_begin a offset = address_of offset a.off
 
 -- the bytes from the first up to the one past the last are set
@@ -29,15 +29,15 @@ abbrev pub AreBytesSet : List Bool → ℕ → ℕ → Type 0
 AreBytesSet set first past = (i : ℕ) → first ≤ i → i < past → slice_index_or set i false ≡ true
 
 -- with each offset that the pointer may have all bytes lie below the bound
-abbrev pub StaysBelow : Access → Range → ℕ → Type 0
+abbrev pub StaysBelow : MemoryAccess → Range → ℕ → Type 0
 StaysBelow a offsets bound = (o : ℕ) → Within offsets o → access_begin a o + a.bytes ≤ bound
 
 -- with one of the offsets that the pointer may have, some byte does not lie below the bound
-abbrev pub GoesBeyond : Access → Range → ℕ → Type 0
+abbrev pub GoesBeyond : MemoryAccess → Range → ℕ → Type 0
 GoesBeyond a offsets bound = (o : ℕ) × Within offsets o × (bound < access_begin a o + a.bytes)
 
 -- one of the bytes that the access may touch is not known to be set
-abbrev pub TouchesUnset : AbstractState → Access → Range → Type 0
+abbrev pub TouchesUnset : AbstractState → MemoryAccess → Range → Type 0
 TouchesUnset state a offsets = (i : ℕ) × (access_begin a offsets.lo ≤ i) × (i < access_begin a offsets.hi + a.bytes) × (slice_index_or state.set i false ≡ false)
 
 -- each word of the range, so far on, is in the other one, and so are its ends
@@ -62,7 +62,7 @@ MayBeFollowed (kind.Entry map) = Unit {0}
 MayBeFollowed _ = ⊥
 
 -- by what is known of its pointer the access is good: it stays in what the pointer points to, it does not write the context, and what it reads of the stack is set
-pub record IsAccessShown (p : PolicySource) (state : AbstractState) (a : Access) (k : AbstractValue) : Type 0 where
+pub record IsAccessShown (p : PolicySource) (state : AbstractState) (a : MemoryAccess) (k : AbstractValue) : Type 0 where
   pub bound : ℕ
   pub bound_is : bound_of p.form.shapes.items (context_size_of p.form) k.kind ≡ Some bound
   pub stays : StaysBelow a k.offset bound
@@ -70,7 +70,7 @@ pub record IsAccessShown (p : PolicySource) (state : AbstractState) (a : Access)
   pub set : a.writes ≡ false → k.kind ≡ kind.Stack → AreBytesSet state.set (access_begin a k.offset.lo) (access_begin a k.offset.hi + a.bytes)
 
 -- what is not so of the access
-abbrev pub Lacks : PolicySource → AbstractState → Access → AbstractValue → Lack → Type 0
+abbrev pub Lacks : PolicySource → AbstractState → MemoryAccess → AbstractValue → Lack → Type 0
 Lacks p state a k lack.Number = k.kind ≡ kind.Number
 Lacks p state a k lack.Answer = (map : ℕ) × (k.kind ≡ kind.EntryOrNull map)
 Lacks p state a k lack.MovedAnswer = ((map : ℕ) × (k.kind ≡ kind.EntryOrNull map)) × (0 < k.offset.hi)
@@ -116,14 +116,14 @@ pointed_place_text shapes kind.Stack = codes "stack begin"
 pointed_place_text shapes _ = codes "context"
 
 -- the place of an access that may begin below or above what its pointer counts from: the distance below and the distance above
-abbrev pub across_text : List MapShape → Access → AbstractValue → List ℕ
+abbrev pub across_text : List MapShape → MemoryAccess → AbstractValue → List ℕ
 across_text shapes a k =
     pointed_place_text shapes k.kind ++ (codes " -" ++ (decimal ((2 ^ 64 - address_of k.offset.lo a.off) % 2 ^ 64) ++ (codes ".." ++ decimal (address_of k.offset.hi a.off))))
 
 -- The text says where the access begins. If its pointer may be followed, it says the offset as a range of words, or, if the
 -- words begin again from 0 on the way, the distance below and the distance above. If not, it says the register and what is known
 -- of it.
-pub data DescribesBegin (shapes : List MapShape) (a : Access) (k : AbstractValue) : List ℕ → Type 0 where
+pub data DescribesBegin (shapes : List MapShape) (a : MemoryAccess) (k : AbstractValue) : List ℕ → Type 0 where
   counted : (at : Range) → MayBeFollowed k.kind → IsMoved a.off k.offset at → DescribesBegin shapes a k (kind_text shapes k.kind at)
   across : MayBeFollowed k.kind → Wraps a.off k.offset → DescribesBegin shapes a k (across_text shapes a k)
   by_register : (MayBeFollowed k.kind → ⊥) → DescribesBegin shapes a k (pointer_register_text shapes a.register k)
@@ -138,5 +138,5 @@ abbrev pub noun : ℕ → List ℕ
 noun bytes = if bytes == 1 then codes "byte" else codes "bytes"
 
 -- the number of bytes that are read or written, and where they begin
-abbrev pub access_text : Access → List ℕ → List ℕ
+abbrev pub access_text : MemoryAccess → List ℕ → List ℕ
 access_text a begin = verb a.writes ++ (codes " " ++ (decimal a.bytes ++ (codes " " ++ (noun a.bytes ++ (codes " at " ++ begin)))))

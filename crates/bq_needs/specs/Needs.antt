@@ -14,7 +14,7 @@ use Rattle.bq_needs.specs.declared.arguments.Argument.{Argument as Wanted}
 use Rattle.bq_needs.specs.declared.needs.Need.TheVariants as need
 use Rattle.bq_needs.specs.declared.needs.Need.{Need}
 use Rattle.bq_needs.specs.declared.needs.Pointer.{Pointer}
-use Rattle.bq_needs.specs.declared.operands.Access.{Access as Accessed}
+use Rattle.bq_needs.specs.declared.operands.MemoryAccess.{MemoryAccess}
 use Rattle.bq_needs.specs.Accesses.{IsAccessShown, Lacks}
 use Rattle.bq_needs.specs.Arguments.{GivesHelper, IsBad}
 use Rattle.bq_needs.specs.Operands.{access_of, known_in, reads, works_on}
@@ -33,7 +33,7 @@ AreNumbers state insn = AreNumbersBelow 11 state insn
 
 -- a load or a store is known to be good
 abbrev pub IsGoodAccess : PolicySource → AbstractState → Insn → Type 0
-IsGoodAccess p state insn = (a : Accessed) → access_of insn ≡ Some a → (k : AbstractValue) × (known_in state a.register ≡ Some k) × IsAccessShown p state a k
+IsGoodAccess p state insn = (a : MemoryAccess) → access_of insn ≡ Some a → (k : AbstractValue) × (known_in state a.register ≡ Some k) × IsAccessShown p state a k
 
 -- there is a map of that number
 abbrev pub IsMapNumber : PolicySource → ℤ → Type 0

@@ -11,7 +11,7 @@ use Rattle.bq_bpf.specs.Steps.{Does}
 use Rattle.bq_bpf.specs.Memory.{Setting, State}
 use Rattle.bq_states.specs.declared.abstract_state.AbstractValue.{AbstractValue}
 use Rattle.bq_states.specs.declared.abstract_state.AbstractState.{AbstractState}
-use Rattle.bq_needs.specs.declared.operands.Access.{Access}
+use Rattle.bq_needs.specs.declared.operands.MemoryAccess.{MemoryAccess}
 
 -- all operations but a move read what they change
 abbrev pub reads_left : Operation → Bool
@@ -49,7 +49,7 @@ abbrev pub known_in : AbstractState → ℕ → Option AbstractValue
 known_in state r = slice_index_or state.registers r None
 
 -- the access of a load or a store
-abbrev pub access_of : Insn → Option Access
+abbrev pub access_of : Insn → Option MemoryAccess
 access_of (Load size signed dst src off) = Some (record { writes = false; bytes = byte_count size; register = src; off = off })
 access_of (StoreImm size dst off imm) = Some (record { writes = true; bytes = byte_count size; register = dst; off = off })
 access_of (StoreReg size dst off src) = Some (record { writes = true; bytes = byte_count size; register = dst; off = off })

@@ -15,7 +15,7 @@ use Rattle.bq_needs.specs.declared.arguments.Argument.{Argument as Wanted}
 use Rattle.bq_needs.specs.declared.needs.Need.{Need}
 use Rattle.bq_needs.specs.declared.needs.Need.TheVariants.{Unknown, Address, Access, Number, Map, Argument, Answer, Unshown}
 use Rattle.bq_needs.specs.declared.needs.Pointer.{Pointer}
-use Rattle.bq_needs.specs.declared.operands.Access.{Access as Accessed}
+use Rattle.bq_needs.specs.declared.operands.MemoryAccess.{MemoryAccess}
 use Rattle.bq_needs.specs.Accesses.{DescribesBegin, access_text, lack_text, may_be_null, noun, pointer_register_text, verb}
 use Rattle.bq_needs.specs.Arguments.{argument_register, wanted_text}
 use Rattle.bq_needs.specs.Operands.{known_in}
@@ -39,11 +39,11 @@ abbrev pub unknown_reads_text : List Bool → List ℕ
 unknown_reads_text registers = codes "reads" ++ (names_below 11 registers ++ unknown_here)
 
 -- an access by a register of which nothing is known
-abbrev pub address_text : Accessed → List ℕ
+abbrev pub address_text : MemoryAccess → List ℕ
 address_text a = verb a.writes ++ (codes " " ++ (decimal a.bytes ++ (codes " " ++ (noun a.bytes ++ (codes " at r" ++ (decimal a.register ++ unknown_here))))))
 
 -- the text says what is accessed and where the access begins
-abbrev pub DescribesAccess : List MapShape → Accessed → AbstractValue → List ℕ → Type 0
+abbrev pub DescribesAccess : List MapShape → MemoryAccess → AbstractValue → List ℕ → Type 0
 DescribesAccess shapes a k text = (begin : List ℕ) × DescribesBegin shapes a k begin × (text ≡ access_text a begin)
 
 -- the instruction adds to the register, takes from it, or adds it to a number, in 64 bits; a pointer allows this, unless it is

@@ -3,7 +3,7 @@ ghost use Rattle.std.specs.Prelude.{◌≡◌, ◌⊎◌, ◌↔◌, ◌<◌, �
 ghost use Rattle.bq_needs.specs.Accesses.{AreBytesSet, MayBeFollowed, GoesBeyond, IsMoved, IsAccessShown, Lacks, ReachesLast, StaysBelow, DescribesBegin, TouchesUnset, Wraps, across_text, access_begin, lack_text, may_be_null, pointed_place_text, pointer_register_text};
 
 use crate::known::{kind_text, known_text, map_name};
-use crate::operands::Access;
+use crate::operands::MemoryAccess;
 use bq_bpf::addresses::STACK_SIZE;
 use bq_bpf::words::address;
 use bq_bpf::{MapShape, with_stack_size};
@@ -42,7 +42,7 @@ pub enum Lack {
 pub(crate) fn lack_of(
     policy: &PolicySource,
     state: &AbstractState,
-    access: Access,
+    access: MemoryAccess,
     pointer: AbstractValue,
 ) -> Option<Lack>
     requires { access.bytes ≤ 256 }
@@ -64,7 +64,7 @@ pub(crate) fn lack_of(
 fn context_lack(
     policy: &PolicySource,
     state: &AbstractState,
-    access: Access,
+    access: MemoryAccess,
     pointer: AbstractValue,
 ) -> Option<Lack>
     requires few { access.bytes ≤ 256 }
@@ -87,7 +87,7 @@ fn context_lack(
 fn stack_lack(
     policy: &PolicySource,
     state: &AbstractState,
-    access: Access,
+    access: MemoryAccess,
     pointer: AbstractValue,
 ) -> Option<Lack>
     requires few { access.bytes ≤ 256 }
@@ -112,7 +112,7 @@ fn stack_lack(
 fn value_lack(
     policy: &PolicySource,
     state: &AbstractState,
-    access: Access,
+    access: MemoryAccess,
     pointer: AbstractValue,
     map: u8,
 ) -> Option<Lack>
@@ -132,7 +132,7 @@ fn value_lack(
 
 /// Whether all bytes of the access lie below the bound, with each offset that its pointer may have.
 #[tactic(auto, using(crate::proofs::AccessLemmas::all_below, crate::proofs::AccessLemmas::last_beyond, crate::proofs::AccessLemmas::greatest_beyond))]
-fn stays(access: Access, offsets: Range, bound: usize) -> bool
+fn stays(access: MemoryAccess, offsets: Range, bound: usize) -> bool
     requires few { access.bytes ≤ 256 }
     requires small { bound < 65536 }
     ensures { MatchBool result (StaysBelow access offsets bound) (GoesBeyond access offsets bound) }
@@ -147,7 +147,7 @@ fn stays(access: Access, offsets: Range, bound: usize) -> bool
 }
 
 /// Whether all bytes of the stack that the access may touch are known to be set.
-fn touches_set(state: &AbstractState, access: Access, offsets: Range) -> bool
+fn touches_set(state: &AbstractState, access: MemoryAccess, offsets: Range) -> bool
     requires few { access.bytes ≤ 256 }
     requires inside { StaysBelow access offsets STACK_SIZE }
     ensures { MatchBool result (AreBytesSet state.now.set (access_begin access offsets.lo) (access_begin access offsets.hi + access.bytes)) (TouchesUnset state.now access offsets) }
@@ -181,7 +181,7 @@ fn moved(offsets: Range, off: i16) -> Option<Range>
 pub(crate) fn begin_text(
     alloc: Global,
     shapes: &[MapShape],
-    access: Access,
+    access: MemoryAccess,
     pointer: AbstractValue,
 ) -> Result<String, AllocError>
     ensures { IfOk result (λ text. DescribesBegin shapes.now access pointer (string_bytes text)) }
@@ -199,7 +199,7 @@ pub(crate) fn begin_text(
 fn across_text(
     alloc: Global,
     shapes: &[MapShape],
-    access: Access,
+    access: MemoryAccess,
     pointer: AbstractValue,
 ) -> Result<String, AllocError>
     ensures { IfOk result (λ text. string_bytes text ≡ across_text shapes.now access pointer) }
@@ -225,7 +225,7 @@ fn place_text(alloc: Global, shapes: &[MapShape], kind: ValueKind) -> Result<Str
 }
 
 /// At what offsets the access begins, if its pointer may be followed and a range says it.
-fn begin_range(access: Access, pointer: AbstractValue) -> Option<Range>
+fn begin_range(access: MemoryAccess, pointer: AbstractValue) -> Option<Range>
     ensures { MatchOption result ((MayBeFollowed pointer.kind → ⊥) ⊎ Wraps access.off pointer.offset) (λ at. MayBeFollowed pointer.kind × IsMoved access.off pointer.offset at) }
 {
     if is_followed(pointer.kind) {

@@ -5,7 +5,7 @@ ghost use Rattle.bq_needs.specs.Arguments.{GivesHelper, IsBad, IsCounter, IsArgu
 ghost use Rattle.bq_needs.specs.Operands.{known_in};
 
 use crate::accesses::lack_of;
-use crate::operands::Access;
+use crate::operands::MemoryAccess;
 use bq_bpf::board::COUNTERS;
 use bq_bpf::helper::{ADD_COUNTER, LOOKUP, UPDATE};
 use bq_bpf::instruction::is_counter_call;
@@ -168,7 +168,7 @@ fn points_to(policy: &PolicySource, state: &AbstractState, register: u8, bytes: 
     requires { bytes ≤ 256 }
     ensures { IsTrue result ↔ PointsTo policy.now state.now register bytes }
 {
-    let access = Access {
+    let access = MemoryAccess {
         writes: false,
         bytes,
         register,

@@ -16,5 +16,5 @@ pub use accesses::Lack;
 pub use arguments::Argument;
 pub use known::{known_text, range_text};
 pub use needs::{Need, Pointer, need_of};
-pub use operands::{Access, Registers, read_registers, reads};
+pub use operands::{MemoryAccess, Registers, read_registers, reads};
 pub use words::{moves, need_text};

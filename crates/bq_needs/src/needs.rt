@@ -7,7 +7,7 @@ ghost use Rattle.bq_needs.specs.Operands.{known_in};
 
 use crate::accesses::{Lack, lack_of};
 use crate::arguments::{Argument, bad_argument};
-use crate::operands::{Access, Registers, access_of, reads, works_on};
+use crate::operands::{MemoryAccess, Registers, access_of, reads, works_on};
 use bq_insn::{Insn, REGISTERS};
 use bq_policy_file::PolicySource;
 use bq_states::abstract_state::{AbstractState, AbstractValue, ValueKind};
@@ -21,10 +21,10 @@ pub enum Need {
     /// It reads these registers, of which nothing is known.
     Unknown(Registers),
     /// It accesses memory by a register of which nothing is known.
-    Address(Access),
+    Address(MemoryAccess),
     /// It accesses memory by a pointer of which that is known, and this is why the access is not shown to be good.
     Access {
-        access: Access,
+        access: MemoryAccess,
         pointer: AbstractValue,
         lack: Lack,
     },

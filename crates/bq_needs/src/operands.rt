@@ -10,7 +10,7 @@ pub type Registers = [bool; REGISTERS];
 
 /// The access of a load or a store.
 #[derive(Clone, Copy)]
-pub struct Access {
+pub struct MemoryAccess {
     /// Whether it writes; otherwise it reads.
     pub writes: bool,
     /// How many bytes.
@@ -83,7 +83,7 @@ fn is_register(src: Source, register: u8) -> bool
 }
 
 /// The access of the instruction, if it is a load or a store.
-pub(crate) fn access_of(insn: Insn) -> Option<Access>
+pub(crate) fn access_of(insn: Insn) -> Option<MemoryAccess>
     ensures is { result ≡ access_of insn }
     ensures few { IfSome result (λ access. access.bytes ≤ 8) }
 {
@@ -96,11 +96,11 @@ pub(crate) fn access_of(insn: Insn) -> Option<Access>
 }
 
 /// An access of that size.
-fn sized(writes: bool, size: Size, register: u8, off: i16) -> Access
+fn sized(writes: bool, size: Size, register: u8, off: i16) -> MemoryAccess
     ensures is { result ≡ record { writes = writes; bytes = byte_count size; register = register; off = off } }
     ensures few { result.bytes ≤ 8 }
 {
-    Access {
+    MemoryAccess {
         writes,
         bytes: size.bytes(),
         register,

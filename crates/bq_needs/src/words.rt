@@ -8,7 +8,7 @@ use crate::accesses::{begin_text, lack_text, may_be_null, register_text};
 use crate::arguments::{Argument, wanted_text};
 use crate::known::known_text;
 use crate::needs::{Need, Pointer};
-use crate::operands::{Access, Registers};
+use crate::operands::{MemoryAccess, Registers};
 use bq_bpf::MapShape;
 use bq_insn::{Insn, Operation, REGISTERS, Width};
 use bq_policy_file::PolicySource;
@@ -87,7 +87,7 @@ fn name_text(
 }
 
 /// An access by a register of which nothing is known.
-fn address_text(alloc: Global, access: Access) -> Result<String, AllocError>
+fn address_text(alloc: Global, access: MemoryAccess) -> Result<String, AllocError>
     ensures { IfOk result (λ text. string_bytes text ≡ address_text access) }
 {
     let verb = verb(access.writes);
@@ -101,7 +101,7 @@ fn address_text(alloc: Global, access: Access) -> Result<String, AllocError>
 fn access_text(
     alloc: Global,
     shapes: &[MapShape],
-    access: Access,
+    access: MemoryAccess,
     pointer: AbstractValue,
 ) -> Result<String, AllocError>
     ensures { IfOk result (λ text. DescribesAccess shapes.now access pointer (string_bytes text)) }

@@ -1,11 +1,11 @@
 -- How many tasks of an id stand among some tasks.
 use Rattle.std.proofs.Common.{◌≡◌, ℕ, ◌+◌, ◌≤◌, Bool, true, false, cond, eqb, List, [], ◌∷◌, ◌++◌, Option, Some, None, refl, sym, ap, arith}
 use Rattle.std.proofs.lemmas.Bool.Decides.{nat_tests}
-use Rattle.bq_disc.specs.Tasks.{Task, has_id, with_id, without, place, present}
+use Rattle.bq_disc.specs.Tasks.{Task, has_id, find_task, without, inserted, present}
 use Rattle.bq_disc.specs.Queues.{HasDistinctIds}
 use Rattle.bq_disc.specs.Discipline.{Discipline, next_of}
 use Rattle.bq_disc.specs.OneProcessor.{Running, present_at, charge, switched, enter_all}
-use Rattle.bq_disc.proofs.SetLemmas.{with_id-id}
+use Rattle.bq_disc.proofs.SetLemmas.{find_task-id}
 use Rattle.bq_parts.specs.Processors.{count_of_id, HasEachOnce}
 use Rattle.bq_parts.proofs.TallyLemmas
 
@@ -28,11 +28,11 @@ count_of-append id [] ys = omega arith
 count_of-append id (x ∷ xs) ys = omega (arith, count_of-append id xs ys)
 
 -- a task that comes adds one to its count
-pub count_of-place : (id : ℕ) (t : Task) (xs : List Task) → count_of_id id (place t xs) ≡ one id t + count_of_id id xs
-count_of-place id t xs = omega (arith, count_of-tally id (place t xs), count_of-tally id xs, TallyLemmas.tally-place (ones id) t xs)
+pub count_of-inserted : (id : ℕ) (t : Task) (xs : List Task) → count_of_id id (inserted t xs) ≡ one id t + count_of_id id xs
+count_of-inserted id t xs = omega (arith, count_of-tally id (inserted t xs), count_of-tally id xs, TallyLemmas.tally-inserted (ones id) t xs)
 
 -- what is taken was there one time more
-pub count_of-without : (i j : ℕ) (xs : List Task) (t : Task) → with_id j xs ≡ Some t → count_of_id i xs ≡ one i t + count_of_id i (without j xs)
+pub count_of-without : (i j : ℕ) (xs : List Task) (t : Task) → find_task j xs ≡ Some t → count_of_id i xs ≡ one i t + count_of_id i (without j xs)
 count_of-without i j xs t h =
     omega (arith, count_of-tally i (without j xs), count_of-tally i xs, TallyLemmas.tally-without (ones i) j xs t h)
 
@@ -45,9 +45,9 @@ absent_by_test true x n o h rest = absurd (omega arith)
 absent_by_test false x n o h rest = rest (omega arith)
 
 -- no task of that id is there
-pub with_id-absent : (id : ℕ) (xs : List Task) → count_of_id id xs ≡ 0 → with_id id xs ≡ None
-with_id-absent id [] h = refl
-with_id-absent id (x ∷ xs) h = absent_by_test (eqb x.id id) x (count_of_id id xs) (with_id id xs) h (with_id-absent id xs)
+pub find_task-absent : (id : ℕ) (xs : List Task) → count_of_id id xs ≡ 0 → find_task id xs ≡ None
+find_task-absent id [] h = refl
+find_task-absent id (x ∷ xs) h = absent_by_test (eqb x.id id) x (count_of_id id xs) (find_task id xs) h (find_task-absent id xs)
 
 -- the queue is a part of what is present
 pub queue_le_present : (id : ℕ) (o : Option Task) (xs : List Task) → count_of_id id xs ≤ count_of_id id (present o xs)
@@ -59,11 +59,11 @@ pub each_once_queue : (p : Running) → HasEachOnce (present_at p) → HasEachOn
 each_once_queue p h = λ id. omega (arith, h id, queue_le_present id p.current p.queue)
 
 -- a current task is not in the queue
-pub current_apart : (p : Running) (t : Task) → HasEachOnce (present_at p) → p.current ≡ Some t → with_id t.id p.queue ≡ None
+pub current_apart : (p : Running) (t : Task) → HasEachOnce (present_at p) → p.current ≡ Some t → find_task t.id p.queue ≡ None
 current_apart p t s e =
     let h = s t.id in
     let k : count_of_id t.id (t ∷ p.queue) ≤ 1 = rw e at h in
-    with_id-absent t.id p.queue (omega (arith, one_self t))
+    find_task-absent t.id p.queue (omega (arith, one_self t))
 
 -- the next is the current one: nothing changes
 pub switched_same : (d : Discipline) (p : Running) (t : Task)
@@ -73,29 +73,29 @@ switched_same d p t s e i = rw (e, ← i, current_apart p t s e) refl
 
 -- the next is not in the queue: nothing changes
 pub switched_absent : (d : Discipline) (p : Running) (t : Task) (id : ℕ)
-    → p.current ≡ Some t → id ≡ next_of d t p.queue → with_id id p.queue ≡ None → switched d p p.current ≡ p
+    → p.current ≡ Some t → id ≡ next_of d t p.queue → find_task id p.queue ≡ None → switched d p p.current ≡ p
 switched_absent d p t id e i f = rw (e, ← i, f) refl
 
 -- the next runs, and the current one stands in the queue
 pub switched_to : (d : Discipline) (p : Running) (t n : Task) (id : ℕ)
-    → p.current ≡ Some t → id ≡ next_of d t p.queue → Some n ≡ with_id id p.queue
-    → switched d p p.current ≡ record p { current = Some n; queue = place t (without id p.queue) }
-switched_to d p t n id e i f = rw (e, ← i, ← f, with_id-id id p.queue n (sym f)) refl
+    → p.current ≡ Some t → id ≡ next_of d t p.queue → Some n ≡ find_task id p.queue
+    → switched d p p.current ≡ record p { current = Some n; queue = inserted t (without id p.queue) }
+switched_to d p t n id e i f = rw (e, ← i, ← f, find_task-id id p.queue n (sym f)) refl
 
 -- the current task is not in the rest of the queue either
 pub current_apart_without : (p : Running) (t n : Task) (id : ℕ)
-    → HasEachOnce (present_at p) → p.current ≡ Some t → with_id id p.queue ≡ Some n
-    → with_id t.id (without id p.queue) ≡ None
+    → HasEachOnce (present_at p) → p.current ≡ Some t → find_task id p.queue ≡ Some n
+    → find_task t.id (without id p.queue) ≡ None
 current_apart_without p t n id s e f =
     let h = s t.id in
     let k : count_of_id t.id (t ∷ p.queue) ≤ 1 = rw e at h in
-    with_id-absent t.id (without id p.queue) (omega (arith, one_self t, count_of-without t.id id p.queue n f))
+    find_task-absent t.id (without id p.queue) (omega (arith, one_self t, count_of-without t.id id p.queue n f))
 
 -- tasks of which no id stands twice have distinct ids
 pub HasDistinctIds-from_counts : (xs : List Task) → HasEachOnce xs → HasDistinctIds xs
 HasDistinctIds-from_counts [] h = tt
 HasDistinctIds-from_counts (x ∷ xs) h =
-    (with_id-absent x.id xs (omega (arith, one_self x, h x.id)), HasDistinctIds-from_counts xs (λ id. omega (arith, h id)))
+    (find_task-absent x.id xs (omega (arith, one_self x, h x.id)), HasDistinctIds-from_counts xs (λ id. omega (arith, h id)))
 
 -- what stays by every tally stays by every count
 same_count : (id : ℕ) (p q : Running) → TallyLemmas.tally (ones id) (present_at q) ≡ TallyLemmas.tally (ones id) (present_at p)

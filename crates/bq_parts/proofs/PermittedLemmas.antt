@@ -5,7 +5,7 @@ use Rattle.std.proofs.lemmas.Bool.Decides.{nat_tests}
 use Rattle.bq_hooks.specs.declared.settled.By.TheVariants as who
 use Rattle.std.specs.Option.{option_map, option_map_or}
 use Rattle.std.proofs.lemmas.Bool.{and_parts, or_right}
-use Rattle.bq_disc.specs.Tasks.{Task, has_id, with_id, first_by, former, id_of}
+use Rattle.bq_disc.specs.Tasks.{Task, has_id, find_task, first_by, former, id_of}
 use Rattle.bq_disc.specs.Queues.{can_use}
 use Rattle.bq_disc.specs.Pulls.{movable, pulled_before}
 use Rattle.bq_disc.specs.Movable.{is_movable_to}
@@ -56,23 +56,23 @@ itself : (t : Task) (o : Option Task) → is_some (cond (has_id t.id t) (Some t)
 itself t o = let same : has_id t.id t ≡ true = grind (arith, nat_tests) in rw same refl
 
 -- one that is found in the rest of a list is found in the list
-later : (id : ℕ) (x : Task) (xs : List Task) → is_some (with_id id xs) ≡ true → is_some (with_id id (x ∷ xs)) ≡ true
-later id x xs h = elim (has_id id x) as (λ b. is_some (cond b (Some x) (with_id id xs)) ≡ true) [ true ↦ refl | false ↦ h ]
+later : (id : ℕ) (x : Task) (xs : List Task) → is_some (find_task id xs) ≡ true → is_some (find_task id (x ∷ xs)) ≡ true
+later id x xs h = elim (has_id id x) as (λ b. is_some (cond b (Some x) (find_task id xs)) ≡ true) [ true ↦ refl | false ↦ h ]
 
 former_there : (before : Task → Task → Bool) (x : Task) (o : Option Task) (xs : List Task)
-    → ((y : Task) → o ≡ Some y → is_some (with_id y.id xs) ≡ true)
-    → is_some (with_id (former before x o).id (x ∷ xs)) ≡ true
-former_there before x None xs h = itself x (with_id x.id xs)
+    → ((y : Task) → o ≡ Some y → is_some (find_task y.id xs) ≡ true)
+    → is_some (find_task (former before x o).id (x ∷ xs)) ≡ true
+former_there before x None xs h = itself x (find_task x.id xs)
 former_there before x (Some y) xs h =
     elim (before y x)
-    as (λ b. is_some (with_id (cond b y x).id (x ∷ xs)) ≡ true) [ true ↦ later y.id x xs (h y refl) | false ↦ itself x (with_id x.id xs) ]
+    as (λ b. is_some (find_task (cond b y x).id (x ∷ xs)) ≡ true) [ true ↦ later y.id x xs (h y refl) | false ↦ itself x (find_task x.id xs) ]
 
 -- the first of some tasks stands among them
-first_there : (before : Task → Task → Bool) (xs : List Task) (m : Task) → first_by before xs ≡ Some m → is_some (with_id m.id xs) ≡ true
+first_there : (before : Task → Task → Bool) (xs : List Task) (m : Task) → first_by before xs ≡ Some m → is_some (find_task m.id xs) ≡ true
 first_there before [] m h = cc
 first_there before (x ∷ xs) m h =
     let is : former before x (first_by before xs) ≡ m = cc in
-    subst (λ (y : Task). is_some (with_id y.id (x ∷ xs)) ≡ true) is (former_there before x (first_by before xs) xs (first_there before xs))
+    subst (λ (y : Task). is_some (find_task y.id (x ∷ xs)) ≡ true) is (former_there before x (first_by before xs) xs (first_there before xs))
 
 counted_by_test : (b : Bool) (x : Task) (n : ℕ) (o : Option Task)
     → is_some (cond b (Some x) o) ≡ true → (is_some o ≡ true → 1 ≤ n) → 1 ≤ cond b 1 0 + n
@@ -80,9 +80,9 @@ counted_by_test true x n o h rest = omega arith
 counted_by_test false x n o h rest = omega (arith, rest h)
 
 -- one that is found is counted
-counted : (id : ℕ) (xs : List Task) → is_some (with_id id xs) ≡ true → 1 ≤ count_of_id id xs
+counted : (id : ℕ) (xs : List Task) → is_some (find_task id xs) ≡ true → 1 ≤ count_of_id id xs
 counted id [] h = cc
-counted id (x ∷ xs) h = counted_by_test (has_id id x) x (count_of_id id xs) (with_id id xs) h (counted id xs)
+counted id (x ∷ xs) h = counted_by_test (has_id id x) x (count_of_id id xs) (find_task id xs) h (counted id xs)
 
 -- a filter leaves no more
 count_of-filter : (id : ℕ) (p : Task → Bool) (xs : List Task) → count_of_id id (filter p xs) ≤ count_of_id id xs
@@ -95,23 +95,23 @@ count_of-filter id p (x ∷ xs) =
 
 movable_by_tests : (a b : Bool) (processor id : ℕ) (x t : Task) (xs : List Task)
     → has_id id x ≡ a → can_use processor x ≡ b → HasEachOnce (x ∷ xs)
-    → is_some (with_id id (cond b (x ∷ movable processor xs) (movable processor xs))) ≡ true
-    → cond a (Some x) (with_id id xs) ≡ Some t
-    → (is_some (with_id id (movable processor xs)) ≡ true → with_id id xs ≡ Some t → can_use processor t ≡ true)
+    → is_some (find_task id (cond b (x ∷ movable processor xs) (movable processor xs))) ≡ true
+    → cond a (Some x) (find_task id xs) ≡ Some t
+    → (is_some (find_task id (movable processor xs)) ≡ true → find_task id xs ≡ Some t → can_use processor t ≡ true)
     → can_use processor t ≡ true
 movable_by_tests true true processor id x t xs e f once h k rest = let is : x ≡ t = cc in subst (λ y. can_use processor y ≡ true) is f
 movable_by_tests true false processor id x t xs e f once h k rest =
     let here : one id x ≡ 1 = ap (λ b. cond b 1 0) e in
     absurd (omega (arith, once id, here, counted id (movable processor xs) h, count_of-filter id (can_use processor) xs))
 movable_by_tests false true processor id x t xs e f once h k rest =
-    let there : is_some (with_id id (movable processor xs)) ≡ true =
-    sym (ap (λ b. is_some (cond b (Some x) (with_id id (movable processor xs)))) e) ∙ h in
+    let there : is_some (find_task id (movable processor xs)) ≡ true =
+    sym (ap (λ b. is_some (cond b (Some x) (find_task id (movable processor xs)))) e) ∙ h in
     rest there k
 movable_by_tests false false processor id x t xs e f once h k rest = rest h k
 
 -- where ids stand once, the task of an id that may move may use the processor
 pub movable_can_use : (processor id : ℕ) (queue : List Task) (t : Task)
-    → HasEachOnce queue → is_some (with_id id (movable processor queue)) ≡ true → with_id id queue ≡ Some t
+    → HasEachOnce queue → is_some (find_task id (movable processor queue)) ≡ true → find_task id queue ≡ Some t
     → can_use processor t ≡ true
 movable_can_use processor id [] t once h k = cc
 movable_can_use processor id (x ∷ xs) t once h k =
@@ -119,27 +119,27 @@ movable_can_use processor id (x ∷ xs) t once h k =
     (movable_can_use processor id xs t (λ i. omega (arith, once i)))
 
 found_by_test : (b : Bool) (id : ℕ) (x : Task) (xs : List Task)
-    → cond b (Some x) (with_id id xs) ≡ None → (with_id id xs ≡ None → count_of_id id xs ≡ 0)
+    → cond b (Some x) (find_task id xs) ≡ None → (find_task id xs ≡ None → count_of_id id xs ≡ 0)
     → cond b 1 0 + count_of_id id xs ≡ 0
 found_by_test true id x xs h rest = cc
 found_by_test false id x xs h rest = omega (arith, rest h)
 
 -- an id that is not found stands nowhere
-found : (id : ℕ) (xs : List Task) → with_id id xs ≡ None → count_of_id id xs ≡ 0
+found : (id : ℕ) (xs : List Task) → find_task id xs ≡ None → count_of_id id xs ≡ 0
 found id [] h = refl
 found id (x ∷ xs) h = found_by_test (has_id id x) id x xs h (found id xs)
 
 movable_by_case : (processor id : ℕ) (queue : List Task) (o : Option Task)
-    → HasEachOnce queue → is_some (with_id id (movable processor queue)) ≡ true → with_id id queue ≡ o
+    → HasEachOnce queue → is_some (find_task id (movable processor queue)) ≡ true → find_task id queue ≡ o
     → option_map_or (can_use processor) o false ≡ true
 movable_by_case processor id queue None once h e =
     absurd (omega (arith, found id queue e, counted id (movable processor queue) h, count_of-filter id (can_use processor) queue))
 movable_by_case processor id queue (Some t) once h e = movable_can_use processor id queue t once h e
 
 -- where ids stand once, a task that is found among the movable ones may be named
-named : (processor id : ℕ) (queue : List Task) → HasEachOnce queue → is_some (with_id id (movable processor queue)) ≡ true
+named : (processor id : ℕ) (queue : List Task) → HasEachOnce queue → is_some (find_task id (movable processor queue)) ≡ true
     → is_movable_to processor id queue ≡ true
-named processor id queue once h = movable_by_case processor id queue (with_id id queue) once h refl
+named processor id queue once h = movable_by_case processor id queue (find_task id queue) once h refl
 
 own_pull_by_case : (processor : ℕ) (queue : List Task) (o : Option Task)
     → HasEachOnce queue → first_by pulled_before (movable processor queue) ≡ o
@@ -195,5 +195,5 @@ may_pull_names processor queue n id h e =
 
 -- the task of an id that may move may use the processor
 pub may_go : (processor id : ℕ) (queue : List Task) (t : Task)
-    → is_movable_to processor id queue ≡ true → with_id id queue ≡ Some t → can_use processor t ≡ true
+    → is_movable_to processor id queue ≡ true → find_task id queue ≡ Some t → can_use processor t ≡ true
 may_go processor id queue t h e = sym (ap (λ o. option_map_or (can_use processor) o false) e) ∙ h

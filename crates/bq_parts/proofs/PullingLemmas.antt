@@ -2,14 +2,14 @@
 use Rattle.std.proofs.Common.{◌≡◌, ℕ, ◌≤◌, ◌++◌, List, length, Option, Some, None, refl, sym, subst, arith}
 use Rattle.std.specs.Prelude.{IfSome}
 use Rattle.std.specs.Option.{option_map}
-use Rattle.bq_disc.specs.Tasks.{Task, with_id, present}
+use Rattle.bq_disc.specs.Tasks.{Task, find_task, present}
 use Rattle.bq_disc.specs.Discipline.{Discipline, left_at}
 use Rattle.bq_disc.specs.Queues.{HasDistinctIds}
 use Rattle.bq_disc.specs.OneProcessor.{Running, present_at, charge, marked}
 use Rattle.bq_parts.specs.Processors.{HasEachOnce, HasLobbyIds}
 use Rattle.bq_parts.specs.Moves.{taken_from}
-use Rattle.bq_disc.proofs.SetLemmas.{with_id-id}
-use Rattle.bq_parts.proofs.CountLemmas.{one, one_self, count_of-append, count_of-without, queue_le_present, with_id-absent, each_once_queue, HasEachOnce-left, HasEachOnce-right, HasDistinctIds-from_counts}
+use Rattle.bq_disc.proofs.SetLemmas.{find_task-id}
+use Rattle.bq_parts.proofs.CountLemmas.{one, one_self, count_of-append, count_of-without, queue_le_present, find_task-absent, each_once_queue, HasEachOnce-left, HasEachOnce-right, HasDistinctIds-from_counts}
 use Rattle.bq_parts.proofs.OnceLemmas.{few_below}
 
 -- where all ids of two lists together are ids, those of the left one are
@@ -47,12 +47,12 @@ pub source_distinct : (p q : Running) → HasEachOnce (present_at p ++ present_a
 source_distinct p q h = HasDistinctIds-from_counts q.queue (each_once_queue q (HasEachOnce-right (present_at p) (present_at q) h))
 
 -- a task of the source's queue is not in the puller's
-pulled_free : (p q : Running) (id : ℕ) (t : Task) → HasEachOnce (present_at p ++ present_at q) → with_id id q.queue ≡ Some t
-    → with_id t.id p.queue ≡ None
+pulled_free : (p q : Running) (id : ℕ) (t : Task) → HasEachOnce (present_at p ++ present_at q) → find_task id q.queue ≡ Some t
+    → find_task t.id p.queue ≡ None
 pulled_free p q id t h f =
-    let itself : one id t ≡ 1 = subst (λ i. one i t ≡ 1) (with_id-id id q.queue t f) (one_self t) in
-    let free : with_id id p.queue ≡ None =
-    with_id-absent id p.queue (omega (
+    let itself : one id t ≡ 1 = subst (λ i. one i t ≡ 1) (find_task-id id q.queue t f) (one_self t) in
+    let free : find_task id p.queue ≡ None =
+    find_task-absent id p.queue (omega (
       arith,
       h id,
       count_of-append id (present_at p) (present_at q),
@@ -61,17 +61,17 @@ pulled_free p q id t h f =
       count_of-without id id q.queue t f,
       itself,
     )) in
-    subst (λ i. with_id i p.queue ≡ None) (sym (with_id-id id q.queue t f)) free
+    subst (λ i. find_task i p.queue ≡ None) (sym (find_task-id id q.queue t f)) free
 
 fresh_by_case : (id mark : ℕ) (xs ys : List Task) (o : Option Task)
-    → with_id id xs ≡ o → ((t : Task) → with_id id xs ≡ Some t → with_id t.id ys ≡ None)
-    → IfSome (option_map (left_at mark) o) (λ t. with_id t.id ys ≡ None)
+    → find_task id xs ≡ o → ((t : Task) → find_task id xs ≡ Some t → find_task t.id ys ≡ None)
+    → IfSome (option_map (left_at mark) o) (λ t. find_task t.id ys ≡ None)
 fresh_by_case id mark xs ys None e h = tt
 fresh_by_case id mark xs ys (Some t) e h = h t e
 
 -- the id of a task of the source's queue is free at the puller
 pub taken_fresh : (d : Discipline) (p q : Running) (now : ℕ) (task : Option ℕ) → HasEachOnce (present_at p ++ present_at q) →
-    IfSome (taken_from (marked d q) task) (λ t. with_id t.id (charge d p now).queue ≡ None)
+    IfSome (taken_from (marked d q) task) (λ t. find_task t.id (charge d p now).queue ≡ None)
 taken_fresh d p q now None h = tt
 taken_fresh d p q now (Some id) h =
-    fresh_by_case id (marked d q).kept q.queue p.queue (with_id id q.queue) refl (λ t e. pulled_free p q id t h e)
+    fresh_by_case id (marked d q).mark q.queue p.queue (find_task id q.queue) refl (λ t e. pulled_free p q id t h e)

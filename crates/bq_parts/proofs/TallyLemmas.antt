@@ -1,11 +1,11 @@
 -- Sums over some tasks of a number that only each task's id and mask decide: what they keep while tasks come, go and run.
 use Rattle.std.proofs.Common.{◌≡◌, ℕ, ◌+◌, ◌-◌, Bool, true, false, cond, eqb, List, [], ◌∷◌, ◌++◌, Option, Some, None, refl, sym, ap, ◌∙◌, arith}
 use Rattle.std.specs.Option.{option_map}
-use Rattle.bq_disc.specs.Tasks.{Task, with_id, without, place, present, runs_before, id_of}
+use Rattle.bq_disc.specs.Tasks.{Task, find_task, without, inserted, present, runs_before, id_of}
 use Rattle.bq_disc.specs.Discipline.{Discipline, charged, woken, next_of}
 use Rattle.bq_disc.specs.OneProcessor.{Running, present_at, reading, charge, run_id, choice_started, exchanged, switched, decided, entered, enter_all}
 use Rattle.bq_disc.proofs.QueueLemmas.{without-absent}
-use Rattle.bq_disc.proofs.SetLemmas.{with_id-id}
+use Rattle.bq_disc.proofs.SetLemmas.{find_task-id}
 
 -- what a task counts
 abbrev pub worth : (ℕ → ℕ → ℕ) → Task → ℕ
@@ -22,12 +22,12 @@ tally-append g [] ys = omega arith
 tally-append g (x ∷ xs) ys = omega (arith, tally-append g xs ys)
 
 -- a task that comes adds one to its count
-pub tally-place : (g : ℕ → ℕ → ℕ) (t : Task) (xs : List Task) → tally g (place t xs) ≡ worth g t + tally g xs
-tally-place g t [] = refl
-tally-place g t (x ∷ xs) =
-    elim (runs_before t x) as (λ b. tally g (cond b (t ∷ x ∷ xs) (x ∷ place t xs)) ≡ worth g t + tally g (x ∷ xs)) [
+pub tally-inserted : (g : ℕ → ℕ → ℕ) (t : Task) (xs : List Task) → tally g (inserted t xs) ≡ worth g t + tally g xs
+tally-inserted g t [] = refl
+tally-inserted g t (x ∷ xs) =
+    elim (runs_before t x) as (λ b. tally g (cond b (t ∷ x ∷ xs) (x ∷ inserted t xs)) ≡ worth g t + tally g (x ∷ xs)) [
       | true ↦ refl
-      | false ↦ omega (arith, tally-place g t xs)
+      | false ↦ omega (arith, tally-inserted g t xs)
     ]
 
 without_by_test : (b : Bool) (g : ℕ → ℕ → ℕ) (x t : Task) (xs ys : List Task) (o : Option Task)
@@ -40,16 +40,16 @@ without_by_test false g x t xs ys o h rest = omega (arith, rest h)
 
 -- a task that is taken was counted one time more
 pub tally-without : (g : ℕ → ℕ → ℕ) (j : ℕ) (xs : List Task) (t : Task)
-    → with_id j xs ≡ Some t → tally g xs ≡ worth g t + tally g (without j xs)
+    → find_task j xs ≡ Some t → tally g xs ≡ worth g t + tally g (without j xs)
 tally-without g j [] t h = cc
-tally-without g j (x ∷ xs) t h = without_by_test (eqb x.id j) g x t xs (without j xs) (with_id j xs) h (tally-without g j xs t)
+tally-without g j (x ∷ xs) t h = without_by_test (eqb x.id j) g x t xs (without j xs) (find_task j xs) h (tally-without g j xs t)
 
 -- woken tasks that enter are those that they were
-pub tally-entered : (g : ℕ → ℕ → ℕ) (d : Discipline) (kept : ℕ) (queue tasks : List Task)
-    → tally g (entered d kept queue tasks) ≡ tally g queue + tally g tasks
-tally-entered g d kept queue [] = omega arith
-tally-entered g d kept queue (t ∷ tasks) =
-    omega (arith, tally-entered g d kept (place (woken d kept t) queue) tasks, tally-place g (woken d kept t) queue)
+pub tally-entered : (g : ℕ → ℕ → ℕ) (d : Discipline) (mark : ℕ) (queue tasks : List Task)
+    → tally g (entered d mark queue tasks) ≡ tally g queue + tally g tasks
+tally-entered g d mark queue [] = omega arith
+tally-entered g d mark queue (t ∷ tasks) =
+    omega (arith, tally-entered g d mark (inserted (woken d mark t) queue) tasks, tally-inserted g (woken d mark t) queue)
 
 -- a queue in place of another changes the sum by their difference
 pub tally-present : (g : ℕ → ℕ → ℕ) (o : Option Task) (xs ys : List Task)
@@ -69,10 +69,10 @@ tally-charge g d p now =
 pub tally-enter_all : (g : ℕ → ℕ → ℕ) (d : Discipline) (p : Running) (tasks : List Task)
     → tally g (present_at (enter_all d p tasks)) ≡ tally g (present_at p) + tally g tasks
 tally-enter_all g d p tasks =
-    omega (arith, tally-present g p.current p.queue (entered d p.kept p.queue tasks), tally-entered g d p.kept p.queue tasks)
+    omega (arith, tally-present g p.current p.queue (entered d p.mark p.queue tasks), tally-entered g d p.mark p.queue tasks)
 
 tally_of_taken : (g : ℕ → ℕ → ℕ) (i : ℕ) (queue : List Task) (o : Option Task)
-    → with_id i queue ≡ o → tally g (present o (without i queue)) ≡ tally g queue
+    → find_task i queue ≡ o → tally g (present o (without i queue)) ≡ tally g queue
 tally_of_taken g i queue None h = ap (λ xs. tally g xs) (without-absent i queue h)
 tally_of_taken g i queue (Some t) h = sym (tally-without g i queue t h)
 
@@ -80,7 +80,7 @@ tally_of_taken g i queue (Some t) h = sym (tally-without g i queue t h)
 pub tally-run_id : (g : ℕ → ℕ → ℕ) (p : Running) (o : Option ℕ)
     → p.current ≡ None → tally g (present_at (run_id p o)) ≡ tally g (present_at p)
 tally-run_id g p None e = refl
-tally-run_id g p (Some i) e = tally_of_taken g i p.queue (with_id i p.queue) refl ∙ sym (ap (λ o. tally g (present o p.queue)) e)
+tally-run_id g p (Some i) e = tally_of_taken g i p.queue (find_task i p.queue) refl ∙ sym (ap (λ o. tally g (present o p.queue)) e)
 
 -- the queue's choice that begins to run too
 pub tally-start : (g : ℕ → ℕ → ℕ) (d : Discipline) (p : Running)
@@ -89,12 +89,12 @@ tally-start g d p e = tally-run_id g p (id_of (d.choice p.queue)) e
 
 -- two tasks that change places both stay
 pub tally-exchanged : (g : ℕ → ℕ → ℕ) (j : ℕ) (p : Running) (old : Task) (o : Option Task)
-    → p.current ≡ Some old → with_id j p.queue ≡ o
+    → p.current ≡ Some old → find_task j p.queue ≡ o
     → tally g (present_at (exchanged p old o)) ≡ tally g (present_at p)
 tally-exchanged g j p old None e h = refl
 tally-exchanged g j p old (Some new) e h =
-    let placed : tally g (place old (without new.id p.queue)) ≡ worth g old + tally g (without j p.queue) =
-    rw (with_id-id j p.queue new h) (tally-place g old (without j p.queue)) in
+    let placed : tally g (inserted old (without new.id p.queue)) ≡ worth g old + tally g (without j p.queue) =
+    rw (find_task-id j p.queue new h) (tally-inserted g old (without j p.queue)) in
     let was : tally g (present_at p) ≡ worth g old + tally g p.queue = rw e refl in
     omega (arith, placed, was, tally-without g j p.queue new h)
 
@@ -102,7 +102,7 @@ tally-exchanged g j p old (Some new) e h =
 pub tally-switched : (g : ℕ → ℕ → ℕ) (d : Discipline) (p : Running) (o : Option Task)
     → p.current ≡ o → tally g (present_at (switched d p o)) ≡ tally g (present_at p)
 tally-switched g d p None e = refl
-tally-switched g d p (Some t) e = tally-exchanged g (next_of d t p.queue) p t (with_id (next_of d t p.queue) p.queue) e refl
+tally-switched g d p (Some t) e = tally-exchanged g (next_of d t p.queue) p t (find_task (next_of d t p.queue) p.queue) e refl
 
 -- however it is decided
 pub tally-decided : (g : ℕ → ℕ → ℕ) (d : Discipline) (p : Running) (o : Option Task) (gives_way : Bool)

@@ -19,7 +19,7 @@ use Rattle.bq_hooks.specs.OwnPlace.{own_place}
 use Rattle.bq_hooks.specs.Permitted.{may_place, may_preempt, may_pull, task_numbered}
 use Rattle.bq_hooks.specs.Settled.{settled as chosen}
 use Rattle.bq_parts.specs.declared.carried.Carried.{Carried}
-use Rattle.bq_parts.specs.declared.decision.HookDecision.{HookDecision}
+use Rattle.bq_parts.specs.declared.hook_decision.HookDecision.{HookDecision}
 use Rattle.bq_parts.specs.Processors.{Processor, size_of}
 
 -- what the world runs under: the discipline, and how a policy answers. `Answers policy context maps now processor r0 left

@@ -2,7 +2,7 @@
 use Rattle.std.specs.Prelude.{ℕ, ◌%◌, ◌^◌, ℤ, pos, Option, Some, None}
 use Rattle.std.specs.Option.{option_map}
 use Rattle.bq_weights.specs.VirtualTime.{weight_of}
-use Rattle.bq_disc.specs.Tasks.{Task, with_id, without, place}
+use Rattle.bq_disc.specs.Tasks.{Task, find_task, without, inserted}
 use Rattle.bq_disc.specs.Discipline.{Discipline, pulled, left_at}
 use Rattle.bq_disc.specs.OneProcessor.{Running, choice_started}
 
@@ -16,12 +16,12 @@ after_leaving d p = choice_started d (record p { current = None })
 
 -- the current task as it leaves for sleep
 abbrev pub as_it_leaves : Running → ℕ → Task → Task
-as_it_leaves p processor t = record (left_at p.kept t) { prev = Some processor }
+as_it_leaves p processor t = record (left_at p.mark t) { prev = Some processor }
 
--- the task with this id as it leaves a queue, at the kept mark; None if the queue has no such task
+-- the task with this id as it leaves a queue, at the mark; None if the queue has no such task
 abbrev pub taken_from : Running → Option ℕ → Option Task
 taken_from p None = None
-taken_from p (Some id) = option_map (left_at p.kept) (with_id id p.queue)
+taken_from p (Some id) = option_map (left_at p.mark) (find_task id p.queue)
 
 -- the processor without that task
 abbrev pub without_task : Running → Option ℕ → Running
@@ -31,7 +31,7 @@ without_task p (Some id) = record p { queue = without id p.queue }
 -- a task from another processor, if there is one, enters
 abbrev pub with_pulled : Discipline → Running → Option Task → Running
 with_pulled d p None = p
-with_pulled d p (Some t) = record p { queue = place (pulled d p.kept t) p.queue }
+with_pulled d p (Some t) = record p { queue = inserted (pulled d p.mark t) p.queue }
 
 -- if nothing runs, the queue's choice starts to run
 abbrev pub started_if_idle : Discipline → Running → Option Task → Running

@@ -26,8 +26,8 @@ abbrev pub after_time : Discipline → ℕ → Processor → Processor
 after_time d now p = record p { running = charge d p.running now }
 
 -- a processor whose mark is computed again
-abbrev pub remarked : Discipline → Processor → Processor
-remarked d p = record p { running = marked d p.running }
+abbrev pub mark_updated : Discipline → Processor → Processor
+mark_updated d p = record p { running = marked d p.running }
 
 -- the lobby admits a task
 abbrev pub Admits : ℕ → Task → List LobbyEntry → Result Reply Refusal → List LobbyEntry → Type 0
@@ -120,11 +120,11 @@ pulled_by s p other settled =
 -- time passes here, and the other's mark is computed again; then a task, or none, goes from the other to here
 pub record Pulls (s : PolicySemantics) (processor from now : ℕ) (p other : Processor) (calls : List CounterCall) (r : Reply) (q other' : Processor) : Type 0 where
   pub settled : SettledChoice
-  pub settles : SettlesPull s processor from (after_time s.discipline now p) (remarked s.discipline other) settled
+  pub settles : SettlesPull s processor from (after_time s.discipline now p) (mark_updated s.discipline other) settled
   pub asks : calls ≡ settled.calls
   pub replies : r ≡ Pulled (task_numbered settled.choice) (id_of q.running.current) settled.by settled.steps
-  pub here : q ≡ pulled_by s (after_time s.discipline now p) (remarked s.discipline other) settled
-  pub there : other' ≡ record (remarked s.discipline other) { running = without_task (remarked s.discipline other).running (task_numbered settled.choice) }
+  pub here : q ≡ pulled_by s (after_time s.discipline now p) (mark_updated s.discipline other) settled
+  pub there : other' ≡ record (mark_updated s.discipline other) { running = without_task (mark_updated s.discipline other).running (task_numbered settled.choice) }
 
 -- a pull, as `Pulls` says, between two processors of a list; the list then has both as the pull leaves them
 abbrev pub PullsBetween : PolicySemantics → ℕ → ℕ → ℕ → List Processor → List CounterCall → Reply → List Processor → Type 0

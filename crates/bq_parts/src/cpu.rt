@@ -1,7 +1,7 @@
 //! One processor: its queue, the running task, the clock, the task in its hand, and what is installed at its hooks.
 ghost use Rattle.std.specs.Prelude.{◌≡◌, ◌<◌, ◌≤◌, ◌^◌, ◌+◌, ℕ, [], Option, Some, None, IfSome, find, is_some};
 ghost use Rattle.std.specs.Option.{option_map};
-ghost use Rattle.bq_disc.specs.Tasks.{id_of, with_id};
+ghost use Rattle.bq_disc.specs.Tasks.{id_of, find_task};
 ghost use Rattle.bq_disc.specs.Queues.{follows, HasDistinctIds};
 ghost use Rattle.bq_disc.specs.Rising.{IsRising};
 ghost use Rattle.bq_disc.specs.Pulls.{pull_of};
@@ -40,7 +40,7 @@ impl<Q: RunQueue> Model for Cpu<Q> {
 
     ghost Value = { Processor };
 
-    ghost view = { λ c. record { running = record { queue = Q.members c.queue; kept = Q.kept_mark c.queue; current = c.current; last = c.last }; hand = c.hand; hooks = c.hooks } };
+    ghost view = { λ c. record { running = record { queue = Q.members c.queue; mark = Q.last_mark c.queue; current = c.current; last = c.last }; hand = c.hand; hooks = c.hooks } };
 
     ghost invariant = { λ c. c.last < 2 ^ 48 };
 }
@@ -66,7 +66,7 @@ impl<Q: RunQueue> Cpu<Q> {
     /// A new processor over an empty queue that the caller hands in. Nothing is installed at its hooks.
     pub fn over(queue: Q) -> Cpu<Q>
         requires empty { Q.members queue ≡ [] }
-        requires mark { Q.kept_mark queue ≡ 2 ^ 32 }
+        requires mark { Q.last_mark queue ≡ 2 ^ 32 }
         ensures { result ≡ new_processor }
     {
         Cpu {
@@ -96,10 +96,10 @@ impl<Q: RunQueue> Cpu<Q> {
     }
 
     /// The mark as it was last computed, in virtual nanoseconds.
-    pub fn kept(&self) -> u64
-        ensures { result ≡ self.now.running.kept }
+    pub fn mark(&self) -> u64
+        ensures { result ≡ self.now.running.mark }
     {
-        self.queue.kept()
+        self.queue.mark()
     }
 
     /// The queue's task of least (v, id) above `last`; its task of least (v, id) of all if there is no `last`.
@@ -156,14 +156,14 @@ impl<Q: RunQueue> Cpu<Q> {
             self.current = Some(Unlinked::new(node));
         }
         self.last = at;
-        self.remark();
+        self.update_mark();
     }
 
     /// Computes the mark again.
-    pub fn remark(&mut self)
+    pub fn update_mark(&mut self)
         ensures { self.new ≡ record self.old { running = marked Q.R.discipline self.old.running } }
     {
-        self.queue.mark(node_of(&self.current));
+        self.queue.update_mark(node_of(&self.current));
     }
 
     /// Starts to run the queue's choice.
@@ -217,7 +217,7 @@ impl<Q: RunQueue> Cpu<Q> {
 
     /// The current task goes to sleep and leaves the processor, whose number is `processor`.
     pub fn leave(&mut self, processor: u8) -> Option<Unlinked>
-        ensures task { result ≡ option_map (λ t. record (left_at self.old.running.kept t) { prev = Some processor }) self.old.running.current }
+        ensures task { result ≡ option_map (λ t. record (left_at self.old.running.mark t) { prev = Some processor }) self.old.running.current }
         ensures left { self.new ≡ record self.old { running = record self.old.running { current = None } } }
     {
         let Some(task) = self.current.take() else {
@@ -255,7 +255,7 @@ impl<Q: RunQueue> Cpu<Q> {
 
     /// Lets a task from another processor's queue, if there is one, enter the queue.
     pub fn accept(&mut self, task: Option<Unlinked>)
-        requires fresh { IfSome task (λ t. with_id t.id self.old.running.queue ≡ None) }
+        requires fresh { IfSome task (λ t. find_task t.id self.old.running.queue ≡ None) }
         ensures { self.new ≡ record self.old { running = with_pulled Q.R.discipline self.old.running task } }
     {
         if let Some(task) = task {
@@ -301,8 +301,8 @@ impl<Q: RunQueue> Cpu<Q> {
 fn enter_chain<Q: RunQueue>(queue: &mut Q, tasks: Link)
     requires straight { IsStraightBehind tasks }
     requires apart { (id : ℕ) → count_of_id id (Q.members queue.old) + count_of_id id (chain_behind tasks) ≤ 1 }
-    ensures members { Q.members queue.new ≡ entered Q.R.discipline (Q.kept_mark queue.old) (Q.members queue.old) (chain_behind tasks) }
-    ensures mark { Q.kept_mark queue.new ≡ Q.kept_mark queue.old }
+    ensures members { Q.members queue.new ≡ entered Q.R.discipline (Q.last_mark queue.old) (Q.members queue.old) (chain_behind tasks) }
+    ensures mark { Q.last_mark queue.new ≡ Q.last_mark queue.old }
 {
     let mut rest = tasks;
     while let Some(mut node) = node::pop_front(&mut rest) {

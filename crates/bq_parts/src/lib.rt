@@ -6,12 +6,13 @@
 //! Uses the queues of bq_disc only by their contract, bq_hooks for what is chosen, and bq_installed for answers.
 #![tactic(auto)]
 
-mod asking;
 pub mod carried;
 pub mod cpu;
-pub mod decision;
+mod deciding;
 pub mod event;
+pub mod hook_decision;
 pub mod inbox;
+pub mod installing;
 pub mod lobby;
 pub mod lobby_entry;
 pub mod pulls;
@@ -23,8 +24,8 @@ pub mod wakes;
 
 pub use carried::Carried;
 pub use cpu::Cpu;
-pub use decision::HookDecision;
 pub use event::Event;
+pub use hook_decision::HookDecision;
 pub use inbox::Inbox;
 pub use lobby::Lobby;
 pub use lobby_entry::LobbyEntry;

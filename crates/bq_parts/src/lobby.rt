@@ -1,9 +1,10 @@
-//! The place of the sleeping tasks.
+//! The place of the sleeping tasks, and what an admission and a retirement do to it.
 ghost use Rattle.std.specs.Prelude.{◌≡◌, ◌<◌, false, length, IfOk, replicate, slice_index_or, slice_set};
 ghost use Rattle.bq_parts.specs.Refusals.{is_absent, is_away};
+ghost use Rattle.bq_parts.specs.Shares.{Admits, Retires};
 ghost use Rattle.bq_parts.specs.declared.lobby_entry.LobbyEntry.TheVariants.{Absent, Sleeping, Away};
 
-use crate::{LobbyEntry, Unlinked};
+use crate::{LobbyEntry, Refusal, Reply, Unlinked};
 use bq_disc::limits::TASKS;
 use std::alloc::{AllocError, Global};
 use std::marker::Model;
@@ -36,6 +37,33 @@ impl Lobby {
             entries.push(LobbyEntry::Absent)?;
         }
         Ok(Lobby { entries })
+    }
+
+    /// A new task enters the lobby.
+    pub fn admit(&mut self, id: u16, task: Unlinked) -> Result<Reply, Refusal>
+        requires below { id < TASKS }
+        ensures share { Admits id task self.old result self.new }
+    {
+        if !self.is_absent(id) {
+            return Err(Refusal::TaskExists);
+        }
+        self.enter(id, task);
+        Ok(Reply::Admitted)
+    }
+
+    /// A sleeping task leaves the lobby for good.
+    pub fn retire(&mut self, id: u16) -> Result<Reply, Refusal>
+        requires below { id < TASKS }
+        ensures share { Retires id self.old result self.new }
+    {
+        if self.is_absent(id) {
+            return Err(Refusal::NoTask);
+        }
+        if self.is_away(id) {
+            return Err(Refusal::NotBlocked);
+        }
+        self.clear(id);
+        Ok(Reply::Retired)
     }
 
     /// Whether this id is not admitted.

@@ -1,6 +1,6 @@
 //! What a Pull does to the two processors: a task of one queue enters the other.
 ghost use Rattle.std.specs.Prelude.{◌≡◌, ◌<◌, ◌++◌, [], None, IfSome};
-ghost use Rattle.bq_disc.specs.Tasks.{id_of, with_id};
+ghost use Rattle.bq_disc.specs.Tasks.{id_of, find_task};
 ghost use Rattle.bq_disc.specs.OneProcessor.{present_at};
 ghost use Rattle.bq_bpf.specs.Counters.{Through};
 ghost use Rattle.bq_parts.specs.Processors.{HasEachOnce, HasLobbyIds};
@@ -35,7 +35,7 @@ impl<Q: RunQueue> Cpu<Q> {
         ensures board { Through B.leads board.old scratch.new board.new }
     {
         self.charge(now);
-        source.remark();
+        source.update_mark();
         let pulled = self.choose_pull(processor, from, source, scratch, board);
         let run = self.take_task(source, pulled.choice);
         Reply::Pulled {
@@ -49,7 +49,7 @@ impl<Q: RunQueue> Cpu<Q> {
     /// The task with this id, if any, comes here from the other's queue. If nothing runs here then, the queue's choice
     /// starts to run. Returns who runs here.
     fn take_task(&mut self, source: &mut Cpu<Q>, task: Option<u16>) -> Option<u16>
-        requires fresh { IfSome (taken_from source.old.running task) (λ t. with_id t.id self.old.running.queue ≡ None) }
+        requires fresh { IfSome (taken_from source.old.running task) (λ t. find_task t.id self.old.running.queue ≡ None) }
         ensures run { result ≡ id_of self.new.running.current }
         ensures here { self.new ≡ record self.old { running = after_pull Q.R.discipline self.old.running source.old.running task } }
         ensures there { source.new ≡ record source.old { running = without_task source.old.running task } }

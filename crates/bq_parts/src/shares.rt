@@ -1,6 +1,6 @@
-//! What an event does to the parts that it touches: one processor, its inbox, the lobby. Here are the shares of an
-//! admission, a retirement, a tick, a drain and a block. The shares of a wake and an installation are in `wakes`, and the
-//! share of a pull is in `pulls`.
+//! What a tick, a drain and a block do to the parts that they touch: one processor, its inbox, the lobby. The shares of
+//! an admission and a retirement are in `lobby`, of a wake in `wakes`, of a pull in `pulls`, of an installation in
+//! `installing`.
 ghost use Rattle.std.specs.Prelude.{◌≡◌, ◌≤◌, ◌<◌, ◌++◌, [], None, IfOk};
 ghost use Rattle.bq_bpf.specs.Counters.{Through};
 ghost use Rattle.bq_disc.specs.OneProcessor.{present_at};
@@ -8,13 +8,13 @@ ghost use Rattle.bq_parts.specs.Processors.{HasEachOnce, HasLobbyIds};
 ghost use Rattle.bq_parts.specs.Refusals.{argument_refusal};
 ghost use Rattle.bq_parts.specs.Choices.{by_programs};
 ghost use Rattle.bq_parts.specs.Moves.{admitted};
-ghost use Rattle.bq_parts.specs.Shares.{Admits, Blocks, Drains, Retires, Ticks};
+ghost use Rattle.bq_parts.specs.Shares.{Blocks, Drains, Ticks};
 
 use crate::{Cpu, Event, Inbox, Lobby, Refusal, Reply, Unlinked};
 use bq_bpf::Board;
-use bq_disc::limits::{PROCESSORS, TASKS};
+use bq_disc::limits::PROCESSORS;
+use bq_disc::mask::low_bits;
 use bq_disc::{Node, RunQueue};
-use bq_hooks::low_bits;
 use bq_installed::Scratch;
 use std::alloc::{AllocError, Global};
 
@@ -36,35 +36,6 @@ pub fn new_task(
     match Box::new(alloc, node) {
         Ok(node) => Ok(Unlinked::new(node)),
         Err(error) => Err(error.into()),
-    }
-}
-
-impl Lobby {
-    /// A new task enters the lobby.
-    pub fn admit(&mut self, id: u16, task: Unlinked) -> Result<Reply, Refusal>
-        requires below { id < TASKS }
-        ensures share { Admits id task self.old result self.new }
-    {
-        if !self.is_absent(id) {
-            return Err(Refusal::TaskExists);
-        }
-        self.enter(id, task);
-        Ok(Reply::Admitted)
-    }
-
-    /// A sleeping task leaves the lobby for good.
-    pub fn retire(&mut self, id: u16) -> Result<Reply, Refusal>
-        requires below { id < TASKS }
-        ensures share { Retires id self.old result self.new }
-    {
-        if self.is_absent(id) {
-            return Err(Refusal::NoTask);
-        }
-        if self.is_away(id) {
-            return Err(Refusal::NotBlocked);
-        }
-        self.clear(id);
-        Ok(Reply::Retired)
     }
 }
 

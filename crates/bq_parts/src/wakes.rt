@@ -1,18 +1,16 @@
-//! What the two halves of a wake do to the processor, and what an installation does to it.
+//! What the two halves of a wake do to the processor.
 ghost use Rattle.std.specs.Prelude.{◌≡◌, ◌≤◌, ◌<◌, [], IfSome};
 ghost use Rattle.bq_bpf.specs.Counters.{Through};
 ghost use Rattle.bq_hooks.specs.OwnPlace.{HasPlace};
-ghost use Rattle.bq_installed.specs.Attachments.{IsFor};
-ghost use Rattle.bq_parts.specs.Refusals.{generation_refusal};
 ghost use Rattle.bq_parts.specs.Choices.{by_programs};
-ghost use Rattle.bq_parts.specs.Shares.{BeginsWake, Installs, Places};
+ghost use Rattle.bq_parts.specs.Shares.{BeginsWake, Places};
 
 use crate::{Carried, Cpu, Lobby, Refusal, Reply, Unlinked};
 use bq_bpf::Board;
 use bq_disc::RunQueue;
 use bq_disc::limits::{PROCESSORS, TASKS};
-use bq_hooks::{By, Hook, Loads};
-use bq_installed::{Installed, Scratch};
+use bq_hooks::{By, Loads};
+use bq_installed::Scratch;
 
 /// A task that left a hand, and the processor to which it goes. `by` says whose choice that is; `steps` is how many steps the
 /// policy took, 0 if none was asked.
@@ -93,36 +91,5 @@ impl<Q: RunQueue> Cpu<Q> {
             by: placed.by,
             steps: placed.steps,
         })
-    }
-
-    /// Replaces what is installed at a hook, if the new generation is above the one at the hook and has been drawn.
-    pub fn replace(
-        &mut self,
-        hook: Hook,
-        drawn: u64,
-        installed: Installed,
-    ) -> Result<Reply, Refusal>
-        requires { IsFor hook installed.policy }
-        ensures share { Installs hook drawn self.old installed result self.new }
-    {
-        let newest = self.generation(hook);
-        if let Some(refusal) = generation_refusal(newest, drawn, installed.generation()) {
-            return Err(refusal);
-        }
-        self.install(hook, installed);
-        Ok(Reply::Installed)
-    }
-}
-
-/// Why a generation is refused at a hook, if it is: `newest` is the one at the hook, and `drawn` numbers were drawn so far.
-fn generation_refusal(newest: u64, drawn: u64, generation: u64) -> Option<Refusal>
-    ensures { result ≡ generation_refusal newest drawn generation }
-{
-    if newest > 0 && generation <= newest {
-        Some(Refusal::Older(newest))
-    } else if generation == 0 || generation > drawn {
-        Some(Refusal::NotDrawn)
-    } else {
-        None
     }
 }

@@ -1,7 +1,7 @@
 //! What an image lacks, in words.
 use bq_bpf::{with_map_limits, with_slots};
 use bq_hooks::{with_hooks, with_versions};
-use bq_insn::fault::Cause as Spelling;
+use bq_insn::fault::DecodeCause;
 use bq_load::LoadFault;
 
 /// What is wrong with the bytes of an image.
@@ -25,17 +25,18 @@ pub(crate) fn image_words(fault: LoadFault) -> &'static str {
 }
 
 /// What is wrong with the bytes of an instruction.
-pub(crate) fn spelling_words(cause: Spelling) -> &'static str {
+pub(crate) fn spelling_words(cause: DecodeCause) -> &'static str {
     match cause {
-        Spelling::Length => with_slots!("a program has ", " slots of 8 bytes"),
-        Spelling::Opcode =>
+        DecodeCause::Length => with_slots!("a program has ", " slots of 8 bytes"),
+        DecodeCause::Opcode =>
             "the first byte names no instruction; docs/INSTRUCTIONS.md has those that there are",
-        Spelling::Register => "a register is not one of r0 to r10",
-        Spelling::Field =>
+        DecodeCause::Register => "a register is not one of r0 to r10",
+        DecodeCause::Field =>
             "a field that the instruction does not use is not 0, in its first slot or in its second",
-        Spelling::Offset =>
+        DecodeCause::Offset =>
             "the offset names no form of the instruction, or the source field no kind of call or wide load",
-        Spelling::Imm => "the immediate is no width that a byte order has (docs/INSTRUCTIONS.md)",
-        Spelling::WideCut => "a wide instruction stands in the last slot, and has no second one",
+        DecodeCause::Imm =>
+            "the immediate is no width that a byte order has (docs/INSTRUCTIONS.md)",
+        DecodeCause::WideCut => "a wide instruction stands in the last slot, and has no second one",
     }
 }

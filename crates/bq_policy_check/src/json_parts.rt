@@ -6,7 +6,9 @@ ghost use Rattle.bq_policy_check.specs.Showing.{of_accepted, of_limit, refusal_f
 
 use bq_bpf::MapShape;
 use bq_console::{NO_TEXT, Name};
-use bq_explain::{Finding, Made, Place, Refusal, Summary, Verdict, advice_text, need_words};
+use bq_explain::{
+    ExplainedRefusal, Finding, Made, Place, Summary, Verdict, advice_text, need_words,
+};
 use bq_needs::known_text;
 use bq_policy_file::{PolicySource, instruction_text};
 use bq_states::abstract_state::{AbstractState, AbstractValue};
@@ -106,7 +108,7 @@ pub(crate) fn fields_of_summary(
 pub(crate) fn fields_of_refusal(
     alloc: Global,
     policy: &PolicySource,
-    refusal: &Refusal,
+    refusal: &ExplainedRefusal,
 ) -> Result<Map<String, Value>, AllocError> {
     let mut fields = Map::new(alloc);
     put_text(&mut fields, alloc, "cause", cause_word(refusal.cause))?;

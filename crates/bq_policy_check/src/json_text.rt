@@ -10,7 +10,7 @@ use crate::json_parts::{
     fields_of_limit, fields_of_refusal, fields_of_summary, file_value, lines_value, put_text,
     put_verdict,
 };
-use crate::reasons::{Reason, fields_of_reason, put_fault};
+use crate::reasons::{FileFault, fields_of_reason, put_fault};
 use bq_console::Name;
 use bq_explain::{Detail, Explanation, explanation_text};
 use bq_policy_file::{PolicyFault, PolicySource};
@@ -50,7 +50,7 @@ pub(crate) fn reason_json(
     alloc: Global,
     name: Option<&str>,
     fault: PolicyFault,
-    reason: &Reason,
+    reason: &FileFault,
     prose: &str,
 ) -> Result<String, AllocError>
     requires { StartsWith (policy_fault_line fault) prose.now }

@@ -34,5 +34,5 @@ pub use json_text::unanswered_json;
 pub use limits::limits_of;
 pub use listing::{list, refused_file};
 pub use numbers::small_number;
-pub use reasons::{HOOK_UNNAMED, Reason, fault_line, fault_reason};
+pub use reasons::{FileFault, HOOK_UNNAMED, fault_line, fault_reason};
 pub use words::{CheckWords, DisWords, LimitWords, PolicyWords, ReportWords, RunWords};

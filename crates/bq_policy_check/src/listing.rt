@@ -6,7 +6,7 @@ ghost use Rattle.bq_policy_check.specs.Refusing.{RefusesPolicy};
 
 use crate::answered::Answered;
 use crate::given::given_head;
-use crate::reasons::{Reason, fault_line, reason_of, reason_text};
+use crate::reasons::{FileFault, fault_line, reason_of, reason_text};
 use crate::words::DisWords;
 use bq_console::{WordsFault, file_named};
 use bq_policy_file::{Head, PolicyFault, policy_text, read_policy};
@@ -63,7 +63,7 @@ pub fn refused_file(
 pub(crate) fn reasoned(
     alloc: Global,
     name: Option<&str>,
-    reason: &Reason,
+    reason: &FileFault,
     line: &String,
 ) -> Result<String, AllocError>
     ensures { IfOk result (λ text. (reason : List ℕ) × (string_bytes text ≡ string_bytes line.now ++ reason)) }

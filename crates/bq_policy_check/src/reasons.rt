@@ -8,11 +8,11 @@ ghost use Rattle.bq_policy_file.specs.declared.fault.PolicyFault.TheVariants.{Ou
 use crate::image_words::{image_words, spelling_words};
 use crate::json_parts::{number_value, put_text};
 use crate::maps_words::maps_words;
-use bq_asm::Cause;
+use bq_asm::AssemblyCause;
 use bq_complain::{assembly_words, with_nul_shown};
 use bq_console::{Lines, Name, Quoted};
 use bq_hooks::hook::{NO_HOOK, NO_VERSION};
-use bq_insn::fault::Cause as Spelling;
+use bq_insn::fault::DecodeCause;
 use bq_policy_file::{Head, HeadCause, Key, PolicyFault, SHAPES_FORM, read_policy};
 use bq_words::Near;
 use serde_json::{Map, Value, put};
@@ -34,7 +34,7 @@ pub fn fault_line(alloc: Global, fault: PolicyFault) -> Result<String, AllocErro
 
 /// The fault of a file: its place, if it has one, and its reason.
 #[derive(Drop)]
-pub struct Reason {
+pub struct FileFault {
     /// The line, counted from 1.
     pub line: Option<usize>,
     /// The slot of an instruction.
@@ -43,8 +43,8 @@ pub struct Reason {
 }
 
 /// A reason for the whole file.
-fn whole(why: String) -> Reason {
-    Reason {
+fn whole(why: String) -> FileFault {
+    FileFault {
         line: None,
         slot: None,
         why,
@@ -52,8 +52,8 @@ fn whole(why: String) -> Reason {
 }
 
 /// A reason for that line.
-fn at_line(line: usize, why: String) -> Reason {
-    Reason {
+fn at_line(line: usize, why: String) -> FileFault {
+    FileFault {
         line: Some(line),
         slot: None,
         why,
@@ -74,7 +74,7 @@ pub(crate) fn reason_of(
     alloc: Global,
     bytes: &[u8],
     fault: PolicyFault,
-) -> Result<Reason, AllocError> {
+) -> Result<FileFault, AllocError> {
     match fault {
         PolicyFault::Text if is_object(bytes) => plain(alloc, OBJECT),
         PolicyFault::Assembly { .. } if is_object(bytes) => plain(alloc, OBJECT),
@@ -88,7 +88,7 @@ pub(crate) fn reason_of(
         PolicyFault::Image(fault) => plain(alloc, image_words(fault)),
         PolicyFault::Program { slot, cause } => {
             let why = String::from_str(alloc, spelling_words(cause))?;
-            Ok(Reason {
+            Ok(FileFault {
                 line: None,
                 slot: Some(slot),
                 why,
@@ -103,7 +103,7 @@ pub(crate) fn reason_of(
 }
 
 /// A reason for the whole file, in these words.
-fn plain(alloc: Global, why: &str) -> Result<Reason, AllocError> {
+fn plain(alloc: Global, why: &str) -> Result<FileFault, AllocError> {
     Ok(whole(String::from_str(alloc, why)?))
 }
 
@@ -117,7 +117,7 @@ pub fn fault_reason(alloc: Global, bytes: &[u8], fault: PolicyFault) -> Result<S
 pub(crate) fn reason_text(
     alloc: Global,
     name: Option<&str>,
-    reason: &Reason,
+    reason: &FileFault,
 ) -> Result<String, AllocError> {
     let at = place_text(alloc, reason)?;
     let why = reason.why.as_str();
@@ -137,7 +137,7 @@ fn named_text(alloc: Global, name: Name<'_>, at: &str, why: &str) -> Result<Stri
 }
 
 /// Says the place; empty if the fault is of the whole file.
-fn place_text(alloc: Global, reason: &Reason) -> Result<String, AllocError> {
+fn place_text(alloc: Global, reason: &FileFault) -> Result<String, AllocError> {
     match (reason.line, reason.slot) {
         (Some(line), _) => format!(in alloc; "line {line}"),
         (None, Some(slot)) => format!(in alloc; "slot {slot}"),
@@ -148,7 +148,7 @@ fn place_text(alloc: Global, reason: &Reason) -> Result<String, AllocError> {
 /// What is said of it as JSON, beside the prose.
 pub(crate) fn fields_of_reason(
     alloc: Global,
-    reason: &Reason,
+    reason: &FileFault,
 ) -> Result<Map<String, Value>, AllocError> {
     let mut fields = Map::new(alloc);
     put(&mut fields, alloc, "line", number_value(reason.line))?;
@@ -222,8 +222,8 @@ fn assembly_reason(
     alloc: Global,
     bytes: &[u8],
     line: usize,
-    cause: Cause,
-) -> Result<Reason, AllocError> {
+    cause: AssemblyCause,
+) -> Result<FileFault, AllocError> {
     let text = std::str::from_utf8(bytes).unwrap_or("");
     let stated = assembly_words(alloc, text, line, cause)?;
     let shown = Lines(stated.as_str());
@@ -240,7 +240,7 @@ fn head_reason(
     bytes: &[u8],
     line: usize,
     cause: HeadCause,
-) -> Result<Reason, AllocError> {
+) -> Result<FileFault, AllocError> {
     if let HeadCause::Value(key) = cause {
         if let Some(value) = last_word(bytes, line) {
             return Ok(at_line(line, value_words(alloc, key, value)?));

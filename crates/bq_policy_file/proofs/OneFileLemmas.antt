@@ -5,14 +5,14 @@ use Rattle.bq_insn.specs.Faults.{IsDecodeFault as IsProgramFault}
 use Rattle.bq_insn.specs.Laws.{AllFit}
 use Rattle.bq_insn.specs.Spelling.{spelling}
 use Rattle.bq_insn.specs.declared.Insn.{Insn}
-use Rattle.bq_insn.specs.declared.fault.Cause.{Cause}
+use Rattle.bq_insn.specs.declared.fault.DecodeCause.{DecodeCause}
 use Rattle.bq_insn.specs.declared.fault.DecodeFault.TheVariants.{At}
 use Rattle.bq_insn.proofs.LengthLemmas.{no_program_is_refused}
 use Rattle.bq_insn.proofs.OneFaultLemmas as insn
 use Rattle.bq_asm.proofs.LawLemmas as asm
 use Rattle.bq_asm.specs.Faults.{FaultyLines}
 use Rattle.bq_asm.specs.Lines.{lines_of}
-use Rattle.bq_asm.specs.declared.fault.Cause.{Cause as AsmCause}
+use Rattle.bq_asm.specs.declared.fault.AssemblyCause.{AssemblyCause}
 use Rattle.bq_hooks.specs.declared.hook.Hook.{Hook}
 use Rattle.bq_hooks.specs.declared.hook.Version.{Version}
 use Rattle.bq_bpf.specs.declared.shape.MapShape.{MapShape}
@@ -77,7 +77,7 @@ bad_mark : (bytes : List ℕ) (stated : Head) (line : ℕ) (c : HeadCause) → H
 bad_mark bytes stated line c h bad = no_bad_line (lines bytes) stated line c h.states bad
 
 -- a text that stands for a program has no fault of assembly
-bad_line : (bytes : List ℕ) (stated : Head) (line : ℕ) (c : AsmCause) → IsWholeText bytes stated → FaultyLines (lines_of bytes) line c → ⊥
+bad_line : (bytes : List ℕ) (stated : Head) (line : ℕ) (c : AssemblyCause) → IsWholeText bytes stated → FaultyLines (lines_of bytes) line c → ⊥
 bad_line bytes stated line c h bad = asm.no_program_is_faulty bytes h.insns line c h.assembles bad
 
 -- where neither names the hook nothing differs
@@ -91,7 +91,7 @@ same_mark : (bytes : List ℕ) (l m : ℕ) (c d : HeadCause) → IsBadAt (lines 
     → fault.Head l c ≡ fault.Head m d
 same_mark bytes l m c d f g = let same = one_bad_line (lines bytes) l m c d f g in λ i. fault.Head (same.0 i) (same.1 i)
 
-same_line : (bytes : List ℕ) (l m : ℕ) (c d : AsmCause) → FaultyLines (lines_of bytes) l c → FaultyLines (lines_of bytes) m d
+same_line : (bytes : List ℕ) (l m : ℕ) (c d : AssemblyCause) → FaultyLines (lines_of bytes) l c → FaultyLines (lines_of bytes) m d
     → fault.Assembly l c ≡ fault.Assembly m d
 same_line bytes l m c d f g = let same = asm.one_fault bytes l m c d f g in λ i. fault.Assembly (same.0 i) (same.1 i)
 
@@ -169,13 +169,13 @@ no_bad_image bytes insns n fits h f = load.no_image_is_faulty bytes h.version h.
 
 -- an image of a program has no fault of its program
 no_bad_program : (bytes : List ℕ) (v : Version) (k : Hook) (shapes : List MapShape) (program : List ℕ)
-    (insns : List Insn) (slot : ℕ) (c : Cause)
+    (insns : List Insn) (slot : ℕ) (c : DecodeCause)
     → IsImage bytes v k shapes program → HasProgram bytes insns → IsProgramFault program (At slot c) → ⊥
 no_bad_program bytes v k shapes program insns slot c is h f =
     let same = load.one_image bytes v h.version k h.hook shapes h.shapes program (spelling insns) is h.image in
     no_program_is_refused insns slot c h.well_formed h.numbers (subst (λ b. IsProgramFault b (At slot c)) same.3 f)
 
-same_slot : (bytes : List ℕ) (v w : Version) (h k : Hook) (a b : List MapShape) (p q : List ℕ) (s t : ℕ) (c d : Cause)
+same_slot : (bytes : List ℕ) (v w : Version) (h k : Hook) (a b : List MapShape) (p q : List ℕ) (s t : ℕ) (c d : DecodeCause)
     → IsImage bytes v h a p → IsImage bytes w k b q → IsProgramFault p (At s c) → IsProgramFault q (At t d)
     → fault.Program s c ≡ fault.Program t d
 same_slot bytes v w h k a b p q s t c d is other f g =

@@ -3,7 +3,7 @@ use Rattle.std.specs.Prelude.{◌≡◌, ℕ, Bool, true, false, List, ◌++◌,
 use Rattle.std.specs.Str.{IsUtf8}
 use Rattle.hex.specs.Hex.{encode_lower}
 use Rattle.bq_insn.specs.declared.Insn.{Insn}
-use Rattle.bq_asm.specs.declared.fault.Cause.{Cause}
+use Rattle.bq_asm.specs.declared.fault.AssemblyCause.{AssemblyCause}
 use Rattle.bq_asm.specs.declared.fault.AsmFault.TheVariants.{At}
 use Rattle.bq_asm.specs.Causes.{assembly_fault_text}
 use Rattle.bq_asm.specs.Lines.{lines_of}
@@ -29,7 +29,7 @@ IsNoText text written = (¬ (IsUtf8 text)) × (written ≡ refused_line (codes "
 -- the text has this fault
 abbrev pub IsFaultyText : List ℕ → List ℕ → Type 0
 IsFaultyText text written =
-    IsUtf8 text × (line : ℕ) × (cause : Cause) × FaultyLines (lines_of text) line cause × (written ≡ refused_line (assembly_fault_text (At line cause)))
+    IsUtf8 text × (line : ℕ) × (cause : AssemblyCause) × FaultyLines (lines_of text) line cause × (written ≡ refused_line (assembly_fault_text (At line cause)))
 
 -- what is written for a text that is accepted, or for one that is not
 abbrev pub AsmWrites : ProgramForm → List ℕ → Bool → List ℕ → Type 0

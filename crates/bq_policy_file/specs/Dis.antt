@@ -1,7 +1,7 @@
 -- What `dis` writes for a text of hex, and whether it accepts it.
 use Rattle.std.specs.Prelude.{◌≡◌, ℕ, Bool, true, false, List, ◌⊎◌, codes}
 use Rattle.bq_insn.specs.declared.Insn.{Insn}
-use Rattle.bq_insn.specs.declared.fault.Cause.{Cause}
+use Rattle.bq_insn.specs.declared.fault.DecodeCause.{DecodeCause}
 use Rattle.bq_insn.specs.Causes.{decode_fault_text}
 use Rattle.bq_insn.specs.declared.fault.DecodeFault.TheVariants.{At}
 use Rattle.bq_insn.specs.Spelling.{spelling, is_well_formed}
@@ -19,7 +19,7 @@ IsListed text written =
 -- the bytes have this fault
 abbrev pub IsFaultyProgram : List ℕ → List ℕ → Type 0
 IsFaultyProgram text written =
-    (bytes : List ℕ) × SpellsBytes text bytes × (slot : ℕ) × (cause : Cause) × IsDecodeFault bytes (At slot cause)
+    (bytes : List ℕ) × SpellsBytes text bytes × (slot : ℕ) × (cause : DecodeCause) × IsDecodeFault bytes (At slot cause)
     × (written ≡ refused_line (decode_fault_text (At slot cause)))
 
 -- what is written for a text that is accepted, or for one that is not

@@ -61,14 +61,14 @@ pub enum PolicyFault {
     /// The text is no program: the line, counted from 1, and why.
     Assembly {
         line: usize,
-        cause: bq_asm::Cause,
+        cause: bq_asm::AssemblyCause,
     },
     /// The bytes are no image, for this fault.
     Image(LoadFault),
     /// The bytes of the image's program are no program: the slot, counted from 0, and why.
     Program {
         slot: usize,
-        cause: bq_insn::fault::Cause,
+        cause: bq_insn::fault::DecodeCause,
     },
     /// What was asked for is not what the file says.
     Disagrees(Key),

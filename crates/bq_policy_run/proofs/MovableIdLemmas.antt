@@ -6,7 +6,7 @@ use Rattle.std.specs.Option.{option_map_or}
 use Rattle.std.proofs.lemmas.Bool.{eqb-true}
 use Rattle.std.proofs.lemmas.List.{reverse-append, map-append}
 use Rattle.std.proofs.lemmas.List.Folds.{list_any-append}
-use Rattle.bq_disc.specs.Tasks.{Task, with_id}
+use Rattle.bq_disc.specs.Tasks.{Task, find_task}
 use Rattle.bq_disc.specs.Queues.{HasDistinctIds, HasSmallIds, can_use}
 use Rattle.bq_disc.specs.Movable.{movable_to, ids, is_movable_to}
 
@@ -42,10 +42,10 @@ any_kept processor r0 (x ∷ xs) d = go (eqb x.id r0) (can_use processor x) refl
     go : (b c : Bool) → eqb x.id r0 ≡ b → can_use processor x ≡ c
         → list_any (names r0) (ids (filter (can_use processor) xs)) ≡ is_movable_to processor r0 xs
         → list_any (names r0) (ids (cond c (x ∷ filter (can_use processor) xs) (filter (can_use processor) xs)))
-        ≡ option_map_or (can_use processor) (cond b (Some x) (with_id r0 xs)) false
+        ≡ option_map_or (can_use processor) (cond b (Some x) (find_task r0 xs)) false
     go true true e k rest = rw (e, k) refl
     go true false e k rest =
-        let none : with_id r0 xs ≡ None = subst (λ n. with_id n xs ≡ None) (eqb-true x.id r0 e) d.0 in
+        let none : find_task r0 xs ≡ None = subst (λ n. find_task n xs ≡ None) (eqb-true x.id r0 e) d.0 in
         rest ∙ ap (λ o. option_map_or (can_use processor) o false) none ∙ sym k
     go false true e k rest = rw e rest
     go false false e k rest = rest

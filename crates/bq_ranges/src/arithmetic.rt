@@ -9,7 +9,7 @@ use crate::range::{Range, greatest, sign};
 use bq_bpf::words;
 use bq_insn::{Operation, Width};
 
-/// Answers a range that has all results of an arithmetic instruction (RFC 9669 section 4.1) on members of the two
+/// A range that has all results of an arithmetic instruction (RFC 9669 section 4.1) on members of the two
 /// ranges.
 ///
 /// Single words give a single word, and AND goes no higher than its lesser operand. The answer is the least such range

@@ -9,7 +9,7 @@ use crate::range::{Range, greatest};
 use crate::signed::narrow_signed;
 use bq_insn::{Condition, Width};
 
-/// Answers a range that has every member of `x` for which the test against some member of `y` comes out as `goes` says;
+/// A range that has every member of `x` for which the test against some member of `y` comes out as `goes` says;
 /// `None` only if no member does.
 ///
 /// For tests by order or equality in 64 bits against a single word, signed or not, the answer is the least such range.
@@ -30,7 +30,7 @@ pub fn narrow(cond: Condition, width: Width, x: Range, y: Range, goes: bool) -> 
     }
 }
 
-/// Answers a range that has every member of `y` for which the test of some member of `x` against it comes out as `goes`
+/// A range that has every member of `y` for which the test of some member of `x` against it comes out as `goes`
 /// says; all of `y` if `narrow` finds none.
 pub fn narrow_right(cond: Condition, width: Width, x: Range, y: Range, goes: bool) -> Range
     ensures { (a b : ℕ) → Within x a → Within y b → taken width cond a b ≡ goes → Within result b }

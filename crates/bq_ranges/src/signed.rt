@@ -9,7 +9,7 @@ use crate::narrowing::common;
 use crate::range::{Range, sign};
 use bq_insn::{Condition, Width};
 
-/// Answers a range that has every member of `x` for which the test against some member of `y` comes out as `goes` says,
+/// A range that has every member of `x` for which the test against some member of `y` comes out as `goes` says,
 /// if both ranges fit the width; `None` only if no member does.
 ///
 /// Against a single word the answer is the least such range.

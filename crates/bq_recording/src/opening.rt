@@ -51,7 +51,7 @@ impl<Q: RunQueue + Drop, N: Naming + Counting, const P: usize> Opening<Q, N, P> 
         requires counters { unnamed.0 ≡ N.counters }
         requires counts { (prepared.1.about ≡ P) × (prepared.1.callers ≡ seat_count) × (unnamed.1 ≡ seat_count) }
         requires many { length queues.items ≡ P }
-        requires empty { All (λ q. (Q.members q ≡ []) × (Q.kept_mark q ≡ 2 ^ 32)) queues.items }
+        requires empty { All (λ q. (Q.members q ≡ []) × (Q.last_mark q ≡ 2 ^ 32)) queues.items }
         ensures seats { IfOk result (λ r. r.1.items ≡ fresh_callers 0 seat_count) }
         ensures count { IfOk result (λ r. r.0.seats ≡ seat_count) }
     {

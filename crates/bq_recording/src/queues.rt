@@ -7,7 +7,7 @@ use std::alloc::{AllocError, Global};
 /// A list of `count` queues without tasks, each at the first mark. It takes memory for the list.
 pub fn no_tasks<Q: RunQueue + Drop>(alloc: Global, count: usize) -> Result<Vec<Q>, AllocError>
     ensures many { IfOk result (λ v. vec_len v ≡ count) }
-    ensures empty { IfOk result (λ v. All (λ q. (Q.members q ≡ []) × (Q.kept_mark q ≡ 2 ^ 32)) v.items) }
+    ensures empty { IfOk result (λ v. All (λ q. (Q.members q ≡ []) × (Q.last_mark q ≡ 2 ^ 32)) v.items) }
 {
     let mut queues = Vec::with_capacity(alloc, count)?;
     'queues: for _ in 0..count {

@@ -15,7 +15,7 @@ use crate::grid::Grid;
 use crate::longest::time_between;
 use crate::map_row::Column;
 use crate::names::Names;
-use crate::roster::Roster;
+use crate::roster::AdmittedTasks;
 use bq_schedule::Slice;
 use std::alloc::{AllocError, Global};
 use std::collections::BTreeSet;
@@ -107,7 +107,7 @@ impl Legend {
     /// Adds the legend of a map whose rows are noted.
     pub(crate) fn write(
         &self,
-        roster: &Roster,
+        roster: &AdmittedTasks,
         grid: &Grid,
         names: &Names,
         text: &mut String,
@@ -214,7 +214,7 @@ fn write_name(name: Option<&str>, text: &mut String) -> Result<(), AllocError>
 
 /// Adds the signs of columns: a task's letter, or the sign of hidden tasks or of an idle processor.
 pub(crate) fn write_signs(
-    roster: &Roster,
+    roster: &AdmittedTasks,
     columns: &[Column],
     text: &mut String,
 ) -> Result<(), AllocError>
@@ -227,7 +227,7 @@ pub(crate) fn write_signs(
 }
 
 /// The sign of a column.
-fn sign(roster: &Roster, column: Column) -> char
+fn sign(roster: &AdmittedTasks, column: Column) -> char
     ensures sign { result ≡ column_sign roster.now column }
     ensures ascii { result < 128 }
 {

@@ -29,7 +29,7 @@ pub use form::ScheduleForm;
 pub use map::Map;
 pub use names::Names;
 pub use report::Report;
-pub use roster::Roster;
+pub use roster::AdmittedTasks;
 pub use rows::Csv;
 pub use steps::round_step;
 pub use summary::Json;

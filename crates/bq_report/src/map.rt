@@ -12,7 +12,7 @@ use crate::grid::Grid;
 use crate::legend::{Legend, write_signs};
 use crate::map_row::{Column, MapRow};
 use crate::names::Names;
-use crate::roster::Roster;
+use crate::roster::AdmittedTasks;
 use crate::steps::round_step;
 use crate::window::Window;
 use bq_disc::limits::PROCESSORS;
@@ -29,7 +29,7 @@ pub struct Map {
     alloc: Global,
     window: Window,
     width: usize,
-    roster: Roster,
+    roster: AdmittedTasks,
     rows: Vec<MapRow>,
 }
 
@@ -43,7 +43,7 @@ impl Map {
             alloc,
             window,
             width,
-            roster: Roster::new(alloc),
+            roster: AdmittedTasks::new(alloc),
             rows: Vec::new(alloc),
         }
     }
@@ -158,7 +158,7 @@ fn write_rows(
     alloc: Global,
     window: &Window,
     rows: &mut Vec<MapRow>,
-    roster: &Roster,
+    roster: &AdmittedTasks,
     grid: &Grid,
     legend: &mut Legend,
     text: &mut String,
@@ -180,7 +180,7 @@ fn write_rows(
 
 /// Adds the line of a row with these columns.
 fn write_row(
-    roster: &Roster,
+    roster: &AdmittedTasks,
     number: usize,
     columns: &[Column],
     text: &mut String,

@@ -8,11 +8,11 @@ use std::marker::Model;
 /// The tasks of a trace, in the order in which they are admitted. A task's place does not depend on what is shown of the trace, and no
 /// later task changes it. The place gives the task its letter in a map and its colour in a picture.
 #[derive(Drop)]
-pub struct Roster {
+pub struct AdmittedTasks {
     tasks: Vec<u16>,
 }
 
-impl Model for Roster {
+impl Model for AdmittedTasks {
     ghost use Rattle.std.specs.Prelude.{ℕ, List};
 
     ghost Value = { List ℕ };
@@ -20,12 +20,12 @@ impl Model for Roster {
     ghost view = { λ r. r.tasks.items };
 }
 
-impl Roster {
+impl AdmittedTasks {
     /// A roster without tasks.
-    pub fn new(alloc: Global) -> Roster
+    pub fn new(alloc: Global) -> AdmittedTasks
         ensures { result ≡ [] }
     {
-        Roster {
+        AdmittedTasks {
             tasks: Vec::new(alloc),
         }
     }

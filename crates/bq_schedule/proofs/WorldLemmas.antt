@@ -5,7 +5,7 @@ use Rattle.std.specs.Option.{option_map}
 use Rattle.std.proofs.lemmas.Bool.Decides.{eqb_tells}
 use Rattle.std.proofs.lemmas.List.{get_or-replicate, length-set, length-replicate}
 use Rattle.std.proofs.lemmas.Bool.{eqb-false}
-use Rattle.bq_disc.specs.Tasks.{Task, id_of, with_id}
+use Rattle.bq_disc.specs.Tasks.{Task, id_of, find_task}
 use Rattle.bq_disc.specs.Discipline.{Discipline, charged, next_of}
 use Rattle.bq_disc.specs.OneProcessor.{Running, reading, charge, run_id, exchanged, decided, enter_all}
 use Rattle.bq_bpf.specs.declared.board.CounterCall.{CounterCall}
@@ -21,7 +21,7 @@ use Rattle.bq_parts.specs.Refusals.{refusal}
 use Rattle.bq_parts.specs.Moves.{with_pulled, started_if_idle, without_task, taken_from}
 use Rattle.bq_parts.specs.Choices.{PolicySemantics, under_any_answers}
 use Rattle.bq_hooks.specs.Permitted.{task_numbered}
-use Rattle.bq_parts.specs.Shares.{after_time, remarked}
+use Rattle.bq_parts.specs.Shares.{after_time, mark_updated}
 use Rattle.bq_parts.specs.Steps.{Performs, WorldStep, WorldRun}
 use Rattle.bq_parts.proofs.RefusalLemmas.{not_refused_is_there, first_refusal_passed, accepted}
 use Rattle.bq_schedule.specs.Moments.{History}
@@ -117,7 +117,7 @@ last-exchanged p old (Some new) = refl
 
 last-decided : (d : Discipline) (p : Running) (o : Option Task) (b : Bool) → (decided d p o b).last ≡ p.last
 last-decided d p None b = last-run_id p (id_of (d.choice p.queue))
-last-decided d p (Some current) true = last-exchanged p current (with_id (next_of d current p.queue) p.queue)
+last-decided d p (Some current) true = last-exchanged p current (find_task (next_of d current p.queue) p.queue)
 last-decided d p (Some current) false = refl
 
 last-with_pulled : (d : Discipline) (p : Running) (o : Option Task) → (with_pulled d p o).last ≡ p.last
@@ -200,7 +200,7 @@ shown-performs s w (Pull processor from now) calls r w' h k =
     let x = k.2 in
     let task = task_numbered x.settled.choice in
     let c : Processor = after_time d now (processor_at w processor) in
-    let other : Processor = remarked d (processor_at w from) in
+    let other : Processor = mark_updated d (processor_at w from) in
     let taken = taken_from other.running task in
     let u = with_processor w processor k.0 in
     let there' : processor_at u from ≡ processor_at w from =

@@ -3,7 +3,7 @@ use Rattle.std.proofs.Common.{◌≡◌, ◌≢◌, ℕ, ◌+◌, ◌<◌, true,
 use Rattle.std.specs.Prelude.{Ok}
 use Rattle.std.specs.Option.{option_map, option_map_or, option_to_list}
 use Rattle.std.proofs.lemmas.List.{length-set, get_or-set_other, set_comm}
-use Rattle.bq_disc.specs.Tasks.{Task, with_id}
+use Rattle.bq_disc.specs.Tasks.{Task, find_task}
 use Rattle.bq_disc.specs.Queues.{can_use}
 use Rattle.bq_disc.specs.Movable.{is_movable_to}
 use Rattle.bq_disc.specs.Discipline.{Discipline, left_at}
@@ -20,7 +20,7 @@ use Rattle.bq_parts.specs.Processors.{Processor, new_processor, size_of, HasEach
 use Rattle.bq_parts.specs.World.{World, processor_at, count_in, with_processor}
 use Rattle.bq_parts.specs.Choices.{SettledChoice, SettlesPull, by_programs, own_pull}
 use Rattle.bq_parts.specs.Moves.{taken_from, without_task, with_pulled, started_if_idle}
-use Rattle.bq_parts.specs.Shares.{after_time, remarked, Pulls}
+use Rattle.bq_parts.specs.Shares.{after_time, mark_updated, Pulls}
 use Rattle.bq_parts.proofs.CountLemmas.{each_once_queue}
 use Rattle.bq_parts.proofs.OnceLemmas.{each_once_running, few_at}
 use Rattle.bq_parts.proofs.PermittedLemmas.{settled_permitted, own_pull_permitted, may_pull_names}
@@ -36,12 +36,12 @@ use Rattle.bq_shared.proofs.CallStepLemmas.{ones, length_is, time_size, kept_sam
 -- the puller has one more, if a task is taken
 puller_size : (d : Discipline) (now : ℕ) (p o : Processor) (task : Option ℕ) (hooks : Attachments)
     → let c = after_time d now p in
-    let taken = taken_from (remarked d o).running task in
+    let taken = taken_from (mark_updated d o).running task in
     size_of (record c { running = started_if_idle d (with_pulled d c.running taken) c.running.current; hooks = hooks })
     ≡ size_of p + length (option_to_list taken)
 puller_size d now p o task hooks =
     let c = after_time d now p in
-    let taken = taken_from (remarked d o).running task in
+    let taken = taken_from (mark_updated d o).running task in
     omega (
       arith,
       length_is (present_at (started_if_idle d (with_pulled d c.running taken) c.running.current)),
@@ -53,10 +53,10 @@ puller_size d now p o task hooks =
 
 -- the source has one task less, if one is taken
 source_size : (d : Discipline) (o : Processor) (task : Option ℕ) →
-    let s = remarked d o in
+    let s = mark_updated d o in
     size_of (record s { running = without_task s.running task }) + length (option_to_list (taken_from s.running task)) ≡ size_of o
 source_size d o task =
-    let s = remarked d o in
+    let s = mark_updated d o in
     let same : length (present_at s.running) ≡ length (present_at o.running) = refl in
     omega (
       arith,
@@ -75,16 +75,16 @@ one_by_case processor mark (Some t) h = refl
 -- a task that may move is there to be taken
 taken_one : (processor id : ℕ) (s : Running) → is_movable_to processor id s.queue ≡ true
     → length (option_to_list (taken_from s (Some id))) ≡ 1
-taken_one processor id s h = one_by_case processor s.kept (with_id id s.queue) h
+taken_one processor id s h = one_by_case processor s.kept (find_task id s.queue) h
 
 -- a permitted choice is in the queue
 chosen_there : (d : Discipline) (processor from now id : ℕ) (p o : Processor) (settled : SettledChoice)
-    → HasEachOnce o.running.queue → SettlesPull (by_programs d) processor from (after_time d now p) (remarked d o) settled
+    → HasEachOnce o.running.queue → SettlesPull (by_programs d) processor from (after_time d now p) (mark_updated d o) settled
     → task_numbered settled.choice ≡ Some id
-    → length (option_to_list (taken_from (remarked d o).running (Some id))) ≡ 1
+    → length (option_to_list (taken_from (mark_updated d o).running (Some id))) ≡ 1
 chosen_there d processor from now id p o settled once h e =
     let c = after_time d now p in
-    let s = remarked d o in
+    let s = mark_updated d o in
     let may =
     settled_permitted (by_programs d) _ c.hooks.pull c.running.last processor (may_pull processor s.running.queue)
     (or_nobody (own_pull processor c s)) settled (own_pull_permitted processor c s once) h in
@@ -122,7 +122,7 @@ module _ (d : Discipline) (n : ℕ) where
       → Pulls (by_programs d) c b now p o calls x q r
       → journal_state_of (with_processor (with_processor w c q) b r) ≡ kept_by_pull c b x k
   pull_kept w c b now p q o r calls k x s kw here at there at' apart u =
-      let source = remarked d o in
+      let source = mark_updated d o in
       let task = task_numbered u.settled.choice in
       let taken = taken_from source.running task in
       let once : HasEachOnce o.running.queue =

@@ -15,7 +15,7 @@ use Rattle.bq_parts.specs.declared.reply.Reply.{Reply}
 use Rattle.bq_parts.specs.Choices.{by_programs}
 use Rattle.bq_parts.specs.Moves.{started_if_idle, taken_from, with_pulled}
 use Rattle.bq_parts.specs.Processors.{Processor}
-use Rattle.bq_parts.specs.Shares.{after_time, remarked}
+use Rattle.bq_parts.specs.Shares.{after_time, mark_updated}
 use Rattle.bq_parts.specs.Steps.{WorldStep}
 use Rattle.bq_parts.specs.World.{World, processor_at}
 use Rattle.bq_trace.specs.Machines.{discipline_of}
@@ -125,7 +125,7 @@ pull-keeps : (d : Discipline) (w v : World) (processor from now : ℕ) (calls : 
 pull-keeps d w v processor from now calls r step none =
     let x = step.1.2 in
     let p : Processor = after_time d now (processor_at w processor) in
-    let moved : Option Task = taken_from (remarked d (processor_at w from)).running (task_numbered x.settled.choice) in
+    let moved : Option Task = taken_from (mark_updated d (processor_at w from)).running (task_numbered x.settled.choice) in
     let here : id_of (started_if_idle d (with_pulled d p.running moved) p.running.current).current ≡ None =
     sym (ap (λ (q : Processor). id_of q.running.current) x.here) ∙ sym (ap runs_now x.replies) ∙ none in
     sym (current_id d (processor_at w processor).running now)

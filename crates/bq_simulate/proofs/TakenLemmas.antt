@@ -6,7 +6,7 @@ use Rattle.std.proofs.lemmas.Bool.{and_right, cases_lt, le-ltb, lt-leb, ne_eqb, 
 use Rattle.std.proofs.lemmas.List.{get_or_past, length-set, set_comm}
 use Rattle.std.proofs.lemmas.Option.{same_Some}
 use Rattle.bq_bpf.specs.declared.board.CounterCall.{CounterCall}
-use Rattle.bq_disc.specs.Tasks.{Task, id_of, with_id}
+use Rattle.bq_disc.specs.Tasks.{Task, id_of, find_task}
 use Rattle.bq_disc.specs.Discipline.{Discipline, charged, left_at}
 use Rattle.bq_disc.specs.OneProcessor.{Running, present_at, charge, reading}
 use Rattle.bq_disc.specs.Queues.{can_use}
@@ -27,7 +27,7 @@ use Rattle.bq_disc.specs.Counts.{saturating_sum}
 use Rattle.bq_parts.specs.Choices.{SettledChoice, decided_by, own_pull, by_programs}
 use Rattle.bq_parts.specs.Moves.{after_leaving, as_it_leaves, taken_from, without_task}
 use Rattle.bq_parts.specs.Refusals.{either_refusal, generation_refusal, is_away, same_hook}
-use Rattle.bq_parts.specs.Shares.{after_time, remarked}
+use Rattle.bq_parts.specs.Shares.{after_time, mark_updated}
 use Rattle.bq_parts.specs.StandsOnce.{IsOrderly}
 use Rattle.bq_parts.specs.Steps.{WorldStep}
 use Rattle.bq_parts.proofs.CountLemmas.{each_once_queue}
@@ -181,7 +181,7 @@ moved_by_case : (processor n : ℕ) (p : Running) (o : Option ℕ)
     → length (option_to_list (taken_from p o)) ≡ option_map_or (λ _. 1) o 0
 moved_by_case processor n p None may e = refl
 moved_by_case processor n p (Some id) may e =
-    moved_one processor (left_at p.kept) (with_id id p.queue) (may_pull_names processor p.queue n id may e)
+    moved_one processor (left_at p.kept) (find_task id p.queue) (may_pull_names processor p.queue n id may e)
 
 -- what goes from a queue leaves the task that runs
 current_stays : (p : Running) (task : Option ℕ) → (without_task p task).current ≡ p.current
@@ -250,13 +250,13 @@ homes_passed count processor from (Some id) a h = h
 pull_takes : (d : Discipline) (w v : World) (processor from now : ℕ) (calls : List CounterCall) (r : Reply)
     → IsOrderly w → (step : WorldStep (by_programs d) w (Pull processor from now) calls (Ok r) v)
     → (let taken : List Task =
-    option_to_list (taken_from (remarked d (processor_at w from)).running (task_numbered step.1.2.settled.choice)) in
+    option_to_list (taken_from (mark_updated d (processor_at w from)).running (task_numbered step.1.2.settled.choice)) in
     (length taken ≡ option_map_or (λ _. 1) (task_pulled r) 0)
     × (size_of step.1.1 + length taken ≡ size_of (processor_at w from)))
 pull_takes d w v processor from now calls r orderly step =
     let k = step.1 in
     let p : Processor = after_time d now (processor_at w processor) in
-    let source : Processor = remarked d (processor_at w from) in
+    let source : Processor = mark_updated d (processor_at w from) in
     let x = k.2 in
     let settled : SettledChoice = x.settled in
     let n : ℕ = settled.choice in
@@ -298,7 +298,7 @@ pull_kept : (d : Discipline) (periods : Periods) (w v : World) (a : Accounts) (p
 pull_kept d periods w v a processor from now calls r h low low' apart step =
     let k = step.1 in
     let p : Processor = after_time d now (processor_at w processor) in
-    let source : Processor = remarked d (processor_at w from) in
+    let source : Processor = mark_updated d (processor_at w from) in
     let q : Processor = k.0 in
     let other : Processor = k.1 in
     let x = k.2 in

@@ -14,7 +14,7 @@ use bq_bpf::addresses::STACK_SIZE;
 use bq_insn::Size;
 use bq_ranges::Range;
 
-/// Answers how many bytes the region has into which a pointer of this kind points; `None` if it may not be followed.
+/// How many bytes the region has into which a pointer of this kind points; `None` if it may not be followed.
 pub fn bound(kind: ValueKind, shapes: &[MapShape], context: usize) -> Option<usize>
     ensures bounds { IfSome result (Bounds shapes.now context kind) }
     ensures is { result ≡ bound_of shapes.now context kind }

@@ -22,7 +22,7 @@ use bq_parts::{Event, Refusal, Reply};
 use bq_report::Names;
 use bq_schedule::{Change, ClockReading, Schedule};
 use bq_trace::AnyCore;
-use bq_why::faults::{Fault, NOT_READ_ON, meant_keyword, why_bad};
+use bq_why::faults::{LineFault, NOT_READ_ON, meant_keyword, why_bad};
 use bq_why::{Because, Occurrence, Refused};
 use bq_words::Rule;
 use std::alloc::{AllocError, Global};
@@ -330,7 +330,7 @@ impl Screen {
         if let Some(meant) = meant {
             write!(notes, "; did you mean {meant}?")?;
         }
-        if is_open || matches!(fault, Fault::NoMachine) {
+        if is_open || matches!(fault, LineFault::NoMachine) {
             return notes.push_str("\n");
         }
         write!(notes, "; {NOT_READ_ON}\n")

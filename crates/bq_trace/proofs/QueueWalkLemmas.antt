@@ -3,10 +3,10 @@ use Rattle.std.proofs.Common.{◌≡◌, ℕ, Bool, true, false, cond, eqb, List
 use Rattle.std.specs.Prelude.{filter, find}
 use Rattle.std.specs.List.{AllByRecursion}
 use Rattle.std.proofs.lemmas.Bool.Decides.{nat_tests}
-use Rattle.bq_disc.specs.Tasks.{Task, runs_before, with_id}
+use Rattle.bq_disc.specs.Tasks.{Task, runs_before, find_task}
 use Rattle.bq_disc.specs.Queues.{follows, comes_after, HasDistinctIds}
 use Rattle.bq_disc.specs.Rising.{IsRising, NoneRunsBefore}
-use Rattle.bq_disc.proofs.QueueLemmas.{cond_none, with_id-none}
+use Rattle.bq_disc.proofs.QueueLemmas.{cond_none, find_task-none}
 
 -- the tasks that are still to come
 abbrev pub rest_after : Option (ℕ × ℕ) → List Task → List Task
@@ -31,10 +31,10 @@ follows_along None x y p q = refl
 follows_along (Some (v, id)) x y p q = after_along v id x y p q
 
 -- the rest of a rising queue comes after its first
-rest_later : (x : Task) (xs : List Task) → NoneRunsBefore x xs → with_id x.id xs ≡ None
+rest_later : (x : Task) (xs : List Task) → NoneRunsBefore x xs → find_task x.id xs ≡ None
     → AllByRecursion (λ y. comes_after x.v x.id y ≡ true) xs
 rest_later x [] r d = tt
-rest_later x (y ∷ xs) r d = let s = with_id-none x.id y xs d in (comes_later x y r.0 s.0, rest_later x xs r.1 s.1)
+rest_later x (y ∷ xs) r d = let s = find_task-none x.id y xs d in (comes_later x y r.0 s.0, rest_later x xs r.1 s.1)
 
 all_follow : (last : Option (ℕ × ℕ)) (x : Task) (xs : List Task)
     → follows last x ≡ true → AllByRecursion (λ y. comes_after x.v x.id y ≡ true) xs

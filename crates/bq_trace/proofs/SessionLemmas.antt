@@ -1,4 +1,4 @@
--- Answers to the lines of a piece, and what a writer got of them.
+-- The replies to the lines of a piece, and what a writer got of them.
 use Rattle.std.proofs.Common.{ℕ, List, [], ◌++◌, map, refl, sym, ap, ◌∙◌, append-nil, subst, Option}
 use Rattle.std.specs.Str.Lines.{lines, strip_carriage_return}
 use Rattle.std.specs.Io.KnownBytes.{Appends}

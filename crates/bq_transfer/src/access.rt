@@ -59,9 +59,6 @@ pub fn locate(
         base.offset,
         Range::single(word_of_distance(access.off)),
     );
-    if bound > 0x1_0000 {
-        return Err(Obligation::Access);
-    }
     if !stays(at, access.size, bound) {
         return Err(Obligation::Access);
     }

@@ -96,7 +96,7 @@ fn link_slot(classes: &mut [u8], related: &mut [Option<Related>], slot: Option<u
     link(classes, related, REGISTERS + slot, usize::from(register));
 }
 
-/// A store of a word to the stack or into an entry. Answers the slot of eight bytes that keeps the whole word, if one
+/// A store of a word to the stack or into an entry. The result is the slot of eight bytes that keeps the whole word, if one
 /// does.
 fn store(
     state: &mut AbstractState,

@@ -2,16 +2,16 @@
 use Rattle.std.proofs.Common.{◌≡◌, ◌≢◌, ℕ, ◌+◌, ◌<◌, ◌≤◌, ◌^◌, true, false, cond, eqb, List, [], ◌∷◌, ◌++◌, length, length-append, IfSome, ap, sym, ◌∙◌, Option, Some, None, Box, Global, refl, slice_index, slice_set, get_or-set_other, arith}
 use Rattle.std.specs.Option.{option_map_or}
 use Rattle.std.proofs.lemmas.Bool.Decides.{nat_tests}
-use Rattle.bq_disc.specs.Tasks.{Task, with_id, place, runs_before}
+use Rattle.bq_disc.specs.Tasks.{Task, find_task, inserted, runs_before}
 use Rattle.bq_disc.specs.Queues.{HasDistinctIds, HasSmallIds, key_of}
 use Rattle.bq_tree.specs.Trees.{Knowledge, IsTreeBehind, in_order_behind}
 use Rattle.bq_disc.specs.declared.node.Node.{Node}
-use Rattle.bq_disc.proofs.QueueLemmas.{length-few, length-place, HasDistinctIds-place, HasSmallIds-place, HasDistinctIds-without, HasSmallIds-without}
+use Rattle.bq_disc.proofs.QueueLemmas.{length-few, length-inserted, HasDistinctIds-inserted, HasSmallIds-inserted, HasDistinctIds-without, HasSmallIds-without}
 use Rattle.bq_tree.specs.Taking.{TakesOut}
 use Rattle.bq_tree.specs.Sound.{Knows, IsSound, first_key, lesser_of}
-use Rattle.bq_disc.proofs.RisingLemmas.{IsRising-place}
+use Rattle.bq_disc.proofs.RisingLemmas.{IsRising-inserted}
 use Rattle.bq_tree.proofs.OrderLemmas.{IsRising-drop}
-use Rattle.bq_tree.proofs.SoundLemmas.{Knows-place, Knows-drop, without-amid}
+use Rattle.bq_tree.proofs.SoundLemmas.{Knows-inserted, Knows-drop, without-amid}
 
 apart_by : (i id k : ℕ) → i ≡ id → eqb k id ≡ false → k ≢ i
 apart_by i id k same e = λ q. grind (arith, nat_tests)
@@ -22,16 +22,16 @@ set_apart xs i id k v same e = let ne = apart_by i id k same e in rw get_or-set_
 
 -- with one more task there is room for it
 pub room_for_one_more : (t : Task) (xs : List Task) → HasDistinctIds xs → HasSmallIds xs
-    → with_id t.id xs ≡ None → t.id < 2 ^ 16
+    → find_task t.id xs ≡ None → t.id < 2 ^ 16
     → length xs < 2 ^ 16
 room_for_one_more t xs d s n l =
-    let few = length-few (place t xs) (HasDistinctIds-place t xs n d) (HasSmallIds-place t xs l s) in
-    omega (arith, length-place t xs, few)
+    let few = length-few (inserted t xs) (HasDistinctIds-inserted t xs n d) (HasSmallIds-inserted t xs l s) in
+    omega (arith, length-inserted t xs, few)
 
-first_placed : (t : Task) (xs : List Task) → Some (lesser_of (key_of t) (first_key xs)) ≡ first_key (place t xs)
+first_placed : (t : Task) (xs : List Task) → Some (lesser_of (key_of t) (first_key xs)) ≡ first_key (inserted t xs)
 first_placed t [] = refl
 first_placed t (x ∷ xs) =
-    elim (runs_before t x) as (λ b. Some (cond b (key_of t) (key_of x)) ≡ first_key (cond b (t ∷ x ∷ xs) (x ∷ place t xs))) [
+    elim (runs_before t x) as (λ b. Some (cond b (key_of t) (key_of x)) ≡ first_key (cond b (t ∷ x ∷ xs) (x ∷ inserted t xs))) [
       | true ↦ refl
       | false ↦ refl
     ]
@@ -40,21 +40,21 @@ first_placed t (x ∷ xs) =
 pub sound_inserted : (knows : Knowledge) (len : ℕ) (old new : Option (Box Node Global)) (least : Option (ℕ × ℕ))
     (key : ℕ × ℕ) (times later : List ℕ) (t : Task)
     → IsSound knows old len least times → key ≡ lesser_of (key_of t) least → key.0 ≤ 2 ^ 62 → IsTreeBehind knows new
-    → in_order_behind new ≡ place t (in_order_behind old) → with_id t.id (in_order_behind old) ≡ None
-    → t.id < 2 ^ 16 → ((xs : List Task) → with_id t.id xs ≡ None → Knows times xs → Knows later xs)
+    → in_order_behind new ≡ inserted t (in_order_behind old) → find_task t.id (in_order_behind old) ≡ None
+    → t.id < 2 ^ 16 → ((xs : List Task) → find_task t.id xs ≡ None → Knows times xs → Knows later xs)
     → (t.id < 1024 → slice_index later t.id ≡ t.v)
     → IsSound knows new (len + 1) (Some key) later
 sound_inserted knows len old new least key times later t s lesser high tree e n l others here =
     let xs = in_order_behind old in
     record {
       tree = tree;
-      len_is = omega (arith, s.len_is, ap length e, length-place t xs);
-      rising = rw e (IsRising-place t xs s.rising);
-      distinct = rw e (HasDistinctIds-place t xs n s.distinct);
-      small = rw e (HasSmallIds-place t xs l s.small);
+      len_is = omega (arith, s.len_is, ap length e, length-inserted t xs);
+      rising = rw e (IsRising-inserted t xs s.rising);
+      distinct = rw e (HasDistinctIds-inserted t xs n s.distinct);
+      small = rw e (HasSmallIds-inserted t xs l s.small);
       leads = ap (λ k. Some k) (lesser ∙ ap (λ o. lesser_of (key_of t) o) s.leads) ∙ first_placed t xs ∙ ap first_key (sym e);
       high = high;
-      knows = rw e (Knows-place later t xs here (others xs n s.knows));
+      knows = rw e (Knows-inserted later t xs here (others xs n s.knows));
     }
 
 first_by_test : (xs : List Task) (t : Task) (ys : List Task) (least : Option (ℕ × ℕ))

@@ -1,16 +1,16 @@
 -- A root one of whose sides took one more task.
 use Rattle.std.proofs.Common.{◌≡◌, ℕ, ◌+◌, ◌≤◌, max, Bool, true, false, nat_le, nat_lt, refl, List, ◌∷◌, ◌++◌, length, Option, Some, Box, Global, ap, sym, ◌∙◌, subst, arith}
 use Rattle.std.proofs.lemmas.Bool.Decides.{nat_tests}
-use Rattle.bq_disc.specs.Tasks.{Task, place, runs_before}
+use Rattle.bq_disc.specs.Tasks.{Task, inserted, runs_before}
 use Rattle.bq_disc.specs.Totals.{sums_of, added, IsBounded}
 use Rattle.bq_disc.specs.Dues.{due_of, first_due, earlier_of, earliest_of}
 use Rattle.bq_disc.specs.Rising.{IsRising}
 use Rattle.bq_tree.specs.Trees.{Knowledge, IsTree, IsFork, IsTreeBehind, in_order, in_order_behind, height_of, height_behind, left_height, right_height, DifferByAtMost, CountsIn, KeepsSides}
 use Rattle.bq_disc.specs.declared.node.Node.{Node, out-Node}
-use Rattle.bq_disc.proofs.QueueLemmas.{length-place}
-use Rattle.bq_tree.proofs.OrderLemmas.{IsRising-before, place-left, place-right}
+use Rattle.bq_disc.proofs.QueueLemmas.{length-inserted}
+use Rattle.bq_tree.proofs.OrderLemmas.{IsRising-before, inserted-left, inserted-right}
 use Rattle.bq_tree.specs.Knowing.{knows_sums}
-use Rattle.bq_tree.proofs.TotalsLemmas.{first_due-place, sums_of-place}
+use Rattle.bq_tree.proofs.TotalsLemmas.{first_due-inserted, sums_of-inserted}
 use Rattle.bq_tree.proofs.NodeLemmas.{on_left, on_right, root_of, in_order-made, left_height-made, right_height-made, height-made, height_of-field, IsFork-made, IsTree-fork, IsRootBehind}
 
 -- a root whose sums count one more task
@@ -27,30 +27,30 @@ counts_one_more n k t tree keeps due totals =
       right = keeps.right;
       height = keeps.height;
       counts = (
-        first_due-place t (in_order n) ∙ ap (λ o. Some (earliest_of (due_of t) o)) known ∙ ap (λ d. Some d) (sym due),
-        totals ∙ ap (λ s. added s t) sums ∙ sym (sums_of-place t (in_order n)),
+        first_due-inserted t (in_order n) ∙ ap (λ o. Some (earliest_of (due_of t) o)) known ∙ ap (λ d. Some d) (sym due),
+        totals ∙ ap (λ s. added s t) sums ∙ sym (sums_of-inserted t (in_order n)),
       );
     }
 
 left_side : (knows : Knowledge) (n k : Node) (t : Task) (new : List Task)
-    → IsTree knows n → CountsIn knows n k t → new ≡ place t (in_order_behind (out-Node k).left)
+    → IsTree knows n → CountsIn knows n k t → new ≡ inserted t (in_order_behind (out-Node k).left)
     → runs_before t (out-Node k).entity ≡ true
-    → new ++ (out-Node k).entity ∷ in_order_behind (out-Node k).right ≡ place t (in_order n)
+    → new ++ (out-Node k).entity ∷ in_order_behind (out-Node k).right ≡ inserted t (in_order n)
 left_side knows n k t new tree c e b =
     let r = root_of knows n tree in
     let l = in_order_behind (out-Node n).left in
     let x = (out-Node n).entity in
     let here : runs_before t x ≡ true = ap (λ y. runs_before t y) (sym c.task) ∙ b in
-    ap (λ xs. xs ++ (out-Node k).entity ∷ in_order_behind (out-Node k).right) (e ∙ ap (λ o. place t (in_order_behind o)) c.left)
-    ∙ ap (λ y. place t l ++ y ∷ in_order_behind (out-Node k).right) c.task
-    ∙ ap (λ o. place t l ++ x ∷ in_order_behind o) c.right
-    ∙ sym (place-left t l x (in_order_behind (out-Node n).right) here)
-    ∙ ap (λ xs. place t xs) (sym r.order)
+    ap (λ xs. xs ++ (out-Node k).entity ∷ in_order_behind (out-Node k).right) (e ∙ ap (λ o. inserted t (in_order_behind o)) c.left)
+    ∙ ap (λ y. inserted t l ++ y ∷ in_order_behind (out-Node k).right) c.task
+    ∙ ap (λ o. inserted t l ++ x ∷ in_order_behind o) c.right
+    ∙ sym (inserted-left t l x (in_order_behind (out-Node n).right) here)
+    ∙ ap (λ xs. inserted t xs) (sym r.order)
 
 right_side : (knows : Knowledge) (n k : Node) (t : Task) (new : List Task)
-    → IsTree knows n → IsRising (in_order n) → CountsIn knows n k t → new ≡ place t (in_order_behind (out-Node k).right)
+    → IsTree knows n → IsRising (in_order n) → CountsIn knows n k t → new ≡ inserted t (in_order_behind (out-Node k).right)
     → runs_before t (out-Node k).entity ≡ false
-    → in_order_behind (out-Node k).left ++ (out-Node k).entity ∷ new ≡ place t (in_order n)
+    → in_order_behind (out-Node k).left ++ (out-Node k).entity ∷ new ≡ inserted t (in_order n)
 right_side knows n k t new tree rising c e b =
     let r = root_of knows n tree in
     let l = in_order_behind (out-Node n).left in
@@ -58,11 +58,11 @@ right_side knows n k t new tree rising c e b =
     let q = in_order_behind (out-Node n).right in
     let here : runs_before t x ≡ false = ap (λ y. runs_before t y) (sym c.task) ∙ b in
     let rises = subst IsRising r.order rising in
-    ap (λ xs. in_order_behind (out-Node k).left ++ (out-Node k).entity ∷ xs) (e ∙ ap (λ o. place t (in_order_behind o)) c.right)
-    ∙ ap (λ y. in_order_behind (out-Node k).left ++ y ∷ place t q) c.task
-    ∙ ap (λ o. in_order_behind o ++ x ∷ place t q) c.left
-    ∙ sym (place-right t l x q here (IsRising-before l x q rises))
-    ∙ ap (λ xs. place t xs) (sym r.order)
+    ap (λ xs. in_order_behind (out-Node k).left ++ (out-Node k).entity ∷ xs) (e ∙ ap (λ o. inserted t (in_order_behind o)) c.right)
+    ∙ ap (λ y. in_order_behind (out-Node k).left ++ y ∷ inserted t q) c.task
+    ∙ ap (λ o. in_order_behind o ++ x ∷ inserted t q) c.left
+    ∙ sym (inserted-right t l x q here (IsRising-before l x q rises))
+    ∙ ap (λ xs. inserted t xs) (sym r.order)
 
 -- a side that may have grown by one, beside the other
 record Heights (l r h side : ℕ) : Type 0 where
@@ -94,14 +94,14 @@ heights l r h side d e low high = record {
 -- the root with its new side, of all that is behind a link
 pub record Grows (knows : Knowledge) (link : Option (Box Node Global)) (m : Node) (t : Task) : Type 0 where
   pub fork : IsFork knows m
-  pub order : in_order m ≡ place t (in_order_behind link)
+  pub order : in_order m ≡ inserted t (in_order_behind link)
   pub few : length (in_order m) ≡ length (in_order_behind link) + 1
 
 grown : (knows : Knowledge) (link : Option (Box Node Global)) (n m : Node) (t : Task)
-    → IsRootBehind knows link n → IsFork knows m → in_order m ≡ place t (in_order n) → Grows knows link m t
+    → IsRootBehind knows link n → IsFork knows m → in_order m ≡ inserted t (in_order n) → Grows knows link m t
 grown knows link n m t r fork order =
-    let all = order ∙ ap (λ xs. place t xs) (sym r.order) in
-    record { fork = fork; order = all; few = ap length all ∙ length-place t (in_order_behind link) }
+    let all = order ∙ ap (λ xs. inserted t xs) (sym r.order) in
+    record { fork = fork; order = all; few = ap length all ∙ length-inserted t (in_order_behind link) }
 
 -- how high the root may be with its new side
 pub record Rises (link : Option (Box Node Global)) (m : Node) : Type 0 where
@@ -118,7 +118,7 @@ max-comm a b = omega arith
 pub grows_left : (knows : Knowledge) (link : Option (Box Node Global)) (n k : Node) (t : Task)
     (new : Option (Box Node Global))
     → IsRootBehind knows link n → CountsIn knows n k t → IsTreeBehind knows new
-    → in_order_behind new ≡ place t (in_order_behind (out-Node k).left) → runs_before t (out-Node k).entity ≡ true
+    → in_order_behind new ≡ inserted t (in_order_behind (out-Node k).left) → runs_before t (out-Node k).entity ≡ true
     → Grows knows link (on_left k new) t
 grows_left knows link n k t new behind c side e b =
     let r = root_of knows n behind.tree in
@@ -134,7 +134,7 @@ grows_left knows link n k t new behind c side e b =
 pub grows_right : (knows : Knowledge) (link : Option (Box Node Global)) (n k : Node) (t : Task)
     (new : Option (Box Node Global))
     → IsRootBehind knows link n → IsRising (in_order_behind link) → CountsIn knows n k t → IsTreeBehind knows new
-    → in_order_behind new ≡ place t (in_order_behind (out-Node k).right) → runs_before t (out-Node k).entity ≡ false
+    → in_order_behind new ≡ inserted t (in_order_behind (out-Node k).right) → runs_before t (out-Node k).entity ≡ false
     → Grows knows link (on_right k new) t
 grows_right knows link n k t new behind rising c side e b =
     let r = root_of knows n behind.tree in

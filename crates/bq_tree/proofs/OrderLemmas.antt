@@ -2,7 +2,7 @@
 use Rattle.std.proofs.Common.{◌≡◌, ℕ, true, false, cond, List, [], ◌∷◌, ◌++◌, Option, Some, None, refl, ap, sym, ◌∙◌, append_assoc, arith}
 use Rattle.std.specs.List.{AllByRecursion}
 use Rattle.std.proofs.lemmas.Bool.Decides.{nat_tests}
-use Rattle.bq_disc.specs.Tasks.{Task, place, runs_before}
+use Rattle.bq_disc.specs.Tasks.{Task, inserted, runs_before}
 use Rattle.bq_disc.specs.Queues.{comes_after}
 use Rattle.bq_disc.specs.Rising.{IsRising, NoneRunsBefore}
 use Rattle.bq_disc.proofs.RisingLemmas.{not_before}
@@ -50,23 +50,23 @@ IsRising-drop (y ∷ xs) x ys h =
     (none_join y xs ys (none_front y xs (x ∷ ys) h.0) (none_back y xs (x ∷ ys) h.0).1, IsRising-drop xs x ys h.1)
 
 -- a task that runs before x has its place before it
-pub place-left : (t : Task) (xs : List Task) (x : Task) (ys : List Task)
-    → runs_before t x ≡ true → place t (xs ++ x ∷ ys) ≡ place t xs ++ x ∷ ys
-place-left t [] x ys e = rw e refl
-place-left t (y ∷ xs) x ys e =
+pub inserted-left : (t : Task) (xs : List Task) (x : Task) (ys : List Task)
+    → runs_before t x ≡ true → inserted t (xs ++ x ∷ ys) ≡ inserted t xs ++ x ∷ ys
+inserted-left t [] x ys e = rw e refl
+inserted-left t (y ∷ xs) x ys e =
     elim (runs_before t y)
-    as (λ b. cond b (t ∷ y ∷ (xs ++ x ∷ ys)) (y ∷ place t (xs ++ x ∷ ys)) ≡ cond b (t ∷ y ∷ xs) (y ∷ place t xs) ++ x ∷ ys) [
+    as (λ b. cond b (t ∷ y ∷ (xs ++ x ∷ ys)) (y ∷ inserted t (xs ++ x ∷ ys)) ≡ cond b (t ∷ y ∷ xs) (y ∷ inserted t xs) ++ x ∷ ys) [
       | true ↦ refl
-      | false ↦ ap (λ l. y ∷ l) (place-left t xs x ys e)
+      | false ↦ ap (λ l. y ∷ l) (inserted-left t xs x ys e)
     ]
 
 -- a task that does not run before x has its place after it
-pub place-right : (t : Task) (xs : List Task) (x : Task) (ys : List Task)
-    → runs_before t x ≡ false → RunsBeforeNone x xs → place t (xs ++ x ∷ ys) ≡ xs ++ x ∷ place t ys
-place-right t [] x ys e h = rw e refl
-place-right t (y ∷ xs) x ys e h =
+pub inserted-right : (t : Task) (xs : List Task) (x : Task) (ys : List Task)
+    → runs_before t x ≡ false → RunsBeforeNone x xs → inserted t (xs ++ x ∷ ys) ≡ xs ++ x ∷ inserted t ys
+inserted-right t [] x ys e h = rw e refl
+inserted-right t (y ∷ xs) x ys e h =
     let n = not_before t x y e h.0 in
-    rw n (ap (λ l. y ∷ l) (place-right t xs x ys e h.1))
+    rw n (ap (λ l. y ∷ l) (inserted-right t xs x ys e h.1))
 
 comes_later : (v id : ℕ) (x y : Task) → comes_after v id x ≡ true → runs_before y x ≡ false → comes_after v id y ≡ true
 comes_later v id x y p q = grind (arith, nat_tests)

@@ -2,7 +2,7 @@
 use Rattle.std.proofs.Common.{◌≡◌, ℕ, ◌+◌, Bool, true, false, cond, nat_lt, List, [], ◌∷◌, ◌++◌, Option, Some, None, refl, ap, sym, ◌∙◌, arith, length-append}
 use Rattle.std.proofs.lemmas.Bool.Decides.{nat_tests}
 use Rattle.std.specs.Prelude.{◌==◌, ◌&&◌}
-use Rattle.bq_disc.specs.Tasks.{Task, place, runs_before}
+use Rattle.bq_disc.specs.Tasks.{Task, inserted, runs_before}
 use Rattle.bq_disc.specs.Totals.{total_weight, weighted_sum, sums_of, added, joined}
 use Rattle.bq_disc.specs.Dues.{due_of, first_due, is_earlier, earlier_of, earliest_of, sooner_of}
 use Rattle.bq_disc.proofs.DueLemmas.{first_due-cons}
@@ -101,13 +101,13 @@ earliest_of-earlier x y None = earlier_of-comm x y
 earliest_of-earlier x y (Some z) = sym (earlier_of-assoc x y z) ∙ ap (λ e. earlier_of e z) (earlier_of-comm x y) ∙ earlier_of-assoc y x z
 
 -- when the first is due with one task more
-pub first_due-place : (t : Task) (xs : List Task) → first_due (place t xs) ≡ Some (earliest_of (due_of t) (first_due xs))
-first_due-place t [] = refl
-first_due-place t (x ∷ xs) =
-    elim (runs_before t x) as (λ b. first_due (cond b (t ∷ x ∷ xs) (x ∷ place t xs)) ≡ Some (earliest_of (due_of t) (first_due (x ∷ xs)))) [
+pub first_due-inserted : (t : Task) (xs : List Task) → first_due (inserted t xs) ≡ Some (earliest_of (due_of t) (first_due xs))
+first_due-inserted t [] = refl
+first_due-inserted t (x ∷ xs) =
+    elim (runs_before t x) as (λ b. first_due (cond b (t ∷ x ∷ xs) (x ∷ inserted t xs)) ≡ Some (earliest_of (due_of t) (first_due (x ∷ xs)))) [
       | true ↦ first_due-cons t (x ∷ xs)
-      | false ↦ first_due-cons x (place t xs)
-          ∙ ap (λ o. Some (earliest_of (due_of x) o)) (first_due-place t xs)
+      | false ↦ first_due-cons x (inserted t xs)
+          ∙ ap (λ o. Some (earliest_of (due_of x) o)) (first_due-inserted t xs)
           ∙ ap (λ d. Some d) (earliest_of-earlier (due_of x) (due_of t) (first_due xs))
           ∙ ap (λ o. Some (earliest_of (due_of t) o)) (sym (first_due-cons x xs))
     ]
@@ -125,12 +125,12 @@ added_to x t xs ys e =
     same_sums _ _ _ _ _ _ (omega arith) (omega arith) (omega arith)
 
 -- the totals with one task more
-pub sums_of-place : (t : Task) (xs : List Task) → sums_of (place t xs) ≡ added (sums_of xs) t
-sums_of-place t [] = refl
-sums_of-place t (x ∷ xs) =
-    elim (runs_before t x) as (λ b. sums_of (cond b (t ∷ x ∷ xs) (x ∷ place t xs)) ≡ added (sums_of (x ∷ xs)) t) [
+pub sums_of-inserted : (t : Task) (xs : List Task) → sums_of (inserted t xs) ≡ added (sums_of xs) t
+sums_of-inserted t [] = refl
+sums_of-inserted t (x ∷ xs) =
+    elim (runs_before t x) as (λ b. sums_of (cond b (t ∷ x ∷ xs) (x ∷ inserted t xs)) ≡ added (sums_of (x ∷ xs)) t) [
       | true ↦ refl
-      | false ↦ added_to x t xs (place t xs) (sums_of-place t xs)
+      | false ↦ added_to x t xs (inserted t xs) (sums_of-inserted t xs)
     ]
 
 -- the totals of a list without one of its tasks, and that task

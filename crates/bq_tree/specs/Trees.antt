@@ -2,7 +2,7 @@
 use Rattle.std.specs.Prelude.{◌≡◌, ℕ, ◌+◌, ◌≤◌, max, List, [], ◌∷◌, ◌++◌, Option, Some, None}
 use Rattle.std.specs.declared.boxed.Box.{Box}
 use Rattle.std.specs.declared.alloc.Global.{Global}
-use Rattle.bq_disc.specs.Tasks.{Task, place}
+use Rattle.bq_disc.specs.Tasks.{Task, inserted}
 use Rattle.bq_disc.specs.Totals.{IsBounded}
 use Rattle.bq_disc.specs.declared.due.Deadline.{Deadline}
 use Rattle.bq_disc.specs.declared.totals.Totals.{Totals}
@@ -102,7 +102,7 @@ pub record CountsIn (knows : Knowledge) (old new : Node) (t : Task) : Type 0 whe
   pub left : (out-Node new).left ≡ (out-Node old).left
   pub right : (out-Node new).right ≡ (out-Node old).right
   pub height : (out-Node new).height ≡ (out-Node old).height
-  pub counts : knows (place t (in_order old)) (out-Node new).due (out-Node new).totals
+  pub counts : knows (inserted t (in_order old)) (out-Node new).due (out-Node new).totals
 
 -- the left side of the root that a link leads to
 abbrev pub left_behind : Option (Box Node Global) → Option (Box Node Global)

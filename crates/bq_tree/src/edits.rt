@@ -1,7 +1,7 @@
 //! How nodes come into a tree and leave it.
 ghost use Rattle.std.specs.Prelude.{◌≡◌, ◌<◌, ◌≤◌, ◌+◌, ◌^◌, max, length, ◌++◌, Some, None, IfSome, IfNone, nat_lt};
 ghost use Rattle.std.specs.Option.{option_map, option_to_list};
-ghost use Rattle.bq_disc.specs.Tasks.{place};
+ghost use Rattle.bq_disc.specs.Tasks.{inserted};
 ghost use Rattle.bq_disc.specs.Queues.{comes_after};
 ghost use Rattle.bq_disc.specs.Chains.{task_of, IsLone};
 ghost use Rattle.bq_disc.specs.Rising.{IsRising};
@@ -13,7 +13,7 @@ use crate::summary::Summary;
 use bq_disc::node::Link;
 use bq_disc::{Entity, Node};
 
-/// Puts a node into a tree. Answers whether the tree has grown in height.
+/// Puts a node into a tree. The result says whether the tree has grown in height.
 pub(crate) fn insert_into<S: Summary>(link: &mut Link, node: Box<Node>) -> bool
     requires lone { IsLone node.value }
     requires tree { IsTreeBehind S.knows link.old }
@@ -21,7 +21,7 @@ pub(crate) fn insert_into<S: Summary>(link: &mut Link, node: Box<Node>) -> bool
     requires low { height_behind link.old ≤ 90 }
     requires few { length (in_order_behind link.old) < 2 ^ 16 }
     ensures tree { IsTreeBehind S.knows link.new }
-    ensures order { in_order_behind link.new ≡ place (task_of node.value) (in_order_behind link.old) }
+    ensures order { in_order_behind link.new ≡ inserted (task_of node.value) (in_order_behind link.old) }
     ensures not_lower { height_behind link.old ≤ height_behind link.new }
     ensures at_most_one_higher { height_behind link.new ≤ height_behind link.old + 1 }
     ensures grows { result ≡ nat_lt (height_behind link.old) (height_behind link.new) }

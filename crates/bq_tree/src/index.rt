@@ -1,7 +1,7 @@
 //! The tree with what finds a task at once: the key of its first task, and a table of each id's v.
 ghost use Rattle.std.specs.Prelude.{◌≡◌, ◌<◌, ◌≤◌, ◌^◌, ◌++◌, ℕ, ◌==◌, false, List, [], length, None, IfSome, IfNone, slice_index};
 ghost use Rattle.std.specs.Option.{option_map, option_map_or, option_to_list};
-ghost use Rattle.bq_disc.specs.Tasks.{Task, with_id};
+ghost use Rattle.bq_disc.specs.Tasks.{Task, find_task};
 ghost use Rattle.bq_disc.specs.Chains.{task_of, IsLone};
 ghost use Rattle.bq_tree.specs.Trees.{in_order_behind};
 ghost use Rattle.bq_tree.specs.Sound.{Knows, first_key, lesser_of};
@@ -11,7 +11,7 @@ use crate::summary::Summary;
 use crate::{balance, walks};
 use bq_disc::limits::TASKS;
 use bq_disc::node::Link;
-use bq_disc::{Deadline, Movable, Node, Timeline, Totals};
+use bq_disc::{Deadline, Movable, Node, TaskOrder, Totals};
 use std::marker::{Model, PhantomData};
 
 /// The number of ids that the table has room for: all ids.
@@ -45,7 +45,7 @@ impl<S: Summary> Model for Tree<S> {
 }
 
 impl<S: Summary> Tree<S> {
-    /// Answers how many levels the tree has.
+    /// How many levels the tree has.
     pub fn height(&self) -> u8
         ensures low { length self.now ≤ TASKS → result ≤ 14 }
         ensures high { length self.now < 2 ^ result }
@@ -66,7 +66,7 @@ impl<S: Summary> Tree<S> {
     }
 }
 
-impl<S: Summary> Timeline for Tree<S> {
+impl<S: Summary> TaskOrder for Tree<S> {
     ghost tasks = { λ t. t };
 
     fn empty() -> Tree<S> {
@@ -173,7 +173,7 @@ fn first_key(root: &Link) -> Option<(u64, u16)>
 
 /// Records the v of the task with this id, if the table has room for the id.
 fn remember(times: &mut [u64; IDS], id: u16, v: u64)
-    ensures others { (xs : List Task) → with_id id xs ≡ None → Knows times.old xs → Knows times.new xs }
+    ensures others { (xs : List Task) → find_task id xs ≡ None → Knows times.old xs → Knows times.new xs }
     ensures here { id < TASKS → slice_index times.new id ≡ v }
 {
     let place = usize::from(id);
@@ -185,7 +185,7 @@ fn remember(times: &mut [u64; IDS], id: u16, v: u64)
 /// The v of the task with this id, if there is one; else the number means nothing.
 fn time_of(times: &[u64; IDS], root: &Link, id: u16) -> u64
     requires knows { Knows times.now (in_order_behind root.now) }
-    ensures { IfSome (with_id id (in_order_behind root.now)) (λ t. t.v ≡ result) }
+    ensures { IfSome (find_task id (in_order_behind root.now)) (λ t. t.v ≡ result) }
 {
     let place = usize::from(id);
     if place < IDS {

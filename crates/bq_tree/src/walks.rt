@@ -1,7 +1,7 @@
 //! Walks down a tree.
 ghost use Rattle.std.specs.Prelude.{◌≡◌, ◌<◌, ◌≤◌, ◌+◌, ◌^◌, ◌++◌, ◌∷◌, Some, None, find, filter, length};
 ghost use Rattle.std.specs.Option.{option_map};
-ghost use Rattle.bq_disc.specs.Tasks.{with_id};
+ghost use Rattle.bq_disc.specs.Tasks.{find_task};
 ghost use Rattle.bq_disc.specs.Queues.{comes_after, follows};
 ghost use Rattle.bq_disc.specs.Chains.{task_of};
 ghost use Rattle.bq_disc.specs.Movable.{AddsMovable};
@@ -46,7 +46,7 @@ pub(crate) fn get_at(link: &Link, v: u64, id: u16) -> Option<&Node>
 
 /// The node with this id, wherever it is in the tree.
 pub(crate) fn find_id(link: &Link, id: u16) -> Option<&Node>
-    ensures { option_map (λ n. task_of n.now) result ≡ with_id id (in_order_behind link.now) }
+    ensures { option_map (λ n. task_of n.now) result ≡ find_task id (in_order_behind link.now) }
 {
     let Some(node) = link else {
         return None;

@@ -115,8 +115,8 @@ fn choices<Q: RunQueue>(queue: &Q, current: &Option<Entity>) -> Part {
 
 fn mark<Q: RunQueue>(queue: &mut Q, current: &Option<Entity>) -> u64 {
     match current {
-        None => queue.mark(None),
-        Some(entity) => queue.mark(Some(&node_of(entity))),
+        None => queue.update_mark(None),
+        Some(entity) => queue.update_mark(Some(&node_of(entity))),
     }
 }
 
@@ -256,6 +256,6 @@ pub(crate) fn perform<Q: RunQueue>(
 ) -> Answer {
     let answer = answered(rt, alloc, queue, current, command);
     let first = node_shown(queue.after(None));
-    let size = [queue.len() as i128, i128::from(queue.kept()), 0, 0, 0];
+    let size = [queue.len() as i128, i128::from(queue.mark()), 0, 0, 0];
     [answer, first, size]
 }

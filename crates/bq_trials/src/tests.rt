@@ -114,7 +114,7 @@ fn chooses<Q: RunQueue>(rt: &impl Abort, alloc: Global, queue: &mut Q, choice: &
     let (rows, chosen, mark) = *choice;
     fill(rt, alloc, queue, rows);
     is_task(rt, queue.choice(None), Some(chosen));
-    is_number(rt, queue.mark(None), mark);
+    is_number(rt, queue.update_mark(None), mark);
 }
 
 /// Puts 1,024 greatest tasks into a queue.
@@ -140,7 +140,7 @@ fn are_chosen_in_order<Q: RunQueue>(rt: &impl Abort, queue: &mut Q) {
 fn greatest_tasks_are_all_eligible<Q: RunQueue>(rt: &impl Abort, alloc: Global, queue: &mut Q) {
     fill_with_greatest(rt, alloc, queue);
     is_number(rt, queue.len() as u64, 1024);
-    is_number(rt, queue.mark(None), 1 << 62);
+    is_number(rt, queue.update_mark(None), 1 << 62);
     are_chosen_in_order(rt, queue);
 }
 
@@ -216,7 +216,7 @@ fn gives_way<Q: RunQueue>(rt: &impl Abort, queue: &mut Q, node: &mut Node) {
     queue.charge(node, 1);
     is_true(rt, queue.wants_preempt(node));
     is_task(rt, queue.next(node), Some(2));
-    is_number(rt, queue.mark(Some(node)), 4294967296);
+    is_number(rt, queue.update_mark(Some(node)), 4294967296);
 }
 
 /// Task 1 runs beside task 2.
@@ -228,15 +228,15 @@ fn gives_way_to_one<Q: RunQueue>(rt: &impl Abort, alloc: Global, queue: &mut Q) 
 /// A queue without others has its mark at the task that has run.
 fn mark_follows<Q: RunQueue>(rt: &impl Abort, queue: &mut Q, node: &mut Node) {
     queue.charge(node, 10_000_000);
-    is_number(rt, queue.mark(Some(node)), 4325534460);
+    is_number(rt, queue.update_mark(Some(node)), 4325534460);
 }
 
 /// And it keeps it.
 fn mark_stays<Q: RunQueue>(rt: &impl Abort, queue: &mut Q, node: &mut Node) {
     queue.charge(node, (1 << 48) - 1);
     is_number(rt, node.entity.v(), 281479271677951);
-    is_number(rt, queue.mark(Some(node)), 281479271677951);
-    is_number(rt, queue.mark(None), 281479271677951);
+    is_number(rt, queue.update_mark(Some(node)), 281479271677951);
+    is_number(rt, queue.update_mark(None), 281479271677951);
 }
 
 fn marks_of_a_task_alone<Q: RunQueue>(rt: &impl Abort, queue: &mut Q) {

@@ -64,7 +64,7 @@ struct Learnt {
     relation: Relation,
 }
 
-/// Visits a slot where something is known. Answers whether an abstract state is transferred on to the next slot.
+/// Visits a slot where something is known. The result says whether an abstract state is transferred on to the next slot.
 pub fn visit(
     alloc: Global,
     subject: &SubjectView,

@@ -49,7 +49,7 @@ impl KnownStates {
     }
 }
 
-/// Answers what is known of registers and stack in every run that reaches a slot, before its instruction, for each slot
+/// What is known of registers and stack in every run that reaches a slot, before its instruction, for each slot
 /// up to `until`.
 ///
 /// Nothing is known at a slot if the control graph has a fault, if the verifier stops at an earlier slot, or if no way

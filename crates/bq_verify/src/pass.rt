@@ -67,7 +67,7 @@ fn pass(
     Ok(())
 }
 
-/// Does one slot. Answers whether an abstract state is transferred on to the next slot.
+/// Does one slot. The result says whether an abstract state is transferred on to the next slot.
 pub(crate) fn pass_slot(
     alloc: Global,
     subject: &SubjectView,

@@ -21,7 +21,7 @@ impl PolicyForm {
     ghost use Rattle.std.specs.Prelude.{◌≡◌};
     ghost use Rattle.bq_verify.specs.Subjects.{context_size_of};
 
-    /// Answers how many bytes the context of the policy has.
+    /// How many bytes the context of the policy has.
     pub fn context_length(&self) -> usize
         ensures { result ≡ context_size_of self.now }
     {

@@ -89,7 +89,7 @@ impl Verified {
         self.form.version
     }
 
-    /// Answers how many instructions a run executes at most: those on the longest path to an EXIT.
+    /// How many instructions a run executes at most: those on the longest path to an EXIT.
     pub fn budget(&self) -> u32
         ensures { result ≡ self.now.budget }
     {

@@ -27,7 +27,7 @@ pub fn nothing_waits(
     Ok(pending)
 }
 
-/// Joins the abstract state that waits at the slot into the one that is transferred to the slot. Answers whether
+/// Joins the abstract state that waits at the slot into the one that is transferred to the slot. The result says whether
 /// anything is known there.
 pub fn arrive(
     shapes: &[MapShape],
@@ -47,7 +47,7 @@ pub fn arrive(
 }
 
 /// Joins the state that waits, if one does, into `state`; replaces `state` by it if nothing is known so far (`live` is false).
-/// Answers whether anything is known then.
+/// The result says whether anything is known then.
 fn take_over(
     shapes: &[MapShape],
     state: &mut AbstractState,

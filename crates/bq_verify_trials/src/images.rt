@@ -3,7 +3,7 @@
 
 use crate::asserting::{are_bytes, is_number, is_true};
 use bq_hooks::{Hook, Version};
-use bq_insn::fault::Cause as Code;
+use bq_insn::fault::DecodeCause;
 use bq_load::{Image, LoadFault, load, read_image, write_image};
 use bq_transfer::obligation::Obligation;
 use bq_verify::{Cause, GraphCause};
@@ -69,7 +69,7 @@ pub fn budget(alloc: Global, bytes: &[u8]) -> Result<u32, LoadFault> {
 enum Answer {
     Budget(u32),
     Fault(LoadFault),
-    Code(usize, Code),
+    Decode(usize, DecodeCause),
     Graph(usize, GraphCause),
     State(usize, Obligation),
 }
@@ -83,7 +83,7 @@ fn result(answer: Answer) -> Result<u32, LoadFault> {
     match answer {
         Answer::Budget(budget) => Ok(budget),
         Answer::Fault(fault) => Err(fault),
-        Answer::Code(slot, cause) => Err(LoadFault::Decode { slot, cause }),
+        Answer::Decode(slot, cause) => Err(LoadFault::Decode { slot, cause }),
         Answer::Graph(slot, cause) => refused(slot, Cause::Graph(cause)),
         Answer::State(slot, obligation) => refused(slot, Cause::State(obligation)),
     }
@@ -195,8 +195,8 @@ static CHANGES_OF_A_HEADER: [Change; 14] = [
     (6, 1, Answer::Fault(LoadFault::Shape)),
     (8, 1, Answer::Fault(LoadFault::Rest)),
     (8, 3, Answer::Fault(LoadFault::Cut)),
-    (24, 1, Answer::Code(1, Code::Field)),
-    (20, 0, Answer::Code(1, Code::Opcode)),
+    (24, 1, Answer::Decode(1, DecodeCause::Field)),
+    (20, 0, Answer::Decode(1, DecodeCause::Opcode)),
 ];
 
 #[test]
@@ -236,12 +236,12 @@ const EXIT: [u8; 8] = [0x95, 0, 0, 0, 0, 0, 0, 0];
 
 /// Slots that the header tells, moves that there are, what stands behind them, and the answer.
 static LENGTHS: [(u16, u16, &[u8], Answer); 6] = [
-    (0, 0, &[], Answer::Code(0, Code::Length)),
+    (0, 0, &[], Answer::Decode(0, DecodeCause::Length)),
     (5000, 0, &[], Answer::Fault(LoadFault::Cut)),
-    (5000, 5000, &[], Answer::Code(0, Code::Length)),
+    (5000, 5000, &[], Answer::Decode(0, DecodeCause::Length)),
     (5000, 5000, &[0], Answer::Fault(LoadFault::Rest)),
     (4096, 4095, &EXIT, Answer::Budget(4096)),
-    (4097, 4096, &EXIT, Answer::Code(0, Code::Length)),
+    (4097, 4096, &EXIT, Answer::Decode(0, DecodeCause::Length)),
 ];
 
 #[test]

@@ -2,7 +2,7 @@
 ghost use Rattle.std.specs.Prelude.{◌≤◌};
 
 use crate::images::{COUNTING, Moves, ZERO, ZERO_CUT, budget, bytes_of};
-use bq_insn::fault::Cause as Code;
+use bq_insn::fault::DecodeCause;
 use bq_load::{ImageReader, LoadFault, read_image};
 use std::alloc::Global;
 use std::process::Abort;
@@ -117,7 +117,7 @@ fn a_program_that_is_too_long_is_counted(rt: HostRuntime) {
 fn is_too_long(rt: &impl Abort, alloc: Global, image: &[u8]) {
     let fault = LoadFault::Decode {
         slot: 0,
-        cause: Code::Length,
+        cause: DecodeCause::Length,
     };
     for size in [1000, 4096, 40012] {
         ends_by(rt, fed(rt, alloc, image, size), fault);

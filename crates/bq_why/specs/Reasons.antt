@@ -5,7 +5,7 @@ use Rattle.bq_hooks.specs.declared.settled.By.{By}
 use Rattle.bq_hooks.specs.declared.settled.By.TheVariants as who
 use Rattle.bq_words.specs.declared.rule.Rule.{Rule}
 use Rattle.bq_words.specs.declared.rule.Rule.TheVariants.{Cfs, Eevdf}
-use Rattle.bq_disc.specs.Tasks.{Task, with_id}
+use Rattle.bq_disc.specs.Tasks.{Task, find_task}
 use Rattle.bq_cfs.specs.Cfs.{cfs}
 use Rattle.bq_eevdf.specs.Eevdf.{eevdf}
 use Rattle.bq_why.specs.declared.reasons.Reason.{Reason}
@@ -29,12 +29,12 @@ cfs_reason_of former l r = Other
 -- the task that ran before, if it is still there
 abbrev pub former_of : Option ℕ → List Task → Option Task
 former_of None xs = None
-former_of (Some id) xs = with_id id xs
+former_of (Some id) xs = find_task id xs
 
 -- the rule's reason, by the tasks that are there, the task that ran before and the running one
 abbrev pub rule_reason_of : Rule → Option ℕ → ℕ → List Task → Reason
 rule_reason_of Eevdf was run xs = eevdf_reason_of run (eevdf.choice xs)
-rule_reason_of Cfs was run xs = cfs_reason_of (former_of was xs) (cfs.choice xs) (with_id run xs)
+rule_reason_of Cfs was run xs = cfs_reason_of (former_of was xs) (cfs.choice xs) (find_task run xs)
 
 -- the reason, by who chose: it names a policy exactly when a policy made the choice
 abbrev pub reason_of : Rule → By → Option ℕ → Option ℕ → List Task → Reason

@@ -14,7 +14,7 @@ pub const NOT_READ_ON: &str =
 
 /// Why a line is bad.
 #[derive(Clone, Copy)]
-pub enum Fault<'a> {
+pub enum LineFault<'a> {
     /// The line has more than 131,072 bytes.
     TooLong,
     /// The line has a byte that is neither printable ASCII nor a tab.
@@ -32,28 +32,28 @@ pub enum Fault<'a> {
 }
 
 /// Why a bad line is bad. `line` is `None` if it is too long. `is_open` says whether the machine is made.
-pub fn why_bad(line: Option<&[u8]>, is_open: bool) -> Fault<'_> {
+pub fn why_bad(line: Option<&[u8]>, is_open: bool) -> LineFault<'_> {
     let Some(line) = line else {
-        return Fault::TooLong;
+        return LineFault::TooLong;
     };
     if !is_allowed_line(line) {
-        return Fault::Byte;
+        return LineFault::Byte;
     }
     let Some((name, rest)) = next_word(line) else {
-        return Fault::NoMachine;
+        return LineFault::NoMachine;
     };
     let Some(keyword) = Keyword::of_word(name) else {
-        return Fault::Name(name);
+        return LineFault::Name(name);
     };
     match word_fault(keyword, rest) {
         Some(fault) => fault,
-        None if is_open => Fault::Again,
-        None => Fault::NoMachine,
+        None if is_open => LineFault::Again,
+        None => LineFault::NoMachine,
     }
 }
 
 /// What is wrong with the words after a keyword: their number, or the first word that does not fit. `None` if nothing is.
-fn word_fault(keyword: Keyword, operands: &[u8]) -> Option<Fault<'_>> {
+fn word_fault(keyword: Keyword, operands: &[u8]) -> Option<LineFault<'_>> {
     let kinds = operands_of(keyword);
     let mut rest = operands;
     let mut misfit = None;
@@ -61,7 +61,7 @@ fn word_fault(keyword: Keyword, operands: &[u8]) -> Option<Fault<'_>> {
     'words: while let Some((word, more)) = next_word(rest) {
         if let Some(kind) = kinds.get(count) {
             if misfit.is_none() && !kind.fits(word) {
-                misfit = Some(Fault::Word { word, kind: *kind });
+                misfit = Some(LineFault::Word { word, kind: *kind });
             }
         }
         count = count.saturating_add(1);
@@ -70,13 +70,16 @@ fn word_fault(keyword: Keyword, operands: &[u8]) -> Option<Fault<'_>> {
     if count == kinds.len() {
         misfit
     } else {
-        Some(Fault::Count { keyword, count })
+        Some(LineFault::Count { keyword, count })
     }
 }
 
 /// The keyword that is near an unknown one, if the fault is that, and one is near.
-pub fn meant_keyword(alloc: Global, fault: &Fault<'_>) -> Result<Option<&'static str>, AllocError> {
-    let Fault::Name(name) = fault else {
+pub fn meant_keyword(
+    alloc: Global,
+    fault: &LineFault<'_>,
+) -> Result<Option<&'static str>, AllocError> {
+    let LineFault::Name(name) = fault else {
         return Ok(None);
     };
     let Ok(name) = str::from_utf8(beginning(name)) else {
@@ -162,22 +165,22 @@ impl fmt::Display for Quoted<'_> {
     }
 }
 
-impl fmt::Display for Fault<'_> {
+impl fmt::Display for LineFault<'_> {
     fn fmt<W: fmt::Write>(&self, f: &mut fmt::Formatter<W>) -> fmt::Result {
         match self {
-            Fault::TooLong => write!(f, "a line has at most {LONGEST} bytes"),
-            Fault::Byte => f.write_str("a byte is neither printable ASCII nor a tab"),
-            Fault::Name(name) => {
+            LineFault::TooLong => write!(f, "a line has at most {LONGEST} bytes"),
+            LineFault::Byte => f.write_str("a byte is neither printable ASCII nor a tab"),
+            LineFault::Name(name) => {
                 let name = Quoted(name);
                 write!(f, "{name} is no command")
             }
-            Fault::Count { keyword, count } => {
+            LineFault::Count { keyword, count } => {
                 let name = keyword.word();
                 let wanted = WordCount(operands_of(*keyword).len());
                 let (count, shape) = (WordCount(*count), LineShape(*keyword));
                 write!(f, "{name} takes {wanted}, and has {count}: {shape}")
             }
-            Fault::Word { word, kind } => {
+            LineFault::Word { word, kind } => {
                 let quoted = Quoted(word);
                 if kind.has_form(word) {
                     write!(f, "{quoted} {kind}")
@@ -185,8 +188,8 @@ impl fmt::Display for Fault<'_> {
                     write!(f, "{quoted} {}", kind.formless())
                 }
             }
-            Fault::Again => f.write_str("the machine is made already"),
-            Fault::NoMachine => f.write_str(NOT_READ_ON),
+            LineFault::Again => f.write_str("the machine is made already"),
+            LineFault::NoMachine => f.write_str(NOT_READ_ON),
         }
     }
 }

@@ -1,6 +1,6 @@
 //! Why the running task runs.
 ghost use Rattle.std.specs.Prelude.{◌≡◌, ◌≤◌, length};
-ghost use Rattle.bq_disc.specs.Tasks.{with_id};
+ghost use Rattle.bq_disc.specs.Tasks.{find_task};
 ghost use Rattle.bq_why.specs.Reasons.{reason_of, cfs_reason_of, least_reason_of, eevdf_reason_of};
 
 use crate::choices::choice;
@@ -96,7 +96,7 @@ fn least_reason(former: Option<Entity>, least: &Entity) -> Reason
 
 /// The task with this id, if it is there.
 pub(crate) fn with_number(tasks: &[Entity], id: u16) -> Option<Entity>
-    ensures { result ≡ with_id id tasks.now }
+    ensures { result ≡ find_task id tasks.now }
 {
     tasks.iter().copied().find(|task| task.id() == id)
 }

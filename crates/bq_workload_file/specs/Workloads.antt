@@ -17,8 +17,8 @@ use Rattle.bq_workload.specs.declared.setup.Setup.{Setup}
 use Rattle.bq_workload.specs.declared.workload.TaskKind.{TaskKind}
 use Rattle.bq_workload.specs.declared.workload.Workload.{Workload}
 use Rattle.bq_workload_file.specs.declared.changes.Changes.{Changes}
-use Rattle.bq_workload_file.specs.declared.fault.Fault.{Fault}
-use Rattle.bq_workload_file.specs.declared.fault.Fault.TheVariants.{Syntax, Meaning, OutOfMemory}
+use Rattle.bq_workload_file.specs.declared.fault.WorkloadFault.{WorkloadFault}
+use Rattle.bq_workload_file.specs.declared.fault.WorkloadFault.TheVariants.{Syntax, Meaning, OutOfMemory}
 use Rattle.bq_workload_file.specs.Fields.{or_default, span_in, number_in, rule_in, size_in, loops_of, read_nice, read_mask, name_in_members}
 use Rattle.bq_workload_file.specs.Keys.{document_keys, first_unknown, machine_keys, task_keys}
 use Rattle.bq_workload_file.specs.Lengths.{read_length}
@@ -140,7 +140,7 @@ DescribesWorkload text c w = (document : Members) × (parse_document text ≡ So
 
 -- a text is reported as no TOML only if it is not TOML, at the place of one of its bytes or of its end; it is reported as no
 -- workload only if it is TOML
-abbrev pub IsWorkloadFault : List ℕ → Fault → Type 0
+abbrev pub IsWorkloadFault : List ℕ → WorkloadFault → Type 0
 IsWorkloadFault text (Syntax line column message) = (parse_document text ≡ None) × IsTextPlace text line column
 IsWorkloadFault text (Meaning words) = IsSome (parse_document text)
 IsWorkloadFault text OutOfMemory = Unit {0}

@@ -15,7 +15,7 @@ use thiserror::Error;
 
 /// Why a text is no workload. After the name of its file, as `w.toml:14:9: ..` or `w.toml: [[task]] 2 (server): ..`.
 #[derive(Debug, Drop, Error)]
-pub enum Fault {
+pub enum WorkloadFault {
     /// It is no TOML: the line and the column, both from 1, and what is wrong there.
     #[error(":{line}:{column}: {message}")]
     Syntax {
@@ -30,29 +30,29 @@ pub enum Fault {
     OutOfMemory,
 }
 
-impl From<AllocError> for Fault {
-    fn from(_e: AllocError) -> Fault {
-        Fault::OutOfMemory
+impl From<AllocError> for WorkloadFault {
+    fn from(_e: AllocError) -> WorkloadFault {
+        WorkloadFault::OutOfMemory
     }
 }
 
 /// Where a text is no TOML, and why.
-pub(crate) fn syntax(alloc: Global, text: &str, error: &toml::de::Error) -> Fault
+pub(crate) fn syntax(alloc: Global, text: &str, error: &toml::de::Error) -> WorkloadFault
     requires { ¬ IsMemory error.now → parse_document text.now ≡ None }
     ensures { IsWorkloadFault text.now result }
 {
     let at = match error.span() {
         Some(span) => span.start.min(text.len()),
-        None => return Fault::OutOfMemory,
+        None => return WorkloadFault::OutOfMemory,
     };
     let (line, column) = position(&text.as_bytes()[..at]);
     match String::from_str(alloc, error.message()) {
-        Ok(message) => Fault::Syntax {
+        Ok(message) => WorkloadFault::Syntax {
             line,
             column,
             message,
         },
-        Err(_) => Fault::OutOfMemory,
+        Err(_) => WorkloadFault::OutOfMemory,
     }
 }
 
@@ -96,7 +96,7 @@ pub(crate) fn meaning(
     alloc: Global,
     place: &Location<'_>,
     why: &Why<'_>,
-) -> Result<Fault, AllocError>
+) -> Result<WorkloadFault, AllocError>
     ensures { IfOk result (λ fault. (text : List ℕ) → IsSome (parse_document text) → IsWorkloadFault text fault) }
 {
     let mut text = String::new(alloc);
@@ -111,7 +111,7 @@ pub(crate) fn meaning(
         (None, Why::UnknownKey { known, .. }) => add_keys(&mut text, known)?,
         (None, _) => {}
     }
-    Ok(Fault::Meaning(text))
+    Ok(WorkloadFault::Meaning(text))
 }
 
 /// Adds which keys there are.

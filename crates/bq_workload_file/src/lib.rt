@@ -18,5 +18,5 @@ mod why;
 mod workloads;
 
 pub use changes::Changes;
-pub use fault::Fault;
+pub use fault::WorkloadFault;
 pub use workloads::read;

@@ -11,7 +11,7 @@ ghost use Rattle.bq_workload_file.specs.Workloads.{AreKinds, AreTableNames, AreO
 use crate::actions;
 use crate::blame::{Location, Trouble};
 use crate::changes::Changes;
-use crate::fault::{Fault, meaning, syntax};
+use crate::fault::{WorkloadFault, meaning, syntax};
 use crate::fields::name;
 use crate::kinds::{Processors, kind};
 use crate::setup::{absent, setup};
@@ -27,7 +27,7 @@ static DOCUMENT: [&str; 2] = ["machine", "task"];
 
 /// The workload that a text describes, on its machine with these changes. A text is called no TOML only if it is not TOML.
 /// The loop can follow it to its end, unless a machine may not have a changed duration.
-pub fn read(alloc: Global, text: &str, changes: Changes) -> Result<Workload, Fault>
+pub fn read(alloc: Global, text: &str, changes: Changes) -> Result<Workload, WorkloadFault>
     ensures describes { IfOk result (DescribesWorkload text.now changes) }
     ensures sound { IfSome changes.duration (λ d. is_long d ≡ true) → IfOk result (λ w. first_flaw w ≡ None) }
     ensures fault { IfErr result (IsWorkloadFault text.now) }
@@ -57,14 +57,14 @@ pub fn read(alloc: Global, text: &str, changes: Changes) -> Result<Workload, Fau
 }
 
 /// The fault that a trouble is reported as.
-fn reported(alloc: Global, trouble: &Trouble<'_>) -> Fault
+fn reported(alloc: Global, trouble: &Trouble<'_>) -> WorkloadFault
     ensures { (text : List ℕ) → IsSome (parse_document text) → IsWorkloadFault text result }
 {
     match trouble {
-        Trouble::OutOfMemory => Fault::OutOfMemory,
+        Trouble::OutOfMemory => WorkloadFault::OutOfMemory,
         Trouble::At { place, why } => match meaning(alloc, place, why) {
             Ok(fault) => fault,
-            Err(_) => Fault::OutOfMemory,
+            Err(_) => WorkloadFault::OutOfMemory,
         },
     }
 }

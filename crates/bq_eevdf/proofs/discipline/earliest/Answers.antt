@@ -8,7 +8,7 @@ use Rattle.bq_eevdf.proofs.discipline.earliest.Goals as goal
 pub returns : goal.returns
 returns g c =
     let t = task_of c.in-Some.node.now in
-    let xs = g.T.Timeline.tasks c.args.queue.now in
+    let xs = g.T.TaskOrder.tasks c.args.queue.now in
     let all = c.considered-all.result in
     let sums = rw c.in-Some.is at (c.considered-all.ensures.sums xs c.totals.ensures.sums) in
     let here : is_at_most_mean all.weight all.moment t ≡ true = cc in

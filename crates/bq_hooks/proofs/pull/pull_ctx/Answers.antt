@@ -1,7 +1,7 @@
 use Rattle.std.proofs.Common.{◌≡◌, ℕ, List, Option, length, refl, ap, sym, ◌∙◌, slice_get, arith}
 use Rattle.std.proofs.lemmas.List.{append-nil}
 use Rattle.std.specs.Prelude.{option_and_then}
-use Rattle.bq_disc.specs.Tasks.{Task, with_id}
+use Rattle.bq_disc.specs.Tasks.{Task, find_task}
 use Rattle.bq_disc.specs.Movable.{movable_to}
 use Rattle.bq_hooks.specs.Contexts.{PullFacts, pull_header}
 use Rattle.bq_hooks.proofs.PullByteLemmas.{pull_header_filled, task_filled, pull_filled}
@@ -46,7 +46,7 @@ loop-at-preserved g c =
     let shown =
     shown_at queue movable 8 c.loop-at.at (movable_found c.args.facts.now.puller queue c.requires.distinct)
     c.loop-at-test.true in
-    let at_id : List ℕ → Option Task = λ xs. option_and_then (λ id. with_id id queue) (slice_get xs c.loop-at.at) in
+    let at_id : List ℕ → Option Task = λ xs. option_and_then (λ id. find_task id queue) (slice_get xs c.loop-at.at) in
     let named : at_id c.as_slice.result.now ≡ slice_get movable c.loop-at.at =
     ap at_id (c.as_slice.ensures.value ∙ c.movable-movable.ensures.first) ∙ shown in
     let task = ◌∙◌ {b = at_id c.as_slice.result.now} c.shown-task.ensures named in

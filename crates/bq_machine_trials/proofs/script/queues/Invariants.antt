@@ -3,4 +3,4 @@ use Rattle.std.specs.List.{All}
 use Rattle.bq_machine_trials.proofs.script.queues.Given as goal
 
 abbrev pub invariant-queues : goal.invariant-queues
-invariant-queues l = (vec_len l.queues ≡ l.counter) × All (λ q. (q.queue.members ≡ []) × (q.queue.kept ≡ 2 ^ 32)) l.queues.items
+invariant-queues l = (vec_len l.queues ≡ l.counter) × All (λ q. (q.queue.members ≡ []) × (q.queue.mark ≡ 2 ^ 32)) l.queues.items

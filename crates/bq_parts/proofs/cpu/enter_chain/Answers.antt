@@ -1,6 +1,6 @@
 use Rattle.std.proofs.Common.{◌∙◌, arith}
 use Rattle.bq_disc.specs.Chains.{task_of}
-use Rattle.bq_parts.proofs.CountLemmas.{with_id-absent, one_self, count_of-place}
+use Rattle.bq_parts.proofs.CountLemmas.{find_task-absent, one_self, count_of-inserted}
 use Rattle.bq_parts.proofs.cpu.enter_chain.Goals as goal
 
 pub insert-requires-clause-fresh : goal.insert-requires-clause-fresh
@@ -8,7 +8,7 @@ insert-requires-clause-fresh g c =
     let t = task_of c.in-Some.node.value in
     let new = rw c.deref_mut.ensures.value at c.enter.ensures.task in
     let apart = rw c.in-Some.ensures.tasks at (c.loop-node.invariant.apart t.id) in
-    rw new (with_id-absent t.id _ (omega (arith, apart, one_self t)))
+    rw new (find_task-absent t.id _ (omega (arith, apart, one_self t)))
 
 pub loop-node-preserved : goal.loop-node-preserved
 loop-node-preserved g c =
@@ -20,6 +20,6 @@ loop-node-preserved g c =
           rw (c.insert.ensures.members, new, c.loop-node.invariant.same_mark)
           (rw c.in-Some.ensures.tasks at c.loop-node.invariant.goes_on);
       apart = λ id.
-          rw (c.insert.ensures.members, new, count_of-place)
+          rw (c.insert.ensures.members, new, count_of-inserted)
           (omega (arith, rw c.in-Some.ensures.tasks at (c.loop-node.invariant.apart id)));
     }

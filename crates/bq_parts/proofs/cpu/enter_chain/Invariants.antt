@@ -7,13 +7,13 @@ use Rattle.bq_parts.proofs.cpu.enter_chain.Given as goal
 abbrev pub invariant-loop-node : goal.invariant-loop-node
 invariant-loop-node g l =
     let members = g.Q.RunQueue.members in
-    let kept = g.Q.RunQueue.kept_mark in
+    let mark = g.Q.RunQueue.last_mark in
     let d = g.Q.R.Discipline.discipline in
     record {
       straight : IsStraightBehind l.rest;
-      same_mark : kept l.queue ≡ kept l.fn.queue;
-      goes_on : entered d (kept l.fn.queue) (members l.queue) (chain_behind l.rest)
-          ≡ entered d (kept l.fn.queue) (members l.fn.queue) (chain_behind l.fn.tasks);
+      same_mark : mark l.queue ≡ mark l.fn.queue;
+      goes_on : entered d (mark l.fn.queue) (members l.queue) (chain_behind l.rest)
+          ≡ entered d (mark l.fn.queue) (members l.fn.queue) (chain_behind l.fn.tasks);
       apart : (id : ℕ) → count_of_id id (members l.queue) + count_of_id id (chain_behind l.rest) ≤ 1;
     }
 

@@ -28,7 +28,7 @@ over-requires-clause-mark g c =
     let turn =
     YieldsList-turn e c.loop-queue.yielded c.loop-queue.queue-iterator c.loop-queue.yielded_by c.next.result c.next.new.self
     c.in-Some.queue c.in-Some.is c.next.ensures.steps in
-    ap g.Q.RunQueue.kept_mark turn.1 ∙ (c.requires.empty (length c.loop-queue.yielded) c.in-Some.queue turn.0).1
+    ap g.Q.RunQueue.last_mark turn.1 ∙ (c.requires.empty (length c.loop-queue.yielded) c.in-Some.queue turn.0).1
 
 pub open-requires-clause-item : goal.open-requires-clause-item
 open-requires-clause-item g c =

@@ -4,4 +4,4 @@ use Rattle.bq_recording.proofs.queues.no_tasks.Given as goal
 
 abbrev pub invariant-queues : goal.invariant-queues
 invariant-queues g l =
-    (vec_len l.queues ≡ l.counter) × All (λ q. (g.Q.RunQueue.members q ≡ []) × (g.Q.RunQueue.kept_mark q ≡ 2 ^ 32)) l.queues.items
+    (vec_len l.queues ≡ l.counter) × All (λ q. (g.Q.RunQueue.members q ≡ []) × (g.Q.RunQueue.last_mark q ≡ 2 ^ 32)) l.queues.items

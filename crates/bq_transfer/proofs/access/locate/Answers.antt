@@ -29,9 +29,6 @@ returns-clause-there c = λ kind place placed.
     (λ e. c.alu-at.ensures.single_low e single) (λ e. c.alu-at.ensures.single_high e single) in
     (found.0, found.1, found.2)
 
-pub returns-then-bound-gt65536-clause-accepts : goal.returns-then-bound-gt65536-clause-accepts
-returns-then-bound-gt65536-clause-accepts c = λ kind place placed. absurd (omega (arith, c.in-Some-bound.ensures.small c.requires.context))
-
 pub returns-then-not-stays-clause-accepts : goal.returns-then-not-stays-clause-accepts
 returns-then-not-stays-clause-accepts c = λ kind place placed.
     let distance : c.word_of_distance.result ≡ word_of c.args.access.off = search rules in

@@ -1,6 +1,6 @@
 use Rattle.std.proofs.Common.{◌+◌, ◌<◌, ◌≤◌, ◌∙◌, sym, ap, arith, subst, length, map, inr, drop, Ok, Err}
 use Rattle.std.proofs.lemmas.List.{take_at}
-use Rattle.bq_asm.specs.declared.fault.Cause.TheVariants.{LabelMissing}
+use Rattle.bq_asm.specs.declared.fault.AssemblyCause.TheVariants.{LabelMissing}
 use Rattle.bq_asm.specs.declared.fault.AsmFault.TheVariants.{At}
 use Rattle.bq_asm.specs.Draft.{Fails}
 use Rattle.bq_asm.specs.Assembly.{places_from, AssemblesFrom}

@@ -1,6 +1,6 @@
 use Rattle.std.proofs.Common.{◌∙◌, sym, ap, refl, true, false, is_some, map, subst, List, Some, ◌≡◌}
 use Rattle.indexmap.proofs.CallerLemmas.{insert_entry-new}
-use Rattle.bq_asm.specs.declared.fault.Cause.TheVariants.{LabelTwice}
+use Rattle.bq_asm.specs.declared.fault.AssemblyCause.TheVariants.{LabelTwice}
 use Rattle.bq_asm.specs.Draft.{IsDraftOf, RefusesLine}
 use Rattle.bq_asm.specs.Lines.{Line, Label}
 use Rattle.bq_asm.specs.Faults.{labels_in, cause_at_line}

@@ -1,7 +1,7 @@
 use Rattle.std.proofs.Common.{◌≡◌, ◌≤◌, ◌<◌, ◌+◌, ◌∙◌, sym, ap, subst, refl, arith, length, map, List, Some, ◌++◌}
 use Rattle.std.specs.Prelude.{pos, Ok}
 use Rattle.bq_insn.specs.Slots.{slots_of}
-use Rattle.bq_asm.specs.declared.fault.Cause.TheVariants.{Slots}
+use Rattle.bq_asm.specs.declared.fault.AssemblyCause.TheVariants.{Slots}
 use Rattle.bq_asm.specs.Draft.{IsDraftOf, RefusesLine}
 use Rattle.bq_asm.specs.Lines.{Line, Instruction}
 use Rattle.bq_asm.specs.Operands.{word_texts, instruction_of}

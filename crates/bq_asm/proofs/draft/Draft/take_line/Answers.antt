@@ -4,7 +4,7 @@ use Rattle.bq_asm.specs.Lines.{words_between_blanks, line_of_words, parsed_line,
 use Rattle.bq_asm.specs.Operands.{word_texts}
 use Rattle.bq_asm.specs.Draft.{IsDraftOf, TakesLine, RefusesLine}
 use Rattle.bq_asm.specs.Faults.{cause_at_line}
-use Rattle.bq_asm.specs.declared.fault.Cause.TheVariants.{Word}
+use Rattle.bq_asm.specs.declared.fault.AssemblyCause.TheVariants.{Word}
 use Rattle.bq_asm.proofs.DraftLemmas.{many_words}
 use Rattle.bq_asm.proofs.draft.Draft.take_line.Goals as goal
 

@@ -5,8 +5,8 @@ use Rattle.bq_disc.proofs.discipline.Discipline.pull.Goals as goal
 pub returns : goal.returns
 returns g c =
     let found = c.movable-found.ensures in
-    let enough : 2 ≤ c.args.from - c.args.size = omega (arith, c.saturating_sub.ensures, c.if-saturating_sub-lt-WORTH_A_PULL.false) in
+    let enough : 2 ≤ c.args.source_size - c.args.puller_size = omega (arith, c.saturating_sub.ensures, c.if-saturating_sub-lt-WORTH_A_PULL.false) in
     let named =
-    pulls_first_named c.args.processor c.args.size c.args.from _ c.deref.result.now enough found.rising
+    pulls_first_named c.args.processor c.args.puller_size c.args.source_size _ c.deref.result.now enough found.rising
     (c.deref.ensures.0 ∙ found.first) in
     c.copied.ensures ∙ c.first.ensures.value ∙ named

@@ -10,11 +10,11 @@ choose_pull-pulled-requires-clause-few g c =
 
 pub choose_pull-pulled-requires-clause-few_from : goal.choose_pull-pulled-requires-clause-few_from
 choose_pull-pulled-requires-clause-few_from g c =
-    rw c.remark.ensures (source_within_lobby c.args.self.now.running c.args.source.now.running c.requires.once c.requires.ids)
+    rw c.update_mark.ensures (source_within_lobby c.args.self.now.running c.args.source.now.running c.requires.once c.requires.ids)
 
 pub choose_pull-pulled-requires-clause-distinct : goal.choose_pull-pulled-requires-clause-distinct
 choose_pull-pulled-requires-clause-distinct g c =
-    rw c.remark.ensures (source_distinct c.args.self.now.running c.args.source.now.running c.requires.once)
+    rw c.update_mark.ensures (source_distinct c.args.self.now.running c.args.source.now.running c.requires.once)
 
 pub take_task-run-requires : goal.take_task-run-requires
 take_task-run-requires g c =
@@ -27,5 +27,5 @@ take_task-run-requires g c =
     ap (λ (x : Processor). x.running.queue)
     (c.choose_pull-pulled.ensures.rest
     ∙ ap (λ (x : Processor). record x { hooks = record x.hooks { pull = c.choose_pull-pulled.new.self.hooks.pull } }) c.charge.ensures) in
-    let source = c.remark.ensures in
+    let source = c.update_mark.ensures in
     record { fresh = rw (source, queue) free }

@@ -1,5 +1,5 @@
 use Rattle.std.proofs.Common.{◌≡◌, Some, ap, sym, ◌∙◌}
-use Rattle.bq_disc.specs.Tasks.{without, place}
+use Rattle.bq_disc.specs.Tasks.{without, inserted}
 use Rattle.bq_disc.specs.Chains.{task_of}
 use Rattle.bq_disc.specs.OneProcessor.{Running}
 use Rattle.bq_disc.proofs.QueueLemmas.{without-absent}
@@ -55,7 +55,7 @@ returns-in-Some-replace g c =
     let next = next_is_other d t p.running.queue id (rw (c.node.ensures, queue) at c.in-Some-next.ensures) in
     let old : c.in-Some-replace.current ≡ t = cc in
     let exchanged =
-    ap (λ (q : Processor). record q { running = record q.running { current = Some n; queue = place t (without id q.running.queue) } })
+    ap (λ (q : Processor). record q { running = record q.running { current = Some n; queue = inserted t (without id q.running.queue) } })
     c.self.view_is in
     rw (
       c.insert.ensures.members,

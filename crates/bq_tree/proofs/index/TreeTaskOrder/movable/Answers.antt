@@ -1,7 +1,7 @@
 use Rattle.std.proofs.Common.{arith}
 use Rattle.bq_tree.specs.Trees.{in_order_behind}
 use Rattle.bq_disc.proofs.QueueLemmas.{length-few}
-use Rattle.bq_tree.proofs.index.TreeTimeline.movable.Goals as goal
+use Rattle.bq_tree.proofs.index.TreeTaskOrder.movable.Goals as goal
 
 pub movable_into-requires-clause-few : goal.movable_into-requires-clause-few
 movable_into-requires-clause-few g c =

@@ -4,7 +4,7 @@ use Rattle.bq_disc.specs.Tasks.{Task, first_by, runs_before}
 use Rattle.bq_disc.specs.Queues.{key_of}
 use Rattle.bq_disc.specs.Chains.{chain_behind}
 use Rattle.bq_disc.proofs.RisingLemmas.{head-first_by}
-use Rattle.bq_disc.proofs.chain.ChainTimeline.least.Goals as goal
+use Rattle.bq_disc.proofs.chain.ChainTaskOrder.least.Goals as goal
 
 pub returns-in-None-clause-key : goal.returns-in-None-clause-key
 returns-in-None-clause-key c =

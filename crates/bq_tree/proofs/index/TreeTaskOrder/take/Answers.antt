@@ -1,12 +1,12 @@
 use Rattle.std.proofs.Common.{rules, ◌≡◌, ◌+◌, ◌-◌, ◌∷◌, List, Some, None, length, length-append, ap, sym, ◌∙◌, arith}
-use Rattle.bq_disc.specs.Tasks.{Task, with_id, without}
+use Rattle.bq_disc.specs.Tasks.{Task, find_task, without}
 use Rattle.bq_disc.specs.Chains.{task_of}
 use Rattle.bq_tree.specs.Trees.{in_order_behind}
-use Rattle.bq_disc.proofs.QueueLemmas.{length-few, with_id-without_same}
+use Rattle.bq_disc.proofs.QueueLemmas.{length-few, find_task-without_same}
 use Rattle.bq_tree.proofs.HeightLemmas.{low_of_many}
 use Rattle.bq_tree.proofs.SoundLemmas.{Takes-id}
 use Rattle.bq_tree.proofs.IndexLemmas.{sound_taken, leads_on}
-use Rattle.bq_tree.proofs.index.TreeTimeline.take.Goals as goal
+use Rattle.bq_tree.proofs.index.TreeTaskOrder.take.Goals as goal
 
 pub take_from-requires : goal.take_from-requires
 take_from-requires g c =
@@ -41,12 +41,12 @@ returns-in_default g c =
     Takes-id c.time_of-v.result c.args.id (in_order_behind c.self.inside.root) None (in_order_behind c.take_from.new.link)
     c.self.invariant.distinct c.time_of-v.ensures c.in_default.ensures.taken in
     record {
-      taken = both.0 ∙ ap (λ (xs : List Task). with_id c.args.id xs) c.self.view_is;
+      taken = both.0 ∙ ap (λ (xs : List Task). find_task c.args.id xs) c.self.view_is;
       lone = search rules;
       rest = both.1 ∙ ap (λ (xs : List Task). without c.args.id xs) c.self.view_is;
       gone =
-          ap (λ (xs : List Task). with_id c.args.id xs) both.1
-          ∙ with_id-without_same c.args.id (in_order_behind c.self.inside.root) c.self.invariant.distinct;
+          ap (λ (xs : List Task). find_task c.args.id xs) both.1
+          ∙ find_task-without_same c.args.id (in_order_behind c.self.inside.root) c.self.invariant.distinct;
     }
 
 pub returns : goal.returns
@@ -55,10 +55,10 @@ returns g c =
     Takes-id c.time_of-v.result c.args.id (in_order_behind c.self.inside.root) (Some (task_of c.in-Some.taken.value))
     (in_order_behind c.take_from.new.link) c.self.invariant.distinct c.time_of-v.ensures c.in-Some.ensures.taken in
     record {
-      taken = both.0 ∙ ap (λ (xs : List Task). with_id c.args.id xs) c.self.view_is;
+      taken = both.0 ∙ ap (λ (xs : List Task). find_task c.args.id xs) c.self.view_is;
       lone = search rules;
       rest = both.1 ∙ ap (λ (xs : List Task). without c.args.id xs) c.self.view_is;
       gone =
-          ap (λ (xs : List Task). with_id c.args.id xs) both.1
-          ∙ with_id-without_same c.args.id (in_order_behind c.self.inside.root) c.self.invariant.distinct;
+          ap (λ (xs : List Task). find_task c.args.id xs) both.1
+          ∙ find_task-without_same c.args.id (in_order_behind c.self.inside.root) c.self.invariant.distinct;
     }

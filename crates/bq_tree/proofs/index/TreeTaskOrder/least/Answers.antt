@@ -4,7 +4,7 @@ use Rattle.bq_disc.specs.Tasks.{Task, first_by, runs_before}
 use Rattle.bq_disc.specs.Queues.{key_of}
 use Rattle.bq_tree.specs.Trees.{in_order_behind}
 use Rattle.bq_disc.proofs.RisingLemmas.{head-first_by}
-use Rattle.bq_tree.proofs.index.TreeTimeline.least.Goals as goal
+use Rattle.bq_tree.proofs.index.TreeTaskOrder.least.Goals as goal
 
 pub returns-clause-key : goal.returns-clause-key
 returns-clause-key g c =

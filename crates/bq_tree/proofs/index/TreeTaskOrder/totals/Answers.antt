@@ -2,7 +2,7 @@ use Rattle.std.proofs.Common.{ap, arith}
 use Rattle.bq_tree.specs.Trees.{in_order_behind}
 use Rattle.bq_disc.specs.declared.totals.Totals.{Totals}
 use Rattle.bq_disc.proofs.QueueLemmas.{length-few}
-use Rattle.bq_tree.proofs.index.TreeTimeline.totals.Goals as goal
+use Rattle.bq_tree.proofs.index.TreeTaskOrder.totals.Goals as goal
 
 pub returns-clause-few : goal.returns-clause-few
 returns-clause-few g c =

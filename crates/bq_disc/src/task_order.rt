@@ -1,7 +1,7 @@
 //! How tasks are held in the order of their virtual time.
 ghost use Rattle.std.specs.Prelude.{◌≡◌, ◌≤◌, ◌<◌, ◌^◌, List, [], length, None, IfSome, find, filter, take};
 ghost use Rattle.std.specs.Option.{option_map};
-ghost use Rattle.bq_disc.specs.Tasks.{Task, place, without, with_id, first_by, runs_before};
+ghost use Rattle.bq_disc.specs.Tasks.{Task, inserted, without, find_task, first_by, runs_before};
 ghost use Rattle.bq_disc.specs.Queues.{follows, key_of, HasDistinctIds, HasSmallIds};
 ghost use Rattle.bq_disc.specs.Rising.{IsRising};
 ghost use Rattle.bq_disc.specs.Movable.{movable_to, ids};
@@ -14,35 +14,35 @@ use crate::{Deadline, Movable, Node, Totals};
 
 /// Tasks with distinct ids, by rising (v, id). No call takes memory: nodes move.
 ///
-/// The plain timeline is `Chain`; a balanced tree answers as it does, but faster.
-pub trait Timeline {
+/// `Chain` keeps this order plainly; a balanced tree answers as it does, but faster.
+pub trait TaskOrder {
     /// The tasks in their order.
     ghost tasks: { Self → List Task };
 
-    /// A timeline without tasks.
+    /// An order without tasks.
     fn empty() -> Self
         ensures { tasks result ≡ [] };
 
-    /// Answers how many tasks are in the timeline.
+    /// How many tasks there are.
     fn len(&self) -> usize
         ensures { result ≡ length (tasks self.now) };
 
-    /// Puts a task in its place. No task of the timeline has the same (v, id).
+    /// Inserts a task where its (v, id) belongs. No task that is there has the same id.
     fn insert(&mut self, node: Box<Node>)
         requires lone { IsLone node.value }
-        requires fresh { with_id (task_of node.value).id (tasks self.old) ≡ None }
-        ensures { tasks self.new ≡ place (task_of node.value) (tasks self.old) };
+        requires fresh { find_task (task_of node.value).id (tasks self.old) ≡ None }
+        ensures { tasks self.new ≡ inserted (task_of node.value) (tasks self.old) };
 
     /// Takes out the task with this id, if it is there.
     fn take(&mut self, id: u16) -> Option<Box<Node>>
-        ensures taken { option_map (λ b. task_of b.value) result ≡ with_id id (tasks self.old) }
+        ensures taken { option_map (λ b. task_of b.value) result ≡ find_task id (tasks self.old) }
         ensures lone { IfSome result (λ b. IsLone b.value) }
         ensures rest { tasks self.new ≡ without id (tasks self.old) }
-        ensures gone { with_id id (tasks self.new) ≡ None };
+        ensures gone { find_task id (tasks self.new) ≡ None };
 
     /// The task with this id, if it is there.
     fn get(&self, id: u16) -> Option<&Node>
-        ensures task { option_map (λ n. task_of n.now) result ≡ with_id id (tasks self.now) }
+        ensures task { option_map (λ n. task_of n.now) result ≡ find_task id (tasks self.now) }
         ensures small { HasSmallIds (tasks self.now) };
 
     /// The task of least (v, id) above `last`; the task of least (v, id) of all if there is no `last`.

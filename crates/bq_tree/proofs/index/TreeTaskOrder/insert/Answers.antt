@@ -1,5 +1,5 @@
 use Rattle.std.proofs.Common.{rules, ◌≡◌, ◌<◌, ◌^◌, None, ℕ, List, slice_index, ap, subst, ◌∙◌, arith}
-use Rattle.bq_disc.specs.Tasks.{Task, with_id}
+use Rattle.bq_disc.specs.Tasks.{Task, find_task}
 use Rattle.bq_disc.specs.Queues.{key_of}
 use Rattle.bq_disc.specs.Chains.{task_of}
 use Rattle.bq_tree.specs.Trees.{in_order_behind}
@@ -8,7 +8,7 @@ use Rattle.bq_disc.proofs.QueueLemmas.{length-few}
 use Rattle.bq_tree.specs.Sound.{Knows, lesser_of}
 use Rattle.bq_tree.proofs.HeightLemmas.{low_of_many}
 use Rattle.bq_tree.proofs.IndexLemmas.{room_for_one_more, sound_inserted}
-use Rattle.bq_tree.proofs.index.TreeTimeline.insert.Goals as goal
+use Rattle.bq_tree.proofs.index.TreeTaskOrder.insert.Goals as goal
 
 pub insert_into-requires : goal.insert_into-requires
 insert_into-requires g c =
@@ -17,7 +17,7 @@ insert_into-requires g c =
     let xs = in_order_behind c.self.inside.root in
     let key : c.key-key.result ≡ key_of t = c.key-key.ensures.value ∙ ap (λ (m : Node). key_of (out-Node m).entity) c.deref.ensures in
     let small : t.id < 2 ^ 16 = subst (λ (k : ℕ × ℕ). k.1 < 2 ^ 16) key c.key-key.ensures.small in
-    let fresh : with_id t.id xs ≡ None = rw c.self.view_is c.requires.fresh in
+    let fresh : find_task t.id xs ≡ None = rw c.self.view_is c.requires.fresh in
     let few = room_for_one_more t xs s.distinct s.small fresh small in
     let low = low_of_many g.S.Summary.knows c.self.inside.root s.tree (omega (arith, few)) in
     record {
@@ -35,10 +35,10 @@ invariant_of-self g c =
     let xs = in_order_behind c.self.inside.root in
     let key : c.key-key.result ≡ key_of t = c.key-key.ensures.value ∙ ap (λ (m : Node). key_of (out-Node m).entity) c.deref.ensures in
     let small : t.id < 2 ^ 16 = subst (λ (k : ℕ × ℕ). k.1 < 2 ^ 16) key c.key-key.ensures.small in
-    let fresh : with_id t.id xs ≡ None = rw c.self.view_is c.requires.fresh in
+    let fresh : find_task t.id xs ≡ None = rw c.self.view_is c.requires.fresh in
     let few = room_for_one_more t xs s.distinct s.small fresh small in
     let others =
-    subst (λ (k : ℕ × ℕ). (ys : List Task) → with_id k.1 ys ≡ None → Knows c.self.inside.times ys → Knows c.remember.new.times ys)
+    subst (λ (k : ℕ × ℕ). (ys : List Task) → find_task k.1 ys ≡ None → Knows c.self.inside.times ys → Knows c.remember.new.times ys)
     key c.remember.ensures.others in
     let here = subst (λ (k : ℕ × ℕ). k.1 < 1024 → slice_index c.remember.new.times k.1 ≡ k.0) key c.remember.ensures.here in
     let lesser = c.lesser.ensures.value ∙ ap (λ (k : ℕ × ℕ). lesser_of k c.self.inside.least) key in
