@@ -12,6 +12,7 @@ use Rattle.bq_asm.specs.declared.fault.AsmFault.TheVariants.{At, OutOfMemory}
 use Rattle.bq_asm.specs.Lines.{Line, Blank, Label, Instruction, lines_of, last_word}
 use Rattle.bq_asm.specs.Operands.{is_label, instruction_of}
 use Rattle.bq_asm.specs.Assembly.{slots_of_line, places_from}
+use Rattle.bq_insn.specs.declared.TheConstants.{SLOTS}
 
 -- the labels that lines set
 abbrev pub labels_in : List Line → List (List ℕ)
@@ -29,7 +30,7 @@ cause_of_label before name = if is_label name then (if list_any (bytes_eq name) 
 -- what is wrong with an instruction that begins after this many slots
 abbrev pub cause_of_insn : ℕ → Result Insn AssemblyCause → Option AssemblyCause
 cause_of_insn slots (Err c) = Some c
-cause_of_insn slots (Ok insn) = if nat_le (slots + slots_of insn) 4096 then None else Some Slots
+cause_of_insn slots (Ok insn) = if nat_le (slots + slots_of insn) SLOTS then None else Some Slots
 
 -- the least cause at a line, after the lines before it; whether the label of a jump is set does not matter yet
 abbrev pub cause_at_line : List Line → Line → Option AssemblyCause

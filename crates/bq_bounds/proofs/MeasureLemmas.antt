@@ -102,7 +102,7 @@ runs_by d p nows now s sound h =
     let a = began.0 in
     let k = keeps_present d p (own_preempt d p.queue p.current) sound.distinct in
     let w = well_formed p sound in
-    let there : task_at a.id p ≡ Some a = sym (k.same a.id) ∙ current_present start.queue start.kept start.current start.last a began.1 in
+    let there : task_at a.id p ≡ Some a = sym (k.same a.id) ∙ current_present start.queue start.mark start.current start.last a began.1 in
     record {
       first = a;
       task = st.0;
@@ -153,7 +153,7 @@ eevdf_near : (p : Running) (nows : List ℕ) (now : ℕ) (a u : Task)
     → HasDistinctIds (present_at p) → IsWeight a.weight → a.v ≤ 2 ^ 62 → (stepped eevdf p Decide).current ≡ Some a
     → (runs_on eevdf p (nows ++ now ∷ [])).current ≡ Some u
     → (u.weight ≡ a.weight)
-    × (u.v ≤ (runs_on eevdf p (nows ++ now ∷ [])).kept + vdelta_of (risen_since eevdf p (nows ++ now ∷ [])) a.weight)
+    × (u.v ≤ (runs_on eevdf p (nows ++ now ∷ [])).mark + vdelta_of (risen_since eevdf p (nows ++ now ∷ [])) a.weight)
 eevdf_near p [] now a u distinct weight ends began runs = eevdf_stays_near p now [] a u distinct weight ends began runs
 eevdf_near p (n ∷ nows) now a u distinct weight ends began runs =
     eevdf_stays_near p n (nows ++ now ∷ []) a u distinct weight ends began runs
@@ -167,9 +167,9 @@ eevdf_measures p nows now s sound h =
     let a = known.first in
     let u = known.task in
     let near = eevdf_near p nows now a (charged eevdf u r) sound.distinct known.weight known.ends known.began known.runs in
-    let mean = ap (λ (x : Running). x.kept) (after_read eevdf (stepped eevdf p Decide) nows now) in
-    let le : advance_of u.v r u.weight ≤ (charge eevdf q now).kept + (0 + vdelta_of since a.weight) = omega (arith, near.1, mean) in
-    standing_bound q.queue (charge eevdf q now).kept 0 r a.weight since s u known.stands near.0 le
+    let mean = ap (λ (x : Running). x.mark) (after_read eevdf (stepped eevdf p Decide) nows now) in
+    let le : advance_of u.v r u.weight ≤ (charge eevdf q now).mark + (0 + vdelta_of since a.weight) = omega (arith, near.1, mean) in
+    standing_bound q.queue (charge eevdf q now).mark 0 r a.weight since s u known.stands near.0 le
 
 -- from a decision of the discipline on, as long as nothing comes or goes, no measure of a charge passes its bound
 pub measures_within : MeasuresWithin
@@ -214,7 +214,7 @@ watch_within rule d law p nows now None w sound is h = counts d p nows now w is
 watch_within rule d law p nows now (Some s) w sound is h =
     let q = runs_on d p nows in
     let r = rise q now in
-    let mean = (charge d q now).kept in
+    let mean = (charge d q now).mark in
     let next = risen r w in
     let counted = counts d p nows now w is in
     let P : Option ℕ → Type 0 = λ o. IsWatchOf d p (nows ++ now ∷ []) (charged_by rule s r mean o next) in

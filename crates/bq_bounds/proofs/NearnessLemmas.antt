@@ -36,29 +36,29 @@ cfs_stays_near p nows j a b u distinct weight decides there runs =
 more : (w x y s W v M : ℕ) → W ≡ w + s → W * v ≤ w * x + M → x ≤ y → W * v ≤ w * y + M
 more w x y s W v M e h le = omega (arith, mul-le-mul_left w le)
 
-mean : (q : List Task) (kept : ℕ) (a : Task) (last v now : ℕ) (nows : List ℕ)
+mean : (q : List Task) (mark : ℕ) (a : Task) (last v now : ℕ) (nows : List ℕ)
     → 15 ≤ a.weight → a.v ≤ 2 ^ 62 → total_weight (a ∷ q) * v ≤ weighted_sum (a ∷ q)
-    → v ≤ (after_steps eevdf (busy_processor q kept a last) (map Pass (now ∷ nows))).kept
-mean q kept a last v now [] low ends h =
+    → v ≤ (after_steps eevdf (busy_processor q mark a last) (map Pass (now ∷ nows))).mark
+mean q mark a last v now [] low ends h =
     let b = charged eevdf a (reading last now - last) in
     let up : a.v ≤ b.v = omega arith in
     let still = more a.weight a.v b.v (total_weight q) (total_weight (a ∷ q)) v (weighted_sum q) refl h up in
     le-div v (weighted_sum (b ∷ q)) (total_weight (b ∷ q)) (omega arith) (omega arith)
-mean q kept a last v now (next ∷ nows) low ends h =
+mean q mark a last v now (next ∷ nows) low ends h =
     let at = reading last now in
     let b = charged eevdf a (at - last) in
     let up : a.v ≤ b.v = omega arith in
     let still = more a.weight a.v b.v (total_weight q) (total_weight (a ∷ q)) v (weighted_sum q) refl h up in
-    mean q (eevdf.mark kept (b ∷ q)) b at v next nows low (omega arith) still
+    mean q (eevdf.mark mark (b ∷ q)) b at v next nows low (omega arith) still
 
 mean_at : (p : Running) (a : Task) (v now : ℕ) (nows : List ℕ)
     → p.current ≡ Some a → 15 ≤ a.weight → a.v ≤ 2 ^ 62 → total_weight (present_at p) * v ≤ weighted_sum (present_at p)
-    → v ≤ (after_steps eevdf p (map Pass (now ∷ nows))).kept
+    → v ≤ (after_steps eevdf p (map Pass (now ∷ nows))).mark
 mean_at p a v now nows e low ends =
     let P : Option Task → Type 0 = λ o.
     total_weight (present o p.queue) * v ≤ weighted_sum (present o p.queue) →
-    v ≤ (after_steps eevdf (record p { current = o }) (map Pass (now ∷ nows))).kept in
-    subst P (sym e) (mean p.queue p.kept a p.last v now nows low ends)
+    v ≤ (after_steps eevdf (record p { current = o }) (map Pass (now ∷ nows))).mark in
+    subst P (sym e) (mean p.queue p.mark a p.last v now nows low ends)
 
 -- a task that is eligible is at most at the mean
 pub eligible_at_most_mean : (xs : List Task) (t : Task) → is_eligible xs t ≡ true → total_weight xs * t.v ≤ weighted_sum xs

@@ -60,7 +60,7 @@ ran_further : (E r s : ℕ) (p : Running) (now : ℕ) (t : Task) → IsWellForme
     → (let u = charged eevdf t (rise p now) in
     weight_present p * u.v ≤ weighted_v_at (charge eevdf p now) + most_ahead E (s + rise p now) (weight_present p) t.weight)
 ran_further E r s p now t w l c =
-    let f = current_present p.queue p.kept p.current p.last t c in
+    let f = current_present p.queue p.mark p.current p.last t c in
     let ends = w.ends t.id t f in
     let u = charged eevdf t (rise p now) in
     let rest = total_weight (without t.id (present_at p)) in
@@ -91,15 +91,15 @@ ahead_by E r s p now i t u w l le f (Runs c e z) =
     let more = mul-le-mul_left (weight_present p - t.weight) (vdelta_of-le (s + rise p now) r t.weight (w.weights i t f).0 le) in
     rw e (omega arith)
 
-charged_runs_by : (q : List Task) (kept : ℕ) (o : Option Task) (last now : ℕ) (u : Task)
-    → (let p : Running = record { queue = q; kept = kept; current = o; last = last } in
+charged_runs_by : (q : List Task) (mark : ℕ) (o : Option Task) (last now : ℕ) (u : Task)
+    → (let p : Running = record { queue = q; mark = mark; current = o; last = last } in
     (charge eevdf p now).current ≡ Some u → (t : Task) × (o ≡ Some t) × (u ≡ charged eevdf t (rise p now)))
-charged_runs_by q kept None last now u e = cc
-charged_runs_by q kept (Some t) last now u e = (t, refl, sym (same_Some (charged eevdf t (reading last now - last)) u e))
+charged_runs_by q mark None last now u e = cc
+charged_runs_by q mark (Some t) last now u e = (t, refl, sym (same_Some (charged eevdf t (reading last now - last)) u e))
 
 charged_runs : (p : Running) (now : ℕ) (u : Task) → (charge eevdf p now).current ≡ Some u
     → (t : Task) × (p.current ≡ Some t) × (u ≡ charged eevdf t (rise p now))
-charged_runs p now u e = charged_runs_by p.queue p.kept p.current p.last now u e
+charged_runs p now u e = charged_runs_by p.queue p.mark p.current p.last now u e
 
 pass : (E r s : ℕ) (p : Running) (now : ℕ) → IsWellFormed p → IsLevel E r s p → s + rise p now ≤ r
     → IsLevel E r (s + rise p now) (charge eevdf p now)
@@ -184,7 +184,7 @@ begins r p w =
     record {
       runs = λ t e.
           begins_by (weight_present p) (weighted_v_at p) mean a t.v (weight_present p - t.weight) (vdelta_of 0 t.weight) (mean_below xs)
-          (of_each (λ (x : Task). x.v ≤ mean + a) p t.id t all (current_present p.queue p.kept p.current p.last t e));
+          (of_each (λ (x : Task). x.v ≤ mean + a) p t.id t all (current_present p.queue p.mark p.current p.last t e));
       each = λ i t f.
           begins_by (weight_present p) (weighted_v_at p) mean a t.v (weight_present p - t.weight) (vdelta_of r t.weight) (mean_below xs)
           (of_each (λ (x : Task). x.v ≤ mean + a) p i t all f);

@@ -24,14 +24,14 @@ split last at end w v x u low le le' h k =
     let whole = vdelta_of-le ((at - last) + (end - at)) (end - last) w low (omega arith) in
     omega arith
 
-ran : (d : Discipline) (q : List Task) (kept : ℕ) (a : Task) (last : ℕ) (nows : List ℕ)
-    → 15 ≤ a.weight → Ran d (busy_processor q kept a last) a nows
-ran d q kept a last [] low = record { task = a; runs = refl; weight = refl; v = omega arith; later = omega arith }
-ran d q kept a last (now ∷ nows) low =
+ran : (d : Discipline) (q : List Task) (mark : ℕ) (a : Task) (last : ℕ) (nows : List ℕ)
+    → 15 ≤ a.weight → Ran d (busy_processor q mark a last) a nows
+ran d q mark a last [] low = record { task = a; runs = refl; weight = refl; v = omega arith; later = omega arith }
+ran d q mark a last (now ∷ nows) low =
     let at = reading last now in
     let b = charged d a (at - last) in
-    let rest = ran d q (d.mark kept (b ∷ q)) b at nows low in
-    let end = (after_steps d (busy_processor q (d.mark kept (b ∷ q)) b at) (map Pass nows)).last in
+    let rest = ran d q (d.mark mark (b ∷ q)) b at nows low in
+    let end = (after_steps d (busy_processor q (d.mark mark (b ∷ q)) b at) (map Pass nows)).last in
     let first : b.v ≤ a.v + vdelta_of (at - last) a.weight = omega arith in
     let up : last ≤ at = omega arith in
     record {
@@ -46,4 +46,4 @@ ran d q kept a last (now ∷ nows) low =
 pub ran_at : (d : Discipline) (p : Running) (a : Task) (nows : List ℕ) → p.current ≡ Some a → 15 ≤ a.weight → Ran d p a nows
 ran_at d p a nows e low =
     let P : Option Task → Type 0 = λ o. Ran d (record p { current = o }) a nows in
-    subst P (sym e) (ran d p.queue p.kept a p.last nows low)
+    subst P (sym e) (ran d p.queue p.mark a p.last nows low)

@@ -8,6 +8,7 @@ use Rattle.bq_disc.specs.Counts.{saturating_sum}
 use Rattle.bq_bounds.specs.declared.charge.Charge.{Charge}
 use Rattle.bq_bounds.specs.declared.stretch.Stretch.{Stretch}
 use Rattle.bq_bounds.specs.Watches.{greater}
+use Rattle.bq_weights.specs.declared.TheConstants.{NICE_0_WEIGHT}
 
 -- the mean v of some tasks, rounded down
 abbrev pub mean_at : List Task → ℕ
@@ -26,7 +27,7 @@ owed mean t = time_of (mean - t.v) t.weight
 -- clock rises by at most r between two decisions. The bound is n - 2 rises, its own share of one rise, and the
 -- time that a takes at the weight of the other tasks
 abbrev pub owed_at_most : ℕ → ℕ → ℕ → ℕ → ℕ → ℕ
-owed_at_most a r n W w = (n - 2) * r + ((W - w) * a * W + 1024 * r * w) / (1024 * W)
+owed_at_most a r n W w = (n - 2) * r + ((W - w) * a * W + NICE_0_WEIGHT * r * w) / (NICE_0_WEIGHT * W)
 
 -- the greatest weight of some tasks
 abbrev pub heaviest : List Task → ℕ

@@ -36,7 +36,7 @@ MeasureWithin rule d =
     (p : Running) (nows : List ℕ) (now : ℕ) (s : RunningTask) → AreTasksSound p →
     (let q = runs_on d p nows in
     IsRunningTask q.current q.queue (Some s) →
-    IfSome (measured_charge rule s (rise q now) (risen_since d p (nows ++ now ∷ [])) (charge d q now).kept) KeepsItsBound)
+    IfSome (measured_charge rule s (rise q now) (risen_since d p (nows ++ now ∷ [])) (charge d q now).mark) KeepsItsBound)
 
 -- `MeasureWithin` holds under each rule
 pub record MeasuresWithin : Type 0 where
@@ -55,7 +55,7 @@ WatchWithin rule d =
     (p : Running) (nows : List ℕ) (now : ℕ) (s : Option RunningTask) (w : Watch) → AreTasksSound p → IsWatchOf d p nows w →
     (let q = runs_on d p nows in
     IsRunningTask q.current q.queue s →
-    IsWatchOf d p (nows ++ now ∷ []) (read_by rule s (rise q now) (charge d q now).kept w))
+    IsWatchOf d p (nows ++ now ∷ []) (read_by rule s (rise q now) (charge d q now).mark w))
 
 -- `IsWatchOf` begins at a decision and holds under each rule; and whatever an event does after its reading, the greatest charge stays
 pub record WatchesWithin : Type 0 where

@@ -34,7 +34,7 @@ abbrev pub EevdfStaysNear : Type 0
 EevdfStaysNear =
     (p : Running) (now : ℕ) (nows : List ℕ) (a u : Task) → HasDistinctIds (present_at p) → IsWeight a.weight → a.v ≤ 2 ^ 62 →
     (stepped eevdf p Decide).current ≡ Some a → (runs_on eevdf p (now ∷ nows)).current ≡ Some u →
-    (u.weight ≡ a.weight) × (u.v ≤ (runs_on eevdf p (now ∷ nows)).kept + vdelta_of (risen_since eevdf p (now ∷ nows)) a.weight)
+    (u.weight ≡ a.weight) × (u.v ≤ (runs_on eevdf p (now ∷ nows)).mark + vdelta_of (risen_since eevdf p (now ∷ nows)) a.weight)
 
 -- the greatest is one of the measured charges, and none has a greater difference; so if no charge passes its bound the greatest does not
 abbrev pub KeepsTheGreatest : Type 0

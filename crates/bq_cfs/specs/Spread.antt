@@ -8,6 +8,7 @@ use Rattle.bq_disc.specs.Tasks.{Task}
 use Rattle.bq_disc.specs.Queues.{HasDistinctIds}
 use Rattle.bq_disc.specs.OneProcessor.{Running, present_at, charge, choice_started, rise, ticked}
 use Rattle.bq_cfs.specs.Cfs.{cfs, least}
+use Rattle.bq_weights.specs.declared.TheConstants.{LEAST_WEIGHT}
 
 -- what every processor keeps true of the tasks that are present: their ids differ, their weights are in the table's range,
 -- and their virtual times are at most 2^62
@@ -23,7 +24,7 @@ bound V xs = option_map_or (λ (t : Task). max V (t.v + GRANULARITY)) (least xs)
 -- the running task is not beyond the bound, and no task present is beyond it by more than time d takes at the least weight
 pub record IsSpreadWithin (V d : ℕ) (p : Running) : Type 0 where
   pub current : IfSome p.current (λ t. t.v ≤ bound V (present_at p))
-  pub each : All (λ t. t.v ≤ bound V (present_at p) + vdelta_of d 15) (present_at p)
+  pub each : All (λ t. t.v ≤ bound V (present_at p) + vdelta_of d LEAST_WEIGHT) (present_at p)
 
 -- an event, with the reading of the clock at which it comes
 pub data Event : Type 0 where

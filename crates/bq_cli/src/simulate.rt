@@ -18,7 +18,7 @@ use bq_console::{
     report_unwritten, word, written,
 };
 use bq_experiment::{
-    AskedFault, HookWords, MachineWords, Policies, Ran, RunFault, ShownAs, Streams, StudyWords,
+    AskedFault, HookWords, MachineWords, Policies, FinishedRun, RunFault, ShownAs, Streams, StudyWords,
     asked_changes, run_as,
 };
 use bq_hooks::Hook;
@@ -223,7 +223,7 @@ fn show_run(
         errors: ErasingWriter::new(rt.stderr(), &progress),
         progress: &progress,
     };
-    let Ran { output, outcome } = run_as(rt.alloc(), workload, policies, shown, most, streams);
+    let FinishedRun { output, outcome } = run_as(rt.alloc(), workload, policies, shown, most, streams);
     progress.erase();
     match outcome {
         Ok(notes) => {

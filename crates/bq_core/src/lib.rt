@@ -6,6 +6,7 @@
 
 mod admitting;
 mod arguments;
+mod dynamic_core;
 mod generations;
 pub mod laws;
 mod parts;
@@ -13,8 +14,7 @@ mod pulling;
 mod running;
 mod sized_core;
 mod waking;
-mod world;
 
 pub use arguments::argument_refusal;
+pub use dynamic_core::DynamicCore;
 pub use sized_core::Core;
-pub use world::DynamicCore;

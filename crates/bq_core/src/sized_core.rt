@@ -9,7 +9,7 @@ ghost use Rattle.bq_parts.specs.StandsOnce.{IsOrderly};
 ghost use Rattle.bq_parts.specs.declared.refusal.Refusal.TheVariants as no;
 ghost use Rattle.bq_core.specs.Laws.{StaysOrderly};
 
-use crate::world::DynamicCore;
+use crate::dynamic_core::DynamicCore;
 use bq_bpf::Board;
 use bq_disc::RunQueue;
 use bq_disc::limits::PROCESSORS;

@@ -4,6 +4,7 @@ use Rattle.std.specs.Prelude.{ℕ, ◌-◌, ◌^◌, min, max, Bool, false, List
 use Rattle.std.specs.Option.{option_map}
 use Rattle.bq_disc.specs.Tasks.{Task, find_task, without, inserted, present, id_of}
 use Rattle.bq_disc.specs.Discipline.{Discipline, charged, woken, next_of}
+use Rattle.bq_disc.specs.declared.limits.TheConstants.{FIRST_MARK}
 
 -- the queue, the mark as it was last computed, the task that runs, and the last reading of the clock
 pub record Running : Type 0 where
@@ -12,9 +13,9 @@ pub record Running : Type 0 where
   pub current : Option Task
   pub last : ℕ
 
--- a processor to which nothing has come yet; its mark begins at 2^32
+-- a processor to which nothing has come yet; its mark is the first
 abbrev pub at_rest : Running
-at_rest = record { queue = []; mark = 2 ^ 32; current = None; last = 0 }
+at_rest = record { queue = []; mark = FIRST_MARK; current = None; last = 0 }
 
 -- the tasks that run or wait in the queue
 abbrev pub present_at : Running → List Task

@@ -4,6 +4,7 @@ use Rattle.std.specs.List.{AllByRecursion}
 use Rattle.bq_weights.specs.VirtualTime.{IsWeight}
 use Rattle.bq_disc.specs.Tasks.{Task}
 use Rattle.bq_disc.specs.declared.totals.Totals.{Totals}
+use Rattle.bq_weights.specs.declared.TheConstants.{LEAST_WEIGHT, GREATEST_WEIGHT}
 
 -- the sum of the weights of some tasks
 abbrev pub total_weight : List Task → ℕ
@@ -46,6 +47,6 @@ IsBounded t = IsWeight t.weight × (t.v ≤ 2 ^ 62)
 
 -- the bounds of totals, in terms of how many tasks there are
 pub record HasBounds (s : Totals) : Type 0 where
-  pub weight_low : 15 * s.count ≤ s.weight
-  pub weight_high : s.weight ≤ 88761 * s.count
+  pub weight_low : LEAST_WEIGHT * s.count ≤ s.weight
+  pub weight_high : s.weight ≤ GREATEST_WEIGHT * s.count
   pub moment_high : s.moment ≤ 2 ^ 62 * s.weight

@@ -9,7 +9,7 @@ ghost use Rattle.bq_disc.specs.Discipline.{Discipline, charged, entered_by, left
 ghost use Rattle.bq_disc.specs.Chains.{task_of, IsLone};
 ghost use Rattle.bq_disc.specs.Pulls.{pull_of};
 
-use crate::limits::PROCESSORS;
+use crate::limits::{FIRST_MARK, PROCESSORS};
 use crate::{Discipline, Movable, Node};
 
 /// How a task comes into a queue.
@@ -41,10 +41,10 @@ pub trait RunQueue {
     /// The mark as it was last computed.
     ghost last_mark: { Self → ℕ };
 
-    /// A queue without tasks, its mark at 2^32.
+    /// A queue without tasks, its mark the first.
     fn empty() -> Self
         ensures members { members result ≡ [] }
-        ensures mark { last_mark result ≡ 2 ^ 32 };
+        ensures mark { last_mark result ≡ FIRST_MARK };
 
     /// How many tasks are in the queue.
     fn len(&self) -> usize

@@ -8,6 +8,7 @@ use Rattle.bq_cfs.specs.Spread.{AreTasksSound}
 use Rattle.bq_eevdf.specs.Eevdf.{eevdf}
 use Rattle.bq_fairness.specs.Histories.{HasRoom, TicksRiseByAtMost, history, task_at, served}
 use Rattle.bq_fairness.specs.Work.{weight_present, weighted_v_at, booked, elapsed, most_lost}
+use Rattle.bq_weights.specs.declared.TheConstants.{NICE_0_WEIGHT}
 
 -- the deadline of each task is no earlier than its v, and at most one slice later, as it is at each entry
 abbrev pub HasDeadlines : Running → Type 0
@@ -27,7 +28,7 @@ abbrev pub EevdfOwedBySlices : Type 0
 EevdfOwedBySlices =
     (V r : ℕ) (p : Running) (nows : List ℕ) (j : ℕ) (b : Task) →
     AreTasksSound p → HasDeadlines p → All (λ t. t.v ≤ V) (present_at p) → TicksRiseByAtMost r eevdf p nows → task_at j (history eevdf p nows) ≡ Some b →
-    (let q = history eevdf p nows in weighted_v_at q ≤ weight_present q * max V (b.v + vdelta_of b.slice b.weight) + 1024 * r * length (present_at q))
+    (let q = history eevdf p nows in weighted_v_at q ≤ weight_present q * max V (b.v + vdelta_of b.slice b.weight) + NICE_0_WEIGHT * r * length (present_at q))
 
 -- Proportional service: of two tasks a and b, a comes to no more virtual time than the sum of three: the greater of where it
 -- began and one slice of b's beyond where b began; what b was served; and one rise at a's own weight
@@ -42,7 +43,7 @@ abbrev pub EevdfSharesBySlices : Type 0
 EevdfSharesBySlices =
     (V r : ℕ) (p : Running) (nows : List ℕ) (j : ℕ) (b : Task) →
     AreTasksSound p → HasRoom p → HasDeadlines p → All (λ t. t.v ≤ V) (present_at p) → TicksRiseByAtMost r eevdf p nows → task_at j p ≡ Some b →
-    weighted_v_at p + booked eevdf p nows ≤ weight_present p * (served j eevdf p nows + max V (b.v + vdelta_of b.slice b.weight)) + 1024 * r * length (present_at p)
+    weighted_v_at p + booked eevdf p nows ≤ weight_present p * (served j eevdf p nows + max V (b.v + vdelta_of b.slice b.weight)) + NICE_0_WEIGHT * r * length (present_at p)
 
 -- Bounded waiting: as long as a task is served nothing, the clock rises by no more than this
 abbrev pub EevdfWaitsBySlices : Type 0
@@ -50,4 +51,4 @@ EevdfWaitsBySlices =
     (L S r : ℕ) (p : Running) (nows : List ℕ) (j : ℕ) (b : Task) →
     AreTasksSound p → HasRoom p → HasDeadlines p → All (λ t. (L ≤ t.v) × (t.v ≤ L + S)) (present_at p) → TicksRiseByAtMost r eevdf p nows →
     IsSome p.current → task_at j p ≡ Some b → served j eevdf p nows ≡ 0 →
-    1024 * elapsed eevdf p nows ≤ weight_present p * (S + vdelta_of b.slice b.weight) + 1024 * r * length (present_at p) + most_lost nows
+    NICE_0_WEIGHT * elapsed eevdf p nows ≤ weight_present p * (S + vdelta_of b.slice b.weight) + NICE_0_WEIGHT * r * length (present_at p) + most_lost nows

@@ -12,6 +12,7 @@ use Rattle.bq_eevdf.specs.Eevdf.{eevdf, is_eligible}
 use Rattle.bq_fairness.specs.Histories.{HasRoom, TicksRiseByAtMost, history, task_at, served}
 use Rattle.bq_fairness.specs.Work.{weight_present, weighted_v_at, booked, elapsed, most_lost}
 use Rattle.bq_fairness.specs.Steps.{Decide, stepped}
+use Rattle.bq_weights.specs.declared.TheConstants.{NICE_0_WEIGHT}
 
 -- the task that runs is eligible
 abbrev pub RunsEligible : Running → Type 0
@@ -62,9 +63,9 @@ NoneIsOwedMore =
     b.weight * weighted_v_at p ≤ b.weight * (weight_present p * b.v) + ahead_together E r (weight_present p) (without j (present_at p))
 
 -- the most that a task of this weight may be owed, times that weight and W. With n tasks present: E times the others'
--- weight, and 1024 * r for n - 2 tasks at weight W and for one at its own weight
+-- weight, and NICE_0_WEIGHT * r for n - 2 tasks at weight W and for one at its own weight
 abbrev pub most_behind : ℕ → ℕ → Running → ℕ → ℕ
-most_behind E r p weight = (weight_present p - weight) * E + 1024 * r * ((length (present_at p) - 2) * weight_present p + weight)
+most_behind E r p weight = (weight_present p - weight) * E + NICE_0_WEIGHT * r * ((length (present_at p) - 2) * weight_present p + weight)
 
 -- No task is owed more than `most_behind` says for its weight
 abbrev pub NoneIsOwedLong : Type 0
@@ -96,4 +97,4 @@ abbrev pub EevdfWaiting : Type 0
 EevdfWaiting =
     (E r : ℕ) (p : Running) (nows : List ℕ) (j : ℕ) (b : Task) →
     AreTasksSound p → HasRoom p → IsBalanced E r p → TicksRiseByAtMost r eevdf p nows → IsSome p.current → task_at j p ≡ Some b → served j eevdf p nows ≡ 0 →
-    b.weight * (weighted_v_at p + 1024 * elapsed eevdf p nows) ≤ b.weight * (weight_present p * b.v + most_lost nows) + most_behind E r p b.weight
+    b.weight * (weighted_v_at p + NICE_0_WEIGHT * elapsed eevdf p nows) ≤ b.weight * (weight_present p * b.v + most_lost nows) + most_behind E r p b.weight

@@ -7,6 +7,7 @@ use Rattle.bq_disc.specs.Totals.{total_weight, weighted_sum}
 use Rattle.bq_disc.specs.OneProcessor.{Running, present_at, ticked, rise}
 use Rattle.bq_cfs.specs.Spread.{AreTasksSound}
 use Rattle.bq_fairness.specs.Histories.{history, HasRoom}
+use Rattle.bq_weights.specs.declared.TheConstants.{NICE_0_WEIGHT}
 
 -- the sum of the weights of all present tasks
 abbrev pub weight_present : Running → ℕ
@@ -37,7 +38,7 @@ elapsed d p nows = (history d p nows).last - p.last
 abbrev pub BooksTheTime : Type 0
 BooksTheTime =
     (d : Discipline) (p : Running) (nows : List ℕ) → AreTasksSound p → IsSome p.current →
-    (booked d p nows ≤ 1024 * elapsed d p nows) × (1024 * elapsed d p nows ≤ booked d p nows + most_lost nows)
+    (booked d p nows ≤ NICE_0_WEIGHT * elapsed d p nows) × (NICE_0_WEIGHT * elapsed d p nows ≤ booked d p nows + most_lost nows)
 
 -- The sum of weight times v rises by what is booked, however the rule decides
 abbrev pub MovesTheSum : Type 0

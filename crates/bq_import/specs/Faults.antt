@@ -12,6 +12,7 @@ use Rattle.bq_import.specs.Lengths.{AreRunsTooLong}
 use Rattle.bq_import.specs.Orders.{HasLongOrder}
 use Rattle.bq_import.specs.declared.fault.Disorder.{Disorder}
 use Rattle.bq_import.specs.declared.fault.Disorder.TheVariants.{Outside, Ends, Loop, Long, OutOfMemory}
+use Rattle.bq_insn.specs.declared.TheConstants.{SLOTS}
 
 -- from each instruction control goes only to instructions
 abbrev pub LeadsWell : List (Option Insn) → ℕ → Insn → Type 0
@@ -78,8 +79,8 @@ IsSearchFault slots Long = IsLinked slots × AreRunsTooLong slots × HasLongOrde
 IsSearchFault slots OutOfMemory = Unit {0}
 IsSearchFault slots d = ⊥
 
--- the copy did not fit: it would have had that many slots or fewer, and over 4096
+-- the copy did not fit: it would have had that many slots or fewer, and over `SLOTS`
 abbrev pub IsFull : ℕ → Disorder → Type 0
-IsFull most Long = 4096 < most
+IsFull most Long = SLOTS < most
 IsFull most OutOfMemory = Unit {0}
 IsFull most d = ⊥

@@ -5,6 +5,7 @@ use Rattle.bq_insn.specs.declared.Insn.{Insn}
 use Rattle.bq_insn.specs.Slots.{slots_of}
 use Rattle.bq_bpf.specs.Steps.{LeadsTo, instruction_at}
 use Rattle.bq_bpf.specs.Instructions.{distance_of, goes_on}
+use Rattle.bq_insn.specs.declared.TheConstants.{SLOTS}
 
 -- how many slots there are up to the first instruction from which control does not go on to the next one, with that
 abbrev pub run_of : List (Option Insn) → ℕ
@@ -46,6 +47,6 @@ IsSlotIn (first ∷ rest) slot = (slot ≡ first) ⊎ IsSlotIn rest slot
 abbrev pub HasLandings : List (Option Insn) → List ℕ → Type 0
 HasLandings slots landings = (slot : ℕ) → IsLanding slots slot → IsSlotIn landings slot
 
--- the run from the first slot and those from all slots that jumps lead to have more than 4096 slots together
+-- the run from the first slot and those from all slots that jumps lead to have more than `SLOTS` slots together
 abbrev pub AreRunsTooLong : List (Option Insn) → Type 0
-AreRunsTooLong slots = (landings : List ℕ) → HasLandings slots landings → 4096 < run_slots slots 0 + sum_by (run_slots slots) landings
+AreRunsTooLong slots = (landings : List ℕ) → HasLandings slots landings → SLOTS < run_slots slots 0 + sum_by (run_slots slots) landings

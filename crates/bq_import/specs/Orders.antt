@@ -4,6 +4,7 @@ use Rattle.bq_insn.specs.declared.Insn.{Insn}
 use Rattle.bq_verify.specs.Edges.{IsEdge, IsStart}
 use Rattle.bq_verify.specs.Paths.{Path}
 use Rattle.bq_import.specs.Lengths.{IsSlotIn, run_slots, width_at}
+use Rattle.bq_insn.specs.declared.TheConstants.{SLOTS}
 
 -- control comes to each instruction of the list, and goes from it only to later ones of the list; none comes twice
 abbrev pub IsForwardOrder : List (Option Insn) → List ℕ → Type 0
@@ -25,8 +26,8 @@ abbrev pub copy_length : List (Option Insn) → List ℕ → ℕ
 copy_length slots [] = 0
 copy_length slots (slot ∷ later) = slots_in_front slots slot later + copy_length slots later
 
--- the copy in some forward order takes more than 4096 slots
+-- the copy in some forward order takes more than `SLOTS` slots
 pub record HasLongOrder (slots : List (Option Insn)) : Type 0 where
   pub order : List ℕ
   pub forward : IsForwardOrder slots order
-  pub long : 4096 < copy_length slots order
+  pub long : SLOTS < copy_length slots order

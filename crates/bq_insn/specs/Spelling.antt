@@ -16,6 +16,7 @@ use Rattle.bq_insn.specs.declared.Insn.TheVariants.{Alu, MovSx, Neg, End, Load, 
 use Rattle.bq_insn.specs.declared.form.Form.TheVariants as form
 use Rattle.bq_insn.specs.declared.slot.Slot.{Slot}
 use Rattle.bq_insn.specs.Table.{opcode_of}
+use Rattle.bq_insn.specs.declared.TheConstants.{SLOTS}
 
 -- the eight bytes of a slot (section 3.1)
 abbrev pub slot_bytes : Slot → List ℕ
@@ -111,9 +112,9 @@ is_insn (MapRef d i) = is_register d
 is_insn (Branch w c d src off) = is_register d && is_source src
 is_insn insn = true
 
--- whether a list is a program: all instructions are in range, and together they take 1 to 4096 slots
+-- whether a list is a program: all instructions are in range, and together they take 1 to `SLOTS` slots
 abbrev pub is_well_formed : List Insn → Bool
-is_well_formed insns = list_all is_insn insns && (nat_le 1 (slot_count insns) && nat_le (slot_count insns) 4096)
+is_well_formed insns = list_all is_insn insns && (nat_le 1 (slot_count insns) && nat_le (slot_count insns) SLOTS)
 
 -- the list is this slot, followed by the second slot if there is one
 abbrev pub AreSlots : (Slot × Option Slot) → List Slot → Type 0

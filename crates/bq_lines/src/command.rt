@@ -1,6 +1,6 @@
 //! What the lines of a trace may ask.
 
-use crate::image::HexWord;
+use crate::hex_word::HexWord;
 use bq_hooks::Hook;
 use bq_parts::Event;
 use bq_words::{ProcessorCount, Rule};

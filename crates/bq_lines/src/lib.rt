@@ -3,15 +3,15 @@
 //! Builds on the events of `bq_parts`, on the hooks of `bq_hooks`, and on `bq_words` for words, numbers, rules and sizes.
 #![tactic(auto)]
 
-pub mod begun;
 pub mod bytes;
 pub mod command;
-pub mod image;
+pub mod hex_word;
 pub mod keyword;
 pub mod lines;
+pub mod partial_line;
 
-pub use begun::{PartialLine, first_line};
 pub use command::{LineCommand, LineReading};
-pub use image::HexWord;
+pub use hex_word::HexWord;
 pub use keyword::Keyword;
 pub use lines::read_short_line;
+pub use partial_line::{PartialLine, first_line};

@@ -7,7 +7,7 @@ ghost use Rattle.bq_lines.specs.Lines.{machine_command, admit_command, retire_co
 
 use crate::bytes::is_allowed_line;
 use crate::command::{LineCommand, LineReading};
-use crate::image::HexWord;
+use crate::hex_word::HexWord;
 use crate::keyword::Keyword;
 use bq_hooks::Hook;
 use bq_parts::Event;

@@ -4,6 +4,7 @@ use Rattle.bq_load.specs.declared.fault.LoadFault.{LoadFault}
 use Rattle.bq_load.specs.declared.fault.LoadFault.TheVariants as fault
 use Rattle.bq_load.specs.Layout.{Header, IsHeader, header_bytes}
 use Rattle.bq_load.specs.Faults.{IsLoadFault}
+use Rattle.bq_insn.specs.declared.TheConstants.{SLOTS}
 
 -- the state of a reader: the bytes that it holds, how many bytes came after them, and the fault that it has answered
 pub record Fed : Type 0 where
@@ -33,7 +34,7 @@ pub record HasTooManySlots (held : List ℕ) : Type 0 where
   pub header : Header
   pub part : List ℕ
   pub good : IsHeader header
-  pub over : 4096 < header.slots
+  pub over : SLOTS < header.slots
   pub held_is : held ≡ header_bytes header ++ part
 
 -- the bytes are the held bytes, and after them as many more as were counted; bytes are counted only if the program is too long

@@ -4,6 +4,7 @@ use Rattle.bq_bpf.specs.declared.shape.MapShape.{MapShape}
 use Rattle.bq_load.specs.declared.header.Header.{Header as Read}
 use Rattle.bq_load.specs.Layout.{shapes_bytes, Header, header_bytes, IsHeader, IsFramed}
 use Rattle.bq_load.specs.Reading.{Spelled}
+use Rattle.bq_insn.specs.declared.TheConstants.{SLOTS}
 
 -- a header of the code as the specification has it
 abbrev pub spelled_of : Read → Spelled
@@ -30,8 +31,8 @@ pub record Frames (bytes : List ℕ) (s : Spelled) (program : List ℕ) : Type 0
 abbrev pub AreShapes : List ℕ → Type 0
 AreShapes bytes = (shapes : List MapShape) × (bytes ≡ shapes_bytes shapes)
 
--- the bytes are a header and its program, of 1 to 4096 slots
+-- the bytes are a header and its program, of 1 to `SLOTS` slots
 pub record HasParts (bytes : List ℕ) (s : Spelled) (program : List ℕ) : Type 0 where
   pub frames : Frames bytes s program
   pub some : 1 ≤ s.slots
-  pub most : s.slots ≤ 4096
+  pub most : s.slots ≤ SLOTS

@@ -10,6 +10,7 @@ use Rattle.bq_hooks.specs.declared.hook.Version.TheVariants.{First, Second}
 use Rattle.bq_load.specs.declared.fault.LoadFault.{LoadFault}
 use Rattle.bq_load.specs.declared.fault.LoadFault.TheVariants as fault
 use Rattle.bq_load.specs.Layout.{magic}
+use Rattle.bq_bpf.specs.declared.shape.TheConstants.{ENTRIES, GREATEST_SIZE, LEAST_SIZE, MAPS}
 
 infixl 10 ◌>>=◌
 -- goes on with what was read, or keeps the first fault
@@ -44,15 +45,15 @@ hook_at (b ∷ rest) =
 unfoldable pub read_number : ℕ → List ℕ → Result (ℕ × List ℕ) LoadFault
 read_number width bytes = if nat_lt (length bytes) width then Err fault.Cut else Ok (little_number width bytes, drop width bytes)
 
--- the number of maps, at most 8, and the bytes after it
+-- the number of maps, at most `MAPS`, and the bytes after it
 unfoldable pub count_at : List ℕ → Result (ℕ × List ℕ) LoadFault
 count_at bytes = do
   count ← read_number 2 bytes
-  if nat_le count.0 8 then Ok count else Err fault.Shape
+  if nat_le count.0 MAPS then Ok count else Err fault.Shape
 
 -- whether the size of a value and the number of entries are within their limits
 abbrev pub is_shape : ℕ → ℕ → Bool
-is_shape size entries = (nat_le 8 size && (nat_le size 256 && (size % 8 == 0))) && (nat_le 1 entries && nat_le entries 256)
+is_shape size entries = (nat_le LEAST_SIZE size && (nat_le size GREATEST_SIZE && (size % LEAST_SIZE == 0))) && (nat_le 1 entries && nat_le entries ENTRIES)
 
 -- the bytes after a shape that is within its limits
 unfoldable pub shape_at : List ℕ → Result (List ℕ) LoadFault

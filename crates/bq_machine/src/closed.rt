@@ -7,7 +7,7 @@ ghost use Rattle.bq_parts.specs.World.{opening_world};
 ghost use Rattle.bq_shared.specs.Parts.{RecordStep, reported_calls};
 
 use crate::clock::Clock;
-use crate::locks::Machine;
+use crate::machine::Machine;
 use bq_disc::RunQueue;
 use bq_history::Naming;
 use bq_recording::{Closed, Locks, Recorder, Seat};

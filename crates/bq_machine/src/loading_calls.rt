@@ -9,7 +9,7 @@ ghost use Rattle.bq_machine.specs.Calls.{AreInstalls};
 ghost use Rattle.bq_machine.specs.Loading.{IsPolicyOfImage, IsLoad, IsLoadRefused};
 
 use crate::clock::Clock;
-use crate::locks::Machine;
+use crate::machine::Machine;
 use crate::records::{Records, answer_twice, no_calls};
 use crate::spare::{PreparedInstall, spares};
 use bq_disc::RunQueue;
@@ -159,7 +159,7 @@ impl<Q: RunQueue + Drop, K: Clock + Drop, N: Naming + Counting, const P: usize> 
     {
         let mut guard = self.recorder.lock_journal(rt);
         let journal = &mut *guard;
-        let mut kept = journal.mark().again();
+        let mut kept = journal.kept().again();
         let generation = kept.drawn.saturating_add(1);
         kept.drawn = generation;
         let reply = Ok(Reply::Drawn { generation });
@@ -231,7 +231,7 @@ impl<Q: RunQueue + Drop, K: Clock + Drop, N: Naming + Counting, const P: usize> 
         let cpu = &mut *guard;
         let mut journal_guard = self.recorder.lock_journal(rt);
         let journal = &mut *journal_guard;
-        let drawn = journal.mark().drawn;
+        let drawn = journal.kept().drawn;
         let reply = cpu.cell.content.state.replace(hook, drawn, installed);
         let events = (
             install_event(processor, hook, generation, for_record),

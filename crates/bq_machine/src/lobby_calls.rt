@@ -7,7 +7,7 @@ ghost use Rattle.bq_shared.specs.Parts.{reported_calls};
 ghost use Rattle.bq_machine.specs.Calls.{IsCallRefused};
 
 use crate::clock::Clock;
-use crate::locks::Machine;
+use crate::machine::Machine;
 use crate::records::Records;
 use bq_core::argument_refusal;
 use bq_disc::RunQueue;

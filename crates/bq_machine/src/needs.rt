@@ -5,7 +5,7 @@ ghost use Rattle.bq_parts.specs.declared.refusal.Refusal.TheVariants as no;
 ghost use Rattle.bq_machine.specs.Calls.{IsCallRefused};
 
 use crate::clock::Clock;
-use crate::locks::Machine;
+use crate::machine::Machine;
 use bq_disc::RunQueue;
 use bq_history::{Naming, Room};
 use bq_parts::{Event, Refusal};

@@ -3,7 +3,7 @@ ghost use Rattle.std.specs.Prelude.{◌≡◌, ◌≤◌, ◌^◌, [], All, IfOk
 ghost use Rattle.bq_shared.specs.Calls.{fresh_callers};
 
 use crate::clock::Clock;
-use crate::locks::Machine;
+use crate::machine::Machine;
 use bq_disc::RunQueue;
 use bq_disc::limits::PROCESSORS;
 use bq_history::Naming;

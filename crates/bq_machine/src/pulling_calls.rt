@@ -7,7 +7,7 @@ ghost use Rattle.bq_shared.specs.Parts.{reported_calls};
 ghost use Rattle.bq_machine.specs.Calls.{IsCallRefused};
 
 use crate::clock::Clock;
-use crate::locks::{LockedProcessor, Machine};
+use crate::machine::{LockedProcessor, Machine};
 use crate::needs::rooms_of_event;
 use crate::records::Records;
 use bq_disc::RunQueue;
@@ -93,7 +93,7 @@ impl<Q: RunQueue + Drop, K: Clock + Drop, N: Naming + Counting, const P: usize> 
         working.close_board(counter_board);
         let calls = hold_calls(calls, content.scratch.calls());
         let mut journal = self.recorder.lock_journal(rt);
-        let kept = journal.mark().after_pull(processor, from, &reply);
+        let kept = journal.kept().after_pull(processor, from, &reply);
         let event = Event::Pull {
             processor,
             from,

@@ -5,7 +5,7 @@ ghost use Rattle.bq_shared.specs.Parts.{reported_calls};
 ghost use Rattle.bq_machine.specs.Calls.{IsCallRefused};
 
 use crate::clock::Clock;
-use crate::locks::Machine;
+use crate::machine::Machine;
 use crate::records::Records;
 use bq_disc::RunQueue;
 use bq_history::{Naming, Receipt, Room, look_at_both};
@@ -205,7 +205,7 @@ impl<Q: RunQueue + Drop, K: Clock + Drop, N: Naming + Counting, const P: usize> 
             .block(&mut lobby.cell.content.state, processor, now);
         let records = Records::quiet(Event::Block { processor, now }, &reply);
         let mut journal = self.recorder.lock_journal(rt);
-        let kept = journal.mark().after_block(processor, &reply);
+        let kept = journal.kept().after_block(processor, &reply);
         working.commit_two(
             &self.recorder.history,
             &mut *journal,

@@ -14,7 +14,7 @@ ghost use Rattle.bq_machine.specs.Placing.{WasPlaced};
 ghost use Rattle.bq_machine.specs.Waking.{IsWake};
 
 use crate::clock::Clock;
-use crate::locks::Machine;
+use crate::machine::Machine;
 use crate::needs::rooms_of_event;
 use crate::records::{Records, event_twice, no_calls};
 use crate::rooms::{BeginRooms, EventRooms, LoadRooms};
@@ -162,7 +162,7 @@ impl<Q: RunQueue + Drop, K: Clock + Drop, N: Naming + Counting, const P: usize> 
         let reply = cpu
             .content
             .state
-            .begin_wake(&mut lobby.cell.content.state, task, &journal.mark().loads);
+            .begin_wake(&mut lobby.cell.content.state, task, &journal.kept().loads);
         let events = event_twice(Event::BeginWake { processor, task });
         let answers = (
             PackedAnswer::with_room(&reply, rooms.loads.for_record),
@@ -216,7 +216,7 @@ impl<Q: RunQueue + Drop, K: Clock + Drop, N: Naming + Counting, const P: usize> 
         let records = Records::of(Event::EndWake { processor, now }, &reply, calls);
         let mut journal_guard = self.recorder.lock_journal(rt);
         let journal = &mut *journal_guard;
-        let mut kept = journal.mark().again();
+        let mut kept = journal.kept().again();
         kept.one_more(to);
         let draft = records.draft(rooms.record, Some(kept));
         working.commit_two(&self.recorder.history, journal, cpu, &mut inbox.cell, draft)

@@ -3,7 +3,7 @@
 //! It uses `bq_bpf`, which says what the shape of a map is and which helpers reach a map.
 #![tactic(auto)]
 
-pub mod arrays;
+pub mod maps;
 
-pub use arrays::Maps;
 pub use bq_bpf::{Board, MapShape};
+pub use maps::Maps;

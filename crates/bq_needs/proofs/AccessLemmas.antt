@@ -16,7 +16,7 @@ use Rattle.bq_policy_file.specs.declared.policy_source.PolicySource.{PolicySourc
 use Rattle.bq_verify.specs.Subjects.{context_size_of}
 use Rattle.bq_needs.specs.Accesses.{AreBytesSet, MayBeFollowed, GoesBeyond, IsMoved, IsAccessShown, ReachesLast, StaysBelow, DescribesBegin, Wraps, across, across_text, access_begin, counted, by_register, pointer_register_text}
 use Rattle.bq_needs.specs.Texts.{kind_text}
-use Rattle.bq_needs.specs.declared.operands.MemoryAccess.{MemoryAccess}
+use Rattle.bq_needs.specs.declared.memory_access.MemoryAccess.{MemoryAccess}
 
 -- where the moved ends are turned round, one of the words between them becomes the greatest
 last_between : (lo hi d : ℕ) → lo ≤ hi → hi < 2 ^ 64 → d < 2 ^ 64 → (hi + d) % 2 ^ 64 < (lo + d) % 2 ^ 64

@@ -16,7 +16,7 @@ use Rattle.bq_bpf.specs.declared.shape.MapShape.{MapShape}
 use Rattle.bq_needs.specs.Operands.{access_of, known_in, reads, works_on}
 use Rattle.bq_needs.specs.declared.accesses.Lack.TheVariants as lack
 use Rattle.bq_needs.specs.declared.accesses.Lack.{Lack}
-use Rattle.bq_needs.specs.declared.operands.MemoryAccess.{MemoryAccess}
+use Rattle.bq_needs.specs.declared.memory_access.MemoryAccess.{MemoryAccess}
 
 -- what is lacking of an access is not shown of it
 pub lacks_not_shown : (p : PolicySource) (state : AbstractState) (a : MemoryAccess) (k : AbstractValue) (why : Lack)

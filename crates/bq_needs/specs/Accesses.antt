@@ -17,7 +17,7 @@ use Rattle.bq_states.specs.declared.abstract_state.AbstractState.{AbstractState}
 use Rattle.bq_policy_file.specs.declared.policy_source.PolicySource.{PolicySource}
 use Rattle.bq_needs.specs.declared.accesses.Lack.TheVariants as lack
 use Rattle.bq_needs.specs.declared.accesses.Lack.{Lack}
-use Rattle.bq_needs.specs.declared.operands.MemoryAccess.{MemoryAccess}
+use Rattle.bq_needs.specs.declared.memory_access.MemoryAccess.{MemoryAccess}
 use Rattle.bq_needs.specs.Texts.{kind_text, known_text, map_name}
 
 -- the place where the access begins, as an offset, if its pointer has this offset

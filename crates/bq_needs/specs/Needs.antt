@@ -14,7 +14,7 @@ use Rattle.bq_needs.specs.declared.arguments.Argument.{Argument as Wanted}
 use Rattle.bq_needs.specs.declared.needs.Need.TheVariants as need
 use Rattle.bq_needs.specs.declared.needs.Need.{Need}
 use Rattle.bq_needs.specs.declared.needs.Pointer.{Pointer}
-use Rattle.bq_needs.specs.declared.operands.MemoryAccess.{MemoryAccess}
+use Rattle.bq_needs.specs.declared.memory_access.MemoryAccess.{MemoryAccess}
 use Rattle.bq_needs.specs.Accesses.{IsAccessShown, Lacks}
 use Rattle.bq_needs.specs.Arguments.{GivesHelper, IsBad}
 use Rattle.bq_needs.specs.Operands.{access_of, known_in, reads, works_on}

@@ -11,7 +11,7 @@ use Rattle.bq_bpf.specs.Steps.{Does}
 use Rattle.bq_bpf.specs.Memory.{Setting, State}
 use Rattle.bq_states.specs.declared.abstract_state.AbstractValue.{AbstractValue}
 use Rattle.bq_states.specs.declared.abstract_state.AbstractState.{AbstractState}
-use Rattle.bq_needs.specs.declared.operands.MemoryAccess.{MemoryAccess}
+use Rattle.bq_needs.specs.declared.memory_access.MemoryAccess.{MemoryAccess}
 
 -- all operations but a move read what they change
 abbrev pub reads_left : Operation → Bool

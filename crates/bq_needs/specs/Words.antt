@@ -15,7 +15,7 @@ use Rattle.bq_needs.specs.declared.arguments.Argument.{Argument as Wanted}
 use Rattle.bq_needs.specs.declared.needs.Need.{Need}
 use Rattle.bq_needs.specs.declared.needs.Need.TheVariants.{Unknown, Address, Access, Number, Map, Argument, Answer, Unshown}
 use Rattle.bq_needs.specs.declared.needs.Pointer.{Pointer}
-use Rattle.bq_needs.specs.declared.operands.MemoryAccess.{MemoryAccess}
+use Rattle.bq_needs.specs.declared.memory_access.MemoryAccess.{MemoryAccess}
 use Rattle.bq_needs.specs.Accesses.{DescribesBegin, access_text, lack_text, may_be_null, noun, pointer_register_text, verb}
 use Rattle.bq_needs.specs.Arguments.{argument_register, wanted_text}
 use Rattle.bq_needs.specs.Operands.{known_in}

@@ -3,7 +3,7 @@ ghost use Rattle.std.specs.Prelude.{◌≡◌, ◌⊎◌, ◌↔◌, ◌<◌, �
 ghost use Rattle.bq_needs.specs.Accesses.{AreBytesSet, MayBeFollowed, GoesBeyond, IsMoved, IsAccessShown, Lacks, ReachesLast, StaysBelow, DescribesBegin, TouchesUnset, Wraps, across_text, access_begin, lack_text, may_be_null, pointed_place_text, pointer_register_text};
 
 use crate::known::{kind_text, known_text, map_name};
-use crate::operands::MemoryAccess;
+use crate::memory_access::MemoryAccess;
 use bq_bpf::addresses::STACK_SIZE;
 use bq_bpf::words::address;
 use bq_bpf::{MapShape, with_stack_size};

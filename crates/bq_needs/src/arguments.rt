@@ -5,7 +5,7 @@ ghost use Rattle.bq_needs.specs.Arguments.{GivesHelper, IsBad, IsCounter, IsArgu
 ghost use Rattle.bq_needs.specs.Operands.{known_in};
 
 use crate::accesses::lack_of;
-use crate::operands::MemoryAccess;
+use crate::memory_access::MemoryAccess;
 use bq_bpf::board::COUNTERS;
 use bq_bpf::helper::{ADD_COUNTER, LOOKUP, UPDATE};
 use bq_bpf::instruction::is_counter_call;

@@ -8,13 +8,13 @@
 mod accesses;
 mod arguments;
 mod known;
+mod memory_access;
 mod needs;
-mod operands;
 mod words;
 
 pub use accesses::Lack;
 pub use arguments::Argument;
 pub use known::{known_text, range_text};
+pub use memory_access::{MemoryAccess, Registers, read_registers, reads};
 pub use needs::{Need, Pointer, need_of};
-pub use operands::{MemoryAccess, Registers, read_registers, reads};
 pub use words::{moves, need_text};

@@ -7,7 +7,7 @@ ghost use Rattle.bq_needs.specs.Operands.{known_in};
 
 use crate::accesses::{Lack, lack_of};
 use crate::arguments::{Argument, bad_argument};
-use crate::operands::{MemoryAccess, Registers, access_of, reads, works_on};
+use crate::memory_access::{MemoryAccess, Registers, access_of, reads, works_on};
 use bq_insn::{Insn, REGISTERS};
 use bq_policy_file::PolicySource;
 use bq_states::abstract_state::{AbstractState, AbstractValue, ValueKind};

@@ -7,8 +7,8 @@ ghost use Rattle.bq_needs.specs.Words.{DescribesAccess, DescribesNeed, address_t
 use crate::accesses::{begin_text, lack_text, may_be_null, register_text};
 use crate::arguments::{Argument, wanted_text};
 use crate::known::known_text;
+use crate::memory_access::{MemoryAccess, Registers};
 use crate::needs::{Need, Pointer};
-use crate::operands::{MemoryAccess, Registers};
 use bq_bpf::MapShape;
 use bq_insn::{Insn, Operation, REGISTERS, Width};
 use bq_policy_file::PolicySource;

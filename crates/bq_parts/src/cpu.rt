@@ -16,7 +16,7 @@ ghost use Rattle.bq_parts.specs.Moves.{taken_from, without_task, with_pulled, st
 use crate::{Carried, Inbox, Unlinked};
 use bq_bpf::Done;
 use bq_disc::clock::LATEST;
-use bq_disc::limits::PROCESSORS;
+use bq_disc::limits::{FIRST_MARK, PROCESSORS};
 use bq_disc::node::{self, Link};
 use bq_disc::{Entry, Node, RunQueue};
 use bq_hooks::Hook;
@@ -66,7 +66,7 @@ impl<Q: RunQueue> Cpu<Q> {
     /// A new processor over an empty queue that the caller hands in. Nothing is installed at its hooks.
     pub fn over(queue: Q) -> Cpu<Q>
         requires empty { Q.members queue ≡ [] }
-        requires mark { Q.last_mark queue ≡ 2 ^ 32 }
+        requires mark { Q.last_mark queue ≡ FIRST_MARK }
         ensures { result ≡ new_processor }
     {
         Cpu {

@@ -3,7 +3,7 @@ ghost use Rattle.std.specs.Prelude.{◌≡◌, IfOk, MatchOption};
 ghost use Rattle.bq_policy_file.specs.declared.head.Head.{Head as StatedHead};
 ghost use Rattle.bq_policy_check.specs.Disagreeing.{IsAsmRefusal, IsDifferingKey, IsRefusalBeside, GivesImage, differing};
 
-use crate::reasons::{fault_line, fault_reason};
+use crate::file_fault::{fault_line, fault_reason};
 use bq_policy_file::{FileKind, Head, Key, Options, PolicyFault, kind_of, read_policy, shapes_of};
 use std::alloc::{AllocError, Global};
 

@@ -3,7 +3,7 @@ ghost use Rattle.std.specs.Prelude.{◌≡◌, IfOk, string_bytes};
 ghost use Rattle.bq_policy_check.specs.Noting.{IsAsmNote, IsNoteBeside, NotesHead, left_out_lines, leaves_format, leaves_maps};
 
 use crate::asm_head::head_of;
-use crate::reasons::fault_reason;
+use crate::file_fault::fault_reason;
 use bq_hooks::Version;
 use bq_policy_file::{FileKind, Head, Options, PolicyFault, PolicySource, kind_of, read_policy};
 use std::alloc::{AllocError, Global};

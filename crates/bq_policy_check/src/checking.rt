@@ -9,11 +9,11 @@ ghost use Rattle.bq_policy_check.specs.Given.{GivesHead};
 ghost use Rattle.bq_policy_check.specs.Showing.{ShowsFault, ShowsVerdict};
 
 use crate::answered::Answered;
+use crate::file_fault::{fault_line, reason_of};
 use crate::given::given_head;
 use crate::json_text::{explanation_json, name_text, reason_json};
 use crate::limits::limits_of;
 use crate::listing::reasoned;
-use crate::reasons::{fault_line, reason_of};
 use crate::source_lines::source_text;
 use crate::words::CheckWords;
 use bq_console::WordsFault;

@@ -6,11 +6,11 @@ ghost use Rattle.bq_insn.specs.Appending.{StartsWith};
 ghost use Rattle.bq_policy_check.specs.Refusing.{policy_fault_line};
 ghost use Rattle.bq_policy_check.specs.Showing.{IsLineOf, ShowsFault, ShowsNone, ShowsVerdict, answer_members, first_line, put_all};
 
+use crate::file_fault::{FileFault, fields_of_reason, put_fault};
 use crate::json_parts::{
     fields_of_limit, fields_of_refusal, fields_of_summary, file_value, lines_value, put_text,
     put_verdict,
 };
-use crate::reasons::{FileFault, fields_of_reason, put_fault};
 use bq_console::Name;
 use bq_explain::{Detail, Explanation, explanation_text};
 use bq_policy_file::{PolicyFault, PolicySource};

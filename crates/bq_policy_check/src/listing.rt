@@ -5,8 +5,8 @@ ghost use Rattle.bq_policy_check.specs.Listing.{ListsFile, ListsTo};
 ghost use Rattle.bq_policy_check.specs.Refusing.{RefusesPolicy};
 
 use crate::answered::Answered;
+use crate::file_fault::{FileFault, fault_line, reason_of, reason_text};
 use crate::given::given_head;
-use crate::reasons::{FileFault, fault_line, reason_of, reason_text};
 use crate::words::DisWords;
 use bq_console::{WordsFault, file_named};
 use bq_policy_file::{Head, PolicyFault, policy_text, read_policy};

@@ -181,7 +181,7 @@ moved_by_case : (processor n : ℕ) (p : Running) (o : Option ℕ)
     → length (option_to_list (taken_from p o)) ≡ option_map_or (λ _. 1) o 0
 moved_by_case processor n p None may e = refl
 moved_by_case processor n p (Some id) may e =
-    moved_one processor (left_at p.kept) (find_task id p.queue) (may_pull_names processor p.queue n id may e)
+    moved_one processor (left_at p.mark) (find_task id p.queue) (may_pull_names processor p.queue n id may e)
 
 -- what goes from a queue leaves the task that runs
 current_stays : (p : Running) (task : Option ℕ) → (without_task p task).current ≡ p.current

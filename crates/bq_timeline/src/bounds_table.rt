@@ -67,11 +67,11 @@ impl BoundsTable {
         match machine.seen(processor) {
             Some(AnyCpu::Cfs(cpu)) => {
                 self.bounds
-                    .take(processor, event, reply, running, rise, cpu.kept());
+                    .take(processor, event, reply, running, rise, cpu.mark());
             }
             Some(AnyCpu::Eevdf(cpu)) => {
                 self.bounds
-                    .take(processor, event, reply, running, rise, cpu.kept());
+                    .take(processor, event, reply, running, rise, cpu.mark());
                 let is_done = match glance_at(cpu) {
                     Some(glance) => self
                         .bounds
@@ -159,7 +159,7 @@ fn glance_at<Q: RunQueue>(cpu: &Cpu<Q>) -> Option<Glance> {
     };
     Some(Glance {
         least,
-        mean: cpu.kept(),
+        mean: cpu.mark(),
     })
 }
 

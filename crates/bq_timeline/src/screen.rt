@@ -22,7 +22,7 @@ use bq_parts::{Event, Refusal, Reply};
 use bq_report::Names;
 use bq_schedule::{Change, ClockReading, Schedule};
 use bq_trace::AnyCore;
-use bq_why::faults::{LineFault, NOT_READ_ON, meant_keyword, why_bad};
+use bq_why::line_fault::{LineFault, NOT_READ_ON, meant_keyword, why_bad};
 use bq_why::{Because, Occurrence, Refused};
 use bq_words::Rule;
 use std::alloc::{AllocError, Global};

@@ -71,7 +71,7 @@ spaced_entities tasks = flat_map (λ t. 32 ∷ entity_text t) tasks
 -- the line that shows a processor: its mark, its current task, and its queue by rising (v, id)
 abbrev pub processor_line : ℕ → Running → List ℕ
 processor_line c p =
-    codes "show " ++ (decimal c ++ (codes " mark " ++ (decimal p.kept ++ (codes " run " ++ (current_text p.current ++ (codes " queue" ++ (spaced_entities p.queue ++ codes "\n")))))))
+    codes "show " ++ (decimal c ++ (codes " mark " ++ (decimal p.mark ++ (codes " run " ++ (current_text p.current ++ (codes " queue" ++ (spaced_entities p.queue ++ codes "\n")))))))
 
 -- the line that shows a processor, or that refuses one that the machine does not have
 abbrev pub show_line : World → ℕ → List ℕ

@@ -48,7 +48,7 @@ pub fn write_processor<Q: RunQueue>(
 ) -> Result<(), AllocError>
     ensures { OnOk result (string_bytes text.new ≡ string_bytes text.old ++ processor_line processor cpu.now.running) }
 {
-    let mark = cpu.kept();
+    let mark = cpu.mark();
     write!(text, "show {processor} mark {mark} run ")?;
     write_current(text, cpu)?;
     text.push_str(" queue")?;

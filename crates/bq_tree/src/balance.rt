@@ -83,7 +83,7 @@ fn fork<S: Summary>(node: Box<Node>, left: Link, right: Link) -> Box<Node>
     requires left { IsTreeBehind S.knows left }
     requires right { IsTreeBehind S.knows right }
     requires balanced { DifferByAtMost 1 (height_behind left) (height_behind right) }
-    requires low { max (height_behind left) (height_behind right) ≤ 100 }
+    requires low { max (height_behind left) (height_behind right) ≤ HIGHEST }
     requires few { length (in_order_behind left) + length (in_order_behind right) < 2 ^ 16 }
     ensures tree { IsTree S.knows result.value }
     ensures order { in_order result.value ≡ in_order_behind left ++ task_of node.value ∷ in_order_behind right }
@@ -98,7 +98,7 @@ pub(crate) fn gathered<S: Summary>(mut node: Box<Node>, left: Link, right: Link)
     requires lone { IsLone node.value }
     requires left { IsTreeBehind S.knows left }
     requires right { IsTreeBehind S.knows right }
-    requires low { max (height_behind left) (height_behind right) ≤ 100 }
+    requires low { max (height_behind left) (height_behind right) ≤ HIGHEST }
     requires few { length (in_order_behind left) + length (in_order_behind right) < 2 ^ 16 }
     ensures fork { IsFork S.knows result.value }
     ensures tree { DifferByAtMost 1 (height_behind left) (height_behind right) → IsTree S.knows result.value }
@@ -122,7 +122,7 @@ fn crown<S: Summary>(mut node: Box<Node>, left: Link, right: Link) -> Box<Node>
     requires left { IsTreeBehind S.knows left }
     requires right { IsTreeBehind S.knows right }
     requires balanced { DifferByAtMost 1 (height_behind left) (height_behind right) }
-    requires low { max (height_behind left) (height_behind right) ≤ 100 }
+    requires low { max (height_behind left) (height_behind right) ≤ HIGHEST }
     requires knows { S.knows (in_order_behind left ++ task_of node.value ∷ in_order_behind right) (out-Node node.value).due (out-Node node.value).totals }
     requires bounded { IsBounded (task_of node.value) }
     ensures tree { IsTree S.knows result.value }
@@ -139,7 +139,7 @@ fn crown<S: Summary>(mut node: Box<Node>, left: Link, right: Link) -> Box<Node>
 fn turned_right<S: Summary>(root: Box<Node>) -> Box<Node>
     requires fork { IsFork S.knows root.value }
     requires higher { left_height root.value ≡ right_height root.value + 2 }
-    requires low { left_height root.value ≤ 100 }
+    requires low { left_height root.value ≤ HIGHEST }
     requires few { length (in_order root.value) ≤ 2 ^ 16 }
     ensures tree { IsTree S.knows result.value }
     ensures order { in_order result.value ≡ in_order root.value }
@@ -165,7 +165,7 @@ fn turned_right<S: Summary>(root: Box<Node>) -> Box<Node>
 fn turned_left<S: Summary>(root: Box<Node>) -> Box<Node>
     requires fork { IsFork S.knows root.value }
     requires higher { right_height root.value ≡ left_height root.value + 2 }
-    requires low { right_height root.value ≤ 100 }
+    requires low { right_height root.value ≤ HIGHEST }
     requires few { length (in_order root.value) ≤ 2 ^ 16 }
     ensures tree { IsTree S.knows result.value }
     ensures order { in_order result.value ≡ in_order root.value }
@@ -191,7 +191,7 @@ fn turned_left<S: Summary>(root: Box<Node>) -> Box<Node>
 pub(crate) fn rebalanced<S: Summary>(mut root: Box<Node>) -> Box<Node>
     requires fork { IsFork S.knows root.value }
     requires near { DifferByAtMost 2 (left_height root.value) (right_height root.value) }
-    requires low { max (left_height root.value) (right_height root.value) ≤ 100 }
+    requires low { max (left_height root.value) (right_height root.value) ≤ HIGHEST }
     requires few { length (in_order root.value) ≤ 2 ^ 16 }
     ensures tree { IsTree S.knows result.value }
     ensures order { in_order result.value ≡ in_order root.value }
@@ -222,7 +222,7 @@ fn heights(root: &Node) -> (u8, u8)
 pub(crate) fn rebalance<S: Summary>(link: &mut Link)
     requires fork { IsForkBehind S.knows link.old }
     requires near { DifferByAtMost 2 (left_height_behind link.old) (right_height_behind link.old) }
-    requires low { max (left_height_behind link.old) (right_height_behind link.old) ≤ 100 }
+    requires low { max (left_height_behind link.old) (right_height_behind link.old) ≤ HIGHEST }
     requires few { length (in_order_behind link.old) ≤ 2 ^ 16 }
     ensures tree { IsTreeBehind S.knows link.new }
     ensures order { in_order_behind link.new ≡ in_order_behind link.old }

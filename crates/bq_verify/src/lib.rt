@@ -11,7 +11,7 @@ pub mod edges;
 mod flow;
 pub mod graph_cause;
 pub mod graph_numbers;
-mod known_at;
+mod known_states;
 pub mod laws;
 pub mod layout;
 mod pass;
@@ -26,7 +26,7 @@ mod waiting;
 
 pub use cause::Cause;
 pub use graph_cause::GraphCause;
-pub use known_at::{KnownStates, known_states};
+pub use known_states::{KnownStates, known_states};
 pub use policy_form::PolicyForm;
 pub use program::{Program, verify};
 pub use refused::Refused;

@@ -4,7 +4,7 @@ use crate::asserting::{are_bytes, is_number, is_true};
 use crate::judging::shape;
 use bq_bpf::board::{Board, Plain};
 use bq_bpf::{Helper, MapShape};
-use bq_maps::arrays::Maps;
+use bq_maps::maps::Maps;
 use std::process::Abort;
 
 /// Sizes of values, numbers of entries, and whether there are such maps.

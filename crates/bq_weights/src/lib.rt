@@ -13,6 +13,12 @@ pub const FARTHEST: u64 = 1 << 30;
 /// The weight of nice value 0, at which virtual time passes as fast as the clock.
 pub const NICE_0_WEIGHT: u64 = 1024;
 
+/// The least weight, that of the greatest nice value.
+pub const LEAST_WEIGHT: u32 = 15;
+
+/// The greatest weight, that of the least nice value.
+pub const GREATEST_WEIGHT: u32 = 88_761;
+
 /// The least nice value, which has the greatest weight.
 pub const LEAST_NICE: i64 = -20;
 

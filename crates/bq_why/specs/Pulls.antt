@@ -3,9 +3,9 @@ use Rattle.std.specs.Prelude.{◌≡◌, ◌≤◌, ◌+◌, ◌==◌, nat_le, �
 use Rattle.bq_disc.specs.declared.limits.TheConstants.{TASKS}
 use Rattle.bq_disc.specs.OneProcessor.{Running, present_at}
 use Rattle.bq_disc.specs.Movable.{movable_to, ids}
-use Rattle.bq_why.specs.declared.pulling.PullSight.{PullSight}
-use Rattle.bq_why.specs.declared.pulling.OwnPull.{OwnPull}
-use Rattle.bq_why.specs.declared.pulling.OwnPull.TheVariants.{TooFew, NoneMayGo, Greatest}
+use Rattle.bq_why.specs.declared.pull_sight.PullSight.{PullSight}
+use Rattle.bq_why.specs.declared.pull_sight.OwnPull.{OwnPull}
+use Rattle.bq_why.specs.declared.pull_sight.OwnPull.TheVariants.{TooFew, NoneMayGo, Greatest}
 
 -- a pull sees how many tasks run or wait at both processors, how many of the other processor's queue may go, and the first eight of
 -- these by falling (v, id)

@@ -39,8 +39,8 @@ pub(crate) fn write_choice(
 ) -> Result<(), AllocError> {
     let rule = machine.rule();
     let (mark, tasks) = match machine.seen(choice.processor) {
-        Some(AnyCpu::Cfs(cpu)) => (cpu.kept(), present(alloc, cpu)?),
-        Some(AnyCpu::Eevdf(cpu)) => (cpu.kept(), present(alloc, cpu)?),
+        Some(AnyCpu::Cfs(cpu)) => (cpu.mark(), present(alloc, cpu)?),
+        Some(AnyCpu::Eevdf(cpu)) => (cpu.mark(), present(alloc, cpu)?),
         None => return Ok(()),
     };
     if let Some(from) = measured_from(rule, tasks.as_slice()) {

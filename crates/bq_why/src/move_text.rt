@@ -1,7 +1,7 @@
 //! Where a woken task is placed, and which task is pulled, in words.
 
 use crate::asked::Asked;
-use crate::pulling::{OwnPull, PullSight};
+use crate::pull_sight::{OwnPull, PullSight};
 use crate::words_of::Who;
 use bq_hooks::{By, Hook};
 use bq_report::Names;

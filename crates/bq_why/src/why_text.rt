@@ -6,7 +6,7 @@ use crate::asked::Asked;
 use crate::choice_text::{RunChoice, write_choice};
 use crate::happenings::InWords;
 use crate::move_text::{write_place, write_pull, write_sight};
-use crate::pulling::{PullSight, sight_of};
+use crate::pull_sight::{PullSight, sight_of};
 use crate::words_of::Who;
 use bq_hooks::{By, Hook};
 use bq_parts::{Event, Reply};
