@@ -4,7 +4,7 @@ use Rattle.std.specs.Prelude.{Option, Result, Ok, Err, ℤ}
 use Rattle.bq_asm.specs.declared.fault.AssemblyCause.{AssemblyCause}
 use Rattle.bq_asm.specs.declared.fault.AssemblyCause.TheVariants as cause
 use Rattle.bq_asm.specs.declared.operand.Operand.{Operand}
-use Rattle.bq_asm.specs.declared.place.OperandKind.{OperandKind}
+use Rattle.bq_asm.specs.declared.operand_kind.OperandKind.{OperandKind}
 use Rattle.bq_asm.specs.Operands.{operand_of, each_operand, with_next, lesser}
 
 lesser_word : (c : AssemblyCause) → lesser c cause.Word ≡ cause.Word

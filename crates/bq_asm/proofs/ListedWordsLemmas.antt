@@ -20,8 +20,8 @@ use Rattle.bq_insn.specs.Laws.{Fits, SourceFits}
 use Rattle.bq_asm.specs.declared.fault.AssemblyCause.TheVariants as cause
 use Rattle.bq_asm.specs.declared.operand.Operand.{Operand}
 use Rattle.bq_asm.specs.declared.operand.Operand.TheVariants as operand
-use Rattle.bq_asm.specs.declared.place.OperandKind.{OperandKind}
-use Rattle.bq_asm.specs.declared.place.OperandKind.TheVariants as kind
+use Rattle.bq_asm.specs.declared.operand_kind.OperandKind.{OperandKind}
+use Rattle.bq_asm.specs.declared.operand_kind.OperandKind.TheVariants as kind
 use Rattle.bq_asm.specs.Names.{mnemonic_word}
 use Rattle.bq_asm.specs.Operands.{operand_of, each_operand, with_next, kind_list, kinds_of, made, instruction_of, instruction_from}
 use Rattle.bq_asm.specs.Text.{operand_text, source_operand, mnemonic_of, operands_of}

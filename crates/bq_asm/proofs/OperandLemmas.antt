@@ -8,7 +8,7 @@ use Rattle.std.proofs.lemmas.Bool.{and_parts, and_right, and_left, lt-ltb, le-le
 use Rattle.std.proofs.lemmas.List.{take_at, drop_at, get_or_at}
 use Rattle.std.proofs.lemmas.Int.{ints}
 use Rattle.bq_asm.specs.declared.operand.Operand.TheVariants as operand
-use Rattle.bq_asm.specs.declared.place.OperandKind.TheVariants as kind
+use Rattle.bq_asm.specs.declared.operand_kind.OperandKind.TheVariants as kind
 use Rattle.bq_asm.specs.Numbers.{imm_of, offset_of, distance_in_word, register_named}
 use Rattle.bq_asm.specs.Operands.{number_place, register_place, source_place, is_sign, inside, based, cut_at, memory_place, is_letter, is_label_byte, is_label, label_place, operand_of}
 use Rattle.bq_asm.specs.Text.{signed_text, operand_text}

@@ -15,8 +15,8 @@ use Rattle.bq_asm.specs.declared.mnemonic.Mnemonic.{Mnemonic}
 use Rattle.bq_asm.specs.declared.mnemonic.Mnemonic.TheVariants as name
 use Rattle.bq_asm.specs.declared.operand.Operand.{Operand}
 use Rattle.bq_asm.specs.declared.operand.Operand.TheVariants as operand
-use Rattle.bq_asm.specs.declared.place.OperandKind.{OperandKind}
-use Rattle.bq_asm.specs.declared.place.OperandKind.TheVariants as kind
+use Rattle.bq_asm.specs.declared.operand_kind.OperandKind.{OperandKind}
+use Rattle.bq_asm.specs.declared.operand_kind.OperandKind.TheVariants as kind
 use Rattle.bq_asm.specs.Named.{named}
 use Rattle.bq_asm.specs.Lines.{last_word}
 use Rattle.bq_asm.specs.Operands.{is_label, operand_of, number_place, label_place, each_operand, with_next, kind_list, kinds_of, insn_from, made, lesser, register_place, source_place, instruction_of, instruction_from}

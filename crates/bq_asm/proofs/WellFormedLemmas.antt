@@ -19,8 +19,8 @@ use Rattle.bq_asm.specs.declared.mnemonic.Mnemonic.{Mnemonic}
 use Rattle.bq_asm.specs.declared.mnemonic.Mnemonic.TheVariants as name
 use Rattle.bq_asm.specs.declared.operand.Operand.{Operand}
 use Rattle.bq_asm.specs.declared.operand.Operand.TheVariants as operand
-use Rattle.bq_asm.specs.declared.place.OperandKind.{OperandKind}
-use Rattle.bq_asm.specs.declared.place.OperandKind.TheVariants as kind
+use Rattle.bq_asm.specs.declared.operand_kind.OperandKind.{OperandKind}
+use Rattle.bq_asm.specs.declared.operand_kind.OperandKind.TheVariants as kind
 use Rattle.bq_asm.specs.Named.{named, entry_with, table}
 use Rattle.bq_asm.specs.Numbers.{imm_of, offset_of, distance_in_word, wide_of, register_named, begins_number}
 use Rattle.bq_asm.specs.Operands.{number_place, register_place, source_place, is_sign, inside, based, cut_at, memory_place, is_label, label_place, operand_of, each_operand, with_next, kind_list, kinds_of, insn_from, made, instruction_of, instruction_from}

@@ -13,8 +13,8 @@ use Rattle.bq_asm.specs.declared.operand.Operand.{Operand}
 use Rattle.bq_asm.specs.declared.operand.Operand.TheVariants as operand
 use Rattle.bq_asm.specs.declared.operand.Operands.{Operands}
 use Rattle.bq_asm.specs.declared.operand.Operands.TheVariants.{Zero, One, Two, Three}
-use Rattle.bq_asm.specs.declared.place.OperandKind.{OperandKind}
-use Rattle.bq_asm.specs.declared.place.OperandKind.TheVariants as kind
+use Rattle.bq_asm.specs.declared.operand_kind.OperandKind.{OperandKind}
+use Rattle.bq_asm.specs.declared.operand_kind.OperandKind.TheVariants as kind
 use Rattle.bq_asm.specs.declared.instruction.Kinds.{Kinds}
 use Rattle.bq_asm.specs.declared.instruction.Kinds.TheVariants as kinds
 use Rattle.bq_asm.specs.Named.{named}

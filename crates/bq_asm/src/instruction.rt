@@ -6,7 +6,7 @@ ghost use Rattle.bq_asm.specs.Text.{list_of};
 use crate::fault::AssemblyCause;
 use crate::mnemonic::Mnemonic;
 use crate::operand::{Operand, Operands};
-use crate::place::{OperandKind, operand_of};
+use crate::operand_kind::{OperandKind, operand_of};
 use crate::table::named;
 use bq_insn::{Insn, Source};
 

@@ -15,7 +15,7 @@ mod line;
 mod mnemonic;
 mod number;
 mod operand;
-mod place;
+mod operand_kind;
 mod table;
 
 pub use assembler::assemble;

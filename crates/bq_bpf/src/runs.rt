@@ -11,7 +11,7 @@ pub struct Env {
 
 /// What a run answers, and how many instructions it executed (with the EXIT).
 #[derive(Clone, Copy)]
-pub struct Done {
+pub struct RunResult {
     pub r0: u64,
     pub steps: u32,
 }

@@ -14,7 +14,7 @@ use Rattle.bq_disc.specs.Totals.{NoneBelow}
 use Rattle.bq_disc.specs.OneProcessor.{Running, present_at, charge, choice_started, run_id, switched, exchanged, decided, own_preempt, rise}
 use Rattle.bq_disc.proofs.SetLemmas.{find_task-Contains}
 use Rattle.bq_cfs.specs.Cfs.{cfs, least}
-use Rattle.bq_cfs.specs.Spread.{bound, AreTasksSound, IsSpreadWithin, Event, Tick, Block, event_time, processor_passed, StaysWithin, HistoryStaysWithin}
+use Rattle.bq_cfs.specs.Spread.{bound, AreTasksSound, IsSpreadWithin, SpreadEvent, Tick, Block, event_time, processor_passed, StaysWithin, HistoryStaysWithin}
 use Rattle.bq_cfs.proofs.BoundLemmas.{weaker_of_each, IsNear, at_most_bound, none_below_least}
 use Rattle.bq_cfs.proofs.MoveLemmas.{each-without, each-inserted, each-find_task, distinct-started, distinct-exchanged}
 use Rattle.bq_cfs.proofs.LevelLemmas.{IsLevel, IsLevel-charged, within_bound_is_level}
@@ -163,7 +163,7 @@ decided_stays V d n mark last q u false e distinct h = kept_stays V d n mark las
 -- Events
 
 -- an event keeps a processor, given by its parts, within its bound
-event_stays : (V d : ℕ) (q : List Task) (mark : ℕ) (o : Option Task) (last : ℕ) (e : Event)
+event_stays : (V d : ℕ) (q : List Task) (mark : ℕ) (o : Option Task) (last : ℕ) (e : SpreadEvent)
     → (let p : Running = record { queue = q; mark = mark; current = o; last = last } in
     AreTasksSound p → IsSpreadWithin V d p → rise p (event_time e) ≤ d → Stays V d (processor_passed p e))
 event_stays V d q mark None last (Tick now) s w le =

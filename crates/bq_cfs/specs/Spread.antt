@@ -27,12 +27,12 @@ pub record IsSpreadWithin (V d : ℕ) (p : Running) : Type 0 where
   pub each : All (λ t. t.v ≤ bound V (present_at p) + vdelta_of d LEAST_WEIGHT) (present_at p)
 
 -- an event, with the reading of the clock at which it comes
-pub data Event : Type 0 where
-  Tick : ℕ → Event
-  Block : ℕ → Event
+pub data SpreadEvent : Type 0 where
+  Tick : ℕ → SpreadEvent
+  Block : ℕ → SpreadEvent
 
 -- the reading at which an event comes
-abbrev pub event_time : Event → ℕ
+abbrev pub event_time : SpreadEvent → ℕ
 event_time (Tick now) = now
 event_time (Block now) = now
 
@@ -42,17 +42,17 @@ departed p now None = p
 departed p now (Some t) = choice_started cfs (record (charge cfs p now) { current = None })
 
 -- the processor after an event, if only the rule decides whether the current task gives way
-abbrev pub processor_passed : Running → Event → Running
+abbrev pub processor_passed : Running → SpreadEvent → Running
 processor_passed p (Tick now) = ticked cfs p now
 processor_passed p (Block now) = departed p now p.current
 
 -- the processor after some events, one after another
-abbrev pub passed_all : Running → List Event → Running
+abbrev pub passed_all : Running → List SpreadEvent → Running
 passed_all p [] = p
 passed_all p (e ∷ es) = passed_all (processor_passed p e) es
 
 -- the clock rises by at most d at each of the events
-abbrev pub EventsRiseByAtMost : ℕ → Running → List Event → Type 0
+abbrev pub EventsRiseByAtMost : ℕ → Running → List SpreadEvent → Type 0
 EventsRiseByAtMost d p [] = Unit {0}
 EventsRiseByAtMost d p (e ∷ es) = (rise p (event_time e) ≤ d) × EventsRiseByAtMost d (processor_passed p e) es
 
@@ -63,9 +63,9 @@ BeginsWithin = (V d : ℕ) (p : Running) → All (λ t. t.v ≤ V) (present_at p
 -- an event at which the clock rises by at most d keeps the processor within V and d
 abbrev pub StaysWithin : Type 0
 StaysWithin =
-    (V d : ℕ) (p : Running) (e : Event) → AreTasksSound p → IsSpreadWithin V d p → rise p (event_time e) ≤ d → AreTasksSound (processor_passed p e) × IsSpreadWithin V d (processor_passed p e)
+    (V d : ℕ) (p : Running) (e : SpreadEvent) → AreTasksSound p → IsSpreadWithin V d p → rise p (event_time e) ≤ d → AreTasksSound (processor_passed p e) × IsSpreadWithin V d (processor_passed p e)
 
 -- any number of such events keep the processor within V and d
 abbrev pub HistoryStaysWithin : Type 0
 HistoryStaysWithin =
-    (V d : ℕ) (p : Running) (es : List Event) → AreTasksSound p → IsSpreadWithin V d p → EventsRiseByAtMost d p es → AreTasksSound (passed_all p es) × IsSpreadWithin V d (passed_all p es)
+    (V d : ℕ) (p : Running) (es : List SpreadEvent) → AreTasksSound p → IsSpreadWithin V d p → EventsRiseByAtMost d p es → AreTasksSound (passed_all p es) × IsSpreadWithin V d (passed_all p es)

@@ -16,7 +16,7 @@ use bq_console::{
     given_words, joined_words, report_out_of_memory, waiting_input, written,
 };
 use bq_lines::with_first_line;
-use bq_streams::{Counted, Kept};
+use bq_streams::{Counted, ErrorKeeper};
 use std::io::{IsTerminal, Read};
 use std::process::ExitCode;
 use std::sync::Wait;
@@ -91,8 +91,8 @@ pub(crate) fn perform_from<T: Threads + Wait + Sync, R: Read + Drop>(
     reader: R,
 ) -> ExitCode {
     let progress = ProgressLine::new(rt);
-    let mut input = Counted::new(Kept::new(ShowingReader::new(reader, &progress)));
-    let mut output = Counted::new(Kept::new(ErasingWriter::new(rt.stdout(), &progress)));
+    let mut input = Counted::new(ErrorKeeper::new(ShowingReader::new(reader, &progress)));
+    let mut output = Counted::new(ErrorKeeper::new(ErasingWriter::new(rt.stdout(), &progress)));
     let outcome = perform(threads, rt.alloc(), command, &mut input, &mut output);
     progress.erase();
     // A trace that ends at the first read is empty.

@@ -18,12 +18,12 @@ use bq_console::{
     report_unwritten, word, written,
 };
 use bq_experiment::{
-    AskedFault, HookWords, MachineWords, Policies, FinishedRun, RunFault, ShownAs, Streams, StudyWords,
-    asked_changes, run_as,
+    AskedFault, FinishedRun, HookWords, MachineWords, Policies, RunFault, ShownAs, Streams,
+    StudyWords, asked_changes, run_as,
 };
 use bq_hooks::Hook;
 use bq_simulate::SimulateFault;
-use bq_streams::Kept;
+use bq_streams::ErrorKeeper;
 use bq_timeline::SettingsFault;
 use bq_workload::Workload;
 use bq_workload_file::Changes;
@@ -219,11 +219,18 @@ fn show_run(
 ) -> Result<ExitCode, ExitCode> {
     let progress = ProgressLine::new(rt);
     let streams = Streams {
-        output: Kept::new(ErasingWriter::new(rt.stdout(), &progress)),
+        output: ErrorKeeper::new(ErasingWriter::new(rt.stdout(), &progress)),
         errors: ErasingWriter::new(rt.stderr(), &progress),
         progress: &progress,
     };
-    let FinishedRun { output, outcome } = run_as(rt.alloc(), workload, policies, shown, most, streams);
+    let FinishedRun { output, outcome } = run_as(
+        rt.alloc(),
+        workload,
+        policies,
+        shown,
+        most,
+        streams,
+    );
     progress.erase();
     match outcome {
         Ok(notes) => {

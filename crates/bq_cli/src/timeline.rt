@@ -10,7 +10,7 @@ use bq_console::{
     Bounded, ErasingWriter, Lines, ProgressLine, ShowingReader, WordsFault, ended, file_named,
     opened, report_unread, waiting_input, word,
 };
-use bq_streams::{Counted, Kept};
+use bq_streams::{Counted, ErrorKeeper};
 use bq_timeline::{Settings, SettingsFault, Words, show};
 use clap::ArgMatches;
 use std::alloc::{AllocError, Global};
@@ -97,8 +97,8 @@ fn show_from<R: Read + Drop>(
     reader: R,
 ) -> ExitCode {
     let progress = ProgressLine::new(rt);
-    let mut input = Counted::new(Kept::new(ShowingReader::new(reader, &progress)));
-    let mut output = Counted::new(Kept::new(ErasingWriter::new(rt.stdout(), &progress)));
+    let mut input = Counted::new(ErrorKeeper::new(ShowingReader::new(reader, &progress)));
+    let mut output = Counted::new(ErrorKeeper::new(ErasingWriter::new(rt.stdout(), &progress)));
     let mut errors = ErasingWriter::new(rt.stderr(), &progress);
     let shown = show(rt.alloc(), settings, &mut input, &mut output, &mut errors);
     progress.erase();

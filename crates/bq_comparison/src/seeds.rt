@@ -8,7 +8,7 @@ ghost use Rattle.bq_simulate.specs.Simulations.{with_seed};
 use crate::fault::SeedsFault;
 use crate::gathering::gather;
 use crate::{Figure, FigureRow, RunFigures, rows, run_of};
-use bq_console::{Done, EVENTS, ProgressLine};
+use bq_console::{EVENTS, ProgressLine, WorkDone};
 use bq_installed::Policy;
 use bq_simulate::SimulateFault;
 use bq_workload::Workload;
@@ -111,7 +111,7 @@ fn show_runs(shown: &RunsShown<'_>, runs: &[RunFigures]) {
     }
     if shown.before > 0 || events >= EVENTS {
         let done = shown.before.saturating_add(runs.len());
-        let done = Done::Runs(done as u64, shown.all as u64);
+        let done = WorkDone::Runs(done as u64, shown.all as u64);
         shown.progress.show(done);
     }
 }

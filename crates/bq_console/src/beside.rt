@@ -4,7 +4,7 @@ ghost use Rattle.std.specs.Io.{ReadsAtMost, WritesAtMost};
 ghost use Rattle.std.specs.Io.KnownBytes.{Keeps, ReadConsumes, WriteAppends};
 ghost use Rattle.bq_console.specs.Beside.{reader_of, writer_of};
 
-use crate::progress::{BYTES, Done, ProgressLine};
+use crate::progress::{BYTES, ProgressLine, WorkDone};
 use std::io;
 use std::io::{Read, Write};
 
@@ -39,7 +39,7 @@ impl<'a, R> ShowingReader<'a, R> {
         self.given = self.given.saturating_add(bytes as u64);
         if self.given >= self.next {
             self.next = self.given.saturating_add(BYTES);
-            self.progress.show(Done::Bytes(self.given));
+            self.progress.show(WorkDone::Bytes(self.given));
         }
     }
 }

@@ -6,7 +6,7 @@ ghost use Rattle.bq_console.specs.Status.{status_of};
 
 use crate::reporting::{report_unread, report_unwritten};
 use crate::status::exit_status;
-use bq_streams::{Counted, Kept, StreamFault};
+use bq_streams::{Counted, ErrorKeeper, StreamFault};
 use std::io::{Error, Read, Write};
 use std::process::ExitCode;
 
@@ -24,8 +24,8 @@ pub fn ended<R: Read + Drop, W: Write + Drop>(
     rt: &HostRuntime,
     name: Option<&str>,
     outcome: &Result<bool, StreamFault>,
-    input: Counted<Kept<R>>,
-    output: Counted<Kept<W>>,
+    input: Counted<ErrorKeeper<R>>,
+    output: Counted<ErrorKeeper<W>>,
 ) -> ExitCode
     ensures { status result ≡ status_of outcome.now }
 {

@@ -30,7 +30,7 @@ pub use found::{all_words, is_set, value, word};
 pub use given::{as_texts, given_words};
 pub use joined::joined_words;
 pub use printable::{Lines, NO_TEXT, Name, Quoted};
-pub use progress::{Done, EVENTS, ProgressLine};
+pub use progress::{EVENTS, ProgressLine, WorkDone};
 pub use reading::{
     MOST_BYTES, file_named, name_of, opened, read_input, waiting_input, whole_input,
 };

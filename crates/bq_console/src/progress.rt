@@ -15,7 +15,7 @@ const ERASED: &str = "\r\x1b[K";
 
 /// The part of long work that is done.
 #[derive(Clone, Copy)]
-pub enum Done {
+pub enum WorkDone {
     /// This much of the time that is simulated, in percent.
     Percent(u64),
     /// This many runs of all.
@@ -24,12 +24,12 @@ pub enum Done {
     Bytes(u64),
 }
 
-impl fmt::Display for Done {
+impl fmt::Display for WorkDone {
     fn fmt<W: fmt::Write>(&self, f: &mut fmt::Formatter<W>) -> fmt::Result {
         match self {
-            Done::Percent(percent) => write!(f, "{percent}% simulated"),
-            Done::Runs(done, all) => write!(f, "{done} of {all} runs done"),
-            Done::Bytes(bytes) => {
+            WorkDone::Percent(percent) => write!(f, "{percent}% simulated"),
+            WorkDone::Runs(done, all) => write!(f, "{done} of {all} runs done"),
+            WorkDone::Bytes(bytes) => {
                 let megabytes = *bytes / 1_000_000;
                 write!(f, "{megabytes} MB read")
             }
@@ -41,7 +41,7 @@ impl fmt::Display for Done {
 ///
 /// ```text
 /// let progress = ProgressLine::new(rt);
-/// progress.show(Done::Percent(40));
+/// progress.show(WorkDone::Percent(40));
 /// progress.erase();
 /// ```
 #[derive(Drop)]
@@ -74,7 +74,7 @@ impl<'a> ProgressLine<'a> {
     }
 
     /// Shows how much is done, in place of what is shown.
-    pub fn show(&self, done: Done) {
+    pub fn show(&self, done: WorkDone) {
         if let Some(rt) = self.terminal {
             let _ = eprint!(rt; "{ERASED}bqsim: {done}");
             self.is_shown.set(true);

@@ -2,8 +2,8 @@
 use Rattle.std.specs.Prelude.{◌≡◌, ◌≢◌, ℕ, ℤ, Bool, ◌==◌, if◌then◌else◌, List, [], ◌∷◌, Option, Some, None, Contains, IsSome, IfSome, unwrap_or}
 use Rattle.bq_disc.specs.Tasks.{Task, id_of}
 use Rattle.bq_disc.specs.Queues.{HasDistinctIds}
-use Rattle.bq_disc.specs.declared.queue.Entry.{Entry}
-use Rattle.bq_disc.specs.declared.queue.Entry.TheVariants.{Wake, Pull}
+use Rattle.bq_disc.specs.declared.run_queue.Entry.{Entry}
+use Rattle.bq_disc.specs.declared.run_queue.Entry.TheVariants.{Wake, Pull}
 use Rattle.bq_weights.specs.VirtualTime.{advance_of, shift_of, distance_from_mark}
 
 -- a discipline: its choices among tasks, and how it gives them times

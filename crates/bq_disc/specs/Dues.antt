@@ -2,7 +2,7 @@
 use Rattle.std.specs.Prelude.{Bool, if◌then◌else◌, List, Option, Some, None}
 use Rattle.std.specs.Option.{option_map}
 use Rattle.bq_disc.specs.Tasks.{Task, first_by, comes_before}
-use Rattle.bq_disc.specs.declared.due.Deadline.{Deadline}
+use Rattle.bq_disc.specs.declared.deadline.Deadline.{Deadline}
 
 -- a task's deadline, with its id
 abbrev pub due_of : Task → Deadline

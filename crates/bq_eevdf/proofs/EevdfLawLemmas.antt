@@ -3,7 +3,7 @@ use Rattle.std.proofs.Common.{◌≡◌, true, List, ◌∷◌, filter, Option, 
 use Rattle.bq_disc.specs.Tasks.{Task}
 use Rattle.bq_disc.specs.Totals.{sums_of, is_at_most_mean}
 use Rattle.bq_disc.specs.Dues.{due_of, first_due, earliest_of}
-use Rattle.bq_disc.specs.declared.due.Deadline.{Deadline}
+use Rattle.bq_disc.specs.declared.deadline.Deadline.{Deadline}
 use Rattle.bq_disc.specs.declared.totals.Totals.{Totals}
 use Rattle.bq_disc.proofs.DueLemmas.{first_due-cons}
 use Rattle.bq_eevdf.specs.Eevdf.{is_eligible, eligible}

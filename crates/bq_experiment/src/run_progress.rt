@@ -1,6 +1,6 @@
 //! The progress of one run.
 
-use bq_console::{Done, EVENTS, ProgressLine};
+use bq_console::{EVENTS, ProgressLine, WorkDone};
 use bq_parts::Event;
 use bq_workload::Workload;
 
@@ -34,7 +34,7 @@ impl<'a> RunProgress<'a> {
         }
         self.events = self.events.saturating_add(1);
         if self.events % EVENTS == 0 {
-            self.progress.show(Done::Percent(self.percent()));
+            self.progress.show(WorkDone::Percent(self.percent()));
         }
     }
 

@@ -10,7 +10,7 @@ use Rattle.bq_bpf.specs.Steps.{instruction_at}
 use Rattle.bq_verify.specs.Edges.{IsEdge}
 use Rattle.bq_verify.specs.Paths.{IsPath, path_end}
 use Rattle.bq_verify.specs.Passes.{IsAmongTargets, IsGraphSound, LeadsOut}
-use Rattle.bq_verify.specs.declared.edges.Targets.{Targets}
+use Rattle.bq_verify.specs.declared.targets.Targets.{Targets}
 use Rattle.bq_explain.specs.Makers.{AreLeading, AreSparing, IsMaker, HasRole, SparingWay}
 use Rattle.bq_explain.specs.declared.makers.Role.TheVariants.{Off, Makes, Leads}
 use Rattle.bq_verify.specs.Straight.{spares}

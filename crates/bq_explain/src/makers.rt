@@ -9,8 +9,8 @@ use crate::ways::{Ways, is_marked, reaching};
 use bq_bpf::instruction::destination;
 use bq_insn::{Insn, REGISTERS, SLOTS};
 use bq_needs::{Registers, read_registers};
-use bq_verify::edges::{Targets, instruction};
 use bq_verify::graph_numbers::targets;
+use bq_verify::targets::{Targets, instruction};
 use std::alloc::{AllocError, Global};
 
 /// What an instruction is to the ways from a writer of a register to a slot, on which no other instruction writes it.

@@ -12,8 +12,8 @@ use bq_policy_file::PolicySource;
 use bq_states::abstract_state::{AbstractValue, ValueKind};
 use bq_states::places::shape_of;
 use bq_states::registers::known;
-use bq_verify::edges::instruction;
 use bq_verify::graph_numbers::targets;
+use bq_verify::targets::instruction;
 use bq_verify::{KnownStates, PolicyForm};
 use std::alloc::{AllocError, Global};
 

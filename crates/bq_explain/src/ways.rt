@@ -6,8 +6,8 @@ use crate::after::{Sides, sides_of};
 use crate::makers::writes;
 use bq_insn::Insn;
 use bq_verify::KnownStates;
-use bq_verify::edges::{Targets, instruction};
 use bq_verify::graph_numbers::targets;
+use bq_verify::targets::{Targets, instruction};
 use std::alloc::{AllocError, Global};
 
 /// The slots to which runs may go from each slot; there are none from a slot that no run reaches.

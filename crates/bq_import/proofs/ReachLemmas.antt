@@ -9,7 +9,7 @@ use Rattle.bq_insn.specs.Spelling.{is_well_formed}
 use Rattle.bq_bpf.specs.Steps.{LeadsTo, instruction_at}
 use Rattle.bq_bpf.specs.Instructions.{distance_of}
 use Rattle.bq_verify.specs.Paths.{path_end}
-use Rattle.bq_verify.specs.declared.edges.Targets.{Targets}
+use Rattle.bq_verify.specs.declared.targets.Targets.{Targets}
 use Rattle.bq_insn.proofs.OptionLemmas.{some_same, some_none}
 use Rattle.bq_verify.proofs.EdgeLemmas.{start_inside}
 use Rattle.bq_verify.proofs.SlotLemmas.{few_slots}

@@ -7,7 +7,7 @@ use Rattle.bq_bpf.specs.Instructions.{goes_on}
 use Rattle.bq_verify.specs.Edges.{IsEdge, IsStart}
 use Rattle.bq_insn.proofs.OptionLemmas.{some_same, some_none}
 use Rattle.bq_insn.proofs.CountLemmas.{slots_positive}
-use Rattle.bq_verify.specs.declared.edges.Targets.{Targets}
+use Rattle.bq_verify.specs.declared.targets.Targets.{Targets}
 use Rattle.bq_import.specs.declared.fault.Disorder.{Disorder}
 use Rattle.bq_import.specs.Backward.{IsBuilt, IsFront, IsLengthened}
 use Rattle.bq_import.specs.Faults.{IsFull, IsLinked}

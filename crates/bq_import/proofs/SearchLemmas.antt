@@ -11,7 +11,7 @@ use Rattle.bq_bpf.specs.Steps.{LeadsTo, instruction_at}
 use Rattle.bq_bpf.specs.Instructions.{distance_of, goes_on}
 use Rattle.bq_verify.specs.Edges.{IsStart}
 use Rattle.bq_verify.specs.Passes.{LeadsOut, IsAmongTargets}
-use Rattle.bq_verify.specs.declared.edges.Targets.{Targets}
+use Rattle.bq_verify.specs.declared.targets.Targets.{Targets}
 use Rattle.bq_insn.proofs.OptionLemmas.{some_same, some_none}
 use Rattle.bq_insn.proofs.CountLemmas.{slots_positive}
 use Rattle.bq_verify.proofs.EdgeLemmas.{leads_same, leads_out}

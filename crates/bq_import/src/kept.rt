@@ -17,7 +17,7 @@ use crate::order::{Ordered, turned};
 use crate::reached::reached;
 use crate::search::no_places;
 use bq_insn::Insn;
-use bq_verify::edges::instruction;
+use bq_verify::targets::instruction;
 use std::alloc::{AllocError, Global};
 
 /// The program with only what control comes to.

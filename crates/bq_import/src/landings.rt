@@ -9,7 +9,7 @@ ghost use Rattle.bq_import.specs.Search.{AreLandings, IsQueued, is_open};
 
 use crate::linked::targets;
 use bq_insn::Insn;
-use bq_verify::edges::{Targets, instruction};
+use bq_verify::targets::{Targets, instruction};
 use std::alloc::{AllocError, Global};
 
 /// A walk over all slots that control comes to.

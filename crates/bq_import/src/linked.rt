@@ -10,8 +10,8 @@ ghost use Rattle.bq_import.specs.Search.{AreTargets};
 use crate::fault::Disorder;
 use bq_bpf::instruction::{distance, may_go_on};
 use bq_insn::{Insn, SLOTS};
-use bq_verify::edges::{Targets, instruction};
 use bq_verify::graph_numbers::next_slot;
+use bq_verify::targets::{Targets, instruction};
 
 /// The slot to which the jump leads, if an instruction begins there.
 fn landing(slots: &[Option<Insn>], slot: usize, distance: i64) -> Option<usize>

@@ -21,8 +21,8 @@ use crate::linked::check;
 use crate::reached::goes_forward;
 use crate::search::Search;
 use bq_insn::Insn;
-use bq_verify::edges::instruction;
 use bq_verify::layout::lay_out;
+use bq_verify::targets::instruction;
 use std::alloc::{AllocError, Global};
 
 /// A program in order.

@@ -14,7 +14,7 @@ use crate::backward::Backward;
 use crate::fault::Disorder;
 use crate::linked::targets;
 use bq_insn::{Insn, SLOTS};
-use bq_verify::edges::{Targets, instruction};
+use bq_verify::targets::{Targets, instruction};
 
 impl Backward {
     /// The next instruction, if it has to be in front and is not.

@@ -7,7 +7,7 @@ ghost use Rattle.bq_import.specs.Keeping.{AreFollowed, AreReached, IsMarked, Lea
 use crate::linked::targets;
 use crate::search::none_open;
 use bq_insn::Insn;
-use bq_verify::edges::instruction;
+use bq_verify::targets::instruction;
 use std::alloc::{AllocError, Global};
 
 /// Whether control goes from each instruction only to later ones.

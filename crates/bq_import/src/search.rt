@@ -15,7 +15,7 @@ use crate::fault::Disorder;
 use crate::linked::targets;
 use crate::putting::place_at;
 use bq_insn::Insn;
-use bq_verify::edges::{Targets, instruction};
+use bq_verify::targets::{Targets, instruction};
 use std::alloc::{AllocError, Global};
 
 /// A copy that grows, with the places of what is copied, and the slots that were begun.

@@ -5,7 +5,7 @@ use Rattle.std.proofs.lemmas.Bool.{false≢true}
 use Rattle.bq_bpf.specs.declared.board.CounterCall.{CounterCall}
 use Rattle.bq_hooks.specs.Hooks.{context_length_of}
 use Rattle.bq_bpf.specs.Memory.{HaveShapes}
-use Rattle.bq_bpf.specs.declared.runs.Done.{Done}
+use Rattle.bq_bpf.specs.declared.runs.RunResult.{RunResult}
 use Rattle.bq_verify.specs.Accepted.{Accepted}
 use Rattle.bq_installed.specs.Answers.{Answers, RunsWithin}
 use Rattle.bq_installed.specs.Attachments.{Attached, AnswersAt, policy_in, maps_in}
@@ -28,7 +28,7 @@ stands generation equipped e a view some = ap (attached_of generation) (sym some
 
 -- what it answered may be remembered of it
 pub remembered : (generation : ℕ) (equipped : Option (Accepted × List (List ℕ))) (e left : Accepted × List (List ℕ))
-    (a : Attached) (context : List ℕ) (now processor : ℕ) (calls : List CounterCall) (done : Done)
+    (a : Attached) (context : List ℕ) (now processor : ℕ) (calls : List CounterCall) (done : RunResult)
     → attached_of generation equipped ≡ a → equipped ≡ Some e → IsEquipped (policy_in equipped) (maps_in equipped)
     → IfSome a.policy (λ p. length context ≡ context_length_of p.hook p.version) → ((i : ℕ) → slice_index context i < 256)
     → now < 2 ^ 64 → processor < 2 ^ 32 → Answers e.0 context e.1 now processor done.r0 left.1 done.steps calls
@@ -53,7 +53,7 @@ remembered generation equipped e left a context now processor calls done view so
 
 -- after a run the same policy is attached, with the maps that the run leaves, and the answer is that of what is attached
 pub asked : (generation : ℕ) (equipped : Option (Accepted × List (List ℕ))) (e left : Accepted × List (List ℕ)) (a : Attached)
-    (context : List ℕ) (now processor : ℕ) (calls : List CounterCall) (done : Done)
+    (context : List ℕ) (now processor : ℕ) (calls : List CounterCall) (done : RunResult)
     → attached_of generation equipped ≡ a → equipped ≡ Some e
     → Answers e.0 context e.1 now processor done.r0 left.1 done.steps calls → RunsWithin e.0 done.steps calls
     → HaveShapes left.0.shapes left.1 → left.0 ≡ e.0

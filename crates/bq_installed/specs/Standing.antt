@@ -5,7 +5,7 @@ use Rattle.bq_hooks.specs.declared.hook.Hook.{Hook}
 use Rattle.bq_verify.specs.Accepted.{Accepted, IsAccepted}
 use Rattle.bq_hooks.specs.Hooks.{context_length_of}
 use Rattle.bq_bpf.specs.declared.board.CounterCall.{CounterCall}
-use Rattle.bq_bpf.specs.declared.runs.Done.{Done}
+use Rattle.bq_bpf.specs.declared.runs.RunResult.{RunResult}
 use Rattle.bq_installed.specs.Answers.{Answers, RunsWithin}
 use Rattle.bq_installed.specs.Attachments.{Attached, Attachments, at_hook, IsFor}
 
@@ -36,7 +36,7 @@ pub record IsAsked (policy : Accepted) (context : List ℕ) (maps : List (List �
   pub processor_fits : processor < 2 ^ 32
 
 -- a run of the policy on what it is shown gives that answer, in this many steps
-pub record HasAnswered (policy : Accepted) (done : Done) : Type 0 where
+pub record HasAnswered (policy : Accepted) (done : RunResult) : Type 0 where
   pub context : List ℕ
   pub maps : List (List ℕ)
   pub left : List (List ℕ)
@@ -48,7 +48,7 @@ pub record HasAnswered (policy : Accepted) (done : Done) : Type 0 where
   pub within : RunsWithin policy done.steps calls
 
 -- what is remembered is an answer of that policy; nothing is remembered if there is no policy
-abbrev pub WasAnswered : Option Accepted → Option Done → Type 0
+abbrev pub WasAnswered : Option Accepted → Option RunResult → Type 0
 WasAnswered policy None = Unit {0}
 WasAnswered None (Some done) = ⊥
 WasAnswered (Some policy) (Some done) = HasAnswered policy done

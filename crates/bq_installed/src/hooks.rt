@@ -9,7 +9,7 @@ ghost use Rattle.bq_installed.specs.Standing.{WasAnswered};
 ghost use Rattle.bq_installed.specs.Attachments.{AnswersAt, none_attached, at_hook, with_attached, IsFor};
 
 use crate::{Installed, Scratch};
-use bq_bpf::{Board, Done, Env};
+use bq_bpf::{Board, Env, RunResult};
 use bq_hooks::{Hook, Version};
 use std::marker::Model;
 
@@ -80,7 +80,7 @@ impl Hooks {
     }
 
     /// The policy's last answer at a hook; `None` if it has not been asked since it was installed.
-    pub fn answered(&self, hook: Hook) -> Option<Done>
+    pub fn answered(&self, hook: Hook) -> Option<RunResult>
         ensures { WasAnswered (at_hook hook self.now).policy result }
     {
         match hook {
@@ -99,7 +99,7 @@ impl Hooks {
         env: Env,
         scratch: &mut Scratch,
         board: &mut B,
-    ) -> Done
+    ) -> RunResult
         requires there { is_some (at_hook hook self.old).policy ≡ true }
         requires context { IfSome (at_hook hook self.old).policy (λ p. length context.now ≡ context_length_of hook p.version) }
         ensures answers { AnswersAt (at_hook hook self.old) context.now env.now env.processor result.r0 (at_hook hook self.new).maps result.steps scratch.new }

@@ -9,7 +9,7 @@ ghost use Rattle.bq_installed.specs.Standing.{IsEquipped, WasAnswered};
 ghost use Rattle.bq_installed.specs.Attachments.{AnswersAt, nothing_attached};
 
 use crate::{Policy, Scratch};
-use bq_bpf::{Board, Done, Env};
+use bq_bpf::{Board, Env, RunResult};
 use bq_hooks::Version;
 use bq_interp::run_into;
 use bq_maps::Maps;
@@ -22,7 +22,7 @@ use std::marker::Model;
 pub struct Installed {
     equipped: Option<Equipped>,
     generation: u64,
-    answered: Option<Done>,
+    answered: Option<RunResult>,
 }
 
 impl Model for Installed {
@@ -114,7 +114,7 @@ impl Installed {
 
     /// The policy's last answer, with its steps: some run of the policy on some context gives it. `None` if it has not been
     /// asked since it was installed.
-    pub fn answered(&self) -> Option<Done>
+    pub fn answered(&self) -> Option<RunResult>
         ensures { WasAnswered self.now.policy result }
     {
         self.answered
@@ -128,7 +128,7 @@ impl Installed {
         env: Env,
         scratch: &mut Scratch,
         board: &mut B,
-    ) -> Done
+    ) -> RunResult
         requires there { is_some self.old.policy ≡ true }
         requires context { IfSome self.old.policy (λ p. length context.now ≡ context_length_of p.hook p.version) }
         ensures answers { AnswersAt self.old context.now env.now env.processor result.r0 self.new.maps result.steps scratch.new }
@@ -195,7 +195,7 @@ impl Equipped {
         env: Env,
         scratch: &mut Scratch,
         board: &mut B,
-    ) -> Done
+    ) -> RunResult
         requires context { length context.now ≡ context_length_of self.old.0.hook self.old.0.version }
         ensures answers { Answers self.old.0 context.now self.old.1 env.now env.processor result.r0 self.new.1 result.steps scratch.new }
         ensures within { RunsWithin self.old.0 result.steps scratch.new }

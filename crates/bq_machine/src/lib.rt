@@ -11,11 +11,11 @@ pub mod lobby_calls;
 pub mod machine;
 mod needs;
 mod opened;
+mod prepared_install;
 mod pulling_calls;
 mod records;
 mod rooms;
 mod running_calls;
-mod spare;
 pub mod waking_calls;
 
 pub use clock::Clock;

@@ -10,8 +10,8 @@ ghost use Rattle.bq_machine.specs.Loading.{IsPolicyOfImage, IsLoad, IsLoadRefuse
 
 use crate::clock::Clock;
 use crate::machine::Machine;
+use crate::prepared_install::{PreparedInstall, spares};
 use crate::records::{Records, answer_twice, no_calls};
-use crate::spare::{PreparedInstall, spares};
 use bq_disc::RunQueue;
 use bq_history::{Naming, Receipt, Room};
 use bq_hooks::Hook;
@@ -159,7 +159,7 @@ impl<Q: RunQueue + Drop, K: Clock + Drop, N: Naming + Counting, const P: usize> 
     {
         let mut guard = self.recorder.lock_journal(rt);
         let journal = &mut *guard;
-        let mut kept = journal.kept().again();
+        let mut kept = journal.kept().copy();
         let generation = kept.drawn.saturating_add(1);
         kept.drawn = generation;
         let reply = Ok(Reply::Drawn { generation });

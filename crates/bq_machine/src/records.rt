@@ -7,7 +7,7 @@ ghost use Rattle.bq_shared.specs.Events.{CarriesPolicy};
 
 use bq_history::{CommitDraft, Room};
 use bq_parts::{Event, Refusal, Reply};
-use bq_shared::{Calls, JournalState, PackedAnswer, Record, event_again};
+use bq_shared::{Calls, JournalState, PackedAnswer, Record, copy_event};
 
 /// The record of an event for the history, and an equal one for the receipt.
 #[derive(Drop)]
@@ -112,7 +112,7 @@ pub(crate) fn event_twice(event: Event) -> (Event, Event)
     ensures logged { result.0 ≡ event }
     ensures for_receipt { result.1 ≡ event }
 {
-    let Ok(again) = event_again(&event) else {
+    let Ok(again) = copy_event(&event) else {
         unreachable!()
     };
     (event, again)

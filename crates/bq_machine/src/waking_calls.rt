@@ -216,7 +216,7 @@ impl<Q: RunQueue + Drop, K: Clock + Drop, N: Naming + Counting, const P: usize> 
         let records = Records::of(Event::EndWake { processor, now }, &reply, calls);
         let mut journal_guard = self.recorder.lock_journal(rt);
         let journal = &mut *journal_guard;
-        let mut kept = journal.kept().again();
+        let mut kept = journal.kept().copy();
         kept.one_more(to);
         let draft = records.draft(rooms.record, Some(kept));
         working.commit_two(&self.recorder.history, journal, cpu, &mut inbox.cell, draft)

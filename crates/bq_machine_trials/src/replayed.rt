@@ -9,7 +9,7 @@ use bq_disc::limits::PROCESSORS;
 use bq_hooks::Hook;
 use bq_parts::{Event, Refusal, Reply};
 use bq_recording::Closed;
-use bq_shared::event_again;
+use bq_shared::copy_event;
 use bq_trace::shows::write_processor;
 use std::alloc::Global;
 use std::process::Abort;
@@ -97,7 +97,7 @@ fn is_followed<Q: RunQueue + Drop, const P: usize>(
         let Some((event, reply, calls)) = closed.logged(place) else {
             return false;
         };
-        let event = event_again(event).expect(rt, "memory");
+        let event = copy_event(event).expect(rt, "memory");
         if !is_answered_so(alloc, core, event, &reply, calls) {
             return false;
         }
@@ -160,7 +160,7 @@ fn is_answered_the_same<Q: RunQueue + Drop, const P: usize>(
     other: &mut Core<Q, P>,
 ) -> bool {
     for event in last_events(rt, alloc, core.processors() as u8) {
-        let again = event_again(&event).expect(rt, "memory");
+        let again = copy_event(&event).expect(rt, "memory");
         let answer = core.step(alloc, again, &mut Plain::new());
         let other_answer = other.step(alloc, event, &mut Plain::new());
         if answer != other_answer {

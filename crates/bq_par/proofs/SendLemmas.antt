@@ -4,7 +4,7 @@ use denote.Param.Send.{IsSend, sendable}
 use Rattle.std.proofs.Crossing.{crosses}
 use Rattle.bq_disc.proofs.node.Node.TheLaws.TheKnot as knot
 use Rattle.bq_disc.specs.contracts.ruled.RuledQueue as Ruled
-use Rattle.bq_disc.proofs.ruled.RuledQueue.TheSendSync as sent
+use Rattle.bq_disc.proofs.ruled_queue.RuledQueue.TheSendSync as sent
 use Rattle.bq_tree.specs.contracts.index.Tree as Tree
 use Rattle.bq_tree.specs.contracts.index.TreeTimeline.TheImpl as timeline
 use Rattle.bq_tree.specs.contracts.summary.NoSums as NoSums

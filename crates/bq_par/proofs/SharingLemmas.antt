@@ -5,7 +5,7 @@ use denote.Param.Send.{IsSend, IsSync, sendable}
 use denote.Param.SendFields.{declared_sync, as_row_sync}
 use Rattle.std.proofs.Crossing.{crosses, Vec-sync}
 use Rattle.std.specs.contracts.sync.Mutex as Mutex
-use Rattle.bq_disc.specs.declared.queue.RunQueue as Queue
+use Rattle.bq_disc.specs.declared.run_queue.RunQueue as Queue
 use Rattle.bq_disc.specs.declared.discipline.Discipline
 use Rattle.bq_history.specs.declared.law.Naming as Naming
 use Rattle.bq_history.proofs.owner.Owner.TheSendSync as owner

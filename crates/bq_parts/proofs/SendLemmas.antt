@@ -6,7 +6,7 @@ use denote.Param.SendFields.{declared_send, as_row_send}
 use Rattle.std.proofs.Crossing.{crosses}
 use Rattle.std.specs.contracts.option.Option as Option
 use Rattle.bq_disc.proofs.node.Node.TheLaws.TheKnot as knot
-use Rattle.bq_disc.specs.declared.queue.RunQueue as Queue
+use Rattle.bq_disc.specs.declared.run_queue.RunQueue as Queue
 use Rattle.bq_disc.specs.declared.discipline.Discipline
 use Rattle.bq_hooks.proofs.loads.Loads.TheSendSync as loads
 use Rattle.bq_installed.proofs.hooks.Hooks.TheSendSync as hooks

@@ -14,7 +14,7 @@ ghost use Rattle.bq_parts.specs.Processors.{new_processor, load_of, size_of, cou
 ghost use Rattle.bq_parts.specs.Moves.{taken_from, without_task, with_pulled, started_if_idle};
 
 use crate::{Carried, Inbox, Unlinked};
-use bq_bpf::Done;
+use bq_bpf::RunResult;
 use bq_disc::clock::LATEST;
 use bq_disc::limits::{FIRST_MARK, PROCESSORS};
 use bq_disc::node::{self, Link};
@@ -120,7 +120,7 @@ impl<Q: RunQueue> Cpu<Q> {
 
     /// The last answer of the policy at a hook, with its steps: some run of the policy gives it. `None` if it has not been
     /// asked since it was installed.
-    pub fn answered(&self, hook: Hook) -> Option<Done>
+    pub fn answered(&self, hook: Hook) -> Option<RunResult>
         ensures { WasAnswered (at_hook hook self.now.hooks).policy result }
     {
         self.hooks.answered(hook)

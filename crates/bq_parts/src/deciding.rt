@@ -13,7 +13,7 @@ ghost use Rattle.bq_parts.specs.Processors.{HasEachOnce, HasLobbyIds, size_of};
 ghost use Rattle.bq_parts.specs.Choices.{by_programs, place_bytes, SettlesPlace, SettlesPreempt, SettlesPulled, decided_by, decision_of};
 
 use crate::{Carried, Cpu, HookDecision};
-use bq_bpf::{Board, Done, Env};
+use bq_bpf::{Board, Env, RunResult};
 use bq_disc::RunQueue;
 use bq_disc::limits::{PROCESSORS, TASKS};
 use bq_hooks::place::{PLACE_LENGTH, Place, WIDE_PLACE_LENGTH, place_ctx, wide_place_ctx};
@@ -74,7 +74,7 @@ impl<Q: RunQueue> Cpu<Q> {
         facts: &Place,
         scratch: &mut Scratch,
         board: &mut B,
-    ) -> Done
+    ) -> RunResult
         requires version { Some version ≡ option_map (λ p. p.version) self.old.hooks.place.policy }
         ensures answers { AnswersAt self.old.hooks.place (place_bytes facts.now version) self.old.running.last processor result.r0 self.new.hooks.place.maps result.steps scratch.new }
         ensures within { IfSome self.old.hooks.place.policy (λ p. RunsWithin p result.steps scratch.new) }

@@ -3,7 +3,7 @@ use denote.RattleType.{RattleType}
 use denote.Param.Send.{IsSend}
 use denote.Param.SendFields.{declared_send}
 use Rattle.std.proofs.Crossing.{Vec-send}
-use Rattle.bq_disc.specs.declared.queue.RunQueue as Queue
+use Rattle.bq_disc.specs.declared.run_queue.RunQueue as Queue
 use Rattle.bq_disc.specs.declared.discipline.Discipline
 use Rattle.bq_parts.specs.contracts.cpu.Cpu as Cpu
 use Rattle.bq_parts.specs.contracts.inbox.Inbox as Inbox

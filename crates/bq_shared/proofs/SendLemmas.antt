@@ -5,7 +5,7 @@ use denote.Param.SendFields.{declared_send}
 use Rattle.std.proofs.Crossing.{crosses}
 use Rattle.arrayvec.proofs.array_vec.ArrayVec.TheSendSync as list
 use Rattle.bq_disc.proofs.node.Node.TheLaws.TheKnot as knot
-use Rattle.bq_disc.specs.declared.queue.RunQueue as Queue
+use Rattle.bq_disc.specs.declared.run_queue.RunQueue as Queue
 use Rattle.bq_disc.specs.declared.discipline.Discipline
 use Rattle.bq_bpf.proofs.board.CounterCall.TheSendSync as call
 use Rattle.bq_hooks.proofs.loads.Loads.TheSendSync as loads

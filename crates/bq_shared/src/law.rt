@@ -48,7 +48,7 @@ pub struct JournalState {
 
 impl JournalState {
     /// A copy of what is kept.
-    pub fn again(&self) -> JournalState
+    pub fn copy(&self) -> JournalState
         ensures { result ≡ self.now }
     {
         JournalState {
@@ -87,7 +87,7 @@ impl JournalState {
         if answer.is_err() {
             return None;
         }
-        let mut kept = self.again();
+        let mut kept = self.copy();
         kept.one_less(processor);
         Some(kept)
     }
@@ -100,7 +100,7 @@ impl JournalState {
         let Reply::Pulled { task: Some(_), .. } = reply else {
             return None;
         };
-        let mut kept = self.again();
+        let mut kept = self.copy();
         kept.one_less(from);
         kept.one_more(processor);
         Some(kept)

@@ -6,11 +6,11 @@
 #![tactic(auto)]
 
 mod account;
-pub mod again;
 pub mod answer;
 pub mod calls;
 pub mod cells;
 mod closed;
+pub mod copies;
 mod counter_board;
 mod counters;
 pub mod law;
@@ -21,11 +21,11 @@ mod seat;
 mod working;
 
 pub use account::{Account, CounterTally, Counting};
-pub use again::{event_again, policy_again};
 pub use answer::PackedAnswer;
 pub use calls::{CallRooms, Calls, hold_calls};
 pub use cells::{NumberedCpu, NumberedInbox, OneLobby, UnderLock};
 pub use closed::close;
+pub use copies::{copy_event, copy_policy};
 pub use counter_board::CounterBoard;
 pub use counters::{Counters, UnnamedCounters};
 pub use law::{CpuState, JournalState, SchedulerLaw, Shared, WorldPart, WorldState};

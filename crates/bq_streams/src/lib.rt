@@ -5,11 +5,11 @@
 #![tactic(auto)]
 
 mod counted;
+mod error_keeper;
 pub mod fault;
-mod kept;
 mod whole;
 
 pub use counted::Counted;
+pub use error_keeper::ErrorKeeper;
 pub use fault::StreamFault;
-pub use kept::Kept;
 pub use whole::{PIECE, READS, read_whole};

@@ -5,7 +5,7 @@ use Rattle.bq_disc.specs.Totals.{IsBounded}
 use Rattle.bq_disc.specs.Rising.{IsRising}
 use Rattle.bq_tree.specs.Trees.{Knowledge, left_height, right_height, IsTree, IsFork, in_order, in_order_behind, IsTreeBehind, height_of, height_behind, DifferByAtMost, hanging}
 use Rattle.bq_tree.proofs.OrderLemmas.{IsRising-left, IsRising-right}
-use Rattle.bq_disc.specs.declared.due.Deadline.{Deadline}
+use Rattle.bq_disc.specs.declared.deadline.Deadline.{Deadline}
 use Rattle.bq_disc.specs.declared.totals.Totals.{Totals}
 use Rattle.bq_disc.specs.declared.node.Node.{Node, out-Node, roll-Node, Node', None', Some'}
 

@@ -6,7 +6,7 @@ use Rattle.bq_disc.specs.Tasks.{Task, inserted, runs_before}
 use Rattle.bq_disc.specs.Totals.{total_weight, weighted_sum, sums_of, added, joined}
 use Rattle.bq_disc.specs.Dues.{due_of, first_due, is_earlier, earlier_of, earliest_of, sooner_of}
 use Rattle.bq_disc.proofs.DueLemmas.{first_due-cons}
-use Rattle.bq_disc.specs.declared.due.Deadline.{Deadline}
+use Rattle.bq_disc.specs.declared.deadline.Deadline.{Deadline}
 use Rattle.bq_disc.specs.declared.totals.Totals.{Totals}
 
 -- two lists joined weigh what both weigh together

@@ -4,7 +4,7 @@ use Rattle.std.specs.declared.boxed.Box.{Box}
 use Rattle.std.specs.declared.alloc.Global.{Global}
 use Rattle.bq_disc.specs.Tasks.{Task, inserted}
 use Rattle.bq_disc.specs.Totals.{IsBounded}
-use Rattle.bq_disc.specs.declared.due.Deadline.{Deadline}
+use Rattle.bq_disc.specs.declared.deadline.Deadline.{Deadline}
 use Rattle.bq_disc.specs.declared.totals.Totals.{Totals}
 use Rattle.bq_disc.specs.declared.node.Node.{Node, out-Node, Node', Held-Node-left, None', Some'}
 

@@ -9,6 +9,9 @@ use crate::summary::Summary;
 use bq_disc::node::Link;
 use bq_disc::{Entity, Node};
 
+/// Above the height of any balanced tree of 2^16 tasks.
+const HIGHEST: u8 = 100;
+
 /// The height of a tree.
 pub(crate) fn height(link: &Link) -> u8
     ensures { result ≡ height_behind link.now }
@@ -55,7 +58,7 @@ fn parted<S: Summary>(mut node: Box<Node>) -> (Link, Box<Node>, Link)
 }
 
 /// Brings into the proof that the task's weight and v are in their ranges.
-fn ranges(entity: &Entity)
+fn show_ranges(entity: &Entity)
     ensures { IsBounded entity.now }
 {
     let _weight = entity.weight();
@@ -69,7 +72,7 @@ pub(crate) fn leaf<S: Summary>(mut node: Box<Node>) -> Box<Node>
     ensures order { in_order result.value ≡ task_of node.value ∷ [] }
     ensures height { height_of result.value ≡ 1 }
 {
-    ranges(&node.entity);
+    show_ranges(&node.entity);
     let none = None;
     S::gather(&mut node, &none, &none);
     node.height = 1;
@@ -107,7 +110,7 @@ pub(crate) fn gathered<S: Summary>(mut node: Box<Node>, left: Link, right: Link)
     ensures left_height { left_height result.value ≡ height_behind left }
     ensures right_height { right_height result.value ≡ height_behind right }
 {
-    ranges(&node.entity);
+    show_ranges(&node.entity);
     S::gather(&mut node, &left, &right);
     node.height = height(&left).max(height(&right)) + 1;
     node.left = left;

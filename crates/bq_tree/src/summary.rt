@@ -5,7 +5,7 @@ ghost use Rattle.bq_disc.specs.Chains.{task_of, IsLone};
 ghost use Rattle.bq_disc.specs.Totals.{sums_of, added, HasBounds, IsBounded, is_at_most_mean};
 ghost use Rattle.bq_disc.specs.Dues.{due_of, first_due, earlier_of};
 ghost use Rattle.bq_disc.specs.declared.node.Node.{out-Node};
-ghost use Rattle.bq_disc.specs.declared.due.Deadline.{Deadline};
+ghost use Rattle.bq_disc.specs.declared.deadline.Deadline.{Deadline};
 ghost use Rattle.bq_disc.specs.declared.totals.Totals.{Totals};
 ghost use Rattle.bq_disc.specs.Rising.{IsRising};
 ghost use Rattle.bq_tree.specs.Trees.{in_order, IsTree, IsTreeBehind, in_order_behind, CountsIn, StillCounts, KeepsSides, hanging};

@@ -2,7 +2,7 @@
 
 use crate::asserting::holds;
 use bq_console::reason;
-use bq_streams::Kept;
+use bq_streams::ErrorKeeper;
 use std::io;
 use std::io::{Error, Read, Write};
 use std::test::Fail;
@@ -67,7 +67,7 @@ impl Write for Failing {
 }
 
 /// The number of the failure that was kept last.
-fn code(kept: &Kept<Failing>) -> Option<i32> {
+fn code(kept: &ErrorKeeper<Failing>) -> Option<i32> {
     match kept.failure() {
         Some(error) => error.raw_os_error(),
         None => None,
@@ -77,7 +77,7 @@ fn code(kept: &Kept<Failing>) -> Option<i32> {
 /// What reads and writes come to, each with the number that is kept then.
 #[test]
 fn failures_are_kept(rt: HostRuntime) {
-    let mut kept = Kept::new(Failing { calls: 0 });
+    let mut kept = ErrorKeeper::new(Failing { calls: 0 });
     let mut buf = [0u8; 4];
     let first = (kept.read(&mut buf).is_ok(), code(&kept));
     holds(&rt, first == (true, None), "the first read", "a byte");

@@ -9,7 +9,7 @@ use Rattle.bq_verify.specs.Edges.{IsEdge}
 use Rattle.bq_verify.specs.Paths.{IsPath, path_end, CallsOnWay, counter_calls_of, calls_before_end, IsMostCalls}
 use Rattle.bq_bpf.specs.Instructions.{asks_counter}
 use Rattle.bq_verify.specs.Passes.{IsGraphSound, IsAmongTargets, LeadsOut, Raises, CountsFollowed}
-use Rattle.bq_verify.specs.declared.edges.Targets.{Targets}
+use Rattle.bq_verify.specs.declared.targets.Targets.{Targets}
 use Rattle.bq_insn.proofs.OptionLemmas.{some_same, some_none}
 use Rattle.bq_verify.proofs.EdgeLemmas.{edge_inside, end_of-push, IsPath-push}
 

@@ -13,7 +13,7 @@ use Rattle.bq_bpf.specs.Instructions.{Leaves, distance_of, goes_on}
 use Rattle.bq_verify.specs.Paths.{IsPath, path_end}
 use Rattle.bq_verify.specs.Faults.{IsBadJump}
 use Rattle.bq_verify.specs.Passes.{IsGraphSound, IsAmongTargets, LeadsOut}
-use Rattle.bq_verify.specs.declared.edges.Targets.{Targets}
+use Rattle.bq_verify.specs.declared.targets.Targets.{Targets}
 
 -- an instruction stands inside the program
 inside_by : (slots : List (Option Insn)) (k : ℕ) (insn : Insn)

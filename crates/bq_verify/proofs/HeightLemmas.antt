@@ -9,7 +9,7 @@ use Rattle.bq_bpf.specs.Steps.{instruction_at}
 use Rattle.bq_verify.specs.Edges.{IsEdge, IsStart}
 use Rattle.bq_verify.specs.Paths.{IsPath, path_end, PathOut, IsGreatest}
 use Rattle.bq_verify.specs.Passes.{IsGraphSound, IsAmongTargets, LeadsOut, Measured, height_to}
-use Rattle.bq_verify.specs.declared.edges.Targets.{Targets}
+use Rattle.bq_verify.specs.declared.targets.Targets.{Targets}
 use Rattle.bq_verify.proofs.EdgeLemmas.{path_rises, target_later}
 
 module _ (slots : List (Option Insn)) (sound : IsGraphSound slots) where

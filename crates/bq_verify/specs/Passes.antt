@@ -6,7 +6,7 @@ use Rattle.bq_bpf.specs.Steps.{instruction_at}
 use Rattle.bq_verify.specs.Edges.{IsEdge, IsStart, IsForward}
 use Rattle.bq_verify.specs.Paths.{PathOut, CallsOnWay, IsGreatest, counter_calls_of}
 use Rattle.bq_verify.specs.Faults.{IsBadJump}
-use Rattle.bq_verify.specs.declared.edges.Targets.{Targets}
+use Rattle.bq_verify.specs.declared.targets.Targets.{Targets}
 
 -- the control graph is sound: each edge leads to a later instruction, and each jump is an edge
 pub record IsGraphSound (slots : List (Option Insn)) : Type 0 where

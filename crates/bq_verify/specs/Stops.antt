@@ -2,9 +2,9 @@
 use Rattle.std.specs.Prelude.{◌≡◌}
 use Rattle.bq_insn.specs.declared.Insn.{Insn}
 use Rattle.bq_transfer.specs.Obligations.{MayBeUnproven}
-use Rattle.bq_verify.specs.declared.stop.PassStop.TheVariants as stop
-use Rattle.bq_verify.specs.declared.stop.PassStop.TheVariants.{Unproven}
-use Rattle.bq_verify.specs.declared.stop.PassStop.{PassStop}
+use Rattle.bq_verify.specs.declared.pass_stop.PassStop.TheVariants as stop
+use Rattle.bq_verify.specs.declared.pass_stop.PassStop.TheVariants.{Unproven}
+use Rattle.bq_verify.specs.declared.pass_stop.PassStop.{PassStop}
 
 -- the pass stops because memory ran out
 abbrev pub IsWantOfMemory : PassStop → Type 0

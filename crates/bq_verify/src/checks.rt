@@ -5,10 +5,10 @@ ghost use Rattle.bq_verify.specs.Edges.{IsWhole};
 ghost use Rattle.bq_verify.specs.Paths.{IsMostCalls};
 ghost use Rattle.bq_verify.specs.Faults.{HasFault, IsLateCall, IsLeast, IsFirstFault, IsFaultless, IsOnWay, IsUnreached};
 
-use crate::edges::instruction;
 use crate::graph_cause::GraphCause;
 use crate::graph_numbers::{count_at, count_calls};
 use crate::single::{calls_unknown, is_bad_jump, runs_out, writes_frame};
+use crate::targets::instruction;
 use bq_bpf::board::MOST_CALLS;
 use bq_bpf::instruction::is_counter_call;
 use bq_insn::{Insn, SLOTS};

@@ -15,7 +15,7 @@ ghost use Rattle.bq_states.specs.AbstractStates.{Contains};
 ghost use Rattle.bq_verify.specs.Control.{AddsWaiting, CanBePassed, LeadsOnFrom, IsKnown, IsOnSide, KeepsWaiting, BranchesFrom};
 
 use crate::graph_numbers::target;
-use crate::stop::PassStop;
+use crate::pass_stop::PassStop;
 use crate::subject::SubjectView;
 use crate::waiting::wait;
 use bq_bpf::MapShape;

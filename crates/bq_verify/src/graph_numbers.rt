@@ -7,7 +7,7 @@ ghost use Rattle.bq_verify.specs.Edges.{IsStart};
 ghost use Rattle.bq_verify.specs.Paths.{IsMostCalls, IsGreatest, PathOut, counter_calls_of};
 ghost use Rattle.bq_verify.specs.Passes.{IsGraphSound, LeadsOut, Raises, CountsFollowed, Measured, height_to};
 
-use crate::edges::{Targets, instruction, landing};
+use crate::targets::{Targets, instruction, landing};
 use bq_bpf::instruction::{distance, is_counter_call, may_go_on};
 use bq_insn::{Insn, SLOTS};
 

@@ -7,7 +7,6 @@
 
 pub mod cause;
 pub mod checks;
-pub mod edges;
 mod flow;
 pub mod graph_cause;
 pub mod graph_numbers;
@@ -15,12 +14,13 @@ mod known_states;
 pub mod laws;
 pub mod layout;
 mod pass;
+mod pass_stop;
 pub mod policy_form;
 pub mod program;
 pub mod refused;
 pub mod single;
-mod stop;
 mod subject;
+pub mod targets;
 pub mod verified;
 mod waiting;
 

@@ -12,10 +12,10 @@ ghost use Rattle.bq_verify.specs.Sure.{IsSure, WhereSure};
 ghost use Rattle.bq_states.specs.AbstractStates.{Contains};
 ghost use Rattle.bq_verify.specs.Control.{AreHeights, BoundsCalls, CanBePassed, IsKnown, PassesOn, RestIsSafe};
 
-use crate::edges::instruction;
 use crate::flow::visit;
 use crate::refused::{Refused, refuse};
 use crate::subject::SubjectView;
+use crate::targets::instruction;
 use crate::waiting::{arrive, nothing_waits};
 use bq_bpf::addresses::STACK_SIZE;
 use bq_insn::SLOTS;

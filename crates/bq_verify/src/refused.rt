@@ -10,7 +10,7 @@ ghost use Rattle.bq_verify.specs.Refusals.{IsOutOfMemory, IsStopped};
 ghost use Rattle.bq_verify.specs.Subjects.{subject_of_view};
 
 use crate::cause::Cause;
-use crate::stop::PassStop;
+use crate::pass_stop::PassStop;
 use crate::subject::SubjectView;
 use std::alloc::AllocError;
 

@@ -3,7 +3,7 @@ ghost use Rattle.std.specs.Prelude.{◌≡◌, ◌<◌, ◌≤◌, ◌+◌, leng
 ghost use Rattle.bq_bpf.specs.Steps.{instruction_at};
 ghost use Rattle.bq_verify.specs.Faults.{is_helper, IsBadJump, RunsOut, WritesFrame, CallsUnknown};
 
-use crate::edges::landing;
+use crate::targets::landing;
 use bq_bpf::helper::Helper;
 use bq_bpf::instruction::{destination, distance, may_go_on};
 use bq_insn::{Insn, SLOTS};

@@ -1,11 +1,11 @@
 -- What is remembered of a policy that stands is an answer of that policy.
 use Rattle.std.proofs.Common.{◌≡◌, ℕ, Option, Some, None, refl, subst}
 use Rattle.bq_verify.specs.Accepted.{Accepted}
-use Rattle.bq_bpf.specs.declared.runs.Done.{Done}
+use Rattle.bq_bpf.specs.declared.runs.RunResult.{RunResult}
 use Rattle.bq_installed.specs.Standing.{HasAnswered, WasAnswered}
 
 -- what is remembered of a policy that stands is an answer which it gave, in this many steps
-pub answered_by : (p : Option Accepted) (d : Done) (steps : ℕ)
+pub answered_by : (p : Option Accepted) (d : RunResult) (steps : ℕ)
     → d.steps ≡ steps → WasAnswered p (Some d)
     → (policy : Accepted) × (p ≡ Some policy) × HasAnswered policy (record { r0 = d.r0; steps = steps })
 answered_by None d steps e h = absurd h

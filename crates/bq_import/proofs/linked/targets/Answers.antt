@@ -1,4 +1,4 @@
-use Rattle.bq_verify.specs.declared.edges.Targets.{Targets}
+use Rattle.bq_verify.specs.declared.targets.Targets.{Targets}
 use Rattle.bq_import.proofs.SearchLemmas.{are_targets}
 use Rattle.bq_import.proofs.linked.targets.Goals as goal
 

@@ -1,4 +1,4 @@
-use Rattle.bq_verify.specs.declared.edges.Targets.{Targets}
+use Rattle.bq_verify.specs.declared.targets.Targets.{Targets}
 use Rattle.bq_verify.proofs.EdgeLemmas.{leads_out}
 use Rattle.bq_verify.proofs.graph_numbers.targets.Goals as goal
 

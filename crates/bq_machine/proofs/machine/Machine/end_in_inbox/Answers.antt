@@ -53,7 +53,7 @@ commit_two-requires-clause-may g c =
         c.hold_calls-calls.ensures.record,
         c.calls.ensures.value,
         c.one_more.ensures,
-        c.again-kept.ensures,
+        c.copy-kept.ensures,
         c.kept.ensures,
         c.push.ensures,
         p.ensures.number,
