@@ -11,7 +11,8 @@ TOP = Path(__file__).resolve().parent.parent
 
 # What the check reads beside lemmas: answers to its goals, and lists of modules.
 OTHERS = {"Answers.antt", "Invariants.antt", "Proof.antt", "Lib.antt"}
-LEMMA = re.compile(r"(?:abbrev )?pub (\S+) :")
+LEMMA = re.compile(r"\s*(?:abbrev )?pub (\S+) :")
+BLOCK = re.compile(r"(?:pub )?(record|data|module)\b")
 
 
 def files():
@@ -27,11 +28,15 @@ def main():
         lines = path.read_text(encoding="utf-8").split("\n")
         if not lines[0].startswith("-- "):
             lacking.append(f"{file}: the first line says what its lemmas are of")
+        block = ""
         for number, line in enumerate(lines):
+            begun = BLOCK.match(line)
+            if begun or line[:1].strip():
+                block = begun[1] if begun else ""
             found = LEMMA.match(line)
-            if found:
+            if found and block not in ("record", "data"):
                 read += 1
-                if not lines[number - 1].startswith("--"):
+                if not lines[number - 1].lstrip().startswith("--"):
                     lacking.append(f"{file}:{number + 1}: {found[1]} has no line in words before it")
     print("\n".join([*lacking, f"{read} public lemmas read, {len(lacking)} lack something"]))
     return 1 if lacking or not read else 0

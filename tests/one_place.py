@@ -118,8 +118,8 @@ SHUT = [
 ALLOWED = {
     'the same lemma: bq_comparison/proofs/RangeLemmas.antt: flat_map-range_more, bq_policy_run/proofs/ChangeLemmas.antt: flat_map-range_more': 'a fact of the library\'s ranges, which it has no lemma for; neither crate stands on the other',
     'how many slots or bytes a program has at most, in words: bq_complain/src/number_reason.rt': 'the least offset and distance of 16 bits, -32768',
-    'how many slots a program has at most: bq_object/src/source_lines.rt': 'the crate reads objects and stands on no crate of instructions, so its own bound on lines says the number once more',
-    'the weight of nice value 0: bq_object/src/source_lines.rt': 'the line of a line record is its number divided by 1024, which only happens to be that weight',
+    'how many slots a program has at most: bq_object/src/line_table.rt': 'the crate reads objects and stands on no crate of instructions, so its own bound on lines says the number once more',
+    'the weight of nice value 0: bq_object/src/line_table.rt': 'the line of a line record is its number divided by 1024, which only happens to be that weight',
     'which helpers are of counters: bq_interp/src/counters.rt': 'asked at each call of a run, of the number alone, by a function that stands in its loop',
     'the word of a key of marks: bq_explain/src/measure.rt': 'what the limit of maps is called, as its option --max-maps is',
     'the word of a hook: bq_drawing/src/perfetto.rt': 'the category of a mark in a Perfetto file: the event, not the hook',

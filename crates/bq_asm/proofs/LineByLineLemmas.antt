@@ -96,10 +96,12 @@ module _ (text : List ℕ) (draft : Draft) (yielded : List (Bor (List ℕ))) (nu
   few_slots : slots_in (lines_of text) ≤ 4096
   few_slots = let few = draft.few in let same = described_all.slots in omega (arith, few, same)
 
+  -- a draft that can be finished gives the program that the text assembles to
   pub assembled : IfOk r (λ insns. FinishesDraft draft insns.items) → IfOk r (λ insns. Assembles text insns.items)
   assembled h = IfOk-weaker r (λ insns. FinishesDraft draft insns.items) (λ insns. Assembles text insns.items)
       (λ insns f. let is = f (lines_of text) described_all clean_all in assembles_from text insns.items clean_all is.0 few_slots is.1) h
 
+  -- a draft that fails fails as the text does
   pub unassembled : IfErr r (Fails draft) → IfErr r (IsAssemblyFault text)
   unassembled h = by r h
     where

@@ -6,7 +6,6 @@
 #![tactic(auto)]
 
 pub mod addresses;
-pub mod alu;
 pub mod board;
 pub mod code;
 pub mod helper;
@@ -16,11 +15,12 @@ pub mod pack;
 pub mod runs;
 pub mod shape;
 pub mod slots;
+pub mod words;
 
-pub use alu::{alu, extended, negated, reordered, test};
 pub use board::{Board, CounterCall, Plain};
 pub use code::{Code, IMMEDIATE, Packed};
 pub use helper::Helper;
 pub use list::pack_all;
 pub use runs::{Env, RunResult};
 pub use shape::{MapShape, same_shapes};
+pub use words::{alu, extended, negated, reordered, test};

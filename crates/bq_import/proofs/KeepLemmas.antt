@@ -87,6 +87,7 @@ module _ (slots : List (Option Insn)) (slot : ℕ) (insn : Insn) (targets : Targ
         | inr jump ↦ b.now to jump (omega (arith, inside, room, long))
       ]
 
+  -- the slot that is kept behind leads on to what was kept before it
   pub followed : AreFollowed slots (slot + 1) two
   followed = record {
     room = b.long ∙ (a.long ∙ p.room);

@@ -29,6 +29,7 @@ module _ (maps : ℕ) (old back : List (Option Insn)) (origins : List ℕ) (buil
     origin_is = mirror_origin slot place sum ∙ p.origin_is;
   }
 
+  -- what is a copy of a slot in the reversed list is one in the list, at the mirrored place
   pub stands_here : (slot place from : ℕ) → place + slot + 1 ≡ length back
       → IsCopyOfSlot (reverse back) (reverse origins) slot from
       → IsCopyOfSlot back origins place from

@@ -108,6 +108,7 @@ distance_cases (Some far) = inr (far, refl)
 -- in a copy control goes to instructions only, and only to later ones
 module _ (maps : ℕ) (old : List (Option Insn)) (insns : List Insn) (origins : List ℕ)
     (copy : IsCopy maps old (spread insns) origins) (whole : is_well_formed insns ≡ true) (fits : AllFit insns) where
+  -- no jump of a copy leads backward
   pub copy_forward : AllForward (spread insns)
   copy_forward from to edge = ((goes_forward maps old (spread insns) origins copy).0 from to edge).0
 
@@ -128,5 +129,6 @@ module _ (maps : ℕ) (old : List (Option Insn)) (insns : List Insn) (origins : 
         ],
       )
 
+  -- each jump of a copy leads to an instruction
   pub copy_linked : IsLinked (spread insns)
   copy_linked = record { good = are_good insns whole fits; gaps = spread_has_gaps insns; short = few_slots insns whole; leads = well }

@@ -5,7 +5,7 @@ ghost use Rattle.bq_needs.specs.Accesses.{AreBytesSet, MayBeFollowed, GoesBeyond
 use crate::known::{kind_text, known_text, map_name};
 use crate::memory_access::MemoryAccess;
 use bq_bpf::addresses::STACK_SIZE;
-use bq_bpf::alu::address;
+use bq_bpf::words::address;
 use bq_bpf::{MapShape, with_stack_size};
 use bq_policy_file::PolicySource;
 use bq_ranges::Range;

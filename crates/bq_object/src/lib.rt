@@ -5,14 +5,14 @@
 
 pub mod fault;
 pub mod header;
+pub mod line_table;
 pub mod numbers;
 pub mod object;
 pub mod relocation;
 pub mod section;
 mod sections;
-pub mod source_lines;
 pub mod symbol;
 
 pub use fault::{Filled, ObjectFault, Piece};
+pub use line_table::{SourceLine, source_lines};
 pub use object::{is_object, others, policy_of};
-pub use source_lines::{SourceLine, source_lines};

@@ -6,7 +6,7 @@ ghost use Rattle.bq_ranges.specs.Tight.{IsTight, IsTightAt, IsTightWithin, great
 
 use crate::bits::{multiple_within, ones};
 use crate::range::{Range, greatest, sign};
-use bq_bpf::alu;
+use bq_bpf::words;
 use bq_insn::{Operation, Width};
 
 /// A range that has all results of an arithmetic instruction (RFC 9669 section 4.1) on members of the two

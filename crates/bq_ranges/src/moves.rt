@@ -5,7 +5,7 @@ ghost use Rattle.bq_ranges.specs.Within.{Within};
 
 use crate::arithmetic::sub;
 use crate::range::{Range, greatest};
-use bq_bpf::alu;
+use bq_bpf::words;
 use bq_insn::{Bits, Order, Width};
 
 /// A range that has the negations of all words of the range (RFC 9669 section 4.1, NEG).

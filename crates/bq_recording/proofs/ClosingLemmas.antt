@@ -74,6 +74,7 @@ module _ {A B : Type 0} (s : List LobbyEntry) (xs : List A) (ys : List B) (at : 
   abbrev as_inbox : B → WorldPart
   as_inbox y = inbox_part (place y) (tasks y)
 
+  -- all parts of the world: the lobby, the processors, the inboxes
   abbrev pub parts : List WorldPart
   parts = all_parts s xs ys as_cpu as_inbox
 

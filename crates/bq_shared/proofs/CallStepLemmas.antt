@@ -98,6 +98,7 @@ module _ (d : Discipline) (n : ℕ) where
   kept_same w c p q k kw at e =
       ap (λ (ls : List ℕ). record { drawn = w.drawn; loads = ls }) (loads_same w.processors w.inboxes c q (e ∙ sym (ap size_of at))) ∙ kw
 
+  -- an admission may be committed: it moves the world as its step says, and keeps the journal's state
   pub admit_moves : (id : ℕ) (nice : ℤ) (mask slice : ℕ) (l m : List LobbyEntry) (k : JournalState) (r : Result Reply Refusal)
       → argument_refusal n (Admit id nice mask slice) ≡ None → Admits id (admitted n id nice mask slice) l r m
       → MayCommitHere d n k (lobby_part l ∷ []) (record { event = Admit id nice mask slice; reply = r; calls = [] }) k (lobby_part m ∷ [])
@@ -108,6 +109,7 @@ module _ (d : Discipline) (n : ℕ) where
         admits_named id (admitted n id nice mask slice) l r m share,
       ))
 
+  -- so may a retirement
   pub retire_moves : (id : ℕ) (l m : List LobbyEntry) (k : JournalState) (r : Result Reply Refusal)
       → id < 1024 → argument_refusal n (Retire id) ≡ None → Retires id l r m
       → MayCommitHere d n k (lobby_part l ∷ []) (record { event = Retire id; reply = r; calls = [] }) k (lobby_part m ∷ [])
@@ -115,6 +117,7 @@ module _ (d : Discipline) (n : ℕ) where
       moves_lobby d n l m k (record { event = Retire id; reply = r; calls = [] })
       (λ w s is. (retires_step d w id r m bound (rw is share), fits, retires_named id l r m share))
 
+  -- so may a tick
   pub tick_moves : (c now : ℕ) (p q : Processor) (calls : List CounterCall) (k : JournalState) (r : Reply)
       → Ticks (by_programs d) c now p calls r q
       → MayCommitHere d n k (cpu_part c p ∷ []) (record { event = Tick c now; reply = Ok r; calls = calls }) k (cpu_part c q ∷ [])
@@ -141,6 +144,7 @@ module _ (d : Discipline) (n : ℕ) where
         tally-enter_all ones d a.running xs,
       )
 
+  -- so may a drain, after which the journal counts the tasks that entered
   pub drain_moves : (c now : ℕ) (p q : Processor) (xs : List Task) (calls : List CounterCall) (k : JournalState) (r : Reply)
       → Drains (by_programs d) c now p xs calls r q
       → MayCommitHere d n k (cpu_part c p ∷ inbox_part c xs ∷ [])
@@ -175,6 +179,7 @@ module _ (d : Discipline) (n : ℕ) where
   block_kept w c now p q l m k (Ok r) s kw there at b =
       kept_less w c p q k (s.boxes ∙ sym s.many) kw there at (block_load c now p q l m r b)
 
+  -- so may a block, after which the journal counts one task fewer
   pub block_moves : (c now : ℕ) (p q : Processor) (l m : List LobbyEntry) (k : JournalState) (r : Result Reply Refusal)
       → Blocks d c now p l r q m
       → MayCommitHere d n k (cpu_part c p ∷ lobby_part l ∷ []) (record { event = Block c now; reply = r; calls = [] })
@@ -190,6 +195,7 @@ module _ (d : Discipline) (n : ℕ) where
         block_kept w c now p q l m k r s kw there at b,
       ))
 
+  -- so may the first half of a wake
   pub begin_moves : (c id : ℕ) (p q : Processor) (l m : List LobbyEntry) (k : JournalState) (r : Result Reply Refusal)
       → id < 1024 → BeginsWake id k.loads p l r q m
       → MayCommitHere d n k (cpu_part c p ∷ lobby_part l ∷ []) (record { event = BeginWake c id; reply = r; calls = [] }) k
@@ -208,6 +214,7 @@ module _ (d : Discipline) (n : ℕ) where
       → Places (by_programs d) n c now p calls (Some x) q → size_of q ≡ size_of p
   place_size c now p q calls x k = ap size_of k.here ∙ time_size d now p
 
+  -- so may the second half of a wake, after which the journal counts the task where it was placed
   pub place_moves : (c now task : ℕ) (p q : Processor) (xs : List Task) (calls : List CounterCall)
       (k : JournalState) (x : Placement)
       → task ≡ x.task.id → Places (by_programs d) n c now p calls (Some x) q
@@ -242,6 +249,7 @@ module _ (d : Discipline) (n : ℕ) where
           ∙ ap (with_one_more x.to) kw
 
 module _ (d : Discipline) (n : ℕ) where
+  -- so may a drawing, after which the journal has one number more
   pub draw_moves : (k : JournalState)
       → MayCommitHere d n k [] (record { event = Draw; reply = Ok (Drawn (min (k.drawn + 1) (2 ^ 64 - 1))); calls = [] })
       (record k { drawn = min (k.drawn + 1) (2 ^ 64 - 1) }) []
@@ -255,6 +263,7 @@ module _ (d : Discipline) (n : ℕ) where
   install_size h drawn p new (Ok r) q i = ap size_of i.2
   install_size h drawn p new (Err e) q i = ap size_of i.1
 
+  -- so may an installation
   pub install_moves : (c g : ℕ) (h : Hook) (o : Option Accepted) (p q : Processor) (k : JournalState)
       (r : Result Reply Refusal)
       → argument_refusal n (Install c h g o) ≡ None

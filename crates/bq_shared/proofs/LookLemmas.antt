@@ -18,14 +18,17 @@ use Rattle.bq_shared.proofs.ReachedLemmas.{reached_sound}
 
 -- a look at a processor
 module _ (d : Discipline) (n c : ℕ) (p : Processor) where
+  -- a world that can be reached has this processor
   abbrev pub Seen : Type 0
   Seen = (w : World) × IsReached (RecordStep d) (opening_world n) w × HasPart w (cpu_part c p)
 
+  -- no task stands there twice
   pub seen_once : Seen → HasEachOnce (present_at p.running)
   seen_once k =
       subst (λ (x : Processor). HasEachOnce (present_at x.running)) k.2.1
       (each_once_running k.0 c (reached_sound d n k.0 k.1).orderly)
 
+  -- each id there is one of the lobby
   pub seen_ids : Seen → HasLobbyIds (present_at p.running)
   seen_ids k =
       let s = reached_sound d n k.0 k.1 in
@@ -46,9 +49,11 @@ module _ (d : Discipline) (n c : ℕ) (p : Processor) where
 
 -- a look at an inbox
 module _ (d : Discipline) (n c : ℕ) (xs : List Task) where
+  -- a world that can be reached has this inbox
   abbrev pub SeenInbox : Type 0
   SeenInbox = (w : World) × IsReached (RecordStep d) (opening_world n) w × HasPart w (inbox_part c xs)
 
+  -- the inbox has no more tasks than there may be
   pub seen_few : SeenInbox → length xs ≤ 1024
   seen_few k =
       let s = reached_sound d n k.0 k.1 in
@@ -56,17 +61,21 @@ module _ (d : Discipline) (n c : ℕ) (xs : List Task) where
 
 -- a look at a processor and its inbox
 module _ (d : Discipline) (n c : ℕ) (p : Processor) (xs : List Task) where
+  -- a world that can be reached has this processor and this inbox
   abbrev pub SeenBoth : Type 0
   SeenBoth = (w : World) × IsReached (RecordStep d) (opening_world n) w × HasPart w (cpu_part c p) × HasPart w (inbox_part c xs)
 
+  -- no task stands in both, nor twice in one
   pub both_once : SeenBoth → HasEachOnce (present_at p.running ++ xs)
   both_once k = rw (← k.2.1, ← k.3.1) (each_once_runnable k.0 c (reached_sound d n k.0 k.1).orderly)
 
+  -- each id there is one of the lobby
   pub both_ids : SeenBoth → HasLobbyIds (present_at p.running ++ xs)
   both_ids k = let s = reached_sound d n k.0 k.1 in rw (← k.2.1, ← k.3.1) (λ id h. none_beyond_at k.0 c id s.lobby s.orderly h)
 
 -- a look at two processors
 module _ (d : Discipline) (n c b : ℕ) (p q : Processor) (apart : c ≢ b) where
+  -- a world that can be reached has these two processors
   abbrev pub SeenTwo : Type 0
   SeenTwo = (w : World) × IsReached (RecordStep d) (opening_world n) w × HasPart w (cpu_part c p) × HasPart w (cpu_part b q)
 
@@ -87,6 +96,7 @@ module _ (d : Discipline) (n c b : ℕ) (p q : Processor) (apart : c ≢ b) wher
       ) in
       rw (← k.2.1, ← k.3.1) both
 
+  -- each id at the two is one of the lobby
   pub two_ids : SeenTwo → HasLobbyIds (present_at p.running ++ present_at q.running)
   two_ids k =
       let s = reached_sound d n k.0 k.1 in
@@ -105,6 +115,7 @@ module _ (d : Discipline) (n c b : ℕ) (p q : Processor) (apart : c ≢ b) wher
 
 -- a look at the lobby
 module _ (d : Discipline) (n : ℕ) (lobby : List LobbyEntry) where
+  -- a world that can be reached has this lobby
   abbrev pub SeenLobby : Type 0
   SeenLobby = (w : World) × IsReached (RecordStep d) (opening_world n) w × HasPart w (lobby_part lobby)
 

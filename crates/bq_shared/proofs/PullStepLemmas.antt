@@ -117,6 +117,7 @@ module _ (d : Discipline) (n : ℕ) where
   none_taken s None e = refl
   none_taken s (Some id) e = absurd (let no : ⊥ = cc in no)
 
+  -- after a pull the journal counts the tasks as they then stand
   pub pull_kept : (w : World) (c b now : ℕ) (p q o r : Processor) (calls : List CounterCall) (k : JournalState) (x : Reply)
       → IsSound n w → journal_state_of w ≡ k → c < count_in w → processor_at w c ≡ p → b < count_in w → processor_at w b ≡ o → c ≢ b
       → Pulls (by_programs d) c b now p o calls x q r
@@ -139,6 +140,7 @@ module _ (d : Discipline) (n : ℕ) where
       (λ e. none_taken source.running task e)
       )
 
+  -- a pull may be committed: it moves the world as its step says
   pub pull_moves : (c b now : ℕ) (p q o r : Processor) (calls : List CounterCall) (k : JournalState) (x : Reply)
       → c ≢ b → Pulls (by_programs d) c b now p o calls x q r
       → MayCommitHere d n k (cpu_part c p ∷ cpu_part b o ∷ []) (record { event = Pull c b now; reply = Ok x; calls = calls })

@@ -8,8 +8,8 @@ mod any_core;
 pub mod bare;
 pub mod laws;
 mod loading;
+mod pieces;
 mod progress;
-mod replay;
 mod reporting;
 mod session;
 pub mod shows;
@@ -20,7 +20,7 @@ mod trace_position;
 
 pub use any_core::{AnyCore, AnyCpu};
 pub use bq_streams::StreamFault as ReplayFault;
-pub use replay::replay;
+pub use pieces::replay;
 pub use session::Session;
 pub use sink::Sink;
 pub use trace_event::TraceEvent;

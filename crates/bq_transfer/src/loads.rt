@@ -15,7 +15,7 @@ use crate::access::{Access, Location, locate};
 use crate::obligation::Obligation;
 use bq_bpf::MapShape;
 use bq_bpf::addresses::STACK_SIZE;
-use bq_bpf::alu::bits_of;
+use bq_bpf::words::bits_of;
 use bq_insn::{Insn, REGISTERS, Size, Width};
 use bq_ranges::{Range, moves};
 use bq_states::abstract_state::{AbstractState, AbstractValue, ValueKind};

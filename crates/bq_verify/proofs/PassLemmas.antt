@@ -105,6 +105,7 @@ module _ (p : Subject) (slot : ℕ) (state : AbstractState) (K : Setting → Sta
         added f on.0 setting.shapes_are (rw (← same) on.3) on.2,
       ))
 
+  -- a jump by 16 bits leads on to its target
   pub goes_there : (off : ℤ) (to : ℕ) → instruction_at p.slots slot ≡ Some (Goto off) → LeadsTo slot off to
       → ((f : Setting) (s : State) → f.shapes ≡ p.shapes → s.slot ≡ to → Contains f state s → K f s)
       → LeadsOnFrom p slot state K
@@ -118,6 +119,7 @@ module _ (p : Subject) (slot : ℕ) (state : AbstractState) (K : Setting → Sta
         added f (record s { slot = to }) setting.shapes_are refl (Contains-at f state s to contains),
       ))
 
+  -- a jump by 32 bits leads on to its target
   pub goes_far : (imm : ℤ) (to : ℕ) → instruction_at p.slots slot ≡ Some (Goto32 imm) → LeadsTo slot imm to
       → ((f : Setting) (s : State) → f.shapes ≡ p.shapes → s.slot ≡ to → Contains f state s → K f s)
       → LeadsOnFrom p slot state K
@@ -131,6 +133,7 @@ module _ (p : Subject) (slot : ℕ) (state : AbstractState) (K : Setting → Sta
         added f (record s { slot = to }) setting.shapes_are refl (Contains-at f state s to contains),
       ))
 
+  -- a call of a counter leads on, whatever the counter answers
   pub goes_asking : (insn : Insn) (after : AbstractState) → instruction_at p.slots slot ≡ Some insn → IsCounterCall insn
       → AsksFrom insn state after → ((f : Setting) (s : State) → s.slot ≡ slot + 1 → Contains f after s → K f s)
       → LeadsOnFrom p slot state K
@@ -173,6 +176,7 @@ module _ (p : Subject) (slot : ℕ) (state : AbstractState) (K : Setting → Sta
         parts.no (record s { slot = s.slot + 1 }) refl e,
       ))
 
+  -- a branch leads on to the side that its test chooses
   pub goes_apart : (w : Width) (c : Condition) (dst : ℕ) (src : Source) (off : ℤ) (to : ℕ)
       → instruction_at p.slots slot ≡ Some (Branch w c dst src off) → LeadsTo slot off to
       → ((f : Setting) (s : State) → f.shapes ≡ p.shapes → Contains f state s → BranchesTo K f s w c dst src to (slot + 1))
@@ -330,6 +334,7 @@ module _ (p : Subject) (slot : ℕ) (pending : List (Option (Box AbstractState G
       here (inl waits) same = none_waits f s (slice_index_or pending slot None) empty (waits_at_slot f s pending slot same waits)
       here (inr (e, same', contains)) same = both_ways live dead e
 
+  -- the pass goes on past a slot whose instruction leads on
   pub passes_by : (new : List (Option (Box AbstractState Global))) (after : AbstractState) (on : Bool)
       → KeepsWaiting p.shapes pending new → LeadsOnFrom p slot state (IsKnown new after on (slot + 1))
       → PassesOn p slot K (IsKnown new after on (slot + 1))

@@ -421,6 +421,7 @@ module _ (p : Subject) (slot : ℕ) (insn : Insn) (state : AbstractState) (here 
   ready_of (Call helper) (inr (inr (inr (which, c)))) = inr (which, asking helper c)
   ready_of Exit n = inl (has (AtRegister Scalar 0) n)
 
+  -- what the instruction needs is shown at its slot
   pub ready_at : IsReadyFor p state insn
   ready_at = ready_of insn (straight.before slot insn (omega arith) here)
 

@@ -10,7 +10,7 @@ pub mod checks;
 mod flow;
 pub mod graph_cause;
 pub mod graph_numbers;
-mod known_states;
+mod known_at;
 pub mod laws;
 pub mod layout;
 mod pass;
@@ -26,7 +26,7 @@ mod waiting;
 
 pub use cause::Cause;
 pub use graph_cause::GraphCause;
-pub use known_states::{KnownStates, known_states};
+pub use known_at::{KnownStates, known_states};
 pub use policy_form::PolicyForm;
 pub use program::{Program, verify};
 pub use refused::Refused;
