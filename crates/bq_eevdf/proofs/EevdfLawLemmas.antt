@@ -8,7 +8,7 @@ use Rattle.bq_disc.specs.declared.totals.Totals.{Totals}
 use Rattle.bq_disc.proofs.DueLemmas.{first_due-cons}
 use Rattle.bq_eevdf.specs.Eevdf.{is_eligible, eligible}
 use Rattle.bq_disc.proofs.MeanLemmas.{least_at_most_mean}
-use Rattle.bq_eevdf.specs.Laws.{LeastIsEligible}
+use Rattle.bq_eevdf.specs.Eligibility.{LeastIsEligible}
 
 -- of some tasks the one of least v is eligible
 pub least_is_eligible : LeastIsEligible

@@ -1,7 +1,7 @@
 //! Laws of EEVDF: each is the contract of a function that does nothing.
 ghost use Rattle.bq_disc.specs.Discipline.{IsLawful};
 ghost use Rattle.bq_eevdf.specs.Eevdf.{eevdf};
-ghost use Rattle.bq_eevdf.specs.Laws.{LeastIsEligible};
+ghost use Rattle.bq_eevdf.specs.Eligibility.{LeastIsEligible};
 ghost use Rattle.bq_eevdf.specs.EarliestChoice.{ChoiceIsEarliest};
 
 /// EEVDF chooses a task exactly when there is one. The choice is one of the tasks, and equal sets give equal choices.

@@ -1,11 +1,14 @@
 //! The place of the sleeping tasks, and what an admission and a retirement do to it.
-ghost use Rattle.std.specs.Prelude.{◌≡◌, ◌<◌, false, length, IfOk, replicate, slice_index_or, slice_set};
-ghost use Rattle.bq_parts.specs.Refusals.{is_absent, is_away};
+ghost use Rattle.std.specs.Prelude.{◌≡◌, ◌<◌, ◌≤◌, None, false, length, IfOk, replicate, slice_index_or, slice_set};
+ghost use Rattle.bq_parts.specs.Moves.{admitted};
+ghost use Rattle.bq_parts.specs.Refusals.{argument_refusal, is_absent, is_away};
 ghost use Rattle.bq_parts.specs.Shares.{Admits, Retires};
 ghost use Rattle.bq_parts.specs.declared.lobby_entry.LobbyEntry.TheVariants.{Absent, Sleeping, Away};
 
-use crate::{LobbyEntry, Refusal, Reply, Unlinked};
-use bq_disc::limits::TASKS;
+use crate::{Event, LobbyEntry, Refusal, Reply, Unlinked};
+use bq_disc::Node;
+use bq_disc::limits::{PROCESSORS, TASKS};
+use bq_disc::mask::low_bits;
 use std::alloc::{AllocError, Global};
 use std::marker::Model;
 
@@ -110,5 +113,26 @@ impl Lobby {
             LobbyEntry::Sleeping(task) => task,
             LobbyEntry::Absent | LobbyEntry::Away => unreachable!(),
         }
+    }
+}
+
+/// A task as it is admitted in a world of `count` processors. It takes memory for the task.
+pub fn new_task(
+    alloc: Global,
+    count: usize,
+    task: u16,
+    nice: i8,
+    mask: u64,
+    slice: u64,
+) -> Result<Unlinked, AllocError>
+    requires few { count ≤ PROCESSORS }
+    requires fits { argument_refusal count (Event.Admit task nice mask slice) ≡ None }
+    ensures { IfOk result (λ t. t ≡ admitted count task nice mask slice) }
+{
+    let mask = low_bits(mask, count);
+    let node = Node::new(task, bq_weights::weight(nice), mask, slice);
+    match Box::new(alloc, node) {
+        Ok(node) => Ok(Unlinked::new(node)),
+        Err(error) => Err(error.into()),
     }
 }

@@ -1,43 +1,17 @@
 //! What a tick, a drain and a block do to the parts that they touch: one processor, its inbox, the lobby. The shares of
 //! an admission and a retirement are in `lobby`, of a wake in `wakes`, of a pull in `pulls`, of an installation in
 //! `installing`.
-ghost use Rattle.std.specs.Prelude.{◌≡◌, ◌≤◌, ◌<◌, ◌++◌, [], None, IfOk};
+ghost use Rattle.std.specs.Prelude.{◌≡◌, ◌++◌, []};
 ghost use Rattle.bq_bpf.specs.Counters.{Through};
 ghost use Rattle.bq_disc.specs.OneProcessor.{present_at};
 ghost use Rattle.bq_parts.specs.Processors.{HasEachOnce, HasLobbyIds};
-ghost use Rattle.bq_parts.specs.Refusals.{argument_refusal};
 ghost use Rattle.bq_parts.specs.Choices.{by_programs};
-ghost use Rattle.bq_parts.specs.Moves.{admitted};
 ghost use Rattle.bq_parts.specs.Shares.{Blocks, Drains, Ticks};
 
-use crate::{Cpu, Event, Inbox, Lobby, Refusal, Reply, Unlinked};
+use crate::{Cpu, Inbox, Lobby, Refusal, Reply};
 use bq_bpf::Board;
-use bq_disc::limits::PROCESSORS;
-use bq_disc::mask::low_bits;
-use bq_disc::{Node, RunQueue};
+use bq_disc::RunQueue;
 use bq_installed::Scratch;
-use std::alloc::{AllocError, Global};
-
-/// A task as it is admitted in a world of `count` processors. It takes memory for the task.
-pub fn new_task(
-    alloc: Global,
-    count: usize,
-    task: u16,
-    nice: i8,
-    mask: u64,
-    slice: u64,
-) -> Result<Unlinked, AllocError>
-    requires few { count ≤ PROCESSORS }
-    requires fits { argument_refusal count (Event.Admit task nice mask slice) ≡ None }
-    ensures { IfOk result (λ t. t ≡ admitted count task nice mask slice) }
-{
-    let mask = low_bits(mask, count);
-    let node = Node::new(task, bq_weights::weight(nice), mask, slice);
-    match Box::new(alloc, node) {
-        Ok(node) => Ok(Unlinked::new(node)),
-        Err(error) => Err(error.into()),
-    }
-}
 
 impl<Q: RunQueue> Cpu<Q> {
     /// The clock of the processor ticks.

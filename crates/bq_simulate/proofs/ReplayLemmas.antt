@@ -31,8 +31,8 @@ use Rattle.bq_trace.specs.Feeding.{with_feeds}
 use Rattle.bq_trace.specs.TraceEvents.{Reported, texts}
 use Rattle.bq_trace.specs.Reporting.{Happens}
 use Rattle.bq_trace.specs.Trace.{AnswersAtPhase as AnswersIn, AnswersLine, AnswersAll, opening_progress}
-use Rattle.bq_trace.specs.declared.progress.Phase.{Phase}
-use Rattle.bq_trace.specs.declared.progress.Phase.TheVariants.{Waiting, Running}
+use Rattle.bq_trace.specs.declared.phase.Phase.{Phase}
+use Rattle.bq_trace.specs.declared.phase.Phase.TheVariants.{Waiting, Running}
 use Rattle.bq_trace.specs.declared.progress.Progress.{Progress}
 use Rattle.bq_trace.proofs.LineLemmas.{AnswersAll-append, lines-with_feeds}
 use Rattle.bq_trace.proofs.StoryTextLemmas.{happens_text}

@@ -16,7 +16,7 @@ use Rattle.bq_simulate.specs.Laws.{IsWholeLine}
 use Rattle.bq_trace.specs.Feeding.{with_feeds}
 use Rattle.bq_trace.specs.TraceEvents.{Reported, texts}
 use Rattle.bq_trace.specs.Trace.{TraceText}
-use Rattle.bq_trace.specs.declared.progress.Phase.TheVariants.{Running}
+use Rattle.bq_trace.specs.declared.phase.Phase.TheVariants.{Running}
 use Rattle.bq_verify.specs.Accepted.{Accepted}
 
 -- a policy is that of an image: the image's bytes load as this policy

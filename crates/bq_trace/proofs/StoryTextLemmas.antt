@@ -20,8 +20,8 @@ use Rattle.bq_trace.specs.Feeding.{Continues}
 use Rattle.bq_trace.specs.Writing.{GrowsByPiece}
 use Rattle.bq_trace.specs.TraceEvents.{Reported, CounterRead, Bad, Gets, text_of, texts}
 use Rattle.bq_trace.specs.Reporting.{Happens, EndHappens, WakeHappens, LoadHappens, Reports, ReportsLine, Story, ReportsPiece, skips}
-use Rattle.bq_trace.specs.declared.progress.Phase.{Phase}
-use Rattle.bq_trace.specs.declared.progress.Phase.TheVariants.{Waiting, Over, Running}
+use Rattle.bq_trace.specs.declared.phase.Phase.{Phase}
+use Rattle.bq_trace.specs.declared.phase.Phase.TheVariants.{Waiting, Over, Running}
 use Rattle.bq_trace.specs.declared.progress.Progress.{Progress}
 use Rattle.bq_trace.specs.declared.trace_position.TracePosition.{TracePosition}
 use Rattle.bq_trace.proofs.TakingLemmas.{texts-append, added_by}

@@ -26,8 +26,8 @@ use Rattle.bq_trace.specs.Feeding.{with_feeds}
 use Rattle.bq_trace.specs.Machines.{Driven, opening_machine, semantics_of, Advances}
 use Rattle.bq_trace.specs.TraceEvents.{Reported, Opened, Skipped, Comes, Answered, NotHex, NotLoaded, ProcessorAsked, CounterRead, Bad}
 use Rattle.bq_trace.specs.declared.loading.Installation.{Installation}
-use Rattle.bq_trace.specs.declared.progress.Phase.{Phase}
-use Rattle.bq_trace.specs.declared.progress.Phase.TheVariants.{Waiting, Over, Running}
+use Rattle.bq_trace.specs.declared.phase.Phase.{Phase}
+use Rattle.bq_trace.specs.declared.phase.Phase.TheVariants.{Waiting, Over, Running}
 use Rattle.bq_trace.specs.declared.progress.Progress.{Progress}
 use Rattle.bq_trace.specs.declared.trace_position.TracePosition.{TracePosition}
 

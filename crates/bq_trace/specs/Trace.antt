@@ -15,8 +15,8 @@ use Rattle.bq_trace.specs.Texts.{bad_line, show_line, counter_line}
 use Rattle.bq_lines.specs.declared.command.LineCommand.TheVariants.{Machine, Does, Wake, Load, Show, Counter}
 use Rattle.bq_lines.specs.declared.command.LineReading.{LineReading}
 use Rattle.bq_lines.specs.declared.command.LineReading.TheVariants.{Skipped, Bad, Asks}
-use Rattle.bq_trace.specs.declared.progress.Phase.{Phase}
-use Rattle.bq_trace.specs.declared.progress.Phase.TheVariants.{Waiting, Over, Running}
+use Rattle.bq_trace.specs.declared.phase.Phase.{Phase}
+use Rattle.bq_trace.specs.declared.phase.Phase.TheVariants.{Waiting, Over, Running}
 use Rattle.bq_trace.specs.declared.progress.Progress.{Progress}
 
 -- What follows the begin of a wake: its end, or nothing if the begin was refused.

@@ -8,6 +8,8 @@ mod any_core;
 pub mod bare;
 pub mod laws;
 mod loading;
+mod obeying;
+mod phase;
 mod pieces;
 mod progress;
 mod reporting;

@@ -1,4 +1,4 @@
--- The law of eligibility.
+-- Eligibility: a task of least v is eligible.
 use Rattle.std.specs.Prelude.{List, Contains, IsTrue}
 use Rattle.bq_disc.specs.Tasks.{Task}
 use Rattle.bq_disc.specs.Totals.{NoneBelow}
