@@ -53,7 +53,7 @@ FACTS = [
     ('the weight of nice value 0', r'\* 1_?024 /|/ 1_?024;|1_?024 \* u128', {'bq_weights/src/lib.rt'}),
     ('how long a context is', r'; (?:104|296|56|160)\]|=> (?:104|296|56|160),|: usize = (?:104|296|160)\b|LENGTH: usize = 56\b|< 160\b', {'bq_hooks/src/place.rt', 'bq_hooks/src/preempt.rt', 'bq_hooks/src/pull.rt'}),
     ('what stands where there is no task', r'NOBODY: u(?:32|64) = 0x', {'bq_hooks/src/fields.rt'}),
-    ('what a task is called that may run under EEVDF', r'"(?:not )?eligible"', {'bq_why/src/words_of.rt'}),
+    ('what a task is called that may run under EEVDF', r'"(?:not )?eligible"', {'bq_why/src/texts.rt'}),
     ('the word of a key of marks', r'(?:=>|==) b?"(?:hook|maps|format)"', {'bq_policy_file/src/mark.rt'}),
     ('how near a misspelling is', r'levenshtein', {'bq_words/src/near.rt'}),
     ('which words are numbers', r'\bparse::<[iu]|from_str_radix', set()),

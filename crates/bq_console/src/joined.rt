@@ -1,5 +1,5 @@
 //! Negative numbers after options, which clap would take for options themselves.
-ghost use Rattle.std.specs.Prelude.{◌≡◌, ◌==◌, ◌||◌, ◌<◌, ◌∷◌, ◌++◌, IfOk, IfSome, MatchOption, codes, false, length, map, string_bytes};
+ghost use Rattle.std.specs.Prelude.{◌≡◌, ◌==◌, ◌||◌, ◌<◌, ◌∷◌, ◌++◌, IfOk, IfSome, None, codes, false, length, map, string_bytes};
 ghost use Rattle.std.specs.List.{list_any};
 ghost use Rattle.bq_console.specs.Words.{is_end, is_joined, is_negative, is_option, options_joined};
 
@@ -35,7 +35,8 @@ fn value_after<'a>(
     word: &str,
     more: &'a [String],
 ) -> Option<(&'a String, &'a [String])>
-    ensures value { MatchOption result (options_joined has_ended (word.now ∷ map string_bytes more.now) ≡ word.now ∷ options_joined (has_ended || is_end word.now) (map string_bytes more.now)) (λ p. options_joined has_ended (word.now ∷ map string_bytes more.now) ≡ (word.now ++ (codes "=" ++ string_bytes p.0.now)) ∷ options_joined has_ended (map string_bytes p.1.now)) }
+    ensures value { IfSome result (λ p. options_joined has_ended (word.now ∷ map string_bytes more.now) ≡ (word.now ++ (codes "=" ++ string_bytes p.0.now)) ∷ options_joined has_ended (map string_bytes p.1.now)) }
+    ensures alone { result ≡ None → options_joined has_ended (word.now ∷ map string_bytes more.now) ≡ word.now ∷ options_joined (has_ended || is_end word.now) (map string_bytes more.now) }
     ensures less { IfSome result (λ p. length p.1.now < length more.now) }
 {
     let Some((value, behind)) = more.split_first() else {

@@ -23,7 +23,7 @@ use bq_report::Names;
 use bq_schedule::{Change, ClockReading, Schedule};
 use bq_trace::AnyCore;
 use bq_why::line_fault::{LineFault, NOT_READ_ON, meant_keyword, why_bad};
-use bq_why::{Because, Occurrence, Refused};
+use bq_why::{Occurrence, RefusalText, RefusedEvent};
 use bq_words::Rule;
 use std::alloc::{AllocError, Global};
 
@@ -256,7 +256,7 @@ impl Screen {
     fn refused(&mut self, number: u64, event: &Event, refusal: Refusal) -> Result<(), AllocError>
         ensures { ChangesOnlyNotes self.old self.new }
     {
-        let refused = Refused { event, refusal };
+        let refused = RefusedEvent { event, refusal };
         write!(self.notes, "line {number}: {refused}\n")
     }
 
@@ -304,7 +304,7 @@ impl Screen {
     pub fn not_there(&mut self, number: u64, processor: u8) -> Result<(), AllocError>
         ensures { ChangesOnlyNotes self.old self.new }
     {
-        let because = Because(Refusal::NoProcessor);
+        let because = RefusalText(Refusal::NoProcessor);
         write!(self.notes, "line {number}: show {processor}: {because}\n")
     }
 

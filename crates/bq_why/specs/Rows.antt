@@ -7,7 +7,7 @@ use Rattle.bq_disc.specs.Totals.{total_weight, weighted_sum, is_at_most_mean, me
 use Rattle.bq_words.specs.declared.rule.Rule.{Rule}
 use Rattle.bq_words.specs.declared.rule.Rule.TheVariants.{Cfs, Eevdf}
 use Rattle.bq_cfs.specs.Cfs.{least}
-use Rattle.bq_why.specs.declared.table.TaskRow.{TaskRow}
+use Rattle.bq_why.specs.declared.task_row.TaskRow.{TaskRow}
 
 -- how far two numbers are apart
 abbrev pub apart : ℕ → ℕ → ℕ

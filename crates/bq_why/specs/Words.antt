@@ -5,8 +5,8 @@ use Rattle.bq_parts.specs.declared.event.Event.TheVariants.{EndWake, Drain, Tick
 use Rattle.bq_report.specs.Amounts.{millis_text}
 use Rattle.bq_words.specs.declared.rule.Rule.{Rule}
 use Rattle.bq_words.specs.declared.rule.Rule.TheVariants.{Cfs, Eevdf}
-use Rattle.bq_why.specs.declared.table.TaskRow.{TaskRow}
-use Rattle.bq_why.specs.declared.words_of.Standing.{Standing}
+use Rattle.bq_why.specs.declared.task_row.TaskRow.{TaskRow}
+use Rattle.bq_why.specs.declared.texts.StandingText.{StandingText}
 use Rattle.bq_why.specs.Rows.{apart}
 
 -- the processor at which an event may choose, and the event's time
@@ -50,5 +50,5 @@ origin_name Cfs = codes "least v"
 origin_name Eevdf = codes "mean"
 
 -- the mark of a processor, and what the rule measures its tasks from
-abbrev pub standing_text : Standing → List ℕ
+abbrev pub standing_text : StandingText → List ℕ
 standing_text s = codes "mark " ++ (virtual_text s.mark ++ (codes "  " ++ (origin_name s.rule ++ (codes " " ++ virtual_text s.from))))

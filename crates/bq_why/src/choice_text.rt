@@ -6,8 +6,8 @@ use crate::asked::Asked;
 use crate::presence::present;
 use crate::reasons::{Reason, why};
 use crate::rival_text::{write_deadlines, write_equal_runtime, write_giving_way};
-use crate::table::{TaskRow, measured_from, rows};
-use crate::words_of::{Ids, Lag, Standing, Virtual, Who, eligibility};
+use crate::task_row::{TaskRow, measured_from, rows};
+use crate::texts::{IdsText, LagText, StandingText, TaskText, VirtualTime, eligibility};
 use bq_cfs::GRANULARITY;
 use bq_disc::Entity;
 use bq_disc::limits::TASKS;
@@ -44,7 +44,7 @@ pub(crate) fn write_choice(
         None => return Ok(()),
     };
     if let Some(from) = measured_from(rule, tasks.as_slice()) {
-        let standing = Standing { rule, mark, from };
+        let standing = StandingText { rule, mark, from };
         write!(text, "    {standing}\n")?;
     }
     let rows = rows(alloc, tasks.as_slice())?;
@@ -87,18 +87,18 @@ fn write_row(
 ) -> Result<(), AllocError> {
     let who = format!(in alloc;
         "{}",
-        Who {
+        TaskText {
             names,
             task: row.task
         }
     )?;
     let sign = if runs { '>' } else { ' ' };
     let weight = row.weight;
-    let v = format!(in alloc; "{}", Virtual(row.v))?;
+    let v = format!(in alloc; "{}", VirtualTime(row.v))?;
     write!(text, "    {sign} {who:<14.14}{weight:>8} {v:>10}")?;
     if let Rule::Eevdf = rule {
-        let deadline = format!(in alloc; "{}", Virtual(row.deadline))?;
-        let lag = format!(in alloc; "{}", Lag(row))?;
+        let deadline = format!(in alloc; "{}", VirtualTime(row.deadline))?;
+        let lag = format!(in alloc; "{}", LagText(row))?;
         let eligible = eligibility(row);
         write!(text, " {deadline:>10} {lag:>10}  {eligible}")?;
     }
@@ -119,7 +119,7 @@ fn write_reason(
     let Some(run) = choice.run else {
         return text.push_str("    nothing runs: nobody is there\n");
     };
-    let who = Who { names, task: run };
+    let who = TaskText { names, task: run };
     write!(text, "    {who} runs: ")?;
     if choice.by == By::Discipline {
         choice.asked.write_overruled(text)?;
@@ -127,7 +127,7 @@ fn write_reason(
     match why(rule, choice.by, choice.was, choice.run, tasks) {
         Reason::Policy => choice.asked.write_answer(text, Hook::Preempt.word()),
         Reason::EarliestDeadline => {
-            let eligible = Ids { names, rows };
+            let eligible = IdsText { names, rows };
             write!(text, "the earliest deadline of the eligible {eligible}")?;
             write_deadlines(text, names, run, tasks)
         }
@@ -141,7 +141,7 @@ fn write_reason(
         }
         Reason::Stays { ahead, of } => {
             let ahead = Millis(ahead);
-            let of = Who { names, task: of };
+            let of = TaskText { names, task: of };
             let bound = Millis(GRANULARITY);
             write!(
                 text,

@@ -2,7 +2,7 @@
 
 use crate::asked::Asked;
 use crate::pull_sight::{OwnPull, PullSight};
-use crate::words_of::Who;
+use crate::texts::TaskText;
 use bq_hooks::{By, Hook};
 use bq_report::Names;
 use std::alloc::AllocError;
@@ -16,7 +16,7 @@ pub(crate) fn write_place(
     by: By,
     asked: &Asked,
 ) -> Result<(), AllocError> {
-    let who = Who { names, task };
+    let who = TaskText { names, task };
     write!(text, "    {who} is placed on {to}: ")?;
     match by {
         By::Policy => asked.write_answer(text, Hook::Place.word()),
@@ -51,7 +51,7 @@ pub(crate) fn write_sight(
     write!(text, "{count} may go")?;
     let mut shown: u32 = 0;
     for task in movable.first.as_slice() {
-        let who = Who { names, task: *task };
+        let who = TaskText { names, task: *task };
         let before = if shown == 0 { ": " } else { ", " };
         write!(text, "{before}{who}")?;
         shown = shown.saturating_add(1);
@@ -74,7 +74,7 @@ pub(crate) fn write_pull(
 ) -> Result<(), AllocError> {
     match task {
         Some(task) => {
-            let who = Who { names, task };
+            let who = TaskText { names, task };
             write!(text, "    {who} is pulled: ")?;
         }
         None => text.push_str("    nothing is pulled: ")?,

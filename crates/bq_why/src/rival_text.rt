@@ -3,7 +3,7 @@ ghost use Rattle.std.specs.Prelude.{◌≤◌, length};
 
 use crate::reasons::with_number;
 use crate::rivals::{passed_over, tied_with};
-use crate::words_of::{Virtual, Who};
+use crate::texts::{TaskText, VirtualTime};
 use bq_disc::Entity;
 use bq_disc::limits::TASKS;
 use bq_report::{Millis, Names};
@@ -50,7 +50,7 @@ fn write_passed_over(
             "; {who} has the same deadline and the lower id ({first} < {chosen}), but is not eligible"
         );
     }
-    let deadline = Virtual(first.deadline());
+    let deadline = VirtualTime(first.deadline());
     write!(text, "; {who} is due first ({deadline}) but not eligible")
 }
 
@@ -65,8 +65,8 @@ pub(crate) fn write_giving_way(
     let Some(was) = was else {
         return text.push_str("least virtual runtime");
     };
-    let was = Who { names, task: was };
-    let run = Who { names, task: run };
+    let was = TaskText { names, task: was };
+    let run = TaskText { names, task: run };
     let ahead = Millis(ahead);
     write!(text, "{was} gives way: {ahead} ms ahead of {run}")
 }
@@ -88,7 +88,7 @@ pub(crate) fn write_equal_runtime(
             let tied = other.id();
             write!(text, "; {who} has the same v")?;
             if was == Some(run) {
-                let run = Who { names, task: run };
+                let run = TaskText { names, task: run };
                 write!(text, ", and {run} runs on")?;
             } else {
                 write!(text, ", and the lower id wins ({run} < {tied})")?;
@@ -99,8 +99,8 @@ pub(crate) fn write_equal_runtime(
 }
 
 /// A task's name, or its number if it has none.
-fn who<'a>(names: &'a Names, task: &Entity) -> Who<'a> {
-    Who {
+fn who<'a>(names: &'a Names, task: &Entity) -> TaskText<'a> {
+    TaskText {
         names,
         task: task.id(),
     }

@@ -4,10 +4,10 @@ ghost use Rattle.bq_why.specs.Words.{choice_place};
 
 use crate::asked::Asked;
 use crate::choice_text::{RunChoice, write_choice};
-use crate::happenings::InWords;
+use crate::event_text::InWords;
 use crate::move_text::{write_place, write_pull, write_sight};
 use crate::pull_sight::{PullSight, sight_of};
-use crate::words_of::Who;
+use crate::texts::Who;
 use bq_hooks::{By, Hook};
 use bq_parts::{Event, Reply};
 use bq_report::{Millis, Names, Window};
@@ -140,7 +140,7 @@ impl Why {
         let number = done.number;
         match done.reply {
             Reply::Placed { task, .. } => {
-                let who = Who { names, task: *task };
+                let who = TaskText { names, task: *task };
                 let part = if self.begun == Some(number) {
                     ""
                 } else {
@@ -152,7 +152,7 @@ impl Why {
                 )
             }
             _ => {
-                let event = InWords(done.event);
+                let event = EventText(done.event);
                 write!(text, "{time} ms  line {number}: {event}\n")
             }
         }
@@ -188,7 +188,7 @@ impl Why {
                 write_choice(self.alloc, text, names, machine, &choice)
             }
             Reply::Blocked { task, run } => {
-                let who = Who { names, task: *task };
+                let who = TaskText { names, task: *task };
                 write!(text, "    {who} goes to sleep\n")?;
                 self.write_start(text, names, machine, processor, *run)
             }

@@ -9,9 +9,9 @@ use std::fmt;
 
 /// An event as the trace names it, without its time. The beginning of a wake, which `wake` and `begin` both ask for, is named as a wake.
 #[derive(Clone, Copy)]
-pub struct InWords<'a>(pub &'a Event);
+pub struct EventText<'a>(pub &'a Event);
 
-impl fmt::Display for InWords<'_> {
+impl fmt::Display for EventText<'_> {
     fn fmt<W: fmt::Write>(&self, f: &mut fmt::Formatter<W>) -> fmt::Result {
         if let Event::BeginWake { processor, task } = self.0 {
             return write!(f, "wake of {task} at cpu {processor}");
@@ -55,19 +55,19 @@ fn numbers_of(event: &Event) -> (Option<u16>, Option<u16>) {
 
 /// A refused event, and why it was refused, in words.
 #[derive(Clone, Copy)]
-pub struct Refused<'a> {
+pub struct RefusedEvent<'a> {
     pub event: &'a Event,
     pub refusal: Refusal,
 }
 
-impl fmt::Display for Refused<'_> {
+impl fmt::Display for RefusedEvent<'_> {
     fn fmt<W: fmt::Write>(&self, f: &mut fmt::Formatter<W>) -> fmt::Result {
-        let event = InWords(self.event);
+        let event = EventText(self.event);
         if matches!(self.refusal, Refusal::NoTask) && !is_task(self.event) {
             let greatest = TASKS - 1;
             return write!(f, "{event}: a task's number is at most {greatest}");
         }
-        let because = Because(self.refusal);
+        let because = RefusalText(self.refusal);
         write!(f, "{event}: {because}")
     }
 }
@@ -84,9 +84,9 @@ fn is_task(event: &Event) -> bool {
 
 /// Why an event was refused, in words.
 #[derive(Clone, Copy)]
-pub struct Because(pub Refusal);
+pub struct RefusalText(pub Refusal);
 
-impl fmt::Display for Because {
+impl fmt::Display for RefusalText {
     fn fmt<W: fmt::Write>(&self, f: &mut fmt::Formatter<W>) -> fmt::Result {
         match self.0 {
             Refusal::Older(newest) => write!(f, "generation {newest} stands there already"),

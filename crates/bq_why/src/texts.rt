@@ -2,7 +2,7 @@
 ghost use Rattle.std.specs.Prelude.{◌≡◌, ◌^◌, ◌-◌, min, Some};
 ghost use Rattle.bq_why.specs.Words.{lag_text, lag_sign, eligibility, standing_text, origin_name, virtual_text, sign_before};
 
-use crate::table::TaskRow;
+use crate::task_row::TaskRow;
 use bq_disc::limits::FIRST_MARK;
 use bq_report::{Millis, Names};
 use bq_words::Rule;
@@ -10,12 +10,12 @@ use std::fmt;
 
 /// A task's name, or its number if it has none.
 #[derive(Clone, Copy)]
-pub struct Who<'a> {
+pub struct TaskText<'a> {
     pub names: &'a Names,
     pub task: u16,
 }
 
-impl fmt::Display for Who<'_> {
+impl fmt::Display for TaskText<'_> {
     fn fmt<W: fmt::Write>(&self, f: &mut fmt::Formatter<W>) -> fmt::Result {
         match self.names.of(self.task) {
             Some(name) => f.write_str(name),
@@ -29,12 +29,12 @@ impl fmt::Display for Who<'_> {
 
 /// The eligible tasks of some rows, in braces.
 #[derive(Clone, Copy)]
-pub struct Ids<'a> {
+pub struct IdsText<'a> {
     pub names: &'a Names,
     pub rows: &'a [TaskRow],
 }
 
-impl fmt::Display for Ids<'_> {
+impl fmt::Display for IdsText<'_> {
     fn fmt<W: fmt::Write>(&self, f: &mut fmt::Formatter<W>) -> fmt::Result {
         f.write_str("{")?;
         let mut is_first = true;
@@ -44,7 +44,7 @@ impl fmt::Display for Ids<'_> {
                     f.write_str(", ")?;
                 }
                 is_first = false;
-                let who = Who {
+                let who = TaskText {
                     names: self.names,
                     task: row.task,
                 };
@@ -57,9 +57,9 @@ impl fmt::Display for Ids<'_> {
 
 /// Virtual time, in milliseconds from where it begins.
 #[derive(Clone, Copy)]
-pub struct Virtual(pub u64);
+pub struct VirtualTime(pub u64);
 
-impl fmt::Display for Virtual {
+impl fmt::Display for VirtualTime {
     ghost output = { λ v. Some (virtual_text v.0) };
 
     fn fmt<W: fmt::Write>(&self, f: &mut fmt::Formatter<W>) -> fmt::Result {
@@ -78,19 +78,19 @@ fn sign_before(time: u64) -> &'static str
 
 /// The mark of a processor, and the virtual time that its rule measures its tasks from.
 #[derive(Clone, Copy)]
-pub struct Standing {
+pub struct StandingText {
     pub rule: Rule,
     pub mark: u64,
     pub from: u64,
 }
 
-impl fmt::Display for Standing {
+impl fmt::Display for StandingText {
     ghost output = { λ s. Some (standing_text s) };
 
     fn fmt<W: fmt::Write>(&self, f: &mut fmt::Formatter<W>) -> fmt::Result {
-        let mark = Virtual(self.mark);
+        let mark = VirtualTime(self.mark);
         let name = origin_name(self.rule);
-        let from = Virtual(self.from);
+        let from = VirtualTime(self.from);
         write!(f, "mark {mark}  {name} {from}")
     }
 }
@@ -107,9 +107,9 @@ fn origin_name(rule: Rule) -> &'static str
 
 /// The lag of a row, in milliseconds of the processor: above 0 if the task is owed time.
 #[derive(Clone, Copy)]
-pub struct Lag<'a>(pub &'a TaskRow);
+pub struct LagText<'a>(pub &'a TaskRow);
 
-impl fmt::Display for Lag<'_> {
+impl fmt::Display for LagText<'_> {
     ghost output = { λ l. Some (lag_text l.0.now) };
 
     fn fmt<W: fmt::Write>(&self, f: &mut fmt::Formatter<W>) -> fmt::Result {
