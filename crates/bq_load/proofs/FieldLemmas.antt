@@ -80,7 +80,7 @@ chosen_by_test false x y z e = inr (refl, e)
 
 -- ---- the letters
 
--- where the letters were read, they stand there, and what was left stands after them
+-- if reading the letters succeeds, the bytes are the letters followed by the rest
 pub magic_ok : (bytes rest : List ℕ) → magic_at bytes ≡ Ok rest → bytes ≡ magic ++ rest
 unfolding magic_at
 magic_ok bytes rest e =
@@ -93,7 +93,7 @@ magic_ok bytes rest e =
           sym (take-append-drop 4 bytes) ∙ ap (λ (x : List ℕ). x ++ drop 4 bytes) is ∙ ap (λ (x : List ℕ). magic ++ x) g.1
     ]
 
--- where reading the letters failed, the bytes are fewer than four, or the first four are others
+-- if reading the letters fails, there are fewer than four bytes, or the first four are others
 pub magic_err : (bytes : List ℕ) (f : LoadFault) → magic_at bytes ≡ Err f → IsRefusedField Nothing bytes f
 unfolding magic_at
 magic_err bytes f e =
@@ -118,7 +118,7 @@ magic_err bytes f e =
 
 -- ---- the version
 
--- where a version was read, its number stands there, and what was left stands after it
+-- if reading a version succeeds, the bytes are its number followed by the rest
 pub version_ok : (bytes : List ℕ) (v : Version) (rest : List ℕ) → version_at bytes ≡ Ok (v, rest) → bytes ≡ version_number v ∷ rest
 unfolding version_at
 version_ok [] v rest e = absurd cc
@@ -137,7 +137,7 @@ no_version : (b : ℕ) → b ≢ 1 → b ≢ 2 → (v : Version) → b ∷ [] �
 no_version b one two First e = one cc
 no_version b one two Second e = two cc
 
--- where reading a version failed, there is no byte, or the first one is the number of none
+-- if reading a version fails, there is no byte, or the first one is no version's number
 pub version_err : (bytes : List ℕ) (f : LoadFault) → version_at bytes ≡ Err f → IsRefusedField Marked bytes f
 unfolding version_at
 version_err [] f e = inl (sym (err_is {A = Version × List ℕ} fault.Cut f e), omega arith)
@@ -157,7 +157,7 @@ version_err (b ∷ bs) f e =
 
 -- ---- the hook
 
--- where a hook was read, its byte stands there, and what was left stands after it
+-- if reading a hook succeeds, the bytes are its byte followed by the rest
 pub hook_ok : (bytes : List ℕ) (h : Hook) (rest : List ℕ) → hook_at bytes ≡ Ok (h, rest) → bytes ≡ hook_byte h ∷ rest
 unfolding hook_at
 hook_ok [] h rest e = absurd cc
@@ -183,7 +183,7 @@ no_hook b zero' one two Place e = zero' cc
 no_hook b zero' one two Preempt e = one cc
 no_hook b zero' one two Pull e = two cc
 
--- where reading a hook failed, there is no byte, or the first one is that of none
+-- if reading a hook fails, there is no byte, or the first one is no hook's byte
 pub hook_err : (v : Version) (bytes : List ℕ) (f : LoadFault) → hook_at bytes ≡ Err f → IsRefusedField (Versioned v) bytes f
 unfolding hook_at
 hook_err v [] f e = inl (sym (err_is {A = Hook × List ℕ} fault.Cut f e), omega arith)
@@ -209,14 +209,14 @@ hook_err v (b ∷ bs) f e =
 
 -- ---- numbers
 
--- reading a number fails only as cut, where there are fewer bytes than it has
+-- reading a number fails only if there are fewer bytes than it has; the fault is that they are cut
 pub number_err : (width : ℕ) (bytes : List ℕ) (f : LoadFault) → read_number width bytes ≡ Err f → (f ≡ fault.Cut) × (length bytes < width)
 unfolding read_number
 number_err width bytes f e =
     let g = guard_err (ltb (length bytes) width) fault.Cut f (little_number width bytes, drop width bytes) e in
     (sym g.1, ltb-true _ _ g.0)
 
--- a number that was read from two bytes is below 2 to the 16th, and stands there before what was left
+-- a number that was read from two bytes is below 2^16, and the bytes are its two followed by the rest
 pub half_ok : (bytes : List ℕ) (n : ℕ) (rest : List ℕ) → AreBytes bytes → IsNumber 2 bytes n rest
     → (bytes ≡ to_le_bytes w16 n ++ rest) × (n < 2 ^ 16)
 half_ok (a ∷ b ∷ bs) n rest fits r =
@@ -230,7 +230,7 @@ half_ok (a ∷ b ∷ bs) n rest fits r =
 half_ok (a ∷ []) n rest fits r = absurd (omega (arith, r.long))
 half_ok [] n rest fits r = absurd (omega (arith, r.long))
 
--- a number that was read from four bytes is below 2 to the 32nd, and stands there before what was left
+-- a number that was read from four bytes is below 2^32, and the bytes are its four followed by the rest
 pub word_ok : (bytes : List ℕ) (n : ℕ) (rest : List ℕ) → AreBytes bytes → IsNumber 4 bytes n rest
     → (bytes ≡ to_le_bytes w32 n ++ rest) × (n < 2 ^ 32)
 word_ok (a ∷ b ∷ c ∷ d ∷ bs) n rest fits r =
@@ -256,7 +256,7 @@ one_half m n lm ln e = sym (from_le_bytes-to_le_bytes_2 m lm) ∙ ap (from_le_by
 
 -- ---- the number of maps
 
--- a number of maps that was read is at most 8, and stands there before what was left
+-- a number of maps that was read is at most `MAPS`, and the bytes are its two followed by the rest
 pub count_ok : (bytes : List ℕ) (n : ℕ) (rest : List ℕ) → AreBytes bytes → count_at bytes ≡ Ok (n, rest)
     → (bytes ≡ to_le_bytes w16 n ++ rest) × (n ≤ 8)
 unfolding count_at
@@ -266,7 +266,7 @@ count_ok bytes n rest fits e =
     let made = half_ok bytes a.0.0 a.0.1 fits (number_ok 2 bytes a.0.0 a.0.1 a.1) in
     subst (λ (x : ℕ × List ℕ). (bytes ≡ to_le_bytes w16 x.0 ++ x.1) × (x.0 ≤ 8)) g.1 (made.0, leb-true _ _ g.0)
 
--- where reading the number of maps failed, its two bytes are cut, or spell no number up to 8
+-- if reading the number of maps fails, its two bytes are cut, or spell a number over `MAPS`
 pub count_err : (v : Version) (h : Hook) (bytes : List ℕ) (f : LoadFault)
     → AreBytes bytes → count_at bytes ≡ Err f → IsRefusedField (Hooked v h) bytes f
 unfolding count_at
@@ -343,7 +343,7 @@ pub record IsRead (bytes rest : List ℕ) (size entries : ℕ) : Type 0 where
   pub size_fits : size < 2 ^ 16
   pub entries_fit : entries < 2 ^ 16
 
--- two numbers that were read, from two bytes each, stand there one after the other, and are below 2 to the 16th
+-- two numbers that were read, from two bytes each, are below 2^16, and the bytes are theirs followed by the rest
 pub two_halves : (bytes : List ℕ) (size entries : ℕ) (middle rest : List ℕ)
     → AreBytes bytes → read_number 2 bytes ≡ Ok (size, middle) → read_number 2 middle ≡ Ok (entries, rest)
     → IsRead bytes rest size entries
@@ -357,7 +357,7 @@ two_halves bytes size entries middle rest fits e f =
       entries_fit = b.1;
     }
 
--- where a shape was read, the bytes of one stand there, and what was left stands after them
+-- if reading a shape succeeds, the bytes are a shape's followed by the rest
 pub shape_ok : (bytes rest : List ℕ) → AreBytes bytes → shape_at bytes ≡ Ok rest → (s : MapShape) × (bytes ≡ shape_bytes s ++ rest)
 unfolding shape_at shape_of
 shape_ok bytes rest fits e =
@@ -389,7 +389,7 @@ no_shape size entries ls le out s e =
     let yes : is_shape size entries ≡ true = rw (a, b) (is_shape-met s.value_size s.entries facts) in
     absurd cc
 
--- where reading a shape failed, it is cut, or its four bytes are those of none
+-- if reading a shape fails, it is cut, or its four bytes are no shape's
 pub shape_err : (bytes : List ℕ) (f : LoadFault) → AreBytes bytes → shape_at bytes ≡ Err f → IsRefusedShape bytes f
 unfolding shape_at
 shape_err bytes f fits e =
@@ -416,7 +416,7 @@ shape_err bytes f fits e =
           ]
     ]
 
--- where this many shapes were read, the bytes of as many are there, and what was left stands after them
+-- if reading some number of shapes succeeds, the bytes are those of as many shapes followed by the rest
 pub shapes_ok : (n : ℕ) (bytes rest : List ℕ) → AreBytes bytes → shapes_at n bytes ≡ Ok rest
     → (shapes : List MapShape) × (length shapes ≡ n) × (bytes ≡ shapes_bytes shapes ++ rest)
 unfolding shapes_at
@@ -439,7 +439,7 @@ pub record HasRefusedShape (n : ℕ) (bytes : List ℕ) (f : LoadFault) : Type 0
   pub bytes_are : bytes ≡ shapes_bytes shapes ++ rest
   pub refused : IsRefusedShape rest f
 
--- where reading this many shapes failed, fewer of them stand there, and the next one is cut or bad
+-- if reading some number of shapes fails, the bytes begin with fewer shapes, and the next one is cut or bad
 pub shapes_err : (n : ℕ) (bytes : List ℕ) (f : LoadFault) → AreBytes bytes → shapes_at n bytes ≡ Err f → HasRefusedShape n bytes f
 unfolding shapes_at
 shapes_err zero bytes f fits e = absurd cc

@@ -1,4 +1,4 @@
--- Header and program: what was read stands there, what was refused has that fault.
+-- Header and program: what was read is in the bytes, and what was refused has the fault that was found.
 use Rattle.std.proofs.Common.{◌≡◌, ℕ, ◌*◌, ◌%◌, ◌<◌, ◌≤◌, false, cond, ltb, List, ◌++◌, length, Ok, Err, refl, sym, ap, subst, ◌∙◌, inl, inr, ◌⊎◌, arith}
 use Rattle.std.specs.Prelude.{◌&&◌, ◌==◌, nat_le}
 use Rattle.std.specs.Int.{w32, to_le_bytes}

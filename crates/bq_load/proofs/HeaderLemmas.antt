@@ -1,4 +1,4 @@
--- A header that was read stands there; one that was refused has a first field that is bad or cut.
+-- A header that was read is in the bytes; one that was refused has a first field that is bad or cut.
 use Rattle.std.proofs.Common.{◌≡◌, ℕ, ◌*◌, ◌≤◌, List, [], ◌∷◌, ◌++◌, length, take, Result, Ok, Err, refl, sym, ap, subst, ◌∙◌, inl, inr, append_assoc, arith, length-append}
 use Rattle.std.specs.Int.{w16, w32, to_le_bytes}
 use Rattle.std.proofs.lemmas.List.{take_at}
@@ -152,7 +152,7 @@ refused_version rest f fits e =
           subst (λ (x : List ℕ). IsRefused (magic ++ x) f) (sym is) (refused_hook p.0.0 p.0.1 f after p.2)
     ]
 
--- where reading a header failed, good fields stand there, and the one behind them is cut or bad
+-- if reading a header fails, the bytes begin with good fields, and the next one is cut or bad
 pub header_err : (bytes : List ℕ) (f : LoadFault) → AreBytes bytes → header_at bytes ≡ Err f → IsRefused bytes f
 unfolding header_at
 header_err bytes f fits e =
@@ -211,7 +211,7 @@ read_version rest x fits e =
     let after : AreBytes p.0.1 = AreBytes-after (version_number p.0.0 ∷ []) p.0.1 (subst AreBytes is fits) in
     subst (λ (y : List ℕ). HasHeader (magic ++ y) x.0 x.1) (sym is) (read_hook p.0.0 p.0.1 x after p.2)
 
--- a header that was read stands there, and what was left stands after it
+-- if reading a header succeeds, the bytes are the header followed by the rest
 pub header_ok : (bytes : List ℕ) (x : Spelled × List ℕ) → AreBytes bytes → header_at bytes ≡ Ok x → HasHeader bytes x.0 x.1
 unfolding header_at
 header_ok bytes x fits e =
@@ -261,7 +261,7 @@ bad_field bytes (fault.Decode slot cause) b = absurd (no_decode slot cause b.fro
 bad_field bytes (fault.Refused slot cause) b = b
 bad_field bytes fault.OutOfMemory b = b
 
--- where a field behind good ones is cut or bad, that is a fault of the bytes
+-- if a field behind good ones is cut or bad, that is a fault of the bytes
 pub refused_is : (bytes : List ℕ) (f : LoadFault) → IsRefused bytes f → IsLoadFault bytes f
 refused_is bytes f r =
     elim r.refused [
