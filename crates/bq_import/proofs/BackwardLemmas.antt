@@ -24,6 +24,7 @@ use Rattle.bq_import.specs.Backward.{AreGood, JumpsBack, GoesBack, IsPlacedCopy,
 use Rattle.bq_import.proofs.CopyLemmas.{reference_refers}
 use Rattle.bq_import.proofs.PathLemmas.{copy_has_shape}
 
+-- past the end of the first list, an index finds an element of the second list
 append_right : {A : Type 0} (xs ys : List A) (n : ℕ) (d : A) → length xs ≤ n → get_or (xs ++ ys) n d ≡ get_or ys (n - length xs) d
 append_right xs ys n d le =
     let sum : n ≡ length xs + (n - length xs) = omega (arith, le) in
@@ -35,7 +36,7 @@ jump_is_short (Imm64 dst value) far e = absurd (none-some far e)
 jump_is_short (MapRef dst index) far e = absurd (none-some far e)
 jump_is_short insn far e = refl
 
--- a copy has numbers in range, as the original has
+-- the copy of a wide number in range is in range
 wide_good : (maps : ℕ) (few : maps ≤ 8) (b : Bool) (dst value : ℕ)
     → is_reference maps value ≡ b → is_register dst ≡ true → Fits (Imm64 dst value)
     → (is_insn (wide_copy b dst value) ≡ true) × Fits (wide_copy b dst value)
@@ -60,7 +61,7 @@ copied_good maps few (MapRef dst index) z near good fits = (good, fits)
 copied_good maps few (Call helper) z near good fits = (good, fits)
 copied_good maps few Exit z near good fits = (good, fits)
 
--- what stands is not moved by what is put in front
+-- a copy of a slot keeps its place when more is put in front
 stands_left : (back xs : List (Option Insn)) (origins ys : List ℕ) (place from : ℕ)
     → length origins ≡ length back → IsCopyOfSlot back origins place from
     → IsCopyOfSlot (back ++ xs) (origins ++ ys) place from
@@ -71,6 +72,7 @@ stands_left back xs origins ys place from long p =
       origin_is = get_or_append_left origins ys 0 place (omega (arith, inside, long)) ∙ p.origin_is;
     }
 
+-- a copy of a slot at an old place was there before more was put in front
 stands_was : (back xs : List (Option Insn)) (origins ys : List ℕ) (place from : ℕ)
     → length origins ≡ length back → place < length back → IsCopyOfSlot (back ++ xs) (origins ++ ys) place from
     → IsCopyOfSlot back origins place from
@@ -80,17 +82,22 @@ stands_was back xs origins ys place from long inside p =
       origin_is = sym (get_or_append_left origins ys 0 place (omega (arith, inside, long))) ∙ p.origin_is;
     }
 
+-- the copy so far, and an instruction whose copy, with this distance, is put in front
 module _ (maps : ℕ) (old back : List (Option Insn)) (origins : List ℕ) (from : ℕ) (insn : Insn) (distance : ℤ)
     (built : IsBuilt maps old back origins) where
+  -- the second slot of the instruction, if it has one
   second : List (Option Insn)
   second = replicate (slots_of insn - 1) None
 
+  -- the slots that are added, from the last to the first
   tail : List (Option Insn)
   tail = second ++ (Some (copied maps insn distance) ∷ [])
 
+  -- the origins that are added
   tail_from : List ℕ
   tail_from = replicate (slots_of insn - 1) (from + 1) ++ (from ∷ [])
 
+  -- as many slots are added as the instruction has
   long_tail : length tail ≡ slots_of insn
   unfolding second tail
   long_tail =
@@ -98,6 +105,7 @@ module _ (maps : ℕ) (old back : List (Option Insn)) (origins : List ℕ) (from
       let positive = slots_positive insn in
       length-append second (Some (copied maps insn distance) ∷ []) ∙ omega (arith, n, positive)
 
+  -- as many origins are added as the instruction has slots
   long_from : length tail_from ≡ slots_of insn
   unfolding tail_from
   long_from =
@@ -105,22 +113,26 @@ module _ (maps : ℕ) (old back : List (Option Insn)) (origins : List ℕ) (from
       let positive = slots_positive insn in
       length-append (replicate (slots_of insn - 1) (from + 1)) (from ∷ []) ∙ omega (arith, n, positive)
 
+  -- the element after n equal ones is the last
   at_end : {A : Type 0} (n : ℕ) (x y d : A) → get_or (replicate n x ++ (y ∷ [])) n d ≡ y
   at_end zero x y d = refl
   at_end (suc n) x y d = at_end n x y d
 
+  -- each element before the last is one of the equal ones
   before_end : {A : Type 0} (n k : ℕ) (x y d : A) → k < n → get_or (replicate n x ++ (y ∷ [])) k d ≡ x
   before_end n k x y d lt =
       let long = length-replicate n x in
       get_or_append_left (replicate n x) (y ∷ []) d k (omega (arith, lt, long)) ∙ get_or-replicate n k x d lt
 
+  -- each copy so far keeps its place
   kept : KeepsCopies back origins (back ++ tail) (origins ++ tail_from)
   kept place f p = stands_left back tail origins tail_from place f built.as_long p
 
-  -- where the new instruction stands
+  -- the place of the new copy
   place_of : ℕ
   place_of = length back + (slots_of insn - 1)
 
+  -- the new copy is at its place
   here_is : instruction_at (back ++ tail) place_of ≡ Some (copied maps insn distance)
   unfolding place_of tail second
   here_is =
@@ -128,6 +140,7 @@ module _ (maps : ℕ) (old back : List (Option Insn)) (origins : List ℕ) (from
       ∙ (ap (λ (k : ℕ). get_or tail k None) (let e : length back + (slots_of insn - 1) - length back ≡ slots_of insn - 1 = omega arith in e)
       ∙ at_end (slots_of insn - 1) None (Some (copied maps insn distance)) None)
 
+  -- the origin of the new copy is the slot of its instruction
   origin_here : slice_index (origins ++ tail_from) place_of ≡ from
   unfolding place_of tail_from
   origin_here =
@@ -137,13 +150,16 @@ module _ (maps : ℕ) (old back : List (Option Insn)) (origins : List ℕ) (from
       (let e : length back + (slots_of insn - 1) - length origins ≡ slots_of insn - 1 = omega (arith, long) in e)
       ∙ at_end (slots_of insn - 1) (from + 1) from 0)
 
+  -- no instruction begins at an added place before that of the new copy
   none_between : (place : ℕ) → length back ≤ place → place < place_of → instruction_at (back ++ tail) place ≡ None
   unfolding place_of tail second
   none_between place low high =
       append_right back tail place None low
       ∙ before_end (slots_of insn - 1) (place - length back) None (Some (copied maps insn distance)) None (omega (arith, low, high))
 
+  -- the instruction may be put in front with this distance
   module _ (may : MayBePut old back origins from insn distance) where
+    -- if control goes on from the instruction, the next one is right behind the new copy
     goes_back : goes_on insn ≡ true → GoesBack (back ++ tail) (origins ++ tail_from) place_of (slots_of insn) (from + slots_of insn)
     unfolding place_of
     goes_back on =
@@ -156,6 +172,7 @@ module _ (maps : ℕ) (old back : List (Option Insn)) (origins : List ℕ) (from
           stands = kept front.place (from + slots_of insn) front.stands;
         }
 
+    -- if the instruction jumps, the new copy jumps to a copy of its target
     jumps_back : (far : ℤ) → distance_of insn ≡ Some far → JumpsBack (back ++ tail) (origins ++ tail_from) from place_of far distance
     unfolding place_of
     jumps_back far e =
@@ -172,10 +189,12 @@ module _ (maps : ℕ) (old back : List (Option Insn)) (origins : List ℕ) (from
           stands = kept j.landing j.target j.stands;
         }
 
+    -- the new copy goes on to copies of where its original goes on
     new_placed : (f : ℕ) → from ≡ f → IsPlacedCopy maps old (back ++ tail) (origins ++ tail_from) place_of f
     new_placed f e = subst (λ (n : ℕ). IsPlacedCopy maps old (back ++ tail) (origins ++ tail_from) place_of n) e
         (record { original = insn; distance = distance; here = may.here; copy = here_is; on = goes_back; jumps = jumps_back })
 
+  -- an old copy still goes on to copies of where its original goes on
   old_placed : (place f : ℕ) → IsPlacedCopy maps old back origins place f → IsPlacedCopy maps old (back ++ tail) (origins ++ tail_from) place f
   old_placed place f p = record {
     original = p.original;
@@ -201,6 +220,7 @@ module _ (maps : ℕ) (old back : List (Option Insn)) (origins : List ℕ) (from
         };
   }
 
+  -- one number is below another, or equals it, or is above it
   compare : (a b : ℕ) → (a < b) ⊎ ((a ≡ b) ⊎ (b < a))
   compare zero zero = inr (inl refl)
   compare zero (suc b) = inl (omega arith)
@@ -211,6 +231,7 @@ module _ (maps : ℕ) (old back : List (Option Insn)) (origins : List ℕ) (from
     | inr (inr gt) ↦ inr (inr (omega (arith, gt)))
   ]
 
+  -- each instruction of the longer list goes on to copies of where its original goes on
   all_placed : MayBePut old back origins from insn distance
       → (place f : ℕ) → IsCopyOfSlot (back ++ tail) (origins ++ tail_from) place f
       → IsPlacedCopy maps old (back ++ tail) (origins ++ tail_from) place f
@@ -233,6 +254,7 @@ module _ (maps : ℕ) (old back : List (Option Insn)) (origins : List ℕ) (from
         ]
   ]
 
+  -- each copy in the longer list is an old one, or the new one in front
   only_one : (place f : ℕ) → IsCopyOfSlot (back ++ tail) (origins ++ tail_from) place f
       → IsCopyOfSlot back origins place f ⊎ ((length (back ++ tail) ≡ place + 1) × (f ≡ from))
   unfolding place_of
@@ -254,31 +276,37 @@ module _ (maps : ℕ) (old back : List (Option Insn)) (origins : List ℕ) (from
         ]
   ]
 
+  -- the reversed list begins with the last slot, and then the blank slot, if there is one
   reverse_tail : (n : ℕ) (c : Option Insn) → n ≤ 1
       → reverse (back ++ (replicate n None ++ (c ∷ []))) ≡ c ∷ (replicate n None ++ reverse back)
   reverse_tail zero c le = reverse-append back (c ∷ [])
   reverse_tail (suc zero) c le = reverse-append back (None ∷ c ∷ [])
   reverse_tail (suc (suc n)) c le = absurd (let no : ⊥ = omega (arith, le) in no)
 
+  -- a blank slot adds no instruction
   gathered : (n : ℕ) (c : Insn) → n ≤ 1
       → filter_map (λ (slot : Option Insn). slot) (Some c ∷ (replicate n None ++ reverse back)) ≡ c ∷ insns_of back
   gathered zero c le = refl
   gathered (suc zero) c le = refl
   gathered (suc (suc n)) c le = absurd (let no : ⊥ = omega (arith, le) in no)
 
+  -- an instruction has at most one slot besides its first
   few_slots : slots_of insn - 1 ≤ 1
   few_slots = elim (one_or_two insn) [ inl e ↦ omega (arith, e) | inr e ↦ omega (arith, e) ]
 
+  -- the reversed longer list begins with the slots of the new instruction
   reversed : reverse (back ++ tail) ≡ Some (copied maps insn distance) ∷ (second ++ reverse back)
   unfolding tail second
   reversed = reverse_tail (slots_of insn - 1) (Some (copied maps insn distance)) few_slots
 
+  -- the instructions of the longer list are the new one and those so far
   insns_are : insns_of (back ++ tail) ≡ copied maps insn distance ∷ insns_of back
   unfolding second
   insns_are =
       ap (λ (xs : List (Option Insn)). filter_map (λ (slot : Option Insn). slot) xs) reversed
       ∙ gathered (slots_of insn - 1) (copied maps insn distance) few_slots
 
+  -- these instructions, laid out by slots, are the reversed longer list
   spread_again : spread (insns_of (back ++ tail)) ≡ reverse (back ++ tail)
   unfolding second
   spread_again =
@@ -287,6 +315,7 @@ module _ (maps : ℕ) (old back : List (Option Insn)) (origins : List ℕ) (from
       (copy_has_shape maps insn distance).long
       ∙ (ap (λ (xs : List (Option Insn)). (Some (copied maps insn distance) ∷ second) ++ xs) built.spread_is ∙ sym reversed))
 
+  -- the longer list is the copy with the new instruction in front
   lengthened : maps ≤ 8 → FitsSigned w16 distance → AreGood old → MayBePut old back origins from insn distance
       → length back + slots_of insn ≤ 4096
       → IsLengthened maps old back origins (back ++ tail) (origins ++ tail_from) from
@@ -321,6 +350,7 @@ module _ (maps : ℕ) (old back : List (Option Insn)) (origins : List ℕ) (from
         };
       }
 
+  -- pushing the slots and the origins of the instruction puts the instruction in front of the copy
   pub pushed : (slots : List (Option Insn)) (froms : List ℕ) → maps ≤ 8 → FitsSigned w16 distance
       → AreGood old → MayBePut old back origins from insn distance → length back + slots_of insn ≤ 4096
       → slots ≡ (back ++ replicate (slots_of insn - 1) None) ++ (Some (copied maps insn distance) ∷ [])
@@ -333,6 +363,7 @@ module _ (maps : ℕ) (old back : List (Option Insn)) (origins : List ℕ) (from
       subst (λ (xs : List (Option Insn)). IsLengthened maps old back origins xs froms from) s
       (subst (λ (ys : List ℕ). IsLengthened maps old back origins (back ++ tail) ys from) o (lengthened few near good may room))
 
+  -- pushing the slots and the origins of the instruction adds no copy besides the one in front
   pub pushed_one : (slots : List (Option Insn)) (froms : List ℕ)
       → slots ≡ (back ++ replicate (slots_of insn - 1) None) ++ (Some (copied maps insn distance) ∷ [])
       → froms ≡ (origins ++ replicate (slots_of insn - 1) (from + 1)) ++ (from ∷ [])

@@ -21,11 +21,11 @@ use Rattle.bq_import.proofs.LengthLemmas.{run_next}
 use Rattle.bq_import.proofs.RunningLemmas.{next_of}
 use Rattle.bq_import.proofs.StackLemmas.{equal_or_not}
 
--- what was put on top comes first
+-- a slot that was pushed comes first in the reversed stack
 reverse_push : (stack : List ℕ) (slot : ℕ) → reverse (stack ++ slot ∷ []) ≡ slot ∷ reverse stack
 reverse_push stack slot = reverse-append stack (slot ∷ [])
 
--- the top comes first
+-- the slot on top comes first in the reversed stack
 reverse_top : (stack : List ℕ) (slot : ℕ) → IsTop stack slot → reverse stack ≡ slot ∷ reverse (take (length stack - 1) stack)
 reverse_top stack slot top =
     let long = top.long in
@@ -38,7 +38,7 @@ reverse_top stack slot top =
     ap reverse (sym whole ∙ parts ∙ ap (λ (n : ℕ). take (length stack - 1) stack ++ (n ∷ [])) last)
     ∙ reverse_push (take (length stack - 1) stack) slot
 
--- what comes first is the top
+-- the first slot of the reversed stack is on top
 top_of : (stack : List ℕ) (top : ℕ) (rest : List ℕ) → reverse stack ≡ top ∷ rest → IsTop stack top
 top_of stack top rest is =
     let stack_is : stack ≡ reverse rest ++ top ∷ [] = sym (reverse-reverse stack) ∙ (ap reverse is ∙ reverse-append (top ∷ []) rest) in
@@ -51,7 +51,9 @@ top_of stack top rest is =
           ∙ get_or-append-add (reverse rest) (top ∷ []) 0 0;
     })
 
+-- a program, and for each slot whether it was begun
 module _ (old : List (Option Insn)) (opens : List Bool) where
+  -- a waiting run has no more slots than the run
   waiting_is : (slot : ℕ) → waiting old opens slot ≤ run_slots old slot
   waiting_is slot = by (is_open opens slot)
     where
@@ -59,11 +61,13 @@ module _ (old : List (Option Insn)) (opens : List Bool) where
       by true = omega arith
       by false = omega arith
 
-  -- no more than all runs wait
+  -- the waiting runs have no more slots than all runs
   pub all_wait : (landings : List ℕ) → sum_by (waiting old opens) landings ≤ sum_by (run_slots old) landings
   all_wait landings = sum_by-le-sum_by (waiting old opens) (run_slots old) landings waiting_is
 
+  -- one slot is begun
   module _ (slot : ℕ) (inside : slot < length opens) where
+    -- no run has more waiting slots than before
     waits_less : (k : ℕ) → waiting old (slice_set opens slot true) k ≤ waiting old opens k
     waits_less k = elim (equal_or_not k slot) [
       | inl e ↦
@@ -77,7 +81,7 @@ module _ (old : List (Option Insn)) (opens : List Bool) where
           omega (arith, same)
     ]
 
-    -- as much waits as before, or less
+    -- the waiting runs have no more slots than before
     pub still_wait : (landings : List ℕ) → sum_by (waiting old (slice_set opens slot true)) landings ≤ sum_by (waiting old opens) landings
     still_wait landings = sum_by-le-sum_by (waiting old (slice_set opens slot true)) (waiting old opens) landings waits_less
 
@@ -102,8 +106,9 @@ module _ (old : List (Option Insn)) (opens : List Bool) where
         let all' = sum_by-cons (waiting old opens) first rest in
         omega (arith, others, here, all, all')
 
+-- the copy so far, and the place of the last copy of each slot
 module _ (old back : List (Option Insn)) (origins : List ℕ) (places : List (Option ℕ)) where
-  -- what is kept for the last slot is kept for it below another one
+  -- what is kept for the slot that was begun last is kept for this slot when another is begun from it
   below_new : (slot : ℕ) (xs : List ℕ) (kept : ℕ)
       → ((top : ℕ) (rest : List ℕ) → xs ≡ top ∷ rest → IsEdge old top slot × (copy_place places slot ≡ None))
       → IsBudgetKept old back origins places xs kept
@@ -120,7 +125,7 @@ module _ (old back : List (Option Insn)) (origins : List ℕ) (places : List (Op
     rest = is.rest;
   }
 
-  -- what is kept for a slot whose next one is begun is shared with that
+  -- when the next slot of the top is begun, the two share what was kept for the top
   below_next : (linked : IsLinked old) (slot top : ℕ) (rest : List ℕ) (kept : ℕ)
       → copy_place places slot ≡ None → IsLastOf old places top slot → IsBudgetKept old back origins places (top ∷ rest) kept
       → IsBudgetKept old back origins places (slot ∷ top ∷ rest) kept
@@ -149,7 +154,7 @@ module _ (old back : List (Option Insn)) (origins : List ℕ) (places : List (Op
         };
       }
 
--- what is kept for slots below is kept when more is in place
+-- what is kept for slots below is enough also when more slots are in place
 kept_still : (old : List (Option Insn)) (places after : List (Option ℕ)) (above : ℕ) (xs : List ℕ) (kept : ℕ)
     → ((s : ℕ) → HasCopy places s → HasCopy after s) → AreKeptFor old places above xs kept
     → AreKeptFor old after above xs kept
@@ -171,7 +176,7 @@ kept_still old places after above (slot ∷ rest) kept still is = record {
   rest = kept_still old places after slot rest is.more still is.rest;
 }
 
--- once a slot is in front, what is kept for the one from which it was begun is enough
+-- once a slot is in front, what is kept for the slot from which it was begun is enough
 kept_left : (old after : List (Option Insn)) (origins' : List ℕ) (places places' : List (Option ℕ)) (slot : ℕ)
     (xs : List ℕ) (kept : ℕ)
     → ((s : ℕ) → HasCopy places s → HasCopy places' s) → HasCopy places' slot → IsFront after origins' slot
@@ -193,9 +198,12 @@ kept_left old after origins' places places' slot (top ∷ rest) kept still done 
   rest = kept_still old places places' top rest is.more still is.rest;
 }
 
+-- a search within its budget, and one slot
 module _ (old back : List (Option Insn)) (origins : List ℕ) (places : List (Option ℕ)) (opens : List Bool) (stack : List ℕ)
     (extra : ℕ) (budget : HasBudget old back origins places opens stack extra) (slot : ℕ) where
+  -- the slot is begun from the top of the stack, where control goes to it, and has no copy yet
   module _ (inside : slot < length opens) (edge : (top : ℕ) → IsTop stack top → IsEdge old top slot × (copy_place places slot ≡ None)) where
+    -- the budget with the slots of the slot's run is enough for the stack with the slot on top
     kept_new : (kept : ℕ) → kept ≡ run_slots old slot + budget.kept → IsBudgetKept old back origins places (reverse (stack ++ slot ∷ [])) kept
     kept_new kept is =
         subst (λ (xs : List ℕ). IsBudgetKept old back origins places xs kept) (sym (reverse_push stack slot)) (record {
@@ -208,7 +216,7 @@ module _ (old back : List (Option Insn)) (origins : List ℕ) (places : List (Op
               (λ top rest e. edge top (top_of stack top rest e)) budget.is_kept;
         })
 
-    -- a landing is begun
+    -- a search that begins a landing stays within its budget
     pub begun_landing : is_open opens slot ≡ false → IsLanding old slot
         → HasBudget old back origins places (slice_set opens slot true) (stack ++ slot ∷ []) extra
     begun_landing new landing = record {
@@ -219,7 +227,7 @@ module _ (old back : List (Option Insn)) (origins : List ℕ) (places : List (Op
           let before = budget.fits landings has in omega (arith, less, before);
     }
 
-    -- a slot that is no landing is begun
+    -- a search that begins a slot stays within its budget if the budget grows by the slots of the slot's run
     pub begun_more : HasBudget old back origins places (slice_set opens slot true) (stack ++ slot ∷ []) (extra + run_slots old slot)
     begun_more = record {
       kept = run_slots old slot + budget.kept;
@@ -229,7 +237,7 @@ module _ (old back : List (Option Insn)) (origins : List ℕ) (places : List (Op
           let before = budget.fits landings has in omega (arith, still, before);
     }
 
-    -- the next slot of the last one is begun
+    -- a search that begins the next slot of the top stays within its budget
     pub begun_next : IsLinked old → (top : ℕ) → IsTop stack top → IsLastOf old places top slot
         → HasBudget old back origins places (slice_set opens slot true) (stack ++ slot ∷ []) extra
     begun_next linked top is_top last = record {
@@ -244,15 +252,17 @@ module _ (old back : List (Option Insn)) (origins : List ℕ) (places : List (Op
           let before = budget.fits landings has in omega (arith, still, before);
     }
 
+  -- the slot is on top of the stack
   module _ (top : IsTop stack slot) where
+    -- the budget is kept for the slot on top and for the slots below it
     pub kept_top : IsBudgetKept old back origins places (slot ∷ reverse (take (length stack - 1) stack)) budget.kept
     kept_top = subst (λ (xs : List ℕ). IsBudgetKept old back origins places xs budget.kept) (reverse_top stack slot top) budget.is_kept
 
-    -- what is kept for the last slot suffices to put it in front
+    -- what is kept for the slot on top suffices to put it in front
     pub suffices : Suffices old back origins slot kept_top.own
     suffices = elim kept_top.enough [ inl run ↦ inl run | inr (ready, enough) ↦ enough ]
 
-    -- the last slot is in front
+    -- a search that puts the slot on top in front stays within its budget
     pub left_budget : (back' : List (Option Insn)) (origins' : List ℕ) (places' : List (Option ℕ))
         → ((s : ℕ) → HasCopy places s → HasCopy places' s) → HasCopy places' slot → IsFront back' origins' slot
         → length back' ≤ length back + kept_top.own
@@ -265,7 +275,7 @@ module _ (old back : List (Option Insn)) (origins : List ℕ) (places : List (Op
       fits = λ landings has. let before = budget.fits landings has in let all = kept_top.all in omega (arith, grown, before, all);
     }
 
--- a program is too long whose copy is full within its budget and that of a forward order
+-- a program whose copy is full, within its budget and within that of a forward order, is too long
 pub full_within : (old back : List (Option Insn)) (origins : List ℕ) (places : List (Option ℕ)) (opens : List Bool)
     (stack : List ℕ) (extra own most : ℕ) (d : Disorder)
     → IsLinked old → (budget : HasBudget old back origins places opens stack extra) → own + extra ≤ budget.kept + run_slots old 0
@@ -278,7 +288,7 @@ full_within old back origins places opens stack extra own most Long linked budge
     (linked, λ landings has. let within = budget.fits landings has in omega (arith, within, le, fits, full), order over)
 full_within old back origins places opens stack extra own most OutOfMemory linked budget le fits full long over order = tt
 
--- before the first slot
+-- a search that has begun no slot stays within the runs of landings
 pub nothing_written : (old back : List (Option Insn)) (origins : List ℕ) (places : List (Option ℕ))
     (opens : List Bool) (stack : List ℕ)
     → back ≡ [] → stack ≡ [] → HasBudget old back origins places opens stack 0
@@ -290,7 +300,7 @@ nothing_written old back origins places opens stack nothing empty = record {
       let all = all_wait old opens landings in let none : length back ≡ 0 = ap length nothing in omega (arith, all, none);
 }
 
--- one slot is in front
+-- only one slot is in front
 pub front_same : (back : List (Option Insn)) (origins : List ℕ) (a b : ℕ) → IsFront back origins a → IsFront back origins b → a ≡ b
 front_same back origins a b p q =
     let one = p.place_is in
@@ -298,7 +308,7 @@ front_same back origins a b p q =
     let same : p.place ≡ q.place = omega (arith, one, two) in
     sym p.stands.origin_is ∙ (ap (λ (n : ℕ). slice_index origins n) same ∙ q.stands.origin_is)
 
--- what stays within some slots stays within more
+-- a search within a budget is within a larger one
 pub budget_more : (old back : List (Option Insn)) (origins : List ℕ) (places : List (Option ℕ)) (opens : List Bool)
     (stack : List ℕ) (a b : ℕ)
     → a ≤ b → HasBudget old back origins places opens stack a
@@ -309,7 +319,7 @@ budget_more old back origins places opens stack a b le budget = record {
   fits = λ landings has. let before = budget.fits landings has in omega (arith, le, before);
 }
 
--- how control comes to a target that is not in place: by a jump, or else all others are
+-- a missing target is that of a jump, or the next slot when all other targets are in place
 pub missing_way : (old : List (Option Insn)) (places : List (Option ℕ)) (slot : ℕ) (insn : Insn) (targets : Targets) (to : ℕ)
     → instruction_at old slot ≡ Some insn → AreTargets old slot insn targets → IsMissing places targets to
     → IsLanding old to ⊎ IsLastOf old places slot to

@@ -22,6 +22,7 @@ no_reference value = by (nat_le (reference 0) value) (nat_lt value (reference 0)
     by true false l h = refl
     by true true l h = absurd (let no : ⊥ = grind (arith, l, h) in no)
 
+-- the copy of a wide number, copied again beside no maps, stays the same
 wide_twice : (b : Bool) (dst value : ℕ) (d : ℤ) → copied 0 (wide_copy b dst value) d ≡ wide_copy b dst value
 wide_twice true dst value d = refl
 wide_twice false dst value d = ap (λ (r : Bool). wide_copy r dst value) (no_reference value)
@@ -43,19 +44,23 @@ copied_twice maps (MapRef dst index) one two = refl
 copied_twice maps (Call helper) one two = refl
 copied_twice maps Exit one two = refl
 
+-- a copy of a program, and a copy of this copy beside no maps
 module _ (maps : ℕ) (old first second : List (Option Insn)) (a b all : List ℕ) (p : IsCopy maps old first a)
     (q : IsCopy 0 first second b) (are : AreComposed a b all) (long : length b ≡ length second) where
+  -- the origin of a slot of the second copy is the origin, in the first copy, of its origin
   origin_of : (slot : ℕ) → IsStart second slot → slice_index all slot ≡ slice_index a (slice_index b slot)
   origin_of slot start =
       let inside = start_inside second slot start in
       ap (λ (xs : List ℕ). slice_index xs slot) are ∙ get_or-map (λ (k : ℕ). slice_index a k) b slot 0 0 (omega (arith, inside, long))
 
+  -- a copy of a copy of a slot is a copy of the slot
   stands_on : (slot mid from : ℕ) → IsCopyOfSlot second b slot mid → IsCopyOfSlot first a mid from → IsCopyOfSlot second all slot from
   stands_on slot mid from s t = record {
     start = s.start;
     origin_is = origin_of slot s.start ∙ (ap (λ (n : ℕ). slice_index a n) s.origin_is ∙ t.origin_is);
   }
 
+  -- each instruction of the second copy is a copy of one of the program
   each : (slot from : ℕ) → IsCopyOfSlot second all slot from → IsCopyAt maps old second all slot from
   each slot from s =
       let mid : ℕ = slice_index b slot in
@@ -94,5 +99,6 @@ module _ (maps : ℕ) (old first second : List (Option Insn)) (a b all : List �
             };
       }
 
+  -- a copy of a copy is a copy of the program
   pub copy_of_copy : IsCopy maps old second all
   copy_of_copy = record { first = stands_on 0 0 0 q.first p.first; each = each }

@@ -15,12 +15,12 @@ use Rattle.bq_import.specs.Laws.{with_program}
 use Rattle.bq_import.specs.Copies.{is_reference, wide_copy, copied, IsCopyOfSlot, JumpsAlike, IsCopy}
 use Rattle.bq_import.proofs.StepLemmas.{moved, takes_moved}
 
--- a number that is a reference is that of the map of this number
+-- the number is the reference of one of this many maps
 pub record Refers (maps value : ℕ) : Type 0 where
   pub there : value - reference 0 < maps
   pub is : reference (value - reference 0) ≡ value
 
--- a number that tests as a reference is that of a map which is there
+-- a number that tests as a reference is the reference of one of the maps
 pub reference_refers : (maps value : ℕ) → is_reference maps value ≡ true → Refers maps value
 reference_refers maps value e =
     let both = and_parts _ _ e in
@@ -28,6 +28,7 @@ reference_refers maps value e =
     let high = ltb-true value (reference maps) both.1 in
     record { there = omega (arith, low, high); is = omega (arith, low, high) }
 
+-- the copy of a wide number is no EXIT
 wide_exit : (b : Bool) (dst value : ℕ) → wide_copy b dst value ≡ Exit → ⊥
 wide_exit true dst value e = cc
 wide_exit false dst value e = cc
@@ -49,29 +50,41 @@ copied_exit maps (Goto32 imm) distance e = absurd (let no : ⊥ = cc in no)
 copied_exit maps (Branch w c dst src off) distance e = absurd (let no : ⊥ = cc in no)
 copied_exit maps Exit distance e = e
 
+-- an old program, a new one with the origin of each slot, and a setting with this many maps
 module _ (maps : ℕ) (old new : List (Option Insn)) (origin : List ℕ) (f : Setting) (as_many : length f.shapes ≡ maps) where
-  -- the copy goes on from that slot, as the original does
+  -- from slot `k` of the new program the instruction leads to the same state, at a copy of the slot of `t`
   pub record Ahead (s : State) (k : ℕ) (c : Option CounterCall) (t : State) (insn : Insn) : Type 0 where
+    -- the slot to which the instruction leads in the new program
     pub slot : ℕ
+    -- the instruction leads to `t`, but at this slot
     pub takes : Takes (with_program f new) insn (moved s k) c (moved t slot)
+    -- this slot is a copy of the slot of `t`
     pub stands : IsCopyOfSlot new origin slot t.slot
 
-  -- the original goes on, as the copy does from that slot
+  -- in the old program the instruction leads from `s` to the same state as from slot `k` of the new one
   pub record Behind (s : State) (k : ℕ) (c : Option CounterCall) (t' : State) (insn : Insn) : Type 0 where
+    -- the state to which the instruction leads in the old program
     pub state : State
+    -- the slot to which the instruction leads in the new program
     pub slot : ℕ
+    -- the instruction leads to this state in the old program
     pub takes : Takes (with_program f old) insn s c state
+    -- in the new program the instruction leads to the same state, but at its own slot
     pub is : t' ≡ moved state slot
+    -- this slot is a copy of the slot of the state
     pub stands : IsCopyOfSlot new origin slot state.slot
 
+  -- a state, a slot of the new program, and the distance that a jump has there
   module _ (s : State) (k : ℕ) (distance : ℤ) where
-    -- where an original goes on
+    -- if control goes on from the instruction, the next slot of the new program is a copy of the old one
     abbrev pub OnFrom : Insn → Type 0
     OnFrom insn = goes_on insn ≡ true → IsCopyOfSlot new origin (k + slots_of insn) (s.slot + slots_of insn)
 
+    -- if the instruction jumps, the new program jumps to a copy of the target
     abbrev pub JumpsFrom : Insn → Type 0
     JumpsFrom insn = (far : ℤ) → distance_of insn ≡ Some far → JumpsAlike new origin s.slot k far distance
 
+    -- a step of the old program that is no jump is one of the new program
     straight_ahead : (insn : Insn) (c : Option CounterCall) (t : State)
         → distance_of insn ≡ None → IsCopyOfSlot new origin (k + slots_of insn) (s.slot + slots_of insn)
         → Takes (with_program f old) insn s c t
@@ -84,6 +97,7 @@ module _ (maps : ℕ) (old new : List (Option Insn)) (origin : List ℕ) (f : Se
           stands = subst (λ (n : ℕ). IsCopyOfSlot new origin (k + slots_of insn) n) (sym there.1) on;
         }
 
+    -- a step of the new program that is no jump is one of the old program
     straight_behind : (insn : Insn) (c : Option CounterCall) (t' : State)
         → distance_of insn ≡ None → IsCopyOfSlot new origin (k + slots_of insn) (s.slot + slots_of insn)
         → Takes (with_program f new) insn (moved s k) c t'
@@ -98,6 +112,7 @@ module _ (maps : ℕ) (old new : List (Option Insn)) (origin : List ℕ) (f : Se
           stands = on;
         }
 
+    -- a copied jump leads to a copy of the target of its original
     jump_ahead : (far : ℤ) (t : State) (to : ℕ) → JumpsAlike new origin s.slot k far distance → LeadsTo s.slot far to
         → t ≡ record s { slot = to }
         → (slot : ℕ) × LeadsTo k distance slot × (moved t slot ≡ moved s slot) × IsCopyOfSlot new origin slot t.slot
@@ -109,6 +124,7 @@ module _ (maps : ℕ) (old new : List (Option Insn)) (origin : List ℕ) (f : Se
           subst (λ (n : ℕ). IsCopyOfSlot new origin alike.landing n) same alike.stands,
         )
 
+    -- each target of a copied jump is a copy of the target of its original
     jump_behind : (far : ℤ) (t' : State) (to : ℕ) → JumpsAlike new origin s.slot k far distance → LeadsTo k distance to → t' ≡ moved s to →
         (target : ℕ) × LeadsTo s.slot far target × (t' ≡ moved s to) × IsCopyOfSlot new origin to target
     jump_behind far t' to alike leads e = (
@@ -119,6 +135,7 @@ module _ (maps : ℕ) (old new : List (Option Insn)) (origin : List ℕ) (f : Se
           (leads_same k alike.landing to distance alike.lands leads) alike.stands,
     )
 
+    -- a load of a wide number in the old program is one in the new program, as a number or a reference
     wide_ahead : (b : Bool) (dst value : ℕ) (t : State) → is_reference maps value ≡ b
         → IsCopyOfSlot new origin (k + 2) (s.slot + 2) → IsTarget dst → t ≡ put s 2 dst value
         → Ahead s k None t (wide_copy b dst value)
@@ -142,9 +159,11 @@ module _ (maps : ℕ) (old new : List (Option Insn)) (origin : List ℕ) (f : Se
           stands = subst (λ (n : ℕ). IsCopyOfSlot new origin (k + 2) n) (sym (ap (λ (v : State). v.slot) e)) on;
         }
 
+    -- numbers that are equal as integers are equal
     no_pos : (m n : ℕ) → pos m ≡ pos n → m ≡ n
     no_pos m n e = cc
 
+    -- the load of a copied wide number in the new program is one of the number in the old program
     wide_behind : (b : Bool) (dst value : ℕ) (c : Option CounterCall) (t' : State)
         → is_reference maps value ≡ b → IsCopyOfSlot new origin (k + 2) (s.slot + 2)
         → Takes (with_program f new) (wide_copy b dst value) (moved s k) c t'
@@ -162,6 +181,7 @@ module _ (maps : ℕ) (old new : List (Option Insn)) (origin : List ℕ) (f : Se
           stands = on;
         }
 
+    -- what an instruction does in the old program, its copy does in the new program
     pub takes_ahead : (insn : Insn) (c : Option CounterCall) (t : State)
         → OnFrom insn → JumpsFrom insn → Takes (with_program f old) insn s c t
         → Ahead s k c t (copied maps insn distance)
@@ -197,6 +217,7 @@ module _ (maps : ℕ) (old new : List (Option Insn)) (origin : List ℕ) (f : Se
     takes_ahead Exit None t on jumps p = absurd p
     takes_ahead Exit (Some c) t on jumps (asks, fits, e) = absurd asks
 
+    -- what the copy of an instruction does in the new program, the instruction does in the old program
     pub takes_behind : (insn : Insn) (c : Option CounterCall) (t' : State)
         → OnFrom insn → JumpsFrom insn → Takes (with_program f new) (copied maps insn distance) (moved s k) c t'
         → Behind s k c t' insn
@@ -227,20 +248,31 @@ module _ (maps : ℕ) (old new : List (Option Insn)) (origin : List ℕ) (f : Se
     takes_behind Exit None t' on jumps p = absurd p
     takes_behind Exit (Some c) t' on jumps (asks, fits, e) = absurd asks
 
-  -- the copy takes a step as the original does
+  -- from slot `k` the new program takes the same step, to a copy of the slot of `t`
   pub record StepAhead (s : State) (k : ℕ) (c : Option CounterCall) (t : State) : Type 0 where
+    -- the slot of the new program after the step
     pub slot : ℕ
+    -- the new program takes a step to `t`, but at this slot
     pub step : Step (with_program f new) (moved s k) c (moved t slot)
+    -- this slot is a copy of the slot of `t`
     pub stands : IsCopyOfSlot new origin slot t.slot
 
+  -- from `s` the old program takes the same step as the new program from slot `k`
   pub record StepBehind (s : State) (k : ℕ) (c : Option CounterCall) (t' : State) : Type 0 where
+    -- the state of the old program after the step
     pub state : State
+    -- the slot of the new program after the step
     pub slot : ℕ
+    -- the old program takes a step to this state
     pub step : Step (with_program f old) s c state
+    -- the new program takes a step to the same state, but at its own slot
     pub is : t' ≡ moved state slot
+    -- this slot is a copy of the slot of the state
     pub stands : IsCopyOfSlot new origin slot state.slot
 
+  -- the new program is a copy of the old one
   module _ (copy : IsCopy maps old new origin) where
+    -- a step of a program is a step of its copy
     pub step_ahead : (s : State) (k : ℕ) (c : Option CounterCall) (t : State)
         → IsCopyOfSlot new origin k s.slot → Step (with_program f old) s c t → StepAhead s k c t
     step_ahead s k c t stands step =
@@ -255,6 +287,7 @@ module _ (maps : ℕ) (old new : List (Option Insn)) (origin : List ℕ) (f : Se
           stands = ahead.stands;
         }
 
+    -- a step of a copy is a step of its original
     pub step_behind : (s : State) (k : ℕ) (c : Option CounterCall) (t' : State)
         → IsCopyOfSlot new origin k s.slot → Step (with_program f new) (moved s k) c t' → StepBehind s k c t'
     step_behind s k c t' stands step =
@@ -271,6 +304,7 @@ module _ (maps : ℕ) (old new : List (Option Insn)) (origin : List ℕ) (f : Se
           stands = behind.stands;
         }
 
+    -- where a program ends, its copy ends with the same answer and maps
     pub ends_ahead : (s : State) (k answer : ℕ) (after : List (List ℕ))
         → IsCopyOfSlot new origin k s.slot → Ends (with_program f old) s answer after
         → Ends (with_program f new) (moved s k) answer after
@@ -283,6 +317,7 @@ module _ (maps : ℕ) (old new : List (Option Insn)) (origin : List ℕ) (f : Se
           maps_are = ends.maps_are;
         }
 
+    -- where a copy ends, its original ends with the same answer and maps
     pub ends_behind : (s : State) (k answer : ℕ) (after : List (List ℕ))
         → IsCopyOfSlot new origin k s.slot → Ends (with_program f new) (moved s k) answer after
         → Ends (with_program f old) s answer after

@@ -1,4 +1,4 @@
--- What control comes to of a program whose jumps go forward, each instruction once.
+-- The copy of what control comes to in a program whose jumps go forward, with each instruction once.
 use Rattle.std.proofs.Common.{◌≡◌, ℕ, zero, suc, ◌+◌, ◌-◌, ◌<◌, ◌≤◌, ◌≢◌, Bool, true, false, List, [], ◌∷◌, ◌++◌, length, replicate, Option, Some, None, refl, arith, sym, ap, ◌∙◌, subst, ◌⊎◌, inl, inr}
 use Rattle.std.specs.Prelude.{slice_set}
 use Rattle.std.proofs.lemmas.List.{get_or-set_same, get_or-set_other, length-set}
@@ -20,15 +20,18 @@ use Rattle.bq_import.specs.Search.{AreCopyPlaces, AreTargets, HasCopy, IsSlotRea
 use Rattle.bq_import.specs.Keeping.{AreFollowed, AreReached, IsKeeping, IsMarked}
 use Rattle.bq_import.proofs.RoomLemmas.{lies_within}
 
+-- two numbers are equal or not
 same_or_not : (a b : ℕ) → (a ≡ b) ⊎ (a ≢ b)
 same_or_not zero zero = inl refl
 same_or_not zero (suc b) = inr (λ e. cc)
 same_or_not (suc a) zero = inr (λ e. cc)
 same_or_not (suc a) (suc b) = elim (same_or_not a b) [ inl e ↦ inl (ap suc e) | inr apart ↦ inr (λ e. apart (omega (arith, e))) ]
 
+-- a number from the bound on is the bound, or is above it
 at_or_above : (bound k : ℕ) → bound ≤ k → (k ≡ bound) ⊎ (bound + 1 ≤ k)
 at_or_above bound k le = elim (same_or_not k bound) [ inl e ↦ inl e | inr apart ↦ inr (omega (arith, le, apart)) ]
 
+-- a path and one edge more are a path
 path_further : (slots : List (Option Insn)) (a b c : ℕ) → Path slots a b → IsEdge slots b c → Path slots a c
 path_further slots a b c p edge = record {
   rest = p.rest ++ c ∷ [];
@@ -36,7 +39,7 @@ path_further slots a b c p edge = record {
   ends = end_of-push a p.rest c;
 }
 
--- the first slot is found
+-- with only slot 0 marked, slot 0 is found, and no slot is followed yet
 pub first_found : (slots : List (Option Insn)) (blank found : List Bool)
     → IsStart slots 0 → ((k : ℕ) → is_open blank k ≡ false) → length blank ≡ length slots → IsMarked blank (Some 0) found
     → AreFollowed slots 0 found
@@ -54,7 +57,7 @@ first_found slots blank found start none room m =
       closed = λ k to lt e edge. absurd (omega (arith, lt));
     }
 
--- from a slot that control does not come to nothing is followed
+-- a slot to which control does not come counts as followed
 pub not_followed : (slots : List (Option Insn)) (slot : ℕ) (found : List Bool)
     → is_open found slot ≡ false → AreFollowed slots slot found → AreFollowed slots (slot + 1) found
 not_followed slots slot found shut p = record {
@@ -68,15 +71,18 @@ not_followed slots slot found shut p = record {
   ];
 }
 
+-- control comes to the slot, and its targets are marked
 module _ (slots : List (Option Insn)) (slot : ℕ) (insn : Insn) (targets : Targets) (are : AreTargets slots slot insn targets)
     (forward : AllForward slots) (found one two : List Bool) (p : AreFollowed slots slot found)
     (here : is_open found slot ≡ true) (a : IsMarked found targets.next one) (b : IsMarked one targets.jump two) where
+  -- a found slot was found before, or is a target
   found_by : (k : ℕ) → is_open two k ≡ true → (is_open found k ≡ true) ⊎ IsAmongTargets targets k
   found_by k e = elim (b.only k e) [
     | inl was ↦ elim (a.only k was) [ inl first ↦ inl first | inr next ↦ inr (inl next) ]
     | inr jump ↦ inr (inr jump)
   ]
 
+  -- each target is found
   target_found : (to : ℕ) → IsAmongTargets targets to → is_open two to ≡ true
   target_found to of =
       let inside = start_inside slots to (are.starts to of) in
@@ -87,7 +93,7 @@ module _ (slots : List (Option Insn)) (slot : ℕ) (insn : Insn) (targets : Targ
         | inr jump ↦ b.now to jump (omega (arith, inside, room, long))
       ]
 
-  -- the slot that is kept behind leads on to what was kept before it
+  -- once its targets are marked, the slot is followed
   pub followed : AreFollowed slots (slot + 1) two
   followed = record {
     room = b.long ∙ (a.long ∙ p.room);
@@ -104,7 +110,7 @@ module _ (slots : List (Option Insn)) (slot : ℕ) (insn : Insn) (targets : Targ
     ];
   }
 
--- past the last slot all is followed
+-- once all slots are followed, the found slots are those to which control comes
 pub all_followed : (slots : List (Option Insn)) (bound : ℕ) (found : List Bool)
     → length slots ≤ bound → AreFollowed slots bound found → AreReached slots found
 all_followed slots bound found past p = record {
@@ -115,7 +121,7 @@ all_followed slots bound found past p = record {
   closed = λ k to e edge. let inside = start_inside slots k (p.starts k e) in p.closed k to (omega (arith, inside, past)) e edge;
 }
 
--- before the last instruction
+-- after the last slot, the copy of what control comes to is empty
 pub nothing_kept : (maps : ℕ) (old : List (Option Insn)) (found : List Bool) (back : List (Option Insn))
     (origins : List ℕ) (places : List (Option ℕ))
     → AreReached old found → IsBuilt maps old back origins → back ≡ [] → ((k : ℕ) → copy_place places k ≡ None)
@@ -137,10 +143,11 @@ nothing_kept maps old found back origins places r built empty none room =
       fits = record { from = length old; above = omega arith; is = inl refl; fits = omega (arith, blank) };
     }
 
+-- the copy of what control comes to after one slot
 module _ (maps : ℕ) (old : List (Option Insn)) (found : List Bool) (slot : ℕ) (back : List (Option Insn))
     (origins : List ℕ) (places : List (Option ℕ)) (reached : AreReached old found)
     (at : IsKeeping maps old found (slot + 1) back origins places) where
-  -- what control does not come to is passed over
+  -- a slot to which control does not come is passed over
   pub passed_over : is_open found slot ≡ false → IsKeeping maps old found slot back origins places
   passed_over shut =
       let later : (k : ℕ) → slot ≤ k → is_open found k ≡ true → slot + 1 ≤ k = λ k le e. elim (at_or_above slot k le) [
@@ -161,9 +168,10 @@ module _ (maps : ℕ) (old : List (Option Insn)) (found : List Bool) (slot : ℕ
         fits = record { from = room.from; above = omega (arith, high); is = room.is; fits = room.fits };
       }
 
+  -- control comes to the slot and goes only forward, and an instruction begins there
   module _ (linked : IsLinked old) (forward : AllForward old) (gaps : HasGaps old) (here : is_open found slot ≡ true)
       (insn : Insn) (begins : instruction_at old slot ≡ Some insn) where
-    -- there is room for it
+    -- there is room for the instruction at the slot
     pub enough_room : (length back + slots_of insn + slot ≤ length old)
     enough_room =
         let room = at.fits in
@@ -186,11 +194,13 @@ module _ (maps : ℕ) (old : List (Option Insn)) (found : List Bool) (slot : ℕ
           | inr lt ↦ absurd (gaps slot insn begins e (omega (arith, above)) lt start)
         ]
 
+    -- each slot to which control goes from this one has a copy
     pub ready_to_keep : IsSlotReady old places slot
     ready_to_keep to edge =
         let later = forward slot to edge in
         at.done to (omega (arith, later)) (reached.closed slot to here edge)
 
+    -- the next instruction is in front of the copy
     pub next_in_front : (targets : Targets) → AreTargets old slot insn targets → (n : ℕ) → targets.next ≡ Some n → IsFront back origins n
     next_in_front targets are n is =
         let later = are.later n is in
@@ -198,22 +208,28 @@ module _ (maps : ℕ) (old : List (Option Insn)) (found : List Bool) (slot : ℕ
         at.front n (omega (arith, later)) (reached.closed slot n here (are.out.only n (inl is)))
         (λ j above below e. gaps slot insn begins j (omega (arith, above)) (omega (arith, below, behind)) (reached.starts j e))
 
+    -- the instruction at the slot was put in front
     module _ (back' : List (Option Insn)) (origins' : List ℕ) (more : IsLengthened maps old back origins back' origins' slot)
         (grown : length back' ≡ length back + slots_of insn) (was : IsOneMore back origins back' origins' slot) where
+      -- the place of the new copy
       place : ℕ
       place = length back' - 1
 
+      -- the list of places has the slot
       in_places : slot < length places
       in_places =
           let inside = start_inside old slot (record { insn = insn; here = begins }) in
           let room = at.room in omega (arith, inside, room)
 
+      -- the slot has this place now
       set_here : copy_place (slice_set places slot (Some place)) slot ≡ Some place
       set_here = get_or-set_same places slot (Some place) None in_places
 
+      -- each other slot keeps its place
       set_other : (k : ℕ) → k ≢ slot → copy_place (slice_set places slot (Some place)) k ≡ copy_place places k
       set_other k apart = get_or-set_other places slot k (Some place) None apart
 
+      -- the new copy is at this place
       front_there : IsCopyOfSlot back' origins' place slot
       unfolding place
       front_there =
@@ -222,6 +238,7 @@ module _ (maps : ℕ) (old : List (Option Insn)) (found : List Bool) (slot : ℕ
           let same : front.place ≡ length back' - 1 = omega (arith, is) in
           subst (λ (n : ℕ). IsCopyOfSlot back' origins' n slot) same front.stands
 
+      -- each place in the list is that of a copy
       known_now : AreCopyPlaces back' origins' (slice_set places slot (Some place))
       known_now k p e = elim (same_or_not k slot) [
         | inl same ↦
@@ -232,12 +249,14 @@ module _ (maps : ℕ) (old : List (Option Insn)) (found : List Bool) (slot : ℕ
         | inr apart ↦ more.keeps p k (at.known k p (sym (set_other k apart) ∙ e))
       ]
 
+      -- each slot from this one on to which control comes has a copy
       done_now : (k : ℕ) → slot ≤ k → is_open found k ≡ true → HasCopy (slice_set places slot (Some place)) k
       done_now k le e = elim (same_or_not k slot) [
         | inl same ↦ (place, ap (λ (n : ℕ). copy_place (slice_set places slot (Some place)) n) same ∙ set_here)
         | inr apart ↦ let done = at.done k (omega (arith, le, apart)) e in (done.0, set_other k apart ∙ done.1)
       ]
 
+      -- each slot has one copy, at its place in the list
       once_now : (p from : ℕ) → IsCopyOfSlot back' origins' p from → copy_place (slice_set places slot (Some place)) from ≡ Some p
       unfolding place
       once_now p from s = elim (was.only p from s) [
@@ -249,6 +268,7 @@ module _ (maps : ℕ) (old : List (Option Insn)) (found : List Bool) (slot : ℕ
             ap (λ (n : ℕ). copy_place (slice_set places slot (Some place)) n) is ∙ (set_here ∙ ap (λ (n : ℕ). Some n) same)
       ]
 
+      -- once the instruction is in front, this is the copy of what control comes to from the slot on
       pub one_kept : IsKeeping maps old found slot back' origins' (slice_set places slot (Some (length back' - 1)))
       unfolding place
       one_kept =
@@ -275,7 +295,7 @@ module _ (maps : ℕ) (old : List (Option Insn)) (found : List Bool) (slot : ℕ
             };
           }
 
--- instructions stand one after another: none begins within another
+-- blank slots in front of a program keep its instructions apart
 gap_apart : (n : ℕ) (rest : List (Option Insn)) → HasGaps rest → HasGaps (replicate n None ++ rest)
 gap_apart zero rest gaps slot insn here j lt below start = gaps slot insn here j lt below start
 gap_apart (suc n) rest gaps zero insn here j lt below start = absurd (some_none _ insn here refl)
@@ -283,6 +303,7 @@ gap_apart (suc n) rest gaps (suc slot) insn here zero lt below start = absurd (o
 gap_apart (suc n) rest gaps (suc slot) insn here (suc j) lt below start =
     gap_apart n rest gaps slot insn here j (omega (arith, lt)) (omega (arith, below)) (record { insn = start.insn; here = start.here })
 
+-- no instruction begins at a blank slot
 none_in_gap : (n j : ℕ) (rest : List (Option Insn)) → j < n → IsStart (replicate n None ++ rest) j → ⊥
 none_in_gap zero j rest lt start = absurd (omega (arith, lt))
 none_in_gap (suc n) zero rest lt start = absurd (some_none _ start.insn start.here refl)
@@ -302,7 +323,7 @@ spread_has_gaps (i ∷ rest) (suc slot) insn here (suc j) lt below start =
     gap_apart (slots_of i - 1) (spread rest) (spread_has_gaps rest) slot insn here j (omega (arith, lt))
     (omega (arith, below)) (record { insn = start.insn; here = start.here })
 
--- where there is room only memory can be wanted
+-- a copy that has room fails only when memory runs out
 pub only_memory : (most : ℕ) (d : Disorder) → most ≤ 4096 → IsFull most d → d ≡ OutOfMemory
 only_memory most (Outside slot) le full = absurd full
 only_memory most (Ends slot) le full = absurd full

@@ -10,18 +10,22 @@ use Rattle.bq_verify.proofs.EdgeLemmas.{start_inside}
 use Rattle.bq_import.specs.Copies.{IsCopyOfSlot, IsCopyAt, IsCopy}
 use Rattle.bq_import.specs.Backward.{IsBuilt, IsFront}
 
+-- a copy that was written from its end
 module _ (maps : ℕ) (old back : List (Option Insn)) (origins : List ℕ) (built : IsBuilt maps old back origins) where
+  -- the reversed list has at a slot what the list has at the mirrored place
   mirror : (slot place : ℕ) → place + slot + 1 ≡ length back → instruction_at (reverse back) slot ≡ instruction_at back place
   mirror slot place sum =
       get_or-reverse back slot None (omega (arith, sum))
       ∙ ap (λ (n : ℕ). get_or back n None) (let e : length back - 1 - slot ≡ place = omega (arith, sum) in e)
 
+  -- the same for the origins
   mirror_origin : (slot place : ℕ) → place + slot + 1 ≡ length back → slice_index (reverse origins) slot ≡ slice_index origins place
   mirror_origin slot place sum =
       let long = built.as_long in
       get_or-reverse origins slot 0 (omega (arith, sum, long))
       ∙ ap (λ (n : ℕ). get_or origins n 0) (let e : length origins - 1 - slot ≡ place = omega (arith, sum, long) in e)
 
+  -- a copy of a slot in the list is one in the reversed list, at the mirrored place
   stands_there : (slot place from : ℕ) → place + slot + 1 ≡ length back → IsCopyOfSlot back origins place from
       → IsCopyOfSlot (reverse back) (reverse origins) slot from
   stands_there slot place from sum p = record {
@@ -29,7 +33,7 @@ module _ (maps : ℕ) (old back : List (Option Insn)) (origins : List ℕ) (buil
     origin_is = mirror_origin slot place sum ∙ p.origin_is;
   }
 
-  -- what is a copy of a slot in the reversed list is one in the list, at the mirrored place
+  -- a copy of a slot in the reversed list is one in the list, at the mirrored place
   pub stands_here : (slot place from : ℕ) → place + slot + 1 ≡ length back
       → IsCopyOfSlot (reverse back) (reverse origins) slot from
       → IsCopyOfSlot back origins place from
@@ -38,6 +42,7 @@ module _ (maps : ℕ) (old back : List (Option Insn)) (origins : List ℕ) (buil
     origin_is = sym (mirror_origin slot place sum) ∙ p.origin_is;
   }
 
+  -- each instruction of the reversed list is a copy of one of the program
   copy_at : (slot from : ℕ) → IsCopyOfSlot (reverse back) (reverse origins) slot from
       → IsCopyAt maps old (reverse back) (reverse origins) slot from
   copy_at slot from stands =
@@ -70,6 +75,7 @@ module _ (maps : ℕ) (old back : List (Option Insn)) (origins : List ℕ) (buil
             };
       }
 
+  -- with a copy of slot 0 in front, the reversed list is a copy of the program
   pub is_copy : IsFront back origins 0 → IsCopy maps old (reverse back) (reverse origins)
   is_copy front =
       let is = front.place_is in

@@ -17,21 +17,23 @@ use Rattle.bq_import.specs.Copies.{is_reference, wide_copy, copied, IsCopyOfSlot
 use Rattle.bq_import.specs.Laws.{GoesForward, SameBudget}
 use Rattle.bq_import.proofs.CopyLemmas.{copied_exit}
 
--- what of an instruction its copy has
+-- the copy goes on exactly if the instruction does, is as long, and jumps exactly if the instruction does
 pub record HasShape (insn copy : Insn) (distance : ℤ) : Type 0 where
   pub on : goes_on copy ≡ goes_on insn
   pub long : slots_of copy ≡ slots_of insn
   pub jumps : (far : ℤ) → distance_of insn ≡ Some far → distance_of copy ≡ Some distance
   pub stays : distance_of insn ≡ None → distance_of copy ≡ None
 
+-- an instruction that does not jump has its own shape
 plain : (insn : Insn) (distance : ℤ) → distance_of insn ≡ None → HasShape insn insn distance
 plain insn distance none = record { on = refl; long = refl; jumps = λ far e. absurd (none-some far (sym none ∙ e)); stays = λ e. e }
 
+-- the copy of a wide number has the shape of the wide number
 wide_shape : (b : Bool) (dst value : ℕ) (distance : ℤ) → HasShape (Imm64 dst value) (wide_copy b dst value) distance
 wide_shape true dst value distance = record { on = refl; long = refl; jumps = λ far e. absurd (none-some far e); stays = λ e. e }
 wide_shape false dst value distance = record { on = refl; long = refl; jumps = λ far e. absurd (none-some far e); stays = λ e. e }
 
--- a copy goes on where its instruction does, is as long, and jumps where it jumps
+-- the copy of an instruction goes on and jumps exactly if the instruction does, and is as long
 pub copy_has_shape : (maps : ℕ) (insn : Insn) (distance : ℤ) → HasShape insn (copied maps insn distance) distance
 copy_has_shape maps (Alu w op dst src) distance = plain (Alu w op dst src) distance refl
 copy_has_shape maps (MovSx w bits dst src) distance = plain (MovSx w bits dst src) distance refl
@@ -51,17 +53,27 @@ copy_has_shape maps (Goto32 imm) distance =
 copy_has_shape maps (Branch w c dst src off) distance =
     record { on = refl; long = refl; jumps = λ far e. refl; stays = λ e. absurd (none-some off (sym e)) }
 
+-- a program and its copy
 module _ (maps : ℕ) (old new : List (Option Insn)) (origin : List ℕ) (copy : IsCopy maps old new origin) where
+  -- in the copy, control goes from `slot` to a copy of `to`
   record EdgeAhead (slot to : ℕ) : Type 0 where
+    -- the slot to which control goes
     pub landing : ℕ
+    -- an edge of the copy leads to this slot
     pub edge : IsEdge new slot landing
+    -- this slot is a copy of `to`
     pub stands : IsCopyOfSlot new origin landing to
 
+  -- in the program, control goes from `from` to the original of `landing`
   record EdgeBehind (from landing : ℕ) : Type 0 where
+    -- the slot to which control goes
     pub target : ℕ
+    -- an edge of the program leads to this slot
     pub edge : IsEdge old from target
+    -- the landing is a copy of this slot
     pub stands : IsCopyOfSlot new origin landing target
 
+  -- each edge of the program has a copy
   edge_ahead : (slot from to : ℕ) → IsCopyOfSlot new origin slot from → IsEdge old from to → EdgeAhead slot to
   edge_ahead slot from to stands edge =
       let at = copy.each slot from stands in
@@ -96,10 +108,12 @@ module _ (maps : ℕ) (old new : List (Option Insn)) (origin : List ℕ) (copy :
             }
       ]
 
+  -- a distance is given or not
   far_of : (v : Option ℤ) → (v ≡ None) ⊎ ((far : ℤ) × (v ≡ Some far))
   far_of None = inl refl
   far_of (Some far) = inr (far, refl)
 
+  -- each edge of the copy has an original
   edge_behind : (slot from landing : ℕ) → IsCopyOfSlot new origin slot from → IsEdge new slot landing → EdgeBehind from landing
   edge_behind slot from landing stands edge =
       let at = copy.each slot from stands in
@@ -133,18 +147,29 @@ module _ (maps : ℕ) (old new : List (Option Insn)) (origin : List ℕ) (copy :
             ]
       ]
 
+  -- the copy has a path of the same length, to a copy of where the program's path ends
   pub record PathAhead (slot from : ℕ) (rest : List ℕ) : Type 0 where
+    -- the slots on the path of the copy
     pub way : List ℕ
+    -- these slots are a path of the copy
     pub is_path : IsPath new slot way
+    -- both paths are equally long
     pub long : length way ≡ length rest
+    -- the path of the copy ends at a copy of where the program's path ends
     pub stands : IsCopyOfSlot new origin (path_end slot way) (path_end from rest)
 
+  -- the program has a path of the same length, to the original of where the copy's path ends
   record PathBehind (slot from : ℕ) (way : List ℕ) : Type 0 where
+    -- the slots on the path of the program
     pub rest : List ℕ
+    -- these slots are a path of the program
     pub is_path : IsPath old from rest
+    -- both paths are equally long
     pub long : length way ≡ length rest
+    -- the path of the copy ends at a copy of where the program's path ends
     pub stands : IsCopyOfSlot new origin (path_end slot way) (path_end from rest)
 
+  -- a path of a program is as long in its copy
   pub path_ahead : (slot from : ℕ) (rest : List ℕ) → IsCopyOfSlot new origin slot from → IsPath old from rest → PathAhead slot from rest
   path_ahead slot from [] stands path = record { way = []; is_path = tt; long = refl; stands = stands }
   path_ahead slot from (to ∷ rest) stands (edge, path) =
@@ -152,6 +177,7 @@ module _ (maps : ℕ) (old new : List (Option Insn)) (origin : List ℕ) (copy :
       let others = path_ahead one.landing to rest one.stands path in
       record { way = one.landing ∷ others.way; is_path = (one.edge, others.is_path); long = ap suc others.long; stands = others.stands }
 
+  -- a path of a copy is as long in its original
   path_behind : (slot from : ℕ) (way : List ℕ) → IsCopyOfSlot new origin slot from → IsPath new slot way → PathBehind slot from way
   path_behind slot from [] stands path = record { rest = []; is_path = tt; long = refl; stands = stands }
   path_behind slot from (landing ∷ way) stands (edge, path) =
@@ -159,6 +185,7 @@ module _ (maps : ℕ) (old new : List (Option Insn)) (origin : List ℕ) (copy :
       let others = path_behind landing one.target way one.stands path in
       record { rest = one.target ∷ others.rest; is_path = (one.edge, others.is_path); long = ap suc others.long; stands = others.stands }
 
+  -- a path out of a program is as long in its copy
   out_ahead : (count : ℕ) → PathOut old 0 count → PathOut new 0 count
   out_ahead count out =
       let there = path_ahead 0 0 out.rest copy.first out.is_path in
@@ -171,6 +198,7 @@ module _ (maps : ℕ) (old new : List (Option Insn)) (origin : List ℕ) (copy :
         count_is = out.count_is ∙ ap suc (sym there.long);
       }
 
+  -- a path out of a copy is as long in its original
   out_behind : (count : ℕ) → PathOut new 0 count → PathOut old 0 count
   out_behind count out =
       let there = path_behind 0 0 out.rest copy.first out.is_path in
@@ -197,12 +225,14 @@ same_budget maps old new origin copy budget = (
   },
 )
 
--- of each start of a copy it is known what it is a copy of
+-- each instruction of a copy is a copy of the one at its origin
 at_start : (new : List (Option Insn)) (origin : List ℕ) (slot : ℕ)
     → IsStart new slot → IsCopyOfSlot new origin slot (slice_index origin slot)
 at_start new origin slot start = record { start = start; origin_is = refl }
 
+-- a program and its copy
 module _ (maps : ℕ) (old new : List (Option Insn)) (origin : List ℕ) (copy : IsCopy maps old new origin) where
+  -- control goes in the copy only to later instructions
   edge_later : (from to : ℕ) → IsEdge new from to → (from < to) × IsStart new to
   edge_later from to edge =
       let at = copy.each from _ (at_start new origin from (record { insn = edge.insn; here = edge.here })) in
@@ -229,6 +259,7 @@ module _ (maps : ℕ) (old new : List (Option Insn)) (origin : List ℕ) (copy :
             ]
       ]
 
+  -- each jump of the copy leads to a later instruction
   no_bad_jump : (slot : ℕ) → IsBadJump new slot → ⊥
   no_bad_jump slot bad =
       let at = copy.each slot _ (at_start new origin slot (record { insn = bad.insn; here = bad.here })) in
@@ -243,6 +274,7 @@ module _ (maps : ℕ) (old new : List (Option Insn)) (origin : List ℕ) (copy :
             bad.nowhere alike.landing (subst (λ (z : ℤ). LeadsTo slot z alike.landing) near' alike.lands) alike.later alike.stands.start
       ]
 
+  -- no instruction of the copy goes on past the end
   none_runs_out : (slot : ℕ) → RunsOut new slot → ⊥
   none_runs_out slot out =
       let at = copy.each slot _ (at_start new origin slot (record { insn = out.insn; here = out.here })) in

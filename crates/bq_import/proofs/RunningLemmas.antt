@@ -25,13 +25,13 @@ order_of (suc a) zero = inr (inr (omega arith))
 order_of (suc a) (suc b) = elim (order_of a b)
     [ inl lt ↦ inl (omega (arith, lt)) | inr more ↦ elim more [ inl e ↦ inr (inl (ap suc e)) | inr gt ↦ inr (inr (omega (arith, gt))) ] ]
 
--- the next instruction of targets
+-- the next slot among the targets is the next slot of the instruction
 pub next_of : (slots : List (Option Insn)) (slot : ℕ) (insn : Insn) (targets : Targets) (next : ℕ)
     → instruction_at slots slot ≡ Some insn → AreTargets slots slot insn targets → targets.next ≡ Some next
     → IsNextSlot slots slot next
 next_of slots slot insn targets next here are is = record { insn = insn; here = here; on = are.on next is; is = are.behind next is }
 
--- what is the next instruction of the slot is that of its targets
+-- the next slot of the instruction is the next slot among the targets
 pub next_is : (slots : List (Option Insn)) (slot : ℕ) (insn : Insn) (targets : Targets) (next : ℕ)
     → instruction_at slots slot ≡ Some insn → AreTargets slots slot insn targets → IsNextSlot slots slot next
     → targets.next ≡ Some next
@@ -47,13 +47,13 @@ next_start slots slot next linked n = subst (λ (k : ℕ). IsStart slots k) (sym
 pub next_edge : (slots : List (Option Insn)) (slot next : ℕ) → IsNextSlot slots slot next → IsEdge slots slot next
 next_edge slots slot next n = record { insn = n.insn; here = n.here; leaves = inl (n.on, n.is) }
 
--- there is one next instruction
+-- an instruction has only one next slot
 pub next_same : (slots : List (Option Insn)) (slot a b : ℕ) → IsNextSlot slots slot a → IsNextSlot slots slot b → a ≡ b
 next_same slots slot a b p q =
     let same : p.insn ≡ q.insn = some_same _ p.insn q.insn p.here q.here in
     p.is ∙ (ap (λ (i : Insn). slot + slots_of i) same ∙ sym q.is)
 
--- a run of one instruction
+-- an instruction whose targets are in place is a run
 pub run_of_one : (slots : List (Option Insn)) (places : List (Option ℕ)) (slot : ℕ)
     → IsStart slots slot → IsSlotReady slots places slot → IsRunOfSlots slots places slot slot
 run_of_one slots places slot start ready = record {
@@ -64,7 +64,7 @@ run_of_one slots places slot start ready = record {
   ends = refl;
 }
 
--- a run goes on
+-- a run and its next instruction are a run
 pub run_on : (slots : List (Option Insn)) (places : List (Option ℕ)) (slot last next : ℕ)
     → IsLinked slots → AreClosed slots places → IsRunOfSlots slots places slot last → IsNextSlot slots last next
     → IsRunOfSlots slots places slot next
@@ -99,7 +99,7 @@ run_on slots places slot last next linked closed run n =
       ends = run_next slots last next linked n ∙ run.ends;
     }
 
--- where no instruction begins nothing is put
+-- where no instruction begins, the copy stays the same
 pub not_put : (maps : ℕ) (old back : List (Option Insn)) (origins : List ℕ) (slot : ℕ)
     → instruction_at old slot ≡ None → IsBuilt maps old back origins
     → IsPutInFront maps old back origins back origins slot
@@ -113,7 +113,7 @@ not_put maps old back origins slot none built =
       grown = omega (arith, wide);
     }
 
--- an instruction was put
+-- an instruction that lengthened the copy was put in front
 pub was_put : (maps : ℕ) (old before : List (Option Insn)) (origins : List ℕ) (after : List (Option Insn))
     (origins' : List ℕ) (slot : ℕ) (insn : Insn)
     → instruction_at old slot ≡ Some insn → IsLengthened maps old before origins after origins' slot
@@ -129,9 +129,10 @@ was_put maps old before origins after origins' slot insn here more grown =
       grown = omega (arith, grown, wide);
     }
 
+-- a run of instructions of a linked program, which is put in front of the copy so far
 module _ (maps : ℕ) (old before : List (Option Insn)) (origins : List ℕ) (places : List (Option ℕ)) (linked : IsLinked old)
     (slot last : ℕ) (run : IsRunOfSlots old places slot last) where
-  -- the last instruction is in front
+  -- once the last instruction is in front, the run is in front as far down as this instruction
   pub first_put : (after : List (Option Insn)) (origins' : List ℕ)
       → IsPutInFront maps old before origins after origins' last
       → IsPutting maps old before origins last last after origins'
@@ -146,7 +147,7 @@ module _ (maps : ℕ) (old before : List (Option Insn)) (origins : List ℕ) (pl
         room = record { from = last; above = omega arith; start = run.start; fits = omega (arith, grown) };
       }
 
-  -- what suffices for the slot suffices for the run
+  -- slots that suffice for the first instruction suffice for the run
   pub fits_in : ((next : ℕ) → IsNextSlot old slot next → IsFront before origins next → last ≡ slot)
       → (most : ℕ) → Suffices old before origins slot most
       → last + width_at old last ≤ slot + most
@@ -156,7 +157,7 @@ module _ (maps : ℕ) (old before : List (Option Insn)) (origins : List ℕ) (pl
       let here : width_at old last ≡ width_at old slot = ap (width_at old) same in
       omega (arith, same, here, wide)
 
-  -- the last instruction has room
+  -- if there is no room for the last instruction, the run has no room
   pub first_full : (most : ℕ) (d : Disorder) → last + width_at old last ≤ slot + most
       → IsFull (length before + width_at old last) d
       → IsFull (length before + most) d
@@ -164,8 +165,10 @@ module _ (maps : ℕ) (old before : List (Option Insn)) (origins : List ℕ) (pl
       let begins = run.begins in
       full_more (length before + width_at old last) (length before + most) d (omega (arith, fits, begins)) full
 
+  -- one slot of the run; the run is in front as far down as the slot after this one
   module _ (after : List (Option Insn)) (origins' : List ℕ) (at : ℕ) (from : slot ≤ at) (below : at < last)
       (p : IsPutting maps old before origins last (at + 1) after origins') where
+    -- the next instruction of this slot is in front
     pub next_front : (next : ℕ) → IsNextSlot old at next → IsFront after origins' next
     next_front next n =
         let o = run.onward at from below (record { insn = n.insn; here = n.here }) in
@@ -176,6 +179,7 @@ module _ (maps : ℕ) (old before : List (Option Insn)) (origins : List ℕ) (pl
         p.front next (omega (arith, is, positive)) (omega (arith, le, same)) (next_start old at next linked n)
         (λ j above under s. linked.gaps at n.insn n.here j (omega (arith, above)) (omega (arith, under, is)) s)
 
+    -- the instruction at this slot ends at or before the one from which the room is counted
     room_at : (o : Option Insn) → instruction_at old at ≡ o → at + width_of_slot o ≤ p.room.from
     room_at None e = let above = p.room.above in omega (arith, above)
     room_at (Some insn) e =
@@ -185,6 +189,7 @@ module _ (maps : ℕ) (old before : List (Option Insn)) (origins : List ℕ) (pl
           | inr more ↦ elim more [ inl same ↦ omega (arith, same) | inr past ↦ omega (arith, past) ]
         ]
 
+    -- if there is no room for the instruction at this slot, the run has no room
     pub next_full : (most : ℕ) (d : Disorder) → last + width_at old last ≤ slot + most
         → IsFull (length after + width_at old at) d
         → IsFull (length before + most) d
@@ -193,6 +198,7 @@ module _ (maps : ℕ) (old before : List (Option Insn)) (origins : List ℕ) (pl
         let room = room_at (instruction_at old at) refl in
         full_more (length after + width_at old at) (length before + most) d (omega (arith, enough, fits, room, from)) full
 
+    -- with the instruction at this slot in front, there is room for what comes before it
     room_more : (o : Option Insn) (more : List (Option Insn))
         → instruction_at old at ≡ o → length more ≡ length after + width_of_slot o
         → HasPlaceBefore old at (length before + (last + width_at old last)) more
@@ -205,7 +211,7 @@ module _ (maps : ℕ) (old before : List (Option Insn)) (origins : List ℕ) (pl
         let room = room_at (Some insn) e in
         record { from = at; above = omega arith; start = record { insn = insn; here = e }; fits = omega (arith, fits, room, grown) }
 
-    -- one instruction more is in front
+    -- with the instruction at this slot in front, the run is in front as far down as this slot
     pub next_put : (more : List (Option Insn)) (origins'' : List ℕ)
         → IsPutInFront maps old after origins' more origins'' at
         → IsPutting maps old before origins last at more origins''
@@ -226,7 +232,7 @@ module _ (maps : ℕ) (old before : List (Option Insn)) (origins : List ℕ) (pl
       room = room_more (instruction_at old at) more refl put.grown;
     }
 
-  -- the whole run is in front
+  -- a run that is in front as far down as its first slot lengthened the copy
   pub all_put : (after : List (Option Insn)) (origins' : List ℕ) (bound : ℕ)
       → bound ≡ slot → IsStart old slot → IsPutting maps old before origins last bound after origins'
       → IsLengthened maps old before origins after origins' slot
@@ -238,6 +244,7 @@ module _ (maps : ℕ) (old before : List (Option Insn)) (origins : List ℕ) (pl
         (λ j above under s. absurd (let never : ⊥ = omega (arith, above, under, is) in never));
   }
 
+  -- the copy grew by no more than the slots from the first slot to the end of the last instruction
   pub all_fits : (after : List (Option Insn)) (origins' : List ℕ) (bound : ℕ)
       → bound ≡ slot → IsPutting maps old before origins last bound after origins'
       → length after + slot ≤ length before + (last + width_at old last)

@@ -20,13 +20,16 @@ use Rattle.bq_import.specs.Backward.{JumpsBack, IsFront, IsLengthened, MayBePut}
 use Rattle.bq_import.specs.Lengths.{IsJump}
 use Rattle.bq_import.specs.Search.{AreTargets, JumpsTo}
 
+-- an instruction of a linked program, and the slots to which control goes from it
 module _ (slots : List (Option Insn)) (slot : ℕ) (insn : Insn) (here : instruction_at slots slot ≡ Some insn)
     (linked : IsLinked slots) (targets : Targets) where
+  -- if control goes on, the next slot is a target
   next_there : (b : Bool) → b ≡ true → targets.next ≡ (if b then Some (slot + slots_of insn) else None)
       → targets.next ≡ Some (slot + slots_of insn)
   next_there true e is = is
   next_there false e is = absurd (let no : ⊥ = cc in no)
 
+  -- if the instruction jumps, the slot to which it jumps is a target
   jump_there : (v : Option ℕ) → targets.jump ≡ v
       → IfSome v (λ to. (far : ℤ) × (distance_of insn ≡ Some far) × LeadsTo slot far to) → IfNone v (distance_of insn ≡ None)
       → (far : ℤ) → distance_of insn ≡ Some far
@@ -36,6 +39,7 @@ module _ (slots : List (Option Insn)) (slot : ℕ) (insn : Insn) (here : instruc
       let same : some.0 ≡ far = some_same _ some.0 far some.1 e in
       (to, subst (λ (z : ℤ). LeadsTo slot z to) same some.2, is)
 
+  -- the instruction jumps to the target that is given for a jump
   jump_from : (v : Option ℕ) → targets.jump ≡ v
       → IfSome v (λ to. (far : ℤ) × (distance_of insn ≡ Some far) × LeadsTo slot far to) → (to : ℕ) → targets.jump ≡ Some to
       → IsJump slots slot to
@@ -44,6 +48,7 @@ module _ (slots : List (Option Insn)) (slot : ℕ) (insn : Insn) (here : instruc
       let same : at ≡ to = some_same _ at to is e in
       record { insn = insn; here = here; distance = some.0; jumps = some.1; leads = subst (λ (n : ℕ). LeadsTo slot some.0 n) same some.2 }
 
+  -- an instruction begins at each target
   starts_at : LeadsOut slots slot targets → (to : ℕ) → IsAmongTargets targets to → IsStart slots to
   starts_at out to of =
       let edge = out.only to of in
@@ -59,24 +64,28 @@ module _ (slots : List (Option Insn)) (slot : ℕ) (insn : Insn) (here : instruc
             subst (λ (n : ℕ). IsStart slots n) (leads_same slot there.0 to far there.1 leads) there.2
       ]
 
+  -- the next slot is later
   next_later : (b : Bool) → targets.next ≡ (if b then Some (slot + slots_of insn) else None) → (to : ℕ) → targets.next ≡ Some to → slot < to
   next_later true is to e =
       let same = some_same _ to (slot + slots_of insn) e is in
       let positive = slots_positive insn in omega (arith, same, positive)
   next_later false is to e = absurd (some_none _ to e is)
 
+  -- the next slot is right behind the instruction
   next_behind : (b : Bool) → targets.next ≡ (if b then Some (slot + slots_of insn) else None)
       → (to : ℕ) → targets.next ≡ Some to
       → to ≡ slot + slots_of insn
   next_behind true is to e = some_same _ to (slot + slots_of insn) e is
   next_behind false is to e = absurd (some_none _ to e is)
 
+  -- if there is a next slot, control goes on
   next_on : (b : Bool) → goes_on insn ≡ b → targets.next ≡ (if b then Some (slot + slots_of insn) else None)
       → (to : ℕ) → targets.next ≡ Some to
       → goes_on insn ≡ true
   next_on true e is to there = e
   next_on false e is to there = absurd (some_none _ to there is)
 
+  -- the next slot and the slot of the jump are the targets of the instruction
   pub are_targets : targets.next ≡ (if goes_on insn then Some (slot + slots_of insn) else None)
       → IfSome targets.jump (λ to. (far : ℤ) × (distance_of insn ≡ Some far) × LeadsTo slot far to)
       → IfNone targets.jump (distance_of insn ≡ None)
@@ -94,9 +103,10 @@ module _ (slots : List (Option Insn)) (slot : ℕ) (insn : Insn) (here : instruc
         on = next_on (goes_on insn) refl next;
       }
 
--- the jump's copy lies behind
+-- an instruction with its targets, and the copy so far
 module _ (old back : List (Option Insn)) (origins : List ℕ) (slot : ℕ) (insn : Insn) (targets : Targets)
     (are : AreTargets old slot insn targets) where
+  -- if the instruction jumps, its copy jumps to a copy of the target, which lies behind
   jump_lands : (distance : ℤ) (v : Option ℕ) → targets.jump ≡ v → IfSome v (JumpsTo back origins distance)
       → (far : ℤ) → distance_of insn ≡ Some far
       → JumpsBack back origins slot (length back) far distance
@@ -114,6 +124,7 @@ module _ (old back : List (Option Insn)) (origins : List ℕ) (slot : ℕ) (insn
         stands = subst (λ (n : ℕ). IsCopyOfSlot back origins jumps.landing n) same jumps.stands;
       }
 
+  -- an instruction may be put in front if its next slot is in front and its copy can jump to a copy of its target
   pub may_stand : (distance : ℤ) → instruction_at old slot ≡ Some insn
       → ((n : ℕ) → targets.next ≡ Some n → IsFront back origins n) → IfSome targets.jump (JumpsTo back origins distance)
       → MayBePut old back origins slot insn distance
@@ -123,7 +134,7 @@ module _ (old back : List (Option Insn)) (origins : List ℕ) (slot : ℕ) (insn
     jumps = jump_lands distance targets.jump refl jumps;
   }
 
--- what was lengthened twice was lengthened by what was put in front last
+-- a copy that was lengthened twice was lengthened by the instruction that is in front now
 pub lengthened_twice : (maps : ℕ) (old a : List (Option Insn)) (x : List ℕ) (b : List (Option Insn)) (y : List ℕ)
     (c : List (Option Insn)) (z : List ℕ) (first last : ℕ)
     → IsLengthened maps old a x b y first → IsLengthened maps old b y c z last
@@ -131,7 +142,7 @@ pub lengthened_twice : (maps : ℕ) (old a : List (Option Insn)) (x : List ℕ) 
 lengthened_twice maps old a x b y c z first last p q =
     record { built = q.built; keeps = λ place from s. q.keeps place from (p.keeps place from s); front = q.front }
 
--- where a jump's copy stands
+-- a jump over the slots from the front to a copy of a slot leads to this copy
 pub jumps_to : (back : List (Option Insn)) (origins : List ℕ) (places : List (Option ℕ)) (to place : ℕ)
     (distance : ℤ) (start : place < length back)
     → distance ≡ pos (length back - place - 1) → IsCopyOfSlot back origins place to
@@ -139,7 +150,7 @@ pub jumps_to : (back : List (Option Insn)) (origins : List ℕ) (places : List (
 jumps_to back origins places to place distance start is stands =
     record { landing = place; apart = length back - place - 1; distance_is = is; long = omega (arith, start); stands = stands }
 
--- a jump that leads to no instruction
+-- a jump for which no target is found leads to a place where no instruction begins
 pub leads_nowhere : (slots : List (Option Insn)) (slot : ℕ) (insn : Insn) (distance : ℤ)
     → instruction_at slots slot ≡ Some insn → Some distance ≡ distance_of insn → (v : Option ℕ) → is_some v ≡ false
     → IfNone v ((to : ℕ) → LeadsTo slot distance to → IsStart slots to → ⊥)
@@ -148,7 +159,7 @@ leads_nowhere slots slot insn distance here is None none never =
     record { insn = insn; here = here; distance = distance; jumps = sym is; nowhere = never }
 leads_nowhere slots slot insn distance here is (Some to) none never = absurd (let false : ⊥ = cc in false)
 
--- from an instruction that lies before the end, where control goes on from it, it does not go on past the end
+-- an instruction whose next slot lies before the end does not go on past the end
 pub stays_inside : (slots : List (Option Insn)) (slot : ℕ) (insn : Insn)
     → instruction_at slots slot ≡ Some insn → (goes_on insn ≡ true → slot + slots_of insn < length slots) → RunsOut slots slot
     → ⊥
@@ -158,7 +169,7 @@ stays_inside slots slot insn here within out =
     let past : length slots ≤ slot + slots_of insn = subst (λ (i : Insn). length slots ≤ slot + slots_of i) same out.past in
     omega (arith, inside, past)
 
--- what is wrong at the first slot where something is, is what is wrong with the program
+-- the fault of the first slot that has one is the fault of the program
 pub first_wrong : (slots : List (Option Insn)) (slot : ℕ) (d : Disorder)
     → WellBefore slots slot → IsWrongAt slots slot d → IsDisorder slots d
 first_wrong slots slot (Ends at) before wrong = subst (λ (n : ℕ). RunsOut slots n × WellBefore slots n) (sym wrong.0) (wrong.1, before)
@@ -169,7 +180,7 @@ first_wrong slots slot (Loop from to) before wrong = absurd wrong
 first_wrong slots slot Long before wrong = absurd wrong
 first_wrong slots slot OutOfMemory before wrong = absurd wrong
 
--- a fact of the slot that the option has
+-- what holds for the slot that an option has holds for the option
 pub if_some : (P : ℕ → Type 0) (v : Option ℕ) (n : ℕ) → v ≡ Some n → P n → IfSome v P
 if_some P None n e p = absurd (let false : ⊥ = cc in false)
 if_some P (Some m) n e p = subst P (some_same _ n m e refl) p

@@ -19,11 +19,11 @@ equal_or_not zero (suc b) = inr (λ e. cc)
 equal_or_not (suc a) zero = inr (λ e. cc)
 equal_or_not (suc a) (suc b) = elim (equal_or_not a b) [ inl e ↦ inl (ap suc e) | inr apart ↦ inr (λ e. apart (omega (arith, e))) ]
 
--- the slot that was put at a place is there
+-- a slot that was put in place has a copy
 pub now_set : (places : List (Option ℕ)) (slot place : ℕ) → slot < length places → HasCopy (slice_set places slot (Some place)) slot
 now_set places slot place inside = (place, get_or-set_same places slot (Some place) None inside)
 
--- what was in place is still in place
+-- each slot that had a copy still has one
 pub still_set : (places : List (Option ℕ)) (slot place : ℕ) → slot < length places → (s : ℕ) → HasCopy places s
     → HasCopy (slice_set places slot (Some place)) s
 still_set places slot place inside s done = elim (equal_or_not s slot) [
@@ -31,7 +31,7 @@ still_set places slot place inside s done = elim (equal_or_not s slot) [
   | inr apart ↦ (done.0, get_or-set_other places slot s (Some place) None apart ∙ done.1)
 ]
 
--- a path and one edge more
+-- a path and one edge more are a path
 pub path_on : (slots : List (Option Insn)) (a b c : ℕ) → Path slots a b → IsEdge slots b c → Path slots a c
 path_on slots a b c p edge = record {
   rest = p.rest ++ c ∷ [];
@@ -39,14 +39,14 @@ path_on slots a b c p edge = record {
   ends = end_of-push a p.rest c;
 }
 
--- control comes to what it goes on to from the top of the stack
+-- control comes to each slot to which it goes from the top of the stack
 pub comes_next : (slots : List (Option Insn)) (stack : List ℕ) (top to : ℕ)
     → AllComeTo slots stack → IsTop stack top → IsEdge slots top to → Path slots 0 to
 comes_next slots stack top to comes is edge =
     let long = is.long in
     path_on slots 0 top to (subst (λ (n : ℕ). Path slots 0 n) is.slot_is (comes is.below (omega (arith, long)))) edge
 
--- control comes to all of a list, and to one slot more
+-- if control comes to each slot of a list and to one more slot, it comes to each slot of the longer list
 pub comes_more : (slots : List (Option Insn)) (list : List ℕ) (slot : ℕ)
     → AllComeTo slots list → Path slots 0 slot → AllComeTo slots (list ++ slot ∷ [])
 comes_more slots list slot comes way index lt = elim (equal_or_not index (length list)) [
@@ -61,7 +61,7 @@ comes_more slots list slot comes way index lt = elim (equal_or_not index (length
       subst (λ (n : ℕ). Path slots 0 n) (sym (get_or_append_left list (slot ∷ []) 0 index inside)) (comes index inside)
 ]
 
--- control comes to all of a queue, also when a slot is queued that it comes to
+-- control comes to each slot of a queue also when a slot to which it comes is queued
 pub comes_queued : (slots : List (Option Insn)) (before : List ℕ) (slot : Option ℕ) (after : List ℕ)
     → IsQueued before slot after → AllComeTo slots before → ((k : ℕ) → slot ≡ Some k → Path slots 0 k)
     → AllComeTo slots after
@@ -70,12 +70,16 @@ comes_queued slots before slot after queued comes way = elim queued [
   | inr (k, is, more) ↦ subst (λ (list : List ℕ). AllComeTo slots list) (sym more) (comes_more slots before k comes (way k is))
 ]
 
+-- a search on its way, and one slot
 module _ (maps : ℕ) (old back : List (Option Insn)) (origins : List ℕ) (places : List (Option ℕ)) (opens : List Bool)
     (stack : List ℕ) (at : IsSearching maps old back origins places opens stack) (slot : ℕ) where
+  -- the slot is begun from the top of the stack, where control goes to it
   module _ (start : IsStart old slot) (new : is_open opens slot ≡ false) (edge : (top : ℕ) → IsTop stack top → IsEdge old top slot) where
+    -- the list of begun slots has the slot
     slot_inside : slot < length opens
     slot_inside = let inside = start_inside old slot start in let room = at.room in omega (arith, inside, room)
 
+    -- each slot on the stack stays on the stack
     on_more : (s : ℕ) → IsStacked stack s → IsStacked (stack ++ slot ∷ []) s
     on_more s on =
         let long = length-append stack (slot ∷ []) in
@@ -86,11 +90,13 @@ module _ (maps : ℕ) (old back : List (Option Insn)) (origins : List ℕ) (plac
           slot_is = get_or_append_left stack (slot ∷ []) 0 on.index on.inside ∙ on.slot_is;
         }
 
+    -- the slot is on top of the stack
     last_on : slice_index (stack ++ slot ∷ []) (length stack) ≡ slot
     last_on =
         ap (λ (n : ℕ). get_or (stack ++ slot ∷ []) n 0) (let e : length stack ≡ length stack + 0 = omega arith in e)
         ∙ get_or-append-add stack (slot ∷ []) 0 0
 
+    -- each begun slot has a copy or is on the stack
     opened_more : (s : ℕ) → is_open (slice_set opens slot true) s ≡ true → HasCopy places s ⊎ IsStacked (stack ++ slot ∷ []) s
     opened_more s begun = elim (equal_or_not s slot) [
       | inl e ↦
@@ -100,12 +106,15 @@ module _ (maps : ℕ) (old back : List (Option Insn)) (origins : List ℕ) (plac
           [ inl done ↦ inl done | inr on ↦ inr (on_more s on) ]
     ]
 
+    -- below the slot the stack is as before
     left_index : (i : ℕ) → i < length stack → slice_index (stack ++ slot ∷ []) i ≡ slice_index stack i
     left_index i lt = get_or_append_left stack (slot ∷ []) 0 i lt
 
+    -- an index of the longer stack is one of the old stack, or that of the slot
     below_or : (i : ℕ) → i < length stack + 1 → (i < length stack) ⊎ (i ≡ length stack)
     below_or i lt = elim (equal_or_not i (length stack)) [ inl e ↦ inr e | inr apart ↦ inl (omega (arith, lt, apart)) ]
 
+    -- a path leads from each slot of the old stack to the slot
     to_last : (i : ℕ) → i < length stack → Path old (slice_index stack i) slot
     to_last i lt =
         let below = length stack - 1 in
@@ -113,6 +122,7 @@ module _ (maps : ℕ) (old back : List (Option Insn)) (origins : List ℕ) (plac
         path_on old (slice_index stack i) (slice_index stack below) slot (at.ways i below (omega (arith, lt)) (omega (arith, lt)))
         (edge (slice_index stack below) (record { below = below; long = long; slot_is = refl }))
 
+    -- the longer stack is a path
     ways_more : (i j : ℕ) → i ≤ j → j < length (stack ++ slot ∷ [])
         → Path old (slice_index (stack ++ slot ∷ []) i) (slice_index (stack ++ slot ∷ []) j)
     ways_more i j le lt =
@@ -133,6 +143,7 @@ module _ (maps : ℕ) (old back : List (Option Insn)) (origins : List ℕ) (plac
               ])
         ]
 
+    -- an instruction begins at each slot of the longer stack
     starts_more : (i : ℕ) → i < length (stack ++ slot ∷ []) → IsStart old (slice_index (stack ++ slot ∷ []) i)
     starts_more i lt =
         let long = length-append stack (slot ∷ []) in
@@ -141,15 +152,18 @@ module _ (maps : ℕ) (old back : List (Option Insn)) (origins : List ℕ) (plac
           | inr e ↦ subst (λ (n : ℕ). IsStart old n) (sym (ap (λ (n : ℕ). slice_index (stack ++ slot ∷ []) n) e ∙ last_on)) start
         ]
 
+    -- the slot is begun now
     pub open_now : is_open (slice_set opens slot true) slot ≡ true
     open_now = get_or-set_same opens slot true false slot_inside
 
+    -- each slot that was begun stays begun
     pub keeps_open : KeepsOpen opens (slice_set opens slot true)
     keeps_open s begun = elim (equal_or_not s slot) [
       | inl e ↦ ap (λ (n : ℕ). is_open (slice_set opens slot true) n) e ∙ open_now
       | inr apart ↦ get_or-set_other opens slot s true false apart ∙ begun
     ]
 
+    -- the slot has no copy yet
     shut_undone : copy_place places slot ≡ None
     shut_undone = by (copy_place places slot) refl
       where
@@ -157,9 +171,11 @@ module _ (maps : ℕ) (old back : List (Option Insn)) (origins : List ℕ) (plac
         by None e = e
         by (Some place) e = absurd (true≢false (sym (at.waiting.begun slot (place, e)) ∙ new))
 
+    -- the slot is at the index on top
     now_last : (i : ℕ) → i ≡ length stack → slice_index (stack ++ slot ∷ []) i ≡ slot
     now_last i e = ap (λ (n : ℕ). slice_index (stack ++ slot ∷ []) n) e ∙ last_on
 
+    -- what holds for each slot of the old stack and for the slot holds for each slot of the longer stack
     each_more : (P : ℕ → Type 0) → ((i : ℕ) → i < length stack → P (slice_index stack i)) → P slot
         → (i : ℕ) → i < length (stack ++ slot ∷ [])
         → P (slice_index (stack ++ slot ∷ []) i)
@@ -168,6 +184,7 @@ module _ (maps : ℕ) (old back : List (Option Insn)) (origins : List ℕ) (plac
       | inr e ↦ subst P (sym (now_last i e)) last
     ]
 
+    -- no slot is on the longer stack twice
     apart_more : (i j : ℕ) → i < j → j < length (stack ++ slot ∷ [])
         → slice_index (stack ++ slot ∷ []) i ≢ slice_index (stack ++ slot ∷ []) j
     apart_more i j lt less =
@@ -182,6 +199,7 @@ module _ (maps : ℕ) (old back : List (Option Insn)) (origins : List ℕ) (plac
               true≢false (sym (at.waiting.opened i below) ∙ (ap (is_open opens) is ∙ new))
         ]
 
+    -- the slots of the longer stack were begun and have no copies yet
     waits_more : AreWaiting places (slice_set opens slot true) (stack ++ slot ∷ [])
     waits_more = record {
       begun = λ s done. keeps_open s (at.waiting.begun s done);
@@ -192,6 +210,7 @@ module _ (maps : ℕ) (old back : List (Option Insn)) (origins : List ℕ) (plac
       apart = apart_more;
     }
 
+    -- once the slot is begun and on top of the stack, the search is still on its way
     pub after_open : Path old 0 slot → IsSearching maps old back origins places (slice_set opens slot true) (stack ++ slot ∷ [])
     after_open way = record {
       ordered = at.ordered;
@@ -203,6 +222,7 @@ module _ (maps : ℕ) (old back : List (Option Insn)) (origins : List ℕ) (plac
       waiting = waits_more;
     }
 
+    -- once the slot is begun and on top of the stack, less is left to do
     pub less_open : left_of (slice_set opens slot true) (stack ++ slot ∷ []) < left_of opens stack
     less_open =
         let sum = sum_by-set unopened opens slot true false slot_inside in
@@ -210,23 +230,30 @@ module _ (maps : ℕ) (old back : List (Option Insn)) (origins : List ℕ) (plac
         let long = length-append stack (slot ∷ []) in
         omega (arith, sum, one, long)
 
+  -- the slot is on top of the stack
   module _ (top : IsTop stack slot) where
+    -- control comes to the slot on top of the stack
     pub top_comes : Path old 0 slot
     top_comes = let long = top.long in subst (λ (n : ℕ). Path old 0 n) top.slot_is (at.comes top.below (omega (arith, long)))
 
+    -- the slot on top of the stack has no copy yet
     pub top_undone : copy_place places slot ≡ None
     top_undone =
         let long = top.long in
         subst (λ (n : ℕ). copy_place places n ≡ None) top.slot_is (at.waiting.undone top.below (omega (arith, long)))
 
+    -- an instruction begins at the slot on top of the stack
     pub top_starts : IsStart old slot
     top_starts = let long = top.long in subst (λ (n : ℕ). IsStart old n) top.slot_is (at.starts top.below (omega (arith, long)))
 
+  -- the slot on top of the stack was put in front, after all slots to which control goes from it
   module _ (top : IsTop stack slot) (ready : IsSlotReady old places slot) (back' : List (Option Insn)) (origins' : List ℕ)
       (more : IsLengthened maps old back origins back' origins' slot) where
+    -- the place of the new copy
     place : ℕ
     place = length back' - 1
 
+    -- the list of places has the slot
     on_stack : slot < length places
     on_stack =
         let long = top.long in
@@ -234,12 +261,15 @@ module _ (maps : ℕ) (old back : List (Option Insn)) (origins : List ℕ) (plac
         let inside = start_inside old slot (subst (λ (n : ℕ). IsStart old n) top.slot_is (at.starts top.below (omega (arith, long)))) in
         omega (arith, inside, room)
 
+    -- the slot has a copy now
     done_now : HasCopy (slice_set places slot (Some place)) slot
     done_now = now_set places slot place on_stack
 
+    -- each slot that had a copy still has one
     done_still : (s : ℕ) → HasCopy places s → HasCopy (slice_set places slot (Some place)) s
     done_still = still_set places slot place on_stack
 
+    -- each place in the list is that of a copy
     known_more : AreCopyPlaces back' origins' (slice_set places slot (Some place))
     unfolding place
     known_more s p e = elim (equal_or_not s slot) [
@@ -255,6 +285,7 @@ module _ (maps : ℕ) (old back : List (Option Insn)) (origins : List ℕ) (plac
       | inr apart ↦ more.keeps p s (at.ordered.known s p (sym (get_or-set_other places slot s (Some place) None apart) ∙ e))
     ]
 
+    -- control goes from slots that have copies only to slots that have copies
     closed_more : AreClosed old (slice_set places slot (Some place))
     closed_more from to done edge = elim (equal_or_not from slot) [
       | inl e ↦ done_still to (ready to (subst (λ (n : ℕ). IsEdge old n to) e edge))
@@ -263,12 +294,15 @@ module _ (maps : ℕ) (old back : List (Option Insn)) (origins : List ℕ) (plac
           (at.ordered.closed from to (done.0, sym (get_or-set_other places slot from (Some place) None apart) ∙ done.1) edge)
     ]
 
+    -- below the slot the stack is as before
     taken_index : (i : ℕ) → i < length stack - 1 → slice_index (take (length stack - 1) stack) i ≡ slice_index stack i
     taken_index i lt = get_or-take (length stack - 1) stack i 0 lt
 
+    -- the stack is shorter by one slot
     taken_long : length (take (length stack - 1) stack) ≡ length stack - 1
     taken_long = let least = length-take (length stack - 1) stack in omega (arith, least)
 
+    -- each begun slot has a copy or is on the shorter stack
     opened_less : (s : ℕ) → is_open opens s ≡ true
         → HasCopy (slice_set places slot (Some place)) s ⊎ IsStacked (take (length stack - 1) stack) s
     opened_less s begun = elim (at.opened s begun) [
@@ -287,6 +321,7 @@ module _ (maps : ℕ) (old back : List (Option Insn)) (origins : List ℕ) (plac
           ]
     ]
 
+    -- the shorter stack is a path
     ways_less : (i j : ℕ) → i ≤ j → j < length (take (length stack - 1) stack)
         → Path old (slice_index (take (length stack - 1) stack) i) (slice_index (take (length stack - 1) stack) j)
     ways_less i j le lt =
@@ -295,18 +330,21 @@ module _ (maps : ℕ) (old back : List (Option Insn)) (origins : List ℕ) (plac
         subst (λ (n : ℕ). Path old n (slice_index (take (length stack - 1) stack) j)) (sym (taken_index i (omega (arith, le, lt'))))
         (subst (λ (n : ℕ). Path old (slice_index stack i) n) (sym (taken_index j lt')) (at.ways i j le (omega (arith, lt'))))
 
+    -- an instruction begins at each slot of the shorter stack
     starts_less : (i : ℕ) → i < length (take (length stack - 1) stack) → IsStart old (slice_index (take (length stack - 1) stack) i)
     starts_less i lt =
         let taken = taken_long in
         let lt' : i < length stack - 1 = omega (arith, lt, taken) in
         subst (λ (n : ℕ). IsStart old n) (sym (taken_index i lt')) (at.starts i (omega (arith, lt')))
 
+    -- control comes to each slot of the shorter stack
     comes_less : AllComeTo old (take (length stack - 1) stack)
     comes_less i lt =
         let taken = taken_long in
         let lt' : i < length stack - 1 = omega (arith, lt, taken) in
         subst (λ (n : ℕ). Path old 0 n) (sym (taken_index i lt')) (at.comes i (omega (arith, lt')))
 
+    -- the slots of the shorter stack were begun and have no copies yet
     waits_less : AreWaiting (slice_set places slot (Some place)) opens (take (length stack - 1) stack)
     waits_less = record {
       begun = λ s done. elim (equal_or_not s slot) [
@@ -335,6 +373,7 @@ module _ (maps : ℕ) (old back : List (Option Insn)) (origins : List ℕ) (plac
           (sym (taken_index i (omega (arith, lt, below))) ∙ (same ∙ taken_index j below));
     }
 
+    -- once the slot has a copy and is off the stack, the search is still on its way
     pub after_leave : IsCounted old back' origins' (slice_set places slot (Some (length back' - 1)))
         → IsSearching maps old back' origins' (slice_set places slot (Some (length back' - 1))) opens (take (length stack - 1) stack)
     unfolding place
@@ -354,10 +393,11 @@ module _ (maps : ℕ) (old back : List (Option Insn)) (origins : List ℕ) (plac
       waiting = waits_less;
     }
 
+    -- once the slot is off the stack, less is left to do
     pub less_leave : left_of opens (take (length stack - 1) stack) < left_of opens stack
     less_leave = let taken = taken_long in let long = top.long in omega (arith, taken, long)
 
--- before the first slot
+-- a search that has begun no slot is on its way
 pub nothing_begun : (maps : ℕ) (old back : List (Option Insn)) (origins : List ℕ) (places : List (Option ℕ))
     (opens : List Bool) (stack : List ℕ)
     → IsBuilt maps old back origins → back ≡ [] → ((k : ℕ) → copy_place places k ≡ None) → length places ≡ length old

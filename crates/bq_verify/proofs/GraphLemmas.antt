@@ -43,23 +43,25 @@ pub first_height_is_longest : (insns : List Insn) (slots : List (Option Insn)) (
     → IsGreatest (PathOut slots 0) (slice_index heights 0)
 first_height_is_longest insns slots heights same some measured = measured 0 zero-le (spread_first insns slots same some)
 
--- the number that a pass forwards left, 0 if it left none
+-- the count that a forward pass left, or 0 if it left none
 abbrev pub count_in : Option ℕ → ℕ
 count_in None = 0
 count_in (Some n) = n
 
--- the number that a pass forwards left at the slot
+-- the count that a forward pass left at the slot
 abbrev pub most_calls_at : List (Option ℕ) → ℕ → ℕ
 most_calls_at most k = count_in (slice_index_or most k None)
 
+-- an instruction that is a counter call passes the test for counter calls
 asks_of : (insn : Insn) → IsCounterCall insn → asks_counter insn ≡ true
 asks_of (Call h) (inl e) = rw e refl
 asks_of (Call h) (inr e) = rw e refl
 asks_of _ counter = absurd counter
 
+-- a program without faults; for each slot, the most counter calls on a path to the slot
 module _ (slots : List (Option Insn)) (most : List (Option ℕ)) (faultless : IsFaultless slots)
     (counted : (k : ℕ) → IsMostCalls slots k (slice_index_or most k None)) where
-  -- each instruction has the greatest number of calls on the way to it
+  -- the count at an instruction is the most counter calls on a path to the instruction
   at_start : (k : ℕ) → IsStart slots k → IsGreatest (CallsOnWay slots k) (most_calls_at most k)
   at_start k begins = by (slice_index_or most k None) refl
     where
@@ -70,13 +72,16 @@ module _ (slots : List (Option Insn)) (most : List (Option ℕ)) (faultless : Is
           subst (λ (m : ℕ). IsGreatest (CallsOnWay slots k) m) (sym (ap count_in e))
           (subst (λ (o : Option ℕ). IsMostCalls slots k o) e (counted k))
 
+  -- the control graph is sound too
   module _ (sound : IsGraphSound slots) where
+    -- an edge adds to the count at least the counter calls of the instruction that the edge leaves
     along : (from to : ℕ) → IsEdge slots from to → most_calls_at most from + counter_calls_of (instruction_at slots from) ≤ most_calls_at most to
     along from to edge =
         let before = at_start from (record { insn = edge.insn; here = edge.here }) in
         (at_start to (sound.forward from to edge).1).bounds (most_calls_at most from + counter_calls_of (instruction_at slots from))
         (extend slots from to (most_calls_at most from) before.holds edge)
 
+    -- the count at an instruction that calls a counter is below 16
     not_late : (from : ℕ) (insn : Insn) → instruction_at slots from ≡ Some insn → IsCounterCall insn
         → (most_calls_at most from < 16) ⊎ (16 ≤ most_calls_at most from)
         → most_calls_at most from < 16
@@ -86,10 +91,12 @@ module _ (slots : List (Option Insn)) (most : List (Option ℕ)) (faultless : Is
         (late_by slots from (most_calls_at most from) insn here (asks_of insn counter)
         (at_start from (record { insn = insn; here = here })) many))
 
+    -- an instruction that calls a counter makes one counter call
     one_more : (from : ℕ) (insn : Insn) → instruction_at slots from ≡ Some insn → IsCounterCall insn
         → counter_calls_of (instruction_at slots from) ≡ 1
     one_more from insn here counter = rw (here, asks_of insn counter) refl
 
+    -- the counts never fall along an edge, grow at each counter call, and are below 16 at each counter call
     pub made_by : BoundsCalls slots (most_calls_at most)
     made_by = record {
       kept = λ from to edge. let more = along from to edge in omega arith;
@@ -99,7 +106,7 @@ module _ (slots : List (Option Insn)) (most : List (Option ℕ)) (faultless : Is
       few = λ from to edge. not_late from edge.insn edge.here edge.asks (cases_lt (most_calls_at most from) 16);
     }
 
--- in a program without faults the most calls on the way to a slot grow along the edges, and stay few enough
+-- in a program without faults the most calls on a path to a slot never fall along an edge, and stay within the limit
 pub most_calls_are_made : (slots : List (Option Insn)) (most : List (Option ℕ))
     → IsGraphSound slots → IsFaultless slots → ((k : ℕ) → IsMostCalls slots k (slice_index_or most k None))
     → BoundsCalls slots (most_calls_at most)

@@ -14,18 +14,22 @@ use Rattle.bq_bpf.specs.Safe.{GoesOn, GoesWell, IsSetting}
 use Rattle.bq_verify.specs.Laws.{shortened, SafeOnLonger, RunsOnLonger}
 use Rattle.bq_verify.proofs.OneStepLemmas.{one_step, no_step}
 
+-- a byte among the first n bytes of a list is the byte at the same index of the whole list
 taken_get : (n : ℕ) (xs : List ℕ) (i b : ℕ) → slice_get (take n xs) i ≡ Some b → slice_get xs i ≡ Some b
 taken_get zero xs i b p = absurd (let no : ⊥ = cc in no)
 taken_get (suc n) [] i b p = p
 taken_get (suc n) (x ∷ xs) zero b p = p
 taken_get (suc n) (x ∷ xs) (suc i) b p = taken_get n xs i b p
 
+-- a setting, and the same setting with only the first n bytes of its context
 module _ (f : Setting) (n : ℕ) where
+  -- a byte of the memory is the same with the whole context
   byte_longer : (s : State) (r : Region) (i b : ℕ) → byte_at (shortened f n) s r i ≡ Some b → byte_at f s r i ≡ Some b
   byte_longer s InContext i b p = taken_get n f.context i b p
   byte_longer s InStack i b p = p
   byte_longer s (InEntry m first) i b p = p
 
+  -- an address that is good with the shorter context is good with the whole context
   good_longer : (address count : ℕ) (r : Region) (o : ℕ) → IsGood (shortened f n) address count r o → IsGood f address count r o
   good_longer address count InContext o p =
       let least = length-take n f.context in
@@ -41,6 +45,7 @@ module _ (f : Setting) (n : ℕ) where
   good_longer address count (InEntry m first) o p =
       record { base = p.base; size = p.size; spans = p.spans; address_is = p.address_is; inside = p.inside }
 
+  -- a read, a write, a helper call or a step that the shorter context permits, the whole context permits too
   reads_longer : (s : State) (address : ℕ) (bytes : List ℕ) → Reads (shortened f n) s address bytes → Reads f s address bytes
   reads_longer s address bytes p = record {
     region = p.region;
@@ -129,8 +134,9 @@ module _ (f : Setting) (n : ℕ) where
   goes_on_longer s (inl (t, step)) = inl (t, step_longer s None t step)
   goes_on_longer s (inr each) = inr (λ x lt. let e = each x lt in (e.0, e.1, e.2, step_longer s (Some e.0) e.1 e.3))
 
+  -- the whole context has fewer than 2^16 bytes
   module _ (small : length f.context < 2 ^ 16) where
-    -- where the program goes on with the shorter context, each step is one with it
+    -- if a state ends or goes on with the shorter context, each step with the whole context is a step with the shorter one
     step_shorter : (s t : State) (c : Option CounterCall)
         → ((answer : ℕ) × Ends (shortened f n) s answer s.maps) ⊎ GoesOn (shortened f n) s → Step f s c t
         → Step (shortened f n) s c t
@@ -152,25 +158,30 @@ module _ (f : Setting) (n : ℕ) where
         subst (λ (v : State). Step (shortened f n) s (Some c) v) (sym same.1)
         (subst (λ (d : Option CounterCall). Step (shortened f n) s d e.1) (sym same.0) e.3)
 
+    -- with the shorter context all steps from the state go well
     module _ (s : State) (budget : ℕ)
         (safe : (k : ℕ) (calls : List CounterCall) (t : State) → Steps (shortened f n) s k calls t →
         GoesWell (shortened f n) budget k calls t) where
+      -- each chain of steps with the whole context is a chain of steps with the shorter context
       chain_shorter : (k : ℕ) (calls : List CounterCall) (t : State) → Steps f s k calls t → Steps (shortened f n) s k calls t
       chain_shorter zero calls t p = p
       chain_shorter (suc k) calls t (before, c, u, chain, step, e) =
           let less = chain_shorter k before u chain in
           (before, c, u, less, step_shorter u t c (safe k before u less).on step, e)
 
+      -- a state that ends or goes on with the shorter context ends or goes on with the whole context
       on_longer : (t : State) → ((answer : ℕ) × Ends (shortened f n) t answer t.maps) ⊎ GoesOn (shortened f n) t
           → ((answer : ℕ) × Ends f t answer t.maps) ⊎ GoesOn f t
       on_longer t (inl (answer, ends)) = inl (answer, ends_longer t answer t.maps ends)
       on_longer t (inr on) = inr (goes_on_longer t on)
 
+      -- all steps from the state go well with the whole context too
       pub well_longer : (k : ℕ) (calls : List CounterCall) (t : State) → Steps f s k calls t → GoesWell f budget k calls t
       well_longer k calls t chain =
           let well = safe k calls t (chain_shorter k calls t chain) in
           record { short = well.short; few = well.few; on = on_longer t well.on }
 
+-- with the first n bytes of its context, a setting for a program with a longer context is one for a context of n bytes
 short_setting : (slots : List (Option Insn)) (shapes : List MapShape) (n m : ℕ) (f : Setting)
     → n ≤ m → IsSetting slots shapes m f → IsSetting slots shapes n (shortened f n)
 short_setting slots shapes n m f le p = record {
@@ -188,7 +199,7 @@ safe_on_longer slots shapes n m budget le few safe f maps setting have =
     well_longer f n (rw setting.context_long few) (start maps) budget
     (safe (shortened f n) maps (short_setting slots shapes n m f le setting) have)
 
--- what a run on the first bytes of a context gives, a run on the whole of it gives
+-- a run on the first bytes of a context is a run on the whole context, with the same outcome
 pub runs_on_longer : RunsOnLonger
 runs_on_longer f n steps calls answer maps after (k, t, is, chain, ends) =
     (k, t, is, chain_longer f n (start maps) k calls t chain, ends_longer f n t answer after ends)
