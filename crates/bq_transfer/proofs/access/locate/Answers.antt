@@ -11,7 +11,8 @@ pub returns-clause-finds : goal.returns-clause-finds
 returns-clause-finds c =
     let distance : c.word_of_distance.result ≡ word_of c.args.access.off = search rules in
     place_gives c.args.shapes.now c.args.context c.args.state.now c.args.access.size c.args.access.base c.args.access.off
-    c.in-Some.base c.in-Some-bound.bound c.alu-at.result c.in-Some.ensures c.in-Some-bound.ensures.bounds (omega arith)
+    c.in-Some.base c.in-Some-bound.bound c.alu-at.result c.in-Some.ensures c.in-Some-bound.ensures.bounds
+    (c.in-Some-bound.ensures.small c.requires.context)
     (λ u w.
     rw (← sum_is u (word_of c.args.access.off))
     (c.alu-at.ensures.holds u (word_of c.args.access.off) w
