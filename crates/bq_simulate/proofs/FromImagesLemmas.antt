@@ -96,7 +96,7 @@ meets images (due.End processor) now deeds (task, action, aim, more, is, rest) =
     same images is (follows images action aim processor now more rest)
 meets images (due.Wake task) now deeds (home, more, is, rest) = same images is (wakes images home task now more rest)
 meets images (due.Tick processor) now deeds (more, is, rest) = same images is (just images (Tick processor now ∷ []) more (tt, tt) rest)
-meets images (due.Pull processor) now deeds (source, more, is, rest) =
+meets images (due.Look processor) now deeds (source, more, is, rest) =
     same images is (just images (pulls_of processor now source) more (pulls images processor now source) rest)
 
 all_met : (images : ByHook) (steps : List MetDue) → InstallsImages images (deeds_of steps)

@@ -92,7 +92,7 @@ met_by (due.End processor) now deeds (task, action, aim, more, is, follow) =
 met_by (due.Wake task) now deeds (home, more, is, wake) = subst (λ l. AreBy now l) (sym is) (wake_by now home task more wake)
 met_by (due.Tick processor) now deeds (more, is, just) =
     subst (λ l. AreBy now l) (sym is) (one_by now (Tick processor now) more (omega arith) just)
-met_by (due.Pull processor) now deeds (source, more, is, just) = subst (λ l. AreBy now l) (sym is) (pulls_by source processor now more just)
+met_by (due.Look processor) now deeds (source, more, is, just) = subst (λ l. AreBy now l) (sym is) (pulls_by source processor now more just)
 
 rises_by : (now last next : ℕ) (reading : Option ℕ) → IsReadBy now reading → Rises last reading next → last ≤ now → next ≤ now
 rises_by now last next None read rises low = omega (arith, rises, low)

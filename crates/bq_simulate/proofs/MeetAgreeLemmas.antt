@@ -477,7 +477,7 @@ meetings_agree kinds seed periods d e b c (due.Tick processor) now deeds reporte
     kinds seed periods d e (after_beat periods processor now b) c more reported just rest
     (agrees_processor (λ l. record l { tick = Some (next_multiple periods.tick now) }) (λ l. refl)
     (λ l. refl) (world_of d) b.accounts processor h)
-meetings_agree kinds seed periods d e b c (due.Pull processor) now deeds reported (source, more, is, just) lives h =
+meetings_agree kinds seed periods d e b c (due.Look processor) now deeds reported (source, more, is, just) lives h =
     let (looks, from, rest) = subst (λ l. Lives kinds seed periods d b l reported e c) is lives in
     look_met source kinds seed periods d e (after_look periods processor now b) c processor now more reported just rest
     (agrees_processor (λ l. record l { look = Some (next_multiple periods.balance now) }) (λ l. refl)

@@ -178,7 +178,7 @@ pulled-left (Some from) kinds seed periods d e b c processor now deeds reported 
 
 -- a processor that looks next does not tick at that instant: the tick would come before
 no-tick : (end processor now : ℕ) (a : Accounts) (l : ProcessorState)
-    → IsNextDue end a (due.Pull processor) now → slice_get a.by_processor processor ≡ Some l → l.look ≡ Some now
+    → IsNextDue end a (due.Look processor) now → slice_get a.by_processor processor ≡ Some l → l.look ≡ Some now
     → is_same l.tick (Some now) ≡ false
 no-tick end processor now a l next at look = elim (cases_Bool (is_same l.tick (Some now))) [
   | inl ticks ↦
@@ -196,8 +196,8 @@ no-tick end processor now a l next at look = elim (cases_Bool (is_same l.tick (S
 
 look-takes : (kinds : List TaskKind) (seed : ℕ) (periods : Periods) (d e : Driver) (b c : Book) (processor now end : ℕ)
     (deeds : List Deed) (reported : Reported)
-    → 1 ≤ periods.tick → 1 ≤ periods.balance → IsNextDue end b.accounts (due.Pull processor) now
-    → Meet (due.Pull processor) now deeds → Lives kinds seed periods d b deeds reported e c → BookAgrees d b
+    → 1 ≤ periods.tick → 1 ≤ periods.balance → IsNextDue end b.accounts (due.Look processor) now
+    → Meet (due.Look processor) now deeds → Lives kinds seed periods d b deeds reported e c → BookAgrees d b
     → steps_left_at kinds now c.accounts + 1 ≤ steps_left_at kinds now b.accounts
 look-takes kinds seed periods d e b c processor now end deeds reported some balance next (source, more, is, just) lives h =
     let (looks, from, after) = subst (λ l. Lives kinds seed periods d b l reported e c) is lives in
@@ -418,6 +418,6 @@ meet-takes w d e b c (due.Wake task) now deeds reported sound until is meet lead
 meet-takes w d e b c (due.Tick processor) now deeds reported sound until is meet leads h =
     tick-takes w.tasks.items w.machine.seed (periods_of w.machine) d e b c processor now deeds reported
     (sound_times w sound).tick meet leads
-meet-takes w d e b c (due.Pull processor) now deeds reported sound until is meet leads h =
+meet-takes w d e b c (due.Look processor) now deeds reported sound until is meet leads h =
     look-takes w.tasks.items w.machine.seed (periods_of w.machine) d e b c processor now w.machine.duration deeds reported
     (sound_times w sound).tick (sound_times w sound).balance is meet leads h.agrees

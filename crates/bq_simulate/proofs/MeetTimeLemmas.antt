@@ -359,8 +359,8 @@ meetings_are_on_time kinds seed periods d e b c (due.Tick processor) now deeds r
     tick_time kinds seed periods d e (after_beat periods processor now b) c processor now more reported tick just rest
     (agrees_processor (λ l. record l { tick = Some (next_multiple periods.tick now) }) (λ l. refl)
     (λ l. refl) (world_of d) b.accounts processor h) after (beaten_kept now processor periods.tick b.accounts tick busy time)
-meetings_are_on_time kinds seed periods d e b c (due.Pull processor) now deeds reported tick balance early meet lives h time =
-    let after : BookAgrees e c = meetings_agree kinds seed periods d e b c (due.Pull processor) now deeds reported meet lives h in
+meetings_are_on_time kinds seed periods d e b c (due.Look processor) now deeds reported tick balance early meet lives h time =
+    let after : BookAgrees e c = meetings_agree kinds seed periods d e b c (due.Look processor) now deeds reported meet lives h in
     let (source, more, is, just) = meet in
     let (looks, from, rest) = subst (λ l. Lives kinds seed periods d b l reported e c) is lives in
     look_time source kinds seed periods d e (after_look periods processor now b) c processor now more reported tick just rest

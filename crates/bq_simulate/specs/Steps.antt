@@ -125,7 +125,7 @@ Meet (due.End processor) now deeds =
     × (deeds ≡ Acts processor task now action aim ∷ more) × Follow action aim processor now more
 Meet (due.Wake task) now deeds = (home : ℕ) × (more : List Deed) × (deeds ≡ Rings task now ∷ more) × AreWake home task now more
 Meet (due.Tick processor) now deeds = (more : List Deed) × (deeds ≡ Beats processor now ∷ more) × AreJust (Tick processor now ∷ []) more
-Meet (due.Pull processor) now deeds = (source : Option ℕ) × (more : List Deed) × (deeds ≡ Looks processor now source ∷ more) × AreJust (pulls_of processor now source) more
+Meet (due.Look processor) now deeds = (source : Option ℕ) × (more : List Deed) × (deeds ≡ Looks processor now source ∷ more) × AreJust (pulls_of processor now source) more
 
 -- something that comes due, when, and the deeds by which it is met
 pub record MetDue : Type 0 where

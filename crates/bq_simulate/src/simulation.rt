@@ -49,7 +49,7 @@ impl Simulation {
             Due::End(processor) => self.act(alloc, workload, processor, now, sink),
             Due::Wake(task) => self.wake_by_timer(alloc, task, now, sink),
             Due::Tick(processor) => self.tick_on_time(alloc, processor, now, sink),
-            Due::Pull(processor) => self.pull(alloc, processor, now, sink),
+            Due::Look(processor) => self.pull(alloc, processor, now, sink),
         }
     }
 
@@ -138,8 +138,8 @@ impl Simulation {
         now: u64,
         sink: &mut S,
     ) -> Result<(), SimulateFault>
-        ensures befell { OnOk result (Befell S.takes (Meet (Due.Pull processor) now) sink.old self.old sink.new self.new) }
-        ensures ends { (w : Workload) → SimulationGoesWell w now self.old → IsNextDue w.machine.duration (accounts_of self.old.roster) (Due.Pull processor) now → IfErr result WantsMemory }
+        ensures befell { OnOk result (Befell S.takes (Meet (Due.Look processor) now) sink.old self.old sink.new self.new) }
+        ensures ends { (w : Workload) → SimulationGoesWell w now self.old → IsNextDue w.machine.duration (accounts_of self.old.roster) (Due.Look processor) now → IfErr result WantsMemory }
     {
         let source = self.roster.look(processor, now)?;
         match source {

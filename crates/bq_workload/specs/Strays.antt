@@ -100,11 +100,11 @@ IsStrayWake task a = (TaskRests a task → ⊥) ⊎ (TASKS ≤ task)
 
 -- a task with this progress does not run at a processor, did not run there last, or has run past its phase
 abbrev pub IsStrayProgress : ℕ → ℕ → TaskProgress → Accounts → Type 0
-IsStrayProgress processor task c a = (runs_at a.by_processor processor task ≡ false) ⊎ (c.home ≢ processor) ⊎ (c.due < c.got) ⊎ (PROCESSORS ≤ processor) ⊎ IsStrayTask task a
+IsStrayProgress processor task progress a = (runs_at a.by_processor processor task ≡ false) ⊎ (progress.home ≢ processor) ⊎ (progress.due < progress.got) ⊎ (PROCESSORS ≤ processor) ⊎ IsStrayTask task a
 
 -- no task runs at this processor that has got exactly what its phase takes
 abbrev pub NoneIsDone : ℕ → Accounts → Type 0
-NoneIsDone processor a = (task : ℕ) (c : TaskProgress) → IsPhaseDone a processor task c → ⊥
+NoneIsDone processor a = (task : ℕ) (progress : TaskProgress) → IsPhaseDone a processor task progress → ⊥
 
 -- no phase ends at this processor now
 abbrev pub IsStrayEnd : ℕ → ℕ → Accounts → Type 0

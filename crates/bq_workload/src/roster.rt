@@ -10,6 +10,7 @@ ghost use Rattle.bq_workload.specs.Plans.{PlansTimer, ProgressIsPlanned};
 ghost use Rattle.bq_workload.specs.Strays.{IsStrayEnd, IsStrayProgress, IsStrayWake, NoneIsDone};
 
 use crate::clocks::first_look;
+use crate::due::PLACES;
 use crate::processor_state::ProcessorState;
 use crate::progress::{TaskProgress, TaskState};
 use crate::{Due, EventQueue};
@@ -46,7 +47,7 @@ impl Roster {
     pub fn new(alloc: Global, processors: u8, periods: Periods) -> Result<Roster, AllocError>
         ensures accounts { IfOk result (λ roster. accounts_of roster ≡ opening_accounts processors periods.balance) }
         ensures periods { IfOk result (λ roster. roster.periods ≡ periods) }
-        ensures looks { IfOk result (λ roster. AreLooks (min processors 64) (option_and_then (until periods.end) (first_look processors periods.balance)) roster.event_queue) }
+        ensures looks { IfOk result (λ roster. AreLooks (min processors PROCESSORS) (option_and_then (until periods.end) (first_look processors periods.balance)) roster.event_queue) }
     {
         let look = first_look(processors, periods.balance);
         let by_processor = vec![in alloc; ProcessorState::new(look); usize::from(processors)]?;
@@ -183,19 +184,19 @@ fn plan_looks(event_queue: &mut EventQueue, processors: u8, time: Option<u64>)
     ensures { AreLooks processors time event_queue.new }
 {
     'processors: for processor in 0..processors {
-        event_queue.set(Due::Pull(processor).place(), time);
+        event_queue.set(Due::Look(processor).place(), time);
     }
 }
 
 /// The place of what comes due.
 fn place_of(due: Due) -> Result<u16, BrokenInvariant>
     ensures place { IfOk result (λ place. place ≡ due_place due) }
-    ensures few { IfOk result (λ place. place < 1216) }
+    ensures few { IfOk result (λ place. place < PLACES) }
     ensures due { OnOk result (IsDue due) }
     ensures stray { IfErr result (λ _. IsDue due → ⊥) }
 {
     let is_due = match due {
-        Due::End(processor) | Due::Tick(processor) | Due::Pull(processor) => processor < PROCESSORS,
+        Due::End(processor) | Due::Tick(processor) | Due::Look(processor) => processor < PROCESSORS,
         Due::Wake(task) => task < TASKS,
     };
     if !is_due {
@@ -235,7 +236,7 @@ impl Roster {
         now: u64,
     ) -> Result<(), BrokenInvariant>
         ensures planned { OnOk result (IsPlanned self.old.periods.end (Due.End processor) (phase_end now progress.now) self.old.event_queue self.new.event_queue) }
-        ensures stray { IfErr result (λ _. (progress.now.due < progress.now.got) ⊎ (64 ≤ processor)) }
+        ensures stray { IfErr result (λ _. (progress.now.due < progress.now.got) ⊎ (PROCESSORS ≤ processor)) }
         ensures by_task { self.new.by_task ≡ self.old.by_task }
         ensures by_processor { self.new.by_processor ≡ self.old.by_processor }
         ensures periods { self.new.periods ≡ self.old.periods }

@@ -25,7 +25,7 @@ returns-in-Some-clause-befell g c =
     on_ok_weaker c.pull_from.result
     (λ h.
     Befell-looks g.S.Sink.takes (AreJust (Pull processor from now ∷ []))
-    (Meet (due.Pull processor) now) _ _ was here _ processor now (Some from) looks.due source
+    (Meet (due.Look processor) now) _ _ was here _ processor now (Some from) looks.due source
     (record { agrees = looks.agrees; periods = looks.periods; seed = refl; streams = refl; firsts = refl }) refl
     looks.accounts (λ deeds are. (Some from, deeds, refl, are)) h) c.pull_from.ensures.befell
 
@@ -37,7 +37,7 @@ returns-in-None-clause-befell g c =
     let processor = c.args.processor in
     let now = c.args.now in
     let source = subst (λ (o : Option ℕ). IsSource was.roster.by_processor.items processor o) c.in-None.is looks.source in
-    Befell-looks g.S.Sink.takes (AreJust []) (Meet (due.Pull processor) now) _ _ was here _ processor now None looks.due
+    Befell-looks g.S.Sink.takes (AreJust []) (Meet (due.Look processor) now) _ _ was here _ processor now None looks.due
     source (record { agrees = looks.agrees; periods = looks.periods; seed = refl; streams = refl; firsts = refl })
     refl looks.accounts (λ deeds are. (None, deeds, refl, are))
     (Lived-same g.S.Sink.takes (AreJust []) refl _ here here (Same-here here))
