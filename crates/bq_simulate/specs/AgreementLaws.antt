@@ -70,7 +70,7 @@ InstallsAreTaken =
 
 -- one task more
 abbrev pub accounts_with_task : TaskProgress → Accounts → Accounts
-accounts_with_task c a = record a { by_task = a.by_task ++ c ∷ [] }
+accounts_with_task progress a = record a { by_task = a.by_task ++ progress ∷ [] }
 
 -- The next task of a kind whose numbers are in their ranges is admitted, and is there: its home is the first processor that it may use.
 abbrev pub AdmissionsAreTaken : Type 0
@@ -86,8 +86,8 @@ IsTakenIn d periods a now placed w =
 -- A wake of a task that sleeps is taken: it begins, it ends, and the task is taken in where it was placed.
 abbrev pub WakesAreTaken : Type 0
 WakesAreTaken =
-    (d : Discipline) (periods : Periods) (w : World) (a : Accounts) (from task now : ℕ) (c : TaskProgress) → AgreesWith w a → from < count_in w →
-    slice_get a.by_task task ≡ Some c → can_run c.task_state ≡ false →
+    (d : Discipline) (periods : Periods) (w : World) (a : Accounts) (from task now : ℕ) (progress : TaskProgress) → AgreesWith w a → from < count_in w →
+    slice_get a.by_task task ≡ Some progress → can_run progress.task_state ≡ false →
     IsTaken d w (BeginWake from task) (λ begun v. IsTaken d v (EndWake from now) (IsTakenIn d periods (after_event periods (BeginWake from task) begun a) now))
 
 -- the machine's world and what is kept of it agree
@@ -132,11 +132,11 @@ pub record CallsFailForMemory : Type 0 where
       runner_at a.by_processor processor ≡ Some task → FailsForMemory d (Block processor now)
   pub pulls : (d : Driver) (a : Accounts) (processor from now : ℕ) → IsDriverReady d a now → processor < count_in d.machine.world → from < count_in d.machine.world → processor ≢ from →
       FailsForMemory d (Pull processor from now)
-  pub wakes : (d : Driver) (a : Accounts) (from task now : ℕ) (c : TaskProgress) (why : DriveFault) → IsDriverReady d a now →
-      from < count_in d.machine.world → slice_get a.by_task task ≡ Some c → can_run c.task_state ≡ false → IsWakeFault d from task now why → why ≡ OutOfMemory
+  pub wakes : (d : Driver) (a : Accounts) (from task now : ℕ) (progress : TaskProgress) (why : DriveFault) → IsDriverReady d a now →
+      from < count_in d.machine.world → slice_get a.by_task task ≡ Some progress → can_run progress.task_state ≡ false → IsWakeFault d from task now why → why ≡ OutOfMemory
   -- once a wake has placed its task, the task can be taken in
-  pub drains : (d e : Driver) (a : Accounts) (from task to now : ℕ) (c : TaskProgress) (reported : Reported) → IsDriverReady d a now →
-      from < count_in d.machine.world → slice_get a.by_task task ≡ Some c → can_run c.task_state ≡ false → PlacesWoken d from task now to reported e → FailsForMemory e (Drain to now)
+  pub drains : (d e : Driver) (a : Accounts) (from task to now : ℕ) (progress : TaskProgress) (reported : Reported) → IsDriverReady d a now →
+      from < count_in d.machine.world → slice_get a.by_task task ≡ Some progress → can_run progress.task_state ≡ false → PlacesWoken d from task now to reported e → FailsForMemory e (Drain to now)
 
 -- Each answer is of its event's kind.
 abbrev pub AnswersFit : Type 0
@@ -152,8 +152,8 @@ RunsAlone a processor = (other task : ℕ) → runner_at a.by_processor processo
 
 -- Nothing is past at an instant after what was done then: another task runs, as an answer says; a clock beats; a processor looks.
 pub record StaysOnTime : Type 0 where
-  pub switched_on_time : (periods : Periods) (now processor : ℕ) (run : Option ℕ) (v : World) (a : Accounts) (l : ProcessorState) →
-      1 ≤ periods.tick → slice_get a.by_processor processor ≡ Some l → RunsAlone a processor → AgreesWith v (accounts_switched processor run now periods a) → IsOnTime now a →
+  pub switched_on_time : (periods : Periods) (now processor : ℕ) (run : Option ℕ) (v : World) (a : Accounts) (state : ProcessorState) →
+      1 ≤ periods.tick → slice_get a.by_processor processor ≡ Some state → RunsAlone a processor → AgreesWith v (accounts_switched processor run now periods a) → IsOnTime now a →
       IsOnTime now (accounts_switched processor run now periods a)
   pub beaten_on_time : (now processor tick : ℕ) (a : Accounts) → 1 ≤ tick → is_busy a processor ≡ true → IsOnTime now a → IsOnTime now (beaten processor now tick a)
   pub looked_on_time : (now processor balance : ℕ) (a : Accounts) → 1 ≤ balance → IsOnTime now a → IsOnTime now (looked processor now balance a)

@@ -72,11 +72,11 @@ accounts_pulled from to task a = option_map_or (λ _. accounts_passed from to a)
 
 -- the accounts after an answer: if another task runs now, the time of the one before is counted; a woken task has no phase yet
 abbrev pub after_event : Periods → Event → Reply → Accounts → Accounts
-after_event periods (BeginWake c task) reply a = of_task progress_woken task a
-after_event periods (Drain c now) reply a = accounts_entered c (count_entered reply) (runs_now reply) now periods a
-after_event periods (Tick c now) reply a = accounts_switched c (runs_now reply) now periods a
-after_event periods (Block c now) reply a = left_by c (runs_now reply) now periods a
-after_event periods (Pull c from now) reply a = accounts_switched c (runs_now reply) now periods (accounts_pulled from c (task_pulled reply) a)
+after_event periods (BeginWake processor task) reply a = of_task progress_woken task a
+after_event periods (Drain processor now) reply a = accounts_entered processor (count_entered reply) (runs_now reply) now periods a
+after_event periods (Tick processor now) reply a = accounts_switched processor (runs_now reply) now periods a
+after_event periods (Block processor now) reply a = left_by processor (runs_now reply) now periods a
+after_event periods (Pull processor from now) reply a = accounts_switched processor (runs_now reply) now periods (accounts_pulled from processor (task_pulled reply) a)
 after_event periods event reply a = a
 
 -- what is kept after an answer: only its accounts change
@@ -103,9 +103,9 @@ drawn_with task drawn (Some asked) = changed_at suc drawn task
 
 -- the task does its next action, once the time that it has run is counted
 abbrev pub after_act : List TaskKind → ℕ → ℕ → ℕ → ℕ → TaskProgress → Book → Book
-after_act kinds seed processor task now c b = record {
-  accounts = of_task (λ _. acted kinds (next_action kinds c) (length_taken seed task b.drawn (asked_by (next_action kinds c))) now c) task (accounts_charged processor now b.accounts);
-  drawn = drawn_with task b.drawn (asked_by (next_action kinds c));
+after_act kinds seed processor task now progress b = record {
+  accounts = of_task (λ _. acted kinds (next_action kinds progress) (length_taken seed task b.drawn (asked_by (next_action kinds progress))) now progress) task (accounts_charged processor now b.accounts);
+  drawn = drawn_with task b.drawn (asked_by (next_action kinds progress));
 }
 
 -- the clock of a processor beats
@@ -121,7 +121,7 @@ abbrev pub after_deed : List TaskKind → ℕ → Periods → Deed → Book → 
 after_deed kinds seed periods (Happens event reply) b = after_answer periods event reply b
 after_deed kinds seed periods (Joins kind home) b = task_added kinds kind home b
 after_deed kinds seed periods (Acts processor task now action aim) b =
-    option_map_or (λ c. after_act kinds seed processor task now c b) (slice_get (accounts_charged processor now b.accounts).by_task task) b
+    option_map_or (λ progress. after_act kinds seed processor task now progress b) (slice_get (accounts_charged processor now b.accounts).by_task task) b
 after_deed kinds seed periods (Rings task now) b = b
 after_deed kinds seed periods (Reaches task) b = b
 after_deed kinds seed periods (Misses task) b = b
@@ -146,14 +146,14 @@ Lives kinds seed periods d b (Happens event reply ∷ deeds) reported e f =
 Lives kinds seed periods d b (Joins kind home ∷ deeds) reported e f =
     IsTaskOfKind kinds (length b.accounts.by_task) kind × Lives kinds seed periods d (task_added kinds kind home b) deeds reported e f
 Lives kinds seed periods d b (Acts processor task now action aim ∷ deeds) reported e f =
-    (c : TaskProgress) × IsPhaseDone (accounts_charged processor now b.accounts) processor task c × (action ≡ next_action kinds c) × (aim ≡ wake_target kinds c)
-    × Lives kinds seed periods d (after_act kinds seed processor task now c b) deeds reported e f
+    (progress : TaskProgress) × IsPhaseDone (accounts_charged processor now b.accounts) processor task progress × (action ≡ next_action kinds progress) × (aim ≡ wake_target kinds progress)
+    × Lives kinds seed periods d (after_act kinds seed processor task now progress b) deeds reported e f
 Lives kinds seed periods d b (Rings task now ∷ deeds) reported e f =
-    (c : TaskProgress) × (slice_get b.accounts.by_task task ≡ Some c) × (c.task_state ≡ Asleep) × (c.timer ≡ now) × Lives kinds seed periods d b deeds reported e f
+    (progress : TaskProgress) × (slice_get b.accounts.by_task task ≡ Some progress) × (progress.task_state ≡ Asleep) × (progress.timer ≡ now) × Lives kinds seed periods d b deeds reported e f
 Lives kinds seed periods d b (Reaches task ∷ deeds) reported e f =
-    (c : TaskProgress) × (slice_get b.accounts.by_task task ≡ Some c) × (c.task_state ≡ Waiting) × Lives kinds seed periods d b deeds reported e f
+    (progress : TaskProgress) × (slice_get b.accounts.by_task task ≡ Some progress) × (progress.task_state ≡ Waiting) × Lives kinds seed periods d b deeds reported e f
 Lives kinds seed periods d b (Misses task ∷ deeds) reported e f =
-    (c : TaskProgress) × (slice_get b.accounts.by_task task ≡ Some c) × (c.task_state ≢ Waiting) × Lives kinds seed periods d b deeds reported e f
+    (progress : TaskProgress) × (slice_get b.accounts.by_task task ≡ Some progress) × (progress.task_state ≢ Waiting) × Lives kinds seed periods d b deeds reported e f
 Lives kinds seed periods d b (Beats processor now ∷ deeds) reported e f =
     TicksAt b.accounts processor now × (is_busy b.accounts processor ≡ true) × Lives kinds seed periods d (after_beat periods processor now b) deeds reported e f
 Lives kinds seed periods d b (Looks processor now source ∷ deeds) reported e f =

@@ -17,11 +17,11 @@ use Rattle.bq_simulate.specs.declared.driver.Driver.{Driver}
 
 -- the reading that comes with an event
 abbrev pub reading_of_event : Event → Option ℕ
-reading_of_event (EndWake c now) = Some now
-reading_of_event (Drain c now) = Some now
-reading_of_event (Tick c now) = Some now
-reading_of_event (Block c now) = Some now
-reading_of_event (Pull c from now) = Some now
+reading_of_event (EndWake processor now) = Some now
+reading_of_event (Drain processor now) = Some now
+reading_of_event (Tick processor now) = Some now
+reading_of_event (Block processor now) = Some now
+reading_of_event (Pull processor from now) = Some now
 reading_of_event event = None
 
 -- a reading is no less than the last that any clock was given, and counts as it is
