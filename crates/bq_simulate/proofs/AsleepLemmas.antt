@@ -21,7 +21,7 @@ use Rattle.bq_simulate.specs.declared.simulation.Simulation.{Simulation}
 use Rattle.bq_simulate.specs.Agreement.{runner_at}
 use Rattle.bq_simulate.specs.AgreementLaws.{FailsForMemory, RunsAlone}
 use Rattle.bq_simulate.specs.Drives.{DrivesEvent, runs_now}
-use Rattle.bq_simulate.specs.Order.{FallsAsleep}
+use Rattle.bq_simulate.specs.GoingWell.{FallsAsleep}
 use Rattle.bq_simulate.specs.Simulations.{book_of}
 use Rattle.bq_simulate.proofs.CallLemmas.{calls_fail_for_memory}
 use Rattle.bq_simulate.proofs.MeetAgreeLemmas.{block_agrees, world_of}

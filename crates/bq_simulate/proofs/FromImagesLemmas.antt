@@ -12,10 +12,10 @@ use Rattle.bq_parts.specs.declared.event.Event.{Event}
 use Rattle.bq_parts.specs.declared.event.Event.TheVariants.{Block, Install, Tick}
 use Rattle.bq_trace.specs.TraceEvents.{Reported}
 use Rattle.bq_verify.specs.Accepted.{Accepted}
-use Rattle.bq_simulate.specs.Chronicles.{Book, Deed, Happens, events_of}
+use Rattle.bq_simulate.specs.Deeds.{Book, Deed, Happens, events_of}
 use Rattle.bq_simulate.specs.Replays.{AreOfImages, IsFromImages, IsLoadedFromImage}
 use Rattle.bq_simulate.specs.Simulations.{IsSimulation, Proceeds}
-use Rattle.bq_simulate.specs.Steps.{AreAdmitted, AreAllAdmitted, AreInstalled, AreJust, AreWake, Follow, Meet, MetDue, deeds_of, pulls_of}
+use Rattle.bq_simulate.specs.Steps.{AreAdmitted, AreAllAdmitted, AreInstalled, AreJustEvents, AreWake, FollowsAction, DeedsMeet, MetDue, deeds_of, pulls_of}
 use Rattle.bq_simulate.specs.Texts.{ByHook}
 
 -- each policy that the deeds install is that of the image at its hook
@@ -35,7 +35,7 @@ parts : (images : ByHook) {whole : List Deed} (xs ys : List Deed)
 parts images xs ys is h k = same images is (joined images xs ys h k)
 
 just : (images : ByHook) (events : List Event) (deeds : List Deed)
-    → AllByRecursion (IsFromImages images) events → AreJust events deeds → InstallsImages images deeds
+    → AllByRecursion (IsFromImages images) events → AreJustEvents events deeds → InstallsImages images deeds
 just images [] deeds h is = same images is tt
 just images (event ∷ events) deeds h (reply, more, is, rest) = same images is (h.0, just images events more h.1 rest)
 
@@ -70,11 +70,11 @@ all_admitted images processors number task (kind ∷ kinds) deeds (some, more, i
 wakes : (images : ByHook) (from task now : ℕ) (deeds : List Deed) → AreWake from task now deeds → InstallsImages images deeds
 wakes images from task now deeds (begun, placed, drained, to, at, is) = same images is (tt, (tt, (tt, tt)))
 
-blocks : (images : ByHook) (processor now : ℕ) (deeds : List Deed) → AreJust (Block processor now ∷ []) deeds → InstallsImages images deeds
+blocks : (images : ByHook) (processor now : ℕ) (deeds : List Deed) → AreJustEvents (Block processor now ∷ []) deeds → InstallsImages images deeds
 blocks images processor now deeds is = just images (Block processor now ∷ []) deeds (tt, tt) is
 
 follows : (images : ByHook) (action : Option Action) (aim : Option ℕ) (processor now : ℕ) (deeds : List Deed)
-    → Follow action aim processor now deeds → InstallsImages images deeds
+    → FollowsAction action aim processor now deeds → InstallsImages images deeds
 follows images (Some (Run asked)) aim processor now deeds is = same images is tt
 follows images (Some (Wake kind)) (Some task) processor now deeds (inl is) = same images is tt
 follows images (Some (Wake kind)) (Some task) processor now deeds (inr (more, is, woken)) =
@@ -91,7 +91,7 @@ pulls : (images : ByHook) (processor now : ℕ) (source : Option ℕ) → AllByR
 pulls images processor now None = tt
 pulls images processor now (Some from) = (tt, tt)
 
-meets : (images : ByHook) (due : Due) (now : ℕ) (deeds : List Deed) → Meet due now deeds → InstallsImages images deeds
+meets : (images : ByHook) (due : Due) (now : ℕ) (deeds : List Deed) → DeedsMeet due now deeds → InstallsImages images deeds
 meets images (due.End processor) now deeds (task, action, aim, more, is, rest) =
     same images is (follows images action aim processor now more rest)
 meets images (due.Wake task) now deeds (home, more, is, rest) = same images is (wakes images home task now more rest)

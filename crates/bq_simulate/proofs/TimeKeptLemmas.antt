@@ -23,7 +23,7 @@ use Rattle.bq_workload.proofs.AgreeLemmas.{changed_at-here, changed_at-others, s
 use Rattle.bq_workload.proofs.AgreedLemmas.{both, charged-is, counted, since_now, stood_before_change}
 use Rattle.bq_simulate.specs.Agreement.{AgreesWith, IsOnTime, ProcessorIsOnTime, RunsOnTime, StandsAs, TaskIsOnTime, runner_at, state_at}
 use Rattle.bq_simulate.specs.AgreementLaws.{RunsAlone, StaysOnTime, TasksRunAlone}
-use Rattle.bq_simulate.specs.Chronicles.{is_busy}
+use Rattle.bq_simulate.specs.Deeds.{is_busy}
 use Rattle.bq_simulate.proofs.AccountLemmas.{Reads, changed_at-length, reads_charged, reads_switched}
 use Rattle.bq_simulate.proofs.MeetAgreeLemmas.{current_counted, runs_away}
 

@@ -26,10 +26,10 @@ use Rattle.bq_trace.specs.TraceEvents.{Reported}
 use Rattle.bq_simulate.specs.declared.drive_fault.DriveFault.{DriveFault}
 use Rattle.bq_simulate.specs.declared.drive_fault.DriveFault.TheVariants.{OutOfMemory}
 use Rattle.bq_simulate.specs.declared.driver.Driver.{Driver}
-use Rattle.bq_simulate.specs.Chronicles.{Book, Deed, Lives, after_event, is_busy}
+use Rattle.bq_simulate.specs.Deeds.{Book, Deed, DeedsLead, after_event, is_busy}
 use Rattle.bq_simulate.specs.Drives.{IsDriveFault, IsWakeFault, PlacesWoken, count_entered, placed_at, reading_of_event}
 use Rattle.bq_simulate.specs.Simulations.{SimulationBegins, IsSimulation}
-use Rattle.bq_simulate.specs.Steps.{IsAdmissible, Meet}
+use Rattle.bq_simulate.specs.Steps.{IsAdmissible, DeedsMeet}
 
 -- an event is not refused; and in each way to do it, its answer and the world that it leaves have this property
 pub record IsTaken (d : Discipline) (w : World) (event : Event) (Leaves : Reply → World → Type 0) : Type 0 where
@@ -98,7 +98,7 @@ BookAgrees d b = AgreesWith d.machine.world b.accounts
 abbrev pub MeetingsAgree : Type 0
 MeetingsAgree =
     (kinds : List TaskKind) (seed : ℕ) (periods : Periods) (d e : Driver) (b c : Book) (due : Due) (now : ℕ) (deeds : List Deed) (reported : Reported) →
-    Meet due now deeds → Lives kinds seed periods d b deeds reported e c → BookAgrees d b → BookAgrees e c
+    DeedsMeet due now deeds → DeedsLead kinds seed periods d b deeds reported e c → BookAgrees d b → BookAgrees e c
 
 -- So the accounts agree at the end of each simulation, and wherever one has been followed to.
 pub record SimulationsAgree : Type 0 where
@@ -166,5 +166,5 @@ TasksRunAlone = (w : World) (a : Accounts) (processor : ℕ) → AgreesWith w a 
 abbrev pub MeetingsAreOnTime : Type 0
 MeetingsAreOnTime =
     (kinds : List TaskKind) (seed : ℕ) (periods : Periods) (d e : Driver) (b c : Book) (due : Due) (now : ℕ) (deeds : List Deed) (reported : Reported) →
-    1 ≤ periods.tick → 1 ≤ periods.balance → now < 2 ^ 48 → Meet due now deeds →
-    Lives kinds seed periods d b deeds reported e c → BookAgrees d b → IsOnTime now b.accounts → IsOnTime now c.accounts
+    1 ≤ periods.tick → 1 ≤ periods.balance → now < 2 ^ 48 → DeedsMeet due now deeds →
+    DeedsLead kinds seed periods d b deeds reported e c → BookAgrees d b → IsOnTime now b.accounts → IsOnTime now c.accounts

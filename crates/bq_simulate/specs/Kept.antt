@@ -12,7 +12,7 @@ use Rattle.bq_simulate.specs.declared.driver.Driver.{Driver}
 use Rattle.bq_simulate.specs.declared.simulation.Simulation.{Simulation}
 use Rattle.bq_simulate.specs.Actions.{IsTaskOfKind, action_count, next_action}
 use Rattle.bq_simulate.specs.Agreement.{AgreesWith, IsOnTime}
-use Rattle.bq_simulate.specs.Chronicles.{Book}
+use Rattle.bq_simulate.specs.Deeds.{Book}
 
 -- a task is at one of the actions of its kind; if it wakes others next, its wake has come to fewer than there are
 pub record StandsAtAction (kinds : List TaskKind) (task : ℕ) (progress : TaskProgress) : Type 0 where

@@ -18,9 +18,6 @@ pub enum DriveFault {
     /// The reading of a clock fell, or passed 2^48 - 1.
     #[error("a clock went back, or past its latest reading")]
     Reading,
-    /// An answer that is not of its event's kind.
-    #[error("an answer is not of its event's kind")]
-    Answer,
 }
 
 impl From<AllocError> for DriveFault {

@@ -138,26 +138,26 @@ after_deeds kinds seed periods b (deed ∷ deeds) = after_deeds kinds seed perio
 -- processor costs. A wake comes to the tasks of its kind one after another, by number. A timer that rings is of a task that is
 -- asleep until exactly then. A clock beats exactly when it is to, at a processor that runs something. A processor looks exactly
 -- when it is to, and finds the processor with the most tasks.
-abbrev pub Lives : List TaskKind → ℕ → Periods → Driver → Book → List Deed → Reported → Driver → Book → Type 0
-Lives kinds seed periods d b [] reported e f = (reported ≡ []) × (e ≡ d) × (f ≡ b)
-Lives kinds seed periods d b (Happens event reply ∷ deeds) reported e f =
+abbrev pub DeedsLead : List TaskKind → ℕ → Periods → Driver → Book → List Deed → Reported → Driver → Book → Type 0
+DeedsLead kinds seed periods d b [] reported e f = (reported ≡ []) × (e ≡ d) × (f ≡ b)
+DeedsLead kinds seed periods d b (Happens event reply ∷ deeds) reported e f =
     MayCome event b.accounts × (mid : Driver) × (first : Reported) × (more : Reported)
-    × DrivesEvent d event reply first mid × Lives kinds seed periods mid (after_answer periods event reply b) deeds more e f × (reported ≡ first ++ more)
-Lives kinds seed periods d b (Joins kind home ∷ deeds) reported e f =
-    IsTaskOfKind kinds (length b.accounts.by_task) kind × Lives kinds seed periods d (task_added kinds kind home b) deeds reported e f
-Lives kinds seed periods d b (Acts processor task now action aim ∷ deeds) reported e f =
+    × DrivesEvent d event reply first mid × DeedsLead kinds seed periods mid (after_answer periods event reply b) deeds more e f × (reported ≡ first ++ more)
+DeedsLead kinds seed periods d b (Joins kind home ∷ deeds) reported e f =
+    IsTaskOfKind kinds (length b.accounts.by_task) kind × DeedsLead kinds seed periods d (task_added kinds kind home b) deeds reported e f
+DeedsLead kinds seed periods d b (Acts processor task now action aim ∷ deeds) reported e f =
     (progress : TaskProgress) × IsPhaseDone (accounts_charged processor now b.accounts) processor task progress × (action ≡ next_action kinds progress) × (aim ≡ wake_target kinds progress)
-    × Lives kinds seed periods d (after_act kinds seed processor task now progress b) deeds reported e f
-Lives kinds seed periods d b (Rings task now ∷ deeds) reported e f =
-    (progress : TaskProgress) × (slice_get b.accounts.by_task task ≡ Some progress) × (progress.task_state ≡ Asleep) × (progress.timer ≡ now) × Lives kinds seed periods d b deeds reported e f
-Lives kinds seed periods d b (Reaches task ∷ deeds) reported e f =
-    (progress : TaskProgress) × (slice_get b.accounts.by_task task ≡ Some progress) × (progress.task_state ≡ Waiting) × Lives kinds seed periods d b deeds reported e f
-Lives kinds seed periods d b (Misses task ∷ deeds) reported e f =
-    (progress : TaskProgress) × (slice_get b.accounts.by_task task ≡ Some progress) × (progress.task_state ≢ Waiting) × Lives kinds seed periods d b deeds reported e f
-Lives kinds seed periods d b (Beats processor now ∷ deeds) reported e f =
-    TicksAt b.accounts processor now × (is_busy b.accounts processor ≡ true) × Lives kinds seed periods d (after_beat periods processor now b) deeds reported e f
-Lives kinds seed periods d b (Looks processor now source ∷ deeds) reported e f =
-    LooksAt b.accounts processor now × IsSource b.accounts.by_processor processor source × Lives kinds seed periods d (after_look periods processor now b) deeds reported e f
+    × DeedsLead kinds seed periods d (after_act kinds seed processor task now progress b) deeds reported e f
+DeedsLead kinds seed periods d b (Rings task now ∷ deeds) reported e f =
+    (progress : TaskProgress) × (slice_get b.accounts.by_task task ≡ Some progress) × (progress.task_state ≡ Asleep) × (progress.timer ≡ now) × DeedsLead kinds seed periods d b deeds reported e f
+DeedsLead kinds seed periods d b (Reaches task ∷ deeds) reported e f =
+    (progress : TaskProgress) × (slice_get b.accounts.by_task task ≡ Some progress) × (progress.task_state ≡ Waiting) × DeedsLead kinds seed periods d b deeds reported e f
+DeedsLead kinds seed periods d b (Misses task ∷ deeds) reported e f =
+    (progress : TaskProgress) × (slice_get b.accounts.by_task task ≡ Some progress) × (progress.task_state ≢ Waiting) × DeedsLead kinds seed periods d b deeds reported e f
+DeedsLead kinds seed periods d b (Beats processor now ∷ deeds) reported e f =
+    TicksAt b.accounts processor now × (is_busy b.accounts processor ≡ true) × DeedsLead kinds seed periods d (after_beat periods processor now b) deeds reported e f
+DeedsLead kinds seed periods d b (Looks processor now source ∷ deeds) reported e f =
+    LooksAt b.accounts processor now × IsSource b.accounts.by_processor processor source × DeedsLead kinds seed periods d (after_look periods processor now b) deeds reported e f
 
 -- the events among them
 abbrev pub events_of : List Deed → List Event

@@ -21,7 +21,7 @@ use Rattle.bq_simulate.specs.declared.fault.SimulateFault.TheVariants.{Endless, 
 use Rattle.bq_simulate.specs.declared.simulation.Simulation.{Simulation}
 use Rattle.bq_simulate.specs.Actions.{first_task_of}
 use Rattle.bq_simulate.specs.Agreement.{AgreesBut, AgreesWith, IsOnTime, runner_at}
-use Rattle.bq_simulate.specs.Chronicles.{Book, is_busy, accounts_pulled}
+use Rattle.bq_simulate.specs.Deeds.{Book, is_busy, accounts_pulled}
 use Rattle.bq_simulate.specs.Kept.{HasAllFirsts, IsKept, IsNewerFrom, StandAtActions, WereDrawn}
 use Rattle.bq_simulate.specs.Simulations.{HasDrawn, HasFirsts, book_of, periods_of}
 
