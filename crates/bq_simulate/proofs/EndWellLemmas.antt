@@ -9,7 +9,7 @@ use Rattle.bq_parts.specs.World.{World, count_in}
 use Rattle.bq_parts.proofs.RefusalLemmas.{accepted, not_refused_is_there}
 use Rattle.bq_trace.specs.TraceEvents.{TraceEvent, Reported}
 use Rattle.bq_workload.specs.declared.progress.TaskProgress.{TaskProgress}
-use Rattle.bq_workload.specs.declared.roster.Periods.{Periods}
+use Rattle.bq_workload.specs.declared.periods.Periods.{Periods}
 use Rattle.bq_workload.specs.declared.workload.TaskKind.{TaskKind}
 use Rattle.bq_workload.specs.declared.workload.Workload.{Workload}
 use Rattle.bq_workload.specs.Accounts.{Accounts, accounts_of}

@@ -13,7 +13,7 @@ use Rattle.bq_workload.specs.declared.due.Due.TheVariants as due
 use Rattle.bq_workload.specs.declared.progress.TaskProgress.{TaskProgress}
 use Rattle.bq_workload.specs.declared.progress.TaskState.TheVariants.{Asleep}
 use Rattle.bq_workload.specs.declared.processor_state.ProcessorState.{ProcessorState}
-use Rattle.bq_workload.specs.declared.roster.Periods.{Periods}
+use Rattle.bq_workload.specs.declared.periods.Periods.{Periods}
 use Rattle.bq_workload.specs.declared.workload.TaskKind.{TaskKind}
 use Rattle.bq_workload.specs.Accounts.{Accounts, IsPhaseDone, changed_at, accounts_charged, runner_charged, grown, is_same, of_processor, of_task, accounts_passed, shrunk, accounts_switched, taken_over}
 use Rattle.bq_workload.specs.Dues.{next_multiple}

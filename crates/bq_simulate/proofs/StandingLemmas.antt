@@ -12,7 +12,7 @@ use Rattle.bq_workload.specs.declared.action.Action.TheVariants.{Run, Sleep, Wai
 use Rattle.bq_workload.specs.declared.action.Length.{Length}
 use Rattle.bq_workload.specs.declared.progress.TaskProgress.{TaskProgress}
 use Rattle.bq_workload.specs.declared.processor_state.ProcessorState.{ProcessorState}
-use Rattle.bq_workload.specs.declared.roster.Periods.{Periods}
+use Rattle.bq_workload.specs.declared.periods.Periods.{Periods}
 use Rattle.bq_workload.specs.declared.workload.TaskKind.{TaskKind}
 use Rattle.bq_workload.specs.declared.workload.Workload.{Workload}
 use Rattle.bq_workload.specs.Accounts.{Accounts, changed_at, accounts_charged, runner_charged, grown, idled, is_same, occupied, of_processor, of_task, accounts_passed, shrunk, accounts_switched, taken_over}

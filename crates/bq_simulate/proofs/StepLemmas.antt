@@ -3,7 +3,7 @@ use Rattle.std.proofs.Common.{◌≡◌, ℕ, ◌+◌, ◌≤◌, List, [], ◌�
 use Rattle.std.proofs.lemmas.Grind.{flat_map-append}
 use Rattle.bq_workload.specs.declared.due.Due.{Due}
 use Rattle.bq_parts.specs.declared.event.Event.{Event}
-use Rattle.bq_workload.specs.declared.roster.Periods.{Periods}
+use Rattle.bq_workload.specs.declared.periods.Periods.{Periods}
 use Rattle.bq_workload.specs.declared.workload.TaskKind.{TaskKind}
 use Rattle.bq_workload.specs.Next.{IsNextDue}
 use Rattle.bq_simulate.specs.Deeds.{Book, Deed, after_deed, after_deeds}

@@ -10,7 +10,7 @@ use Rattle.bq_words.specs.Sizes.{processors_in}
 use Rattle.bq_simulate.specs.declared.driver.Driver.{Driver}
 use Rattle.bq_simulate.specs.Drives.{Starts}
 use Rattle.bq_workload.specs.Accounts.{Accounts, accounts_of}
-use Rattle.bq_workload.specs.declared.roster.Periods.{Periods}
+use Rattle.bq_workload.specs.declared.periods.Periods.{Periods}
 use Rattle.bq_simulate.specs.declared.simulation.Simulation.{Simulation}
 use Rattle.bq_workload.specs.Bounds.{most_steps, steps_at_once}
 use Rattle.bq_simulate.specs.Deeds.{Book, Deed, DeedsLead, after_deeds}

@@ -13,7 +13,7 @@ use Rattle.bq_parts.specs.World.{World, count_in, processor_at}
 use Rattle.bq_installed.specs.Attachments.{at_hook}
 use Rattle.bq_workload.specs.declared.due.Due.{Due}
 use Rattle.bq_workload.specs.declared.progress.TaskProgress.{TaskProgress}
-use Rattle.bq_workload.specs.declared.roster.Periods.{Periods}
+use Rattle.bq_workload.specs.declared.periods.Periods.{Periods}
 use Rattle.bq_workload.specs.declared.workload.TaskKind.{TaskKind}
 use Rattle.bq_workload.specs.declared.workload.Workload.{Workload}
 use Rattle.bq_workload.specs.declared.processor_state.ProcessorState.{ProcessorState}

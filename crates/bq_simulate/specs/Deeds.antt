@@ -1,4 +1,4 @@
--- What happens in a simulation, one thing after another: events of the trace with their answers, and what tasks do beside them.
+-- The deeds of a simulation: events of the trace with their answers, and what tasks and processors do beside them.
 use Rattle.std.specs.Prelude.{◌≡◌, ◌≢◌, ℕ, suc, Bool, true, false, List, [], ◌∷◌, ◌++◌, Option, Some, None, is_some, length, slice_get, unwrap_or}
 use Rattle.std.specs.Option.{option_map_or}
 use Rattle.bq_workload.specs.declared.action.Action.{Action}
@@ -14,7 +14,7 @@ use Rattle.bq_workload.specs.declared.progress.TaskProgress.{TaskProgress}
 use Rattle.bq_workload.specs.declared.progress.TaskState.{TaskState}
 use Rattle.bq_workload.specs.declared.progress.TaskState.TheVariants.{Asleep, Waiting}
 use Rattle.bq_workload.specs.declared.processor_state.ProcessorState.{ProcessorState}
-use Rattle.bq_workload.specs.declared.roster.Periods.{Periods}
+use Rattle.bq_workload.specs.declared.periods.Periods.{Periods}
 use Rattle.bq_workload.specs.Accounts.{Accounts, IsPhaseDone, LooksAt, TicksAt, beaten, changed_at, accounts_charged, accounts_entered, left_by, looked, of_task, accounts_passed, accounts_switched}
 use Rattle.bq_workload.specs.TaskProgress.{fresh_task, progress_woken}
 use Rattle.bq_workload.specs.Dues.{IsSource}
@@ -133,9 +133,9 @@ abbrev pub after_deeds : List TaskKind → ℕ → Periods → Book → List Dee
 after_deeds kinds seed periods b [] = b
 after_deeds kinds seed periods b (deed ∷ deeds) = after_deeds kinds seed periods (after_deed kinds seed periods deed b) deeds
 
--- Deeds one after another: what the sink gets of them, and what becomes of the machine and of what is kept. Tasks do what their
--- kinds say. Lengths are drawn from this seed. The periods give the times between ticks and between looks, and what a change of
--- processor costs. A wake comes to the tasks of its kind one after another, by number. A timer that rings is of a task that is
+-- Deeds, one after another, lead from one driver and book to another, and this is what they report. Tasks do what their kinds say.
+-- Lengths are drawn from this seed. The periods give the times between ticks and between looks, and what a change of processor
+-- costs. A wake comes to the tasks of its kind one after another, by number. A timer that rings is of a task that is
 -- asleep until exactly then. A clock beats exactly when it is to, at a processor that runs something. A processor looks exactly
 -- when it is to, and finds the processor with the most tasks.
 abbrev pub DeedsLead : List TaskKind → ℕ → Periods → Driver → Book → List Deed → Reported → Driver → Book → Type 0

@@ -8,7 +8,7 @@ use Rattle.bq_workload.specs.declared.action.Action.TheVariants.{Run, Wake}
 use Rattle.bq_workload.specs.declared.progress.TaskProgress.{TaskProgress}
 use Rattle.bq_workload.specs.declared.workload.TaskKind.{TaskKind}
 use Rattle.bq_workload.specs.declared.workload.Workload.{Workload}
-use Rattle.bq_workload.specs.declared.roster.Periods.{Periods}
+use Rattle.bq_workload.specs.declared.periods.Periods.{Periods}
 use Rattle.bq_workload.specs.Accounts.{Accounts, accounts_of}
 use Rattle.bq_workload.specs.Bounds.{steps_at_once}
 use Rattle.bq_workload.specs.Kinds.{kind_count}

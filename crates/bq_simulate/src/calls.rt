@@ -1,4 +1,4 @@
-//! The events by their answers.
+//! A call for each kind of event, which returns what the answer says.
 ghost use Rattle.std.specs.Prelude.{◌≡◌, ◌∷◌, [], IfErr, IfOk, OnOk, Some};
 ghost use Rattle.bq_parts.specs.declared.event.Event.TheVariants.{Admit, Draw, Install, EndWake, Drain, Tick, Block, Pull};
 ghost use Rattle.bq_parts.specs.declared.reply.Reply.{Reply};

@@ -1,4 +1,4 @@
-//! Why a drive ends before its time.
+//! Why an event is not done.
 ghost use Rattle.std.specs.Prelude.{◌≡◌};
 ghost use Rattle.bq_simulate.specs.declared.drive_fault.DriveFault.TheVariants.{OutOfMemory};
 

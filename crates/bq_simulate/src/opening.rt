@@ -42,6 +42,7 @@ impl Simulation {
         Ok(())
     }
 
+    /// A policy is installed at its hook of every processor, as this generation.
     fn install_one<S: Sink>(
         &mut self,
         alloc: Global,
@@ -179,6 +180,7 @@ impl Simulation {
         }
     }
 
+    /// A task is admitted, by what its kind says.
     fn admit_one<S: Sink>(
         &mut self,
         alloc: Global,

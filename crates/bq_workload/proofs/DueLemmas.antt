@@ -10,7 +10,7 @@ use Rattle.bq_workload.specs.declared.progress.TaskState.TheVariants.{Asleep, Wa
 use Rattle.bq_workload.specs.declared.due.Due.{Due}
 use Rattle.bq_workload.specs.declared.due.Due.TheVariants.{End, Wake, Tick, Look}
 use Rattle.bq_workload.specs.declared.processor_state.ProcessorState.{ProcessorState}
-use Rattle.bq_workload.specs.declared.roster.Periods.{Periods}
+use Rattle.bq_workload.specs.declared.periods.Periods.{Periods}
 use Rattle.bq_workload.specs.declared.roster.Roster.{Roster}
 use Rattle.bq_workload.specs.Accounts.{Accounts, IsPhaseDone, accounts_of, processor_at_rest, beaten, changed_at, accounts_charged, first_look, grown, looked, of_processor, of_task, opening_accounts, shrunk}
 use Rattle.bq_workload.specs.TaskProgress.{run_for, progress_woken}

@@ -7,7 +7,8 @@ ghost use Rattle.bq_workload.specs.Plans.{PlansLook, PlansTick};
 ghost use Rattle.bq_workload.specs.Strays.{HasNoNext, IsStrayBeat, IsStrayLook};
 
 use crate::Due;
-use crate::roster::{BrokenInvariant, Roster};
+use crate::broken_invariant::BrokenInvariant;
+use crate::roster::Roster;
 use bq_disc::limits::PROCESSORS;
 
 /// When each of this many processors first looks for a task to pull. A single processor never looks.
@@ -88,7 +89,7 @@ impl Roster {
         }
     }
 
-    /// Plans the next tick of a processor, and answers its time.
+    /// Plans the next tick of a processor. Returns its time.
     fn plan_tick(&mut self, processor: u8, now: u64) -> Result<u64, BrokenInvariant>
         ensures next { IfOk result (λ next. next ≡ next_multiple self.old.periods.tick now) }
         ensures planned { OnOk result (IsPlanned self.old.periods.end (Due.Tick processor) (next_multiple self.old.periods.tick now) self.old.event_queue self.new.event_queue) }

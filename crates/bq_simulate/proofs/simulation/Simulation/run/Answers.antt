@@ -1,5 +1,5 @@
 use Rattle.std.proofs.Common.{ℕ, List, inl, inr, subst, sym, ◌∙◌, true≢false, arith}
-use Rattle.bq_workload.specs.declared.roster.Periods.{Periods}
+use Rattle.bq_workload.specs.declared.periods.Periods.{Periods}
 use Rattle.bq_workload.specs.Accounts.{accounts_of}
 use Rattle.bq_workload.specs.Next.{NothingComes}
 use Rattle.bq_simulate.specs.Deeds.{Deed}

@@ -3,7 +3,7 @@ use Rattle.std.proofs.lemmas.Result.{err_from_is_err_and}
 use Rattle.bq_parts.specs.declared.event.Event.TheVariants.{BeginWake, EndWake, Drain}
 use Rattle.bq_simulate.specs.Drives.{runs_now}
 use Rattle.bq_simulate.proofs.DriveLemmas.{EventsAreDriven-join, EventsAreDriven-one, EventsAreDriven-places}
-use Rattle.bq_workload.specs.declared.roster.Periods.{Periods}
+use Rattle.bq_workload.specs.declared.periods.Periods.{Periods}
 use Rattle.bq_workload.specs.Accounts.{Accounts, accounts_of, accounts_entered, of_task}
 use Rattle.bq_workload.specs.TaskProgress.{progress_woken}
 use Rattle.bq_simulate.proofs.DeedLemmas.{GoesOnBy-wakes}
