@@ -165,12 +165,6 @@ pub GoesOnBy-weaker : {S : Type 0} (takes : S → ℕ → TraceEvent → S → T
 GoesOnBy-weaker takes kinds A B weaker x y s t goes drawn had firsts =
     GoesByDeeds-weaker takes kinds A B weaker x y s drawn t (goes drawn had firsts)
 
--- what holds of its events holds in other words
-pub GoesOnForAnyKinds-weaker : {S : Type 0} (takes : S → ℕ → TraceEvent → S → Type 0) (A B : List Deed → Type 0)
-    → ((xs : List Deed) → A xs → B xs) → (x y : S) (s t : Simulation) → GoesOnForAnyKinds takes A x s y t
-    → GoesOnForAnyKinds takes B x s y t
-GoesOnForAnyKinds-weaker takes A B weaker x y s t goes_on kinds = GoesOnBy-weaker takes kinds A B weaker x y s t (goes_on kinds)
-
 -- of deeds of which nothing is reported a sink gets nothing
 pub GoesOnBy-unreported : {S : Type 0} (takes : S → ℕ → TraceEvent → S → Type 0) (kinds : List TaskKind) (A : List Deed → Type 0)
     (x : S) (s t : Simulation)

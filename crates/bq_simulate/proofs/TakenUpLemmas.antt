@@ -18,7 +18,6 @@ use Rattle.bq_simulate.specs.declared.simulation.Simulation.{Simulation}
 use Rattle.bq_simulate.specs.Actions.{acted, aim_of, wake_target, asked_by, first_task_of, next_action}
 use Rattle.bq_simulate.specs.Agreement.{AgreesBut, AgreesWith, IsOnTime, can_run, runner_at}
 use Rattle.bq_simulate.specs.Deeds.{Book, DeedsLead, is_busy, length_taken}
-use Rattle.bq_simulate.specs.Kept.{IsKept}
 use Rattle.bq_simulate.specs.KeptLaws.{DeedsLeadIn}
 use Rattle.bq_simulate.specs.GoingWell.{CanFollow, FallsAsleep, SimulationGoesWell}
 use Rattle.bq_simulate.specs.Simulations.{GoesByUnreportedDeeds, book_of, with_seed}

@@ -1,5 +1,5 @@
 //! How a simulation begins: policies are installed, and tasks are admitted.
-ghost use Rattle.std.specs.Prelude.{◌≡◌, ◌≢◌, ◌+◌, ◌<◌, ℕ, true, [], ◌∷◌, IfErr, IfOk, OnOk, Some, List, length, slice_get};
+ghost use Rattle.std.specs.Prelude.{◌≡◌, ◌≢◌, ◌+◌, ◌<◌, ℕ, [], ◌∷◌, IfErr, IfOk, OnOk, Some, List, length, slice_get};
 ghost use Rattle.bq_disc.specs.declared.limits.TheConstants.{TASKS};
 ghost use Rattle.bq_parts.specs.declared.event.Event.TheVariants.{Admit};
 ghost use Rattle.bq_workload.specs.Kinds.{tasks_in};

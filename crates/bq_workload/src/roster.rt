@@ -90,13 +90,6 @@ impl Roster {
         self.by_processor[usize::from(processor)] = processor_state;
     }
 
-    /// How many processors there are.
-    pub fn processors(&self) -> usize
-        ensures { result ≡ length self.now.by_processor.items }
-    {
-        self.by_processor.len()
-    }
-
     /// What comes due first, and when.
     pub fn first(&self) -> Option<(u64, Due)>
         ensures first { MatchOption result (AreNever self.now.event_queue) (λ d. IsFirstDue self.now.event_queue d.0 (due_place d.1)) }
