@@ -68,7 +68,7 @@ IsUntouched fault d e old new = Unit {0}
 abbrev pub SinkTakes : Type 0 → Type 1
 SinkTakes S = S → ℕ → TraceEvent → S → Type 0
 
--- a sink gets what comes of it
+-- an event is done, and a sink gets what comes of it
 abbrev pub EventIsDriven : {S : Type 0} → SinkTakes S → S → Driver → Event → Reply → S → Driver → Type 0
 EventIsDriven takes old d event reply new e = Gets takes old new (λ reported. DrivesEvent d event reply reported e)
 
@@ -124,6 +124,6 @@ Drives d (event ∷ events) reported e =
     (reply : Reply) × (mid : Driver) × (first : Reported) × (more : Reported)
     × DrivesEvent d event reply first mid × Drives mid events more e × (reported ≡ first ++ more)
 
--- a sink gets what comes of them
+-- events are done one after another, and a sink gets what comes of them
 abbrev pub EventsAreDriven : {S : Type 0} → SinkTakes S → S → Driver → List Event → S → Driver → Type 0
 EventsAreDriven takes old d events new e = Gets takes old new (λ reported. Drives d events reported e)
