@@ -13,7 +13,7 @@ use Rattle.bq_comparison.specs.Faults.{EndsInFault, IsNoRun, IsNoSide, IsNoSumma
 use Rattle.bq_experiment.specs.Limits.{IsLonger}
 use Rattle.bq_workload.specs.Soundness.{first_flaw}
 use Rattle.bq_simulate.specs.Faults.{reported_flaw}
-use Rattle.bq_simulate.specs.Order.{IsCutOff, IsEndless}
+use Rattle.bq_simulate.specs.GoingWell.{IsCutOff, IsEndless}
 use Rattle.bq_simulate.specs.declared.fault.SimulateFault.{SimulateFault}
 use Rattle.bq_simulate.specs.declared.fault.SimulateFault.TheVariants as run_fault
 use Rattle.bq_simulate.specs.Simulations.{Accepted, with_seed}

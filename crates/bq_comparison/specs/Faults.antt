@@ -5,7 +5,7 @@ use Rattle.bq_workload.specs.Soundness.{first_flaw}
 use Rattle.bq_workload.specs.declared.workload.Workload.{Workload}
 use Rattle.bq_experiment.specs.Limits.{IsLonger}
 use Rattle.bq_simulate.specs.Faults.{reported_flaw}
-use Rattle.bq_simulate.specs.Order.{IsEndless}
+use Rattle.bq_simulate.specs.GoingWell.{IsEndless}
 use Rattle.bq_simulate.specs.Simulations.{Accepted, with_seed}
 use Rattle.bq_simulate.specs.declared.fault.SimulateFault.{SimulateFault}
 use Rattle.bq_simulate.specs.declared.fault.SimulateFault.TheVariants as run_fault

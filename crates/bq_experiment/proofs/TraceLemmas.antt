@@ -10,7 +10,7 @@ use Rattle.bq_simulate.proofs.FromImagesLemmas.{installs_of_images}
 use Rattle.bq_simulate.proofs.ReplayLemmas.{AreFitting-parts, texts_are_replayed, reported_lines-append}
 use Rattle.bq_simulate.proofs.TextLemmas.{Takes}
 use Rattle.bq_streams.specs.Counts.{counted_inner}
-use Rattle.bq_simulate.specs.Chronicles.{events_of}
+use Rattle.bq_simulate.specs.Deeds.{events_of}
 use Rattle.bq_simulate.specs.Simulations.{Accepted, IsFollowed, IsSimulation}
 use Rattle.bq_trace.specs.Feeding.{with_feeds}
 use Rattle.bq_trace.specs.TraceEvents.{Gets, TraceEvent, Reported, texts}

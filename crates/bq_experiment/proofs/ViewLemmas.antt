@@ -5,7 +5,7 @@ use Rattle.bq_workload.specs.Soundness.{first_flaw}
 use Rattle.bq_workload.specs.declared.sound.Unsound.{Unsound}
 use Rattle.bq_workload.specs.declared.workload.Workload.{Workload}
 use Rattle.bq_parts.specs.declared.event.Event.{Event}
-use Rattle.bq_simulate.specs.Chronicles.{events_of}
+use Rattle.bq_simulate.specs.Deeds.{events_of}
 use Rattle.bq_simulate.specs.Drives.{Drives}
 use Rattle.bq_simulate.specs.Faults.{ReportsNoOther, reported_flaw}
 use Rattle.bq_simulate.specs.Simulations.{Accepted, IsSimulation}

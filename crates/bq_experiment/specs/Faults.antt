@@ -4,7 +4,7 @@ use Rattle.bq_streams.specs.Counts.{HasRisen}
 use Rattle.bq_workload.specs.Soundness.{first_flaw}
 use Rattle.bq_workload.specs.declared.workload.Workload.{Workload}
 use Rattle.bq_simulate.specs.Faults.{ReportsNoOther}
-use Rattle.bq_simulate.specs.Order.{IsCutOff}
+use Rattle.bq_simulate.specs.GoingWell.{IsCutOff}
 use Rattle.bq_simulate.specs.Simulations.{Accepted}
 use Rattle.bq_simulate.specs.declared.fault.SimulateFault.{SimulateFault}
 use Rattle.bq_simulate.specs.declared.fault.SimulateFault.TheVariants.{Enough}

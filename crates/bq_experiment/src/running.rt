@@ -2,7 +2,7 @@
 ghost use Rattle.std.specs.Prelude.{◌≡◌, ◌≢◌, [], false, true, IfErr, IfOk, None, OnOk, string_bytes};
 ghost use Rattle.bq_streams.specs.Counts.{failures_of, counted_inner};
 ghost use Rattle.bq_simulate.specs.Faults.{ReportsNoOther};
-ghost use Rattle.bq_simulate.specs.Order.{IsCutOff};
+ghost use Rattle.bq_simulate.specs.GoingWell.{IsCutOff};
 ghost use Rattle.bq_simulate.specs.Simulations.{HasEnough, IsFollowed, IsSimulation};
 ghost use Rattle.bq_simulate.specs.Texts.{image_at};
 ghost use Rattle.bq_simulate.specs.declared.fault.SimulateFault.TheVariants as why;

@@ -9,7 +9,7 @@ use Rattle.bq_workload.specs.declared.progress.TaskProgress.{TaskProgress}
 use Rattle.bq_workload.specs.declared.progress.TaskState.{TaskState}
 use Rattle.bq_workload.specs.declared.progress.TaskState.TheVariants.{Runnable}
 use Rattle.bq_workload.specs.declared.processor_state.ProcessorState.{ProcessorState}
-use Rattle.bq_workload.specs.declared.roster.Periods.{Periods}
+use Rattle.bq_workload.specs.declared.periods.Periods.{Periods}
 use Rattle.bq_workload.specs.Accounts.{Accounts, changed_at, accounts_charged, runner_charged, grown, idled, is_same, occupied, of_processor, of_task, shrunk, accounts_switched, taken_over}
 use Rattle.bq_workload.specs.TaskProgress.{moved_to, run_for, progress_woken}
 use Rattle.bq_workload.specs.Dues.{size_at}

@@ -23,7 +23,7 @@ use Rattle.bq_workload.specs.Lengths.{is_length, longest, takes_time}
 use Rattle.bq_workload.specs.Soundness.{is_action}
 use Rattle.bq_simulate.specs.Actions.{acted, action_at, action_count, advanced_in, asked_by, next_action, woken_one_in}
 use Rattle.bq_simulate.specs.AtOnce.{actions_ahead, kind_actions, left_in, left_of_task, steps_ahead, steps_until, uncounted}
-use Rattle.bq_simulate.specs.Chronicles.{length_taken}
+use Rattle.bq_simulate.specs.Deeds.{length_taken}
 use Rattle.bq_simulate.proofs.MeetAgreeLemmas.{advanced_state, woken_one_state}
 use Rattle.bq_simulate.proofs.StandingLemmas.{else_of}
 use Rattle.bq_simulate.proofs.StepsAheadLemmas.{dropped-first, steps-first, steps-some}

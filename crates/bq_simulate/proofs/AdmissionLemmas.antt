@@ -9,12 +9,12 @@ use Rattle.bq_workload.specs.Soundness.{IsFirstAllowed}
 use Rattle.bq_parts.specs.declared.event.Event.TheVariants.{Admit}
 use Rattle.bq_workload.specs.Kinds.{tasks_in}
 use Rattle.bq_simulate.specs.Actions.{first_task_of}
-use Rattle.bq_simulate.specs.Chronicles.{Deed, Happens}
-use Rattle.bq_simulate.specs.Steps.{AreAdmitted, AreAllAdmitted, AreJust, IsAdmission, IsJoin}
+use Rattle.bq_simulate.specs.Deeds.{Deed, Happens}
+use Rattle.bq_simulate.specs.Steps.{AreAdmitted, AreAllAdmitted, AreJustEvents, IsAdmission, IsJoin}
 
 -- a task is admitted, and then it is there
 pub admission-of : (processors number : ℕ) (kind : TaskKind) (task home : ℕ) (xs ys : List Deed)
-    → IsFirstAllowed processors kind.mask home → AreJust (Admit task kind.nice kind.mask kind.slice ∷ []) xs
+    → IsFirstAllowed processors kind.mask home → AreJustEvents (Admit task kind.nice kind.mask kind.slice ∷ []) xs
     → IsJoin number home ys
     → IsAdmission processors number kind task (xs ++ ys)
 admission-of processors number kind task home xs ys first admit join =

@@ -12,7 +12,7 @@ use Rattle.bq_workload.specs.TaskProgress.{fresh_task}
 use Rattle.bq_workload.proofs.AgreeLemmas.{some_or_none}
 use Rattle.bq_simulate.specs.declared.simulation.Simulation.{Simulation}
 use Rattle.bq_simulate.specs.Actions.{first_task_of}
-use Rattle.bq_simulate.specs.Order.{SimulationGoesWell}
+use Rattle.bq_simulate.specs.GoingWell.{SimulationGoesWell}
 use Rattle.bq_simulate.proofs.SoundKindLemmas.{sound_tasks}
 
 -- the tasks of a kind, and those before it, are among all

@@ -9,7 +9,7 @@ use Rattle.bq_parts.specs.declared.reply.Reply.{Reply}
 use Rattle.bq_parts.specs.World.{count_in, processor_at}
 use Rattle.bq_trace.specs.TraceEvents.{Reported}
 use Rattle.bq_workload.specs.declared.processor_state.ProcessorState.{ProcessorState}
-use Rattle.bq_workload.specs.declared.roster.Periods.{Periods}
+use Rattle.bq_workload.specs.declared.periods.Periods.{Periods}
 use Rattle.bq_workload.specs.declared.progress.TaskProgress.{TaskProgress}
 use Rattle.bq_workload.specs.declared.workload.Workload.{Workload}
 use Rattle.bq_workload.specs.Accounts.{Accounts, accounts_of, shrunk}
@@ -21,7 +21,7 @@ use Rattle.bq_simulate.specs.declared.simulation.Simulation.{Simulation}
 use Rattle.bq_simulate.specs.Agreement.{runner_at}
 use Rattle.bq_simulate.specs.AgreementLaws.{FailsForMemory, RunsAlone}
 use Rattle.bq_simulate.specs.Drives.{DrivesEvent, runs_now}
-use Rattle.bq_simulate.specs.Order.{FallsAsleep}
+use Rattle.bq_simulate.specs.GoingWell.{FallsAsleep}
 use Rattle.bq_simulate.specs.Simulations.{book_of}
 use Rattle.bq_simulate.proofs.CallLemmas.{calls_fail_for_memory}
 use Rattle.bq_simulate.proofs.MeetAgreeLemmas.{block_agrees, world_of}

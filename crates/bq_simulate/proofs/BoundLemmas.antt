@@ -5,7 +5,7 @@ use Rattle.bq_parts.specs.World.{count_in}
 use Rattle.bq_trace.specs.TraceEvents.{Reported, TraceEvent}
 use Rattle.bq_words.specs.Sizes.{processors_in}
 use Rattle.bq_workload.specs.declared.due.Due.{Due}
-use Rattle.bq_workload.specs.declared.roster.Periods.{Periods}
+use Rattle.bq_workload.specs.declared.periods.Periods.{Periods}
 use Rattle.bq_workload.specs.declared.workload.Workload.{Workload}
 use Rattle.bq_workload.specs.Accounts.{Accounts, accounts_of}
 use Rattle.bq_workload.specs.Bounds.{most_steps, steps_at_once}
@@ -14,17 +14,17 @@ use Rattle.bq_workload.specs.Soundness.{first_flaw}
 use Rattle.bq_simulate.specs.declared.driver.Driver.{Driver}
 use Rattle.bq_simulate.specs.declared.simulation.Simulation.{Simulation}
 use Rattle.bq_simulate.specs.AtOnce.{steps_left_at}
-use Rattle.bq_simulate.specs.Chronicles.{Book, Deed, Lives}
+use Rattle.bq_simulate.specs.Deeds.{Book, Deed, DeedsLead}
 use Rattle.bq_simulate.specs.Kept.{IsKept}
-use Rattle.bq_simulate.specs.KeptLaws.{FewComeAtOnce, FewComeUntilTheEnd, DeedsLead}
-use Rattle.bq_simulate.specs.Order.{SimulationGoesWell, HasProcessors}
-use Rattle.bq_simulate.specs.Simulations.{Lived, book_of, opening_book, periods_of, with_seed}
-use Rattle.bq_simulate.specs.Steps.{AreInOrder, Meet, MetDue, deeds_of}
+use Rattle.bq_simulate.specs.KeptLaws.{FewComeAtOnce, FewComeUntilTheEnd, DeedsLeadIn}
+use Rattle.bq_simulate.specs.GoingWell.{SimulationGoesWell, HasProcessors}
+use Rattle.bq_simulate.specs.Simulations.{GoesOnBy, book_of, opening_book, periods_of, with_seed}
+use Rattle.bq_simulate.specs.Steps.{AreInOrder, DeedsMeet, MetDue, deeds_of}
 use Rattle.bq_simulate.proofs.CountedLemmas.{few-left, processors_in-some}
 use Rattle.bq_simulate.proofs.KeptLemmas.{all_is_kept}
 use Rattle.bq_simulate.proofs.MeetAgreeLemmas.{world_of}
 use Rattle.bq_simulate.proofs.MeetLeftLemmas.{meet-takes}
-use Rattle.bq_simulate.proofs.OrderLemmas.{kept-by}
+use Rattle.bq_simulate.proofs.BookLemmas.{kept-by}
 use Rattle.bq_simulate.proofs.SimulationAgreeLemmas.{opened_open, part}
 use Rattle.bq_simulate.proofs.WellLemmas.{met-well, processors_kept}
 
@@ -77,8 +77,8 @@ comes-counted w came last now d b sound low h many counted = elim (cases_eq last
 -- the next thing that comes is counted once it is met
 pub met-counted : (w : Workload) (came now : ℕ) (d e : Driver) (b c : Book) (due : Due) (deeds : List Deed)
     (reported : Reported)
-    → first_flaw w ≡ None → now ≤ w.machine.duration → IsNextDue w.machine.duration b.accounts due now → Meet due now deeds
-    → DeedsLead w d b deeds reported e c → IsKept w.tasks.items now d b → IsCounted w came now b.accounts
+    → first_flaw w ≡ None → now ≤ w.machine.duration → IsNextDue w.machine.duration b.accounts due now → DeedsMeet due now deeds
+    → DeedsLeadIn w d b deeds reported e c → IsKept w.tasks.items now d b → IsCounted w came now b.accounts
     → IsCounted w (came + 1) now c.accounts
 met-counted w came now d e b c due deeds reported sound until next meet leads h counted =
     omega (arith, counted, meet-takes w d e b c due now deeds reported sound until next meet leads h)
@@ -102,21 +102,21 @@ counted-below w came now a until counted =
 pub counted-well : {S : Type 0} (takes : S → ℕ → TraceEvent → S → Type 0) (x y : S) (w : Workload)
     (due : Due) (came last now : ℕ) (s t : Simulation)
     → last ≤ now → IsNextDue s.roster.periods.end (accounts_of s.roster) due now
-    → Lived takes w.tasks.items (Meet due now) x s y t → SimulationGoesWell w now s → HasProcessors w s
+    → GoesOnBy takes w.tasks.items (DeedsMeet due now) x s y t → SimulationGoesWell w now s → HasProcessors w s
     → IsCounted w came last (accounts_of s.roster)
     → HasProcessors w t × IsCounted w (came + 1) now (accounts_of t.roster)
-counted-well takes x y w due came last now s t low next lived h many counted =
-    let g = lived h.drawn h.streams h.firsts in
+counted-well takes x y w due came last now s t low next goes_on h many counted =
+    let g = goes_on h.drawn h.streams h.firsts in
     let kinds = w.tasks.items in
     let seeded : Workload = with_seed w s.seed in
     let was : Book = book_of s h.drawn in
     let is : Book = book_of t g.after in
-    let leads : DeedsLead seeded s.driver was g.deeds g.reports.reported t.driver is =
-    subst (λ (p : Periods). Lives kinds s.seed p s.driver was g.deeds g.reports.reported t.driver is)
+    let leads : DeedsLeadIn seeded s.driver was g.deeds g.reports.reported t.driver is =
+    subst (λ (p : Periods). DeedsLead kinds s.seed p s.driver was g.deeds g.reports.reported t.driver is)
     h.periods g.reports.holds in
     let its : IsNextDue w.machine.duration (accounts_of s.roster) due now =
     subst (λ (p : Periods). IsNextDue p.end (accounts_of s.roster) due now) h.periods next in
-    let after : SimulationGoesWell w now t = met-well takes x y w due now s t lived h in
+    let after : SimulationGoesWell w now t = met-well takes x y w due now s t goes_on h in
     let still = processors_kept kinds s.seed (periods_of w.machine) s.driver t.driver was is g.deeds g.reports.reported leads in
     let before : IsCounted w came now (accounts_of s.roster) =
     comes-counted w came last now s.driver was h.sound low h.kept many counted in (
@@ -134,7 +134,7 @@ bound-passed w came now most a until all is counted = omega (arith, all, is, cou
 
 steps_counted : (w : Workload) (d e : Driver) (b c : Book) (steps : List MetDue) (reported : Reported) (now came : ℕ)
     → first_flaw w ≡ None → AreInOrder w.tasks.items w.machine.seed (periods_of w.machine) b steps
-    → DeedsLead w d b (deeds_of steps) reported e c → now ≤ w.machine.duration → IsKept w.tasks.items now d b
+    → DeedsLeadIn w d b (deeds_of steps) reported e c → now ≤ w.machine.duration → IsKept w.tasks.items now d b
     → count_in (world_of d) ≡ processors_in w.machine.size → IsCounted w came now b.accounts
     → came + length steps < (w.machine.duration + 1) * steps_at_once w
 steps_counted w d e b c [] reported now came sound order leads low h count counted =
@@ -170,7 +170,7 @@ few_come_until_the_end policies w reported sound s =
     let m = p.meets in
     let t =
     part kinds seed periods s.opening s.closing start s.book p.opening p.met s.more
-    (subst (λ l. Lives kinds seed periods s.opening start l s.more s.closing s.book) p.whole s.lives) in
+    (subst (λ l. DeedsLead kinds seed periods s.opening start l s.more s.closing s.book) p.whole s.leads) in
     let o = opened_open policies w s.opening t.mid t.book p.opening s.first t.first s.starts p.opens t.one in
     let kept = all_is_kept.opened policies w s.opening t.mid t.book p.opening s.first t.first sound s.starts p.opens t.one in
     let book = kept-by kinds seed periods s.opening t.mid start t.book p.opening t.first t.one in
@@ -180,6 +180,6 @@ few_come_until_the_end policies w reported sound s =
       arith,
       steps_counted w t.mid s.closing t.book s.book m.steps t.more 0 0 sound
           (subst (λ x. AreInOrder kinds seed periods x m.steps) (sym book) m.order)
-          (subst (λ l. Lives kinds seed periods t.mid t.book l t.more s.closing s.book) m.whole t.two)
+          (subst (λ l. DeedsLead kinds seed periods t.mid t.book l t.more s.closing s.book) m.whole t.two)
           (omega arith) kept o.processors_there (none-came w t.mid t.book sound kept many),
     )

@@ -10,7 +10,7 @@ use Rattle.bq_parts.specs.World.{count_in}
 use Rattle.bq_trace.specs.Machines.{discipline_of}
 use Rattle.bq_trace.specs.TraceEvents.{Reported}
 use Rattle.bq_workload.specs.declared.progress.TaskProgress.{TaskProgress}
-use Rattle.bq_workload.specs.declared.roster.Periods.{Periods}
+use Rattle.bq_workload.specs.declared.periods.Periods.{Periods}
 use Rattle.bq_workload.specs.Accounts.{Accounts}
 use Rattle.bq_simulate.specs.declared.drive_fault.DriveFault.{DriveFault}
 use Rattle.bq_simulate.specs.declared.drive_fault.DriveFault.TheVariants.{OutOfMemory}

@@ -4,7 +4,7 @@ use Rattle.std.specs.Prelude.{◌==◌, if◌then◌else◌, option_and_then, sl
 use Rattle.std.specs.Option.{option_map_or}
 use Rattle.std.proofs.lemmas.Bool.{eq-eqb}
 use Rattle.std.proofs.lemmas.Option.{none-some, same_Some, slice_get_within}
-use Rattle.bq_workload.specs.declared.due.Due.TheVariants.{Pull, Tick}
+use Rattle.bq_workload.specs.declared.due.Due.TheVariants.{Look, Tick}
 use Rattle.bq_workload.specs.declared.processor_state.ProcessorState.{ProcessorState}
 use Rattle.bq_workload.specs.Accounts.{Accounts, LooksAt, TicksAt}
 use Rattle.bq_workload.specs.Dues.{HasLargest, IsSource, other_than, size_at, until}
@@ -26,7 +26,7 @@ ticks_now end processor now a comes = elim (some_or_none (slice_get a.by_process
 ]
 
 -- when a look comes its processor looks then
-pub looks_now : (end processor now : ℕ) (a : Accounts) → comes_at end a (Pull processor) ≡ Some now → LooksAt a processor now
+pub looks_now : (end processor now : ℕ) (a : Accounts) → comes_at end a (Look processor) ≡ Some now → LooksAt a processor now
 looks_now end processor now a comes = elim (some_or_none (slice_get a.by_processor processor)) [
   | inl none ↦ absurd (none-some now (sym (ap (λ (o : Option ProcessorState). option_and_then (look_at end) o) none) ∙ comes))
   | inr (l, at) ↦ record { processor_state = l; at = at; look = comes_then end now l.look (sym (look-of end processor a l at) ∙ comes) }

@@ -26,7 +26,7 @@ use Rattle.bq_workload.proofs.AgreeLemmas.{some_or_none}
 use Rattle.bq_simulate.specs.declared.driver.Driver.{Driver}
 use Rattle.bq_simulate.specs.Actions.{IsTaskOfKind, first_task_of}
 use Rattle.bq_simulate.specs.AtOnce.{kind_actions, in_all, steps_left_at, left_in, left_of_processor, left_of_task, steps_ahead, uncounted}
-use Rattle.bq_simulate.specs.Chronicles.{Book}
+use Rattle.bq_simulate.specs.Deeds.{Book}
 use Rattle.bq_simulate.specs.Kept.{IsKept}
 use Rattle.bq_simulate.proofs.InAllLemmas.{in_all-no_more, sum-most}
 use Rattle.bq_simulate.proofs.LeftLemmas.{at-most-one}

@@ -8,12 +8,12 @@ use Rattle.bq_parts.specs.declared.reply.Reply.{Reply}
 use Rattle.bq_trace.specs.TraceEvents.{TraceEvent, Reported, Gets}
 use Rattle.bq_trace.proofs.TakingLemmas.{TakesAll-append}
 use Rattle.bq_simulate.specs.declared.driver.Driver.{Driver}
-use Rattle.bq_simulate.specs.Drives.{Did, Drives, Drove, PlacesWoken}
+use Rattle.bq_simulate.specs.Drives.{EventIsDriven, Drives, EventsAreDriven, PlacesWoken}
 use Rattle.bq_workload.specs.Streams.{stream_of_task}
 use Rattle.bq_workload.specs.declared.action.Action.{Action}
 use Rattle.bq_workload.specs.declared.workload.TaskKind.{TaskKind}
 use Rattle.bq_workload.specs.declared.progress.TaskProgress.{TaskProgress}
-use Rattle.bq_workload.specs.declared.roster.Periods.{Periods}
+use Rattle.bq_workload.specs.declared.periods.Periods.{Periods}
 use Rattle.bq_workload.specs.Accounts.{Accounts, IsPhaseDone, LooksAt, TicksAt, accounts_of, beaten, accounts_charged, looked, of_task}
 use Rattle.bq_workload.specs.TaskProgress.{fresh_task, progress_woken}
 use Rattle.bq_workload.specs.Dues.{IsSource}
@@ -22,80 +22,80 @@ use Rattle.bq_workload.proofs.AgreedLemmas.{both}
 use Rattle.bq_workload.proofs.DueLemmas.{same-accounts}
 use Rattle.bq_simulate.specs.declared.simulation.Simulation.{Simulation}
 use Rattle.bq_simulate.specs.Actions.{IsTaskOfKind, acted, aim_of, asked_by, first_task_of, next_action, kind_start}
-use Rattle.bq_simulate.specs.Chronicles.{Acts, Beats, Book, Deed, Happens, MayCome, IsWoken, Joins, Lives, Looks, Misses, Reaches, Rings, after_act, after_answer, after_beat, after_event, after_look, drawn_with, events_of, is_busy, task_added, length_taken}
-use Rattle.bq_simulate.specs.Simulations.{BeginsMore, Befell, DrawsFor, GoesByDeeds, HasDrawn, HasFirsts, Lived, Same, Silent, SimulationStays, book_of, streams_after}
-use Rattle.bq_simulate.specs.Steps.{AreJust, AreWake, Follow, IsAct, IsJoin}
+use Rattle.bq_simulate.specs.Deeds.{Acts, Beats, Book, Deed, Happens, MayCome, IsWoken, Joins, DeedsLead, Looks, Misses, Reaches, Rings, after_act, after_answer, after_beat, after_event, after_look, drawn_with, events_of, is_busy, task_added, length_taken}
+use Rattle.bq_simulate.specs.Simulations.{KeepsAsManyFirsts, GoesOnForAnyKinds, DrawsFor, GoesByDeeds, HasDrawn, HasFirsts, GoesOnBy, OnlyPlansOrCounts, GoesOnUnreported, SimulationStays, book_of, streams_after}
+use Rattle.bq_simulate.specs.Steps.{AreJustEvents, AreWake, FollowsAction, IsAct, IsJoin}
 use Rattle.bq_simulate.proofs.KindLemmas.{firsts-pushed}
 use Rattle.bq_simulate.proofs.StreamLemmas.{gives_if_asked, opened-streams}
 
 -- some, and then others
-pub Lives-append : (kinds : List TaskKind) (seed : ℕ) (periods : Periods) (d m e : Driver) (a b c : Book)
+pub DeedsLead-append : (kinds : List TaskKind) (seed : ℕ) (periods : Periods) (d m e : Driver) (a b c : Book)
     (xs ys : List Deed) (reported more : Reported)
-    → Lives kinds seed periods d a xs reported m b → Lives kinds seed periods m b ys more e c
-    → Lives kinds seed periods d a (xs ++ ys) (reported ++ more) e c
-Lives-append kinds seed periods d m e a b c [] ys reported more h k =
-    let P : Reported → Type 0 = λ t. Lives kinds seed periods d a ys (t ++ more) e c in
-    let Q : Driver → Type 0 = λ x. Lives kinds seed periods x a ys more e c in
-    let R : Book → Type 0 = λ x. Lives kinds seed periods m x ys more e c in
+    → DeedsLead kinds seed periods d a xs reported m b → DeedsLead kinds seed periods m b ys more e c
+    → DeedsLead kinds seed periods d a (xs ++ ys) (reported ++ more) e c
+DeedsLead-append kinds seed periods d m e a b c [] ys reported more h k =
+    let P : Reported → Type 0 = λ t. DeedsLead kinds seed periods d a ys (t ++ more) e c in
+    let Q : Driver → Type 0 = λ x. DeedsLead kinds seed periods x a ys more e c in
+    let R : Book → Type 0 = λ x. DeedsLead kinds seed periods m x ys more e c in
     subst P (sym h.0) (subst Q h.1 (subst R h.2 k))
-Lives-append kinds seed periods d m e a b c (Happens event reply ∷ xs) ys reported more
-    (due, mid, first, rest, does, lives, whole) k = (
+DeedsLead-append kinds seed periods d m e a b c (Happens event reply ∷ xs) ys reported more
+    (due, mid, first, rest, does, leads, whole) k = (
       due,
       mid,
       first,
       rest ++ more,
       does,
-      Lives-append kinds seed periods mid m e (after_answer periods event reply a) b c xs ys rest more lives k,
+      DeedsLead-append kinds seed periods mid m e (after_answer periods event reply a) b c xs ys rest more leads k,
       ap (λ t. t ++ more) whole ∙ append_assoc first rest more,
     )
-Lives-append kinds seed periods d m e a b c (Joins kind home ∷ xs) ys reported more (of, lives) k =
-    (of, Lives-append kinds seed periods d m e (task_added kinds kind home a) b c xs ys reported more lives k)
-Lives-append kinds seed periods d m e a b c (Acts at task now action aim ∷ xs) ys reported more (c', done, is, to, lives) k = (
+DeedsLead-append kinds seed periods d m e a b c (Joins kind home ∷ xs) ys reported more (of, leads) k =
+    (of, DeedsLead-append kinds seed periods d m e (task_added kinds kind home a) b c xs ys reported more leads k)
+DeedsLead-append kinds seed periods d m e a b c (Acts at task now action aim ∷ xs) ys reported more (c', done, is, to, leads) k = (
   c',
   done,
   is,
   to,
-  Lives-append kinds seed periods d m e (after_act kinds seed at task now c' a) b c xs ys reported more lives k,
+  DeedsLead-append kinds seed periods d m e (after_act kinds seed at task now c' a) b c xs ys reported more leads k,
 )
-Lives-append kinds seed periods d m e a b c (Rings task now ∷ xs) ys reported more (c', there, asleep, timer, lives) k =
-    (c', there, asleep, timer, Lives-append kinds seed periods d m e a b c xs ys reported more lives k)
-Lives-append kinds seed periods d m e a b c (Reaches task ∷ xs) ys reported more (c', there, waits, lives) k =
-    (c', there, waits, Lives-append kinds seed periods d m e a b c xs ys reported more lives k)
-Lives-append kinds seed periods d m e a b c (Misses task ∷ xs) ys reported more (c', there, waits, lives) k =
-    (c', there, waits, Lives-append kinds seed periods d m e a b c xs ys reported more lives k)
-Lives-append kinds seed periods d m e a b c (Beats at now ∷ xs) ys reported more (ticks, busy, lives) k =
-    (ticks, busy, Lives-append kinds seed periods d m e (after_beat periods at now a) b c xs ys reported more lives k)
-Lives-append kinds seed periods d m e a b c (Looks at now source ∷ xs) ys reported more (looks, from, lives) k =
-    (looks, from, Lives-append kinds seed periods d m e (after_look periods at now a) b c xs ys reported more lives k)
+DeedsLead-append kinds seed periods d m e a b c (Rings task now ∷ xs) ys reported more (c', there, asleep, timer, leads) k =
+    (c', there, asleep, timer, DeedsLead-append kinds seed periods d m e a b c xs ys reported more leads k)
+DeedsLead-append kinds seed periods d m e a b c (Reaches task ∷ xs) ys reported more (c', there, waits, leads) k =
+    (c', there, waits, DeedsLead-append kinds seed periods d m e a b c xs ys reported more leads k)
+DeedsLead-append kinds seed periods d m e a b c (Misses task ∷ xs) ys reported more (c', there, waits, leads) k =
+    (c', there, waits, DeedsLead-append kinds seed periods d m e a b c xs ys reported more leads k)
+DeedsLead-append kinds seed periods d m e a b c (Beats at now ∷ xs) ys reported more (ticks, busy, leads) k =
+    (ticks, busy, DeedsLead-append kinds seed periods d m e (after_beat periods at now a) b c xs ys reported more leads k)
+DeedsLead-append kinds seed periods d m e a b c (Looks at now source ∷ xs) ys reported more (looks, from, leads) k =
+    (looks, from, DeedsLead-append kinds seed periods d m e (after_look periods at now a) b c xs ys reported more leads k)
 
 -- the events among them were driven
-pub drives-of-lives : (kinds : List TaskKind) (seed : ℕ) (periods : Periods) (d e : Driver) (a b : Book) (xs : List Deed)
+pub drives-of-deeds : (kinds : List TaskKind) (seed : ℕ) (periods : Periods) (d e : Driver) (a b : Book) (xs : List Deed)
     (reported : Reported)
-    → Lives kinds seed periods d a xs reported e b → Drives d (events_of xs) reported e
-drives-of-lives kinds seed periods d e a b [] reported h = (h.0, h.1)
-drives-of-lives kinds seed periods d e a b (Happens event reply ∷ xs) reported (due, mid, first, rest, does, lives, whole) = (
+    → DeedsLead kinds seed periods d a xs reported e b → Drives d (events_of xs) reported e
+drives-of-deeds kinds seed periods d e a b [] reported h = (h.0, h.1)
+drives-of-deeds kinds seed periods d e a b (Happens event reply ∷ xs) reported (due, mid, first, rest, does, leads, whole) = (
   reply,
   mid,
   first,
   rest,
   does,
-  drives-of-lives kinds seed periods mid e (after_answer periods event reply a) b xs rest lives,
+  drives-of-deeds kinds seed periods mid e (after_answer periods event reply a) b xs rest leads,
   whole,
 )
-drives-of-lives kinds seed periods d e a b (Joins kind home ∷ xs) reported (of, lives) =
-    drives-of-lives kinds seed periods d e (task_added kinds kind home a) b xs reported lives
-drives-of-lives kinds seed periods d e a b (Acts at task now action aim ∷ xs) reported (c, done, is, to, lives) =
-    drives-of-lives kinds seed periods d e (after_act kinds seed at task now c a) b xs reported lives
-drives-of-lives kinds seed periods d e a b (Rings task now ∷ xs) reported (c, there, asleep, timer, lives) =
-    drives-of-lives kinds seed periods d e a b xs reported lives
-drives-of-lives kinds seed periods d e a b (Reaches task ∷ xs) reported (c, there, waits, lives) =
-    drives-of-lives kinds seed periods d e a b xs reported lives
-drives-of-lives kinds seed periods d e a b (Misses task ∷ xs) reported (c, there, waits, lives) =
-    drives-of-lives kinds seed periods d e a b xs reported lives
-drives-of-lives kinds seed periods d e a b (Beats at now ∷ xs) reported (ticks, busy, lives) =
-    drives-of-lives kinds seed periods d e (after_beat periods at now a) b xs reported lives
-drives-of-lives kinds seed periods d e a b (Looks at now source ∷ xs) reported (looks, from, lives) =
-    drives-of-lives kinds seed periods d e (after_look periods at now a) b xs reported lives
+drives-of-deeds kinds seed periods d e a b (Joins kind home ∷ xs) reported (of, leads) =
+    drives-of-deeds kinds seed periods d e (task_added kinds kind home a) b xs reported leads
+drives-of-deeds kinds seed periods d e a b (Acts at task now action aim ∷ xs) reported (c, done, is, to, leads) =
+    drives-of-deeds kinds seed periods d e (after_act kinds seed at task now c a) b xs reported leads
+drives-of-deeds kinds seed periods d e a b (Rings task now ∷ xs) reported (c, there, asleep, timer, leads) =
+    drives-of-deeds kinds seed periods d e a b xs reported leads
+drives-of-deeds kinds seed periods d e a b (Reaches task ∷ xs) reported (c, there, waits, leads) =
+    drives-of-deeds kinds seed periods d e a b xs reported leads
+drives-of-deeds kinds seed periods d e a b (Misses task ∷ xs) reported (c, there, waits, leads) =
+    drives-of-deeds kinds seed periods d e a b xs reported leads
+drives-of-deeds kinds seed periods d e a b (Beats at now ∷ xs) reported (ticks, busy, leads) =
+    drives-of-deeds kinds seed periods d e (after_beat periods at now a) b xs reported leads
+drives-of-deeds kinds seed periods d e a b (Looks at now source ∷ xs) reported (looks, from, leads) =
+    drives-of-deeds kinds seed periods d e (after_look periods at now a) b xs reported leads
 
 -- from what its streams have given a simulation goes on, and then on
 pub GoesByDeeds-join : {S : Type 0} (takes : S → ℕ → TraceEvent → S → Type 0) (kinds : List TaskKind)
@@ -104,10 +104,10 @@ pub GoesByDeeds-join : {S : Type 0} (takes : S → ℕ → TraceEvent → S → 
     → C (first.deeds ++ second.deeds) → GoesByDeeds takes kinds C x s drawn z u
 GoesByDeeds-join takes kinds A B C x y z s t u drawn first second are =
     let P : Periods → Type 0 = λ periods.
-    Lives kinds t.seed periods t.driver (book_of t first.after) second.deeds second.reports.reported u.driver
+    DeedsLead kinds t.seed periods t.driver (book_of t first.after) second.deeds second.reports.reported u.driver
     (book_of u second.after) in
     let Q : ℕ → Type 0 = λ seed.
-    Lives kinds seed s.roster.periods t.driver (book_of t first.after) second.deeds second.reports.reported u.driver
+    DeedsLead kinds seed s.roster.periods t.driver (book_of t first.after) second.deeds second.reports.reported u.driver
     (book_of u second.after) in
     record {
       deeds = first.deeds ++ second.deeds;
@@ -122,7 +122,7 @@ GoesByDeeds-join takes kinds A B C x y z s t u drawn first second are =
         reported = first.reports.reported ++ second.reports.reported;
         taken = TakesAll-append takes x y z first.reports.reported second.reports.reported first.reports.taken second.reports.taken;
         holds =
-            Lives-append kinds s.seed s.roster.periods s.driver t.driver u.driver (book_of s drawn) (book_of t first.after)
+            DeedsLead-append kinds s.seed s.roster.periods s.driver t.driver u.driver (book_of s drawn) (book_of t first.after)
             (book_of u second.after) first.deeds second.deeds first.reports.reported second.reports.reported
             first.reports.holds (subst Q first.seed (subst P first.periods second.reports.holds));
       };
@@ -130,11 +130,11 @@ GoesByDeeds-join takes kinds A B C x y z s t u drawn first second are =
     }
 
 -- a simulation goes on, and then on
-pub Lived-join : {S : Type 0} (takes : S → ℕ → TraceEvent → S → Type 0) (kinds : List TaskKind) (A B C : List Deed → Type 0)
-    → ((xs ys : List Deed) → A xs → B ys → C (xs ++ ys)) → (x y z : S) (s t u : Simulation) → Lived takes kinds A x s y t
-    → Lived takes kinds B y t z u
-    → Lived takes kinds C x s z u
-Lived-join takes kinds A B C join x y z s t u goes more drawn had firsts =
+pub GoesOnBy-join : {S : Type 0} (takes : S → ℕ → TraceEvent → S → Type 0) (kinds : List TaskKind) (A B C : List Deed → Type 0)
+    → ((xs ys : List Deed) → A xs → B ys → C (xs ++ ys)) → (x y z : S) (s t u : Simulation) → GoesOnBy takes kinds A x s y t
+    → GoesOnBy takes kinds B y t z u
+    → GoesOnBy takes kinds C x s z u
+GoesOnBy-join takes kinds A B C join x y z s t u goes more drawn had firsts =
     let first = goes drawn had firsts in
     let second = more first.after first.streams first.firsts in
     GoesByDeeds-join takes kinds A B C x y z s t u drawn first second (join first.deeds second.deeds first.are second.are)
@@ -159,24 +159,18 @@ GoesByDeeds-weaker takes kinds A B weaker x y s drawn t h = record {
 }
 
 -- what holds of its deeds holds in other words
-pub Lived-weaker : {S : Type 0} (takes : S → ℕ → TraceEvent → S → Type 0) (kinds : List TaskKind) (A B : List Deed → Type 0)
-    → ((xs : List Deed) → A xs → B xs) → (x y : S) (s t : Simulation) → Lived takes kinds A x s y t
-    → Lived takes kinds B x s y t
-Lived-weaker takes kinds A B weaker x y s t goes drawn had firsts =
+pub GoesOnBy-weaker : {S : Type 0} (takes : S → ℕ → TraceEvent → S → Type 0) (kinds : List TaskKind) (A B : List Deed → Type 0)
+    → ((xs : List Deed) → A xs → B xs) → (x y : S) (s t : Simulation) → GoesOnBy takes kinds A x s y t
+    → GoesOnBy takes kinds B x s y t
+GoesOnBy-weaker takes kinds A B weaker x y s t goes drawn had firsts =
     GoesByDeeds-weaker takes kinds A B weaker x y s drawn t (goes drawn had firsts)
 
--- what holds of its events holds in other words
-pub Befell-weaker : {S : Type 0} (takes : S → ℕ → TraceEvent → S → Type 0) (A B : List Deed → Type 0)
-    → ((xs : List Deed) → A xs → B xs) → (x y : S) (s t : Simulation) → Befell takes A x s y t
-    → Befell takes B x s y t
-Befell-weaker takes A B weaker x y s t befell kinds = Lived-weaker takes kinds A B weaker x y s t (befell kinds)
-
 -- of deeds of which nothing is reported a sink gets nothing
-pub Lived-silent : {S : Type 0} (takes : S → ℕ → TraceEvent → S → Type 0) (kinds : List TaskKind) (A : List Deed → Type 0)
+pub GoesOnBy-unreported : {S : Type 0} (takes : S → ℕ → TraceEvent → S → Type 0) (kinds : List TaskKind) (A : List Deed → Type 0)
     (x : S) (s t : Simulation)
-    → Silent kinds A s t → Lived takes kinds A x s x t
-Lived-silent takes kinds A x s t silent drawn had firsts =
-    let h = silent drawn had firsts in
+    → GoesOnUnreported kinds A s t → GoesOnBy takes kinds A x s x t
+GoesOnBy-unreported takes kinds A x s t goes_on drawn had firsts =
+    let h = goes_on drawn had firsts in
     record {
       deeds = h.deeds;
       after = h.after;
@@ -186,7 +180,7 @@ Lived-silent takes kinds A x s t silent drawn had firsts =
       firsts = h.firsts;
       begun = h.begun;
       agrees = h.agrees;
-      reports = record { reported = []; taken = refl; holds = h.lives };
+      reports = record { reported = []; taken = refl; holds = h.leads };
       are = h.are;
     }
 
@@ -199,16 +193,16 @@ pub firsts-stay : (kinds : List TaskKind) (s t : Simulation) → SimulationStays
 firsts-stay kinds s t stays had number first there = had number first (ap (λ v. slice_get v.items number) (sym stays.firsts) ∙ there)
 
 -- where the first tasks of kinds have not changed they are not fewer
-begun-same : (s t : Simulation) → t.firsts ≡ s.firsts → BeginsMore s t
+begun-same : (s t : Simulation) → t.firsts ≡ s.firsts → KeepsAsManyFirsts s t
 begun-same s t same = omega (arith, ap (λ v. length v.items) same)
 
-begun-stay : (s t : Simulation) → SimulationStays s t → BeginsMore s t
+begun-stay : (s t : Simulation) → SimulationStays s t → KeepsAsManyFirsts s t
 begun-stay s t stays = begun-same s t stays.firsts
 
 -- nothing was done
-pub Lived-same : {S : Type 0} (takes : S → ℕ → TraceEvent → S → Type 0) (A : List Deed → Type 0)
-    → A [] → (x : S) (s t : Simulation) → Same s t → Befell takes A x s x t
-Lived-same takes A none x s t same kinds drawn had firsts = record {
+pub GoesOnBy-same : {S : Type 0} (takes : S → ℕ → TraceEvent → S → Type 0) (A : List Deed → Type 0)
+    → A [] → (x : S) (s t : Simulation) → OnlyPlansOrCounts s t → GoesOnForAnyKinds takes A x s x t
+GoesOnBy-same takes A none x s t same kinds drawn had firsts = record {
   deeds = [];
   after = drawn;
   periods = same.stays.periods;
@@ -229,38 +223,30 @@ Lived-same takes A none x s t same kinds drawn had firsts = record {
 abbrev AreNone : List Deed → Type 0
 AreNone deeds = deeds ≡ []
 
--- nothing was done before
-pub Lived-after : {S : Type 0} (takes : S → ℕ → TraceEvent → S → Type 0) (kinds : List TaskKind) (A : List Deed → Type 0)
-    (x y : S) (s t u : Simulation)
-    → Same s t → Lived takes kinds A x t y u → Lived takes kinds A x s y u
-Lived-after takes kinds A x y s t u same more =
-    Lived-join takes kinds AreNone A A (λ xs ys none are. subst (λ (l : List Deed). A (l ++ ys)) (sym none) are) x x y s t u
-    (Lived-same takes AreNone refl x s t same kinds) more
-
 -- nothing was done after
-pub Lived-then : {S : Type 0} (takes : S → ℕ → TraceEvent → S → Type 0) (kinds : List TaskKind) (A : List Deed → Type 0)
+pub GoesOnBy-then : {S : Type 0} (takes : S → ℕ → TraceEvent → S → Type 0) (kinds : List TaskKind) (A : List Deed → Type 0)
     (x y : S) (s t u : Simulation)
-    → Lived takes kinds A x s y t → Same t u → Lived takes kinds A x s y u
-Lived-then takes kinds A x y s t u first same =
-    Lived-join takes kinds A AreNone A
+    → GoesOnBy takes kinds A x s y t → OnlyPlansOrCounts t u → GoesOnBy takes kinds A x s y u
+GoesOnBy-then takes kinds A x y s t u first same =
+    GoesOnBy-join takes kinds A AreNone A
     (λ xs ys are none. subst (λ (l : List Deed). A (xs ++ l)) (sym none) (subst A (sym (append-nil xs)) are)) x y y s t u
-    first (Lived-same takes AreNone refl y t u same kinds)
+    first (GoesOnBy-same takes AreNone refl y t u same kinds)
 
 -- what follows an action of a task, and comes to the one that it aims at
 abbrev follows : List TaskKind → TaskProgress → ℕ → ℕ → Option Action → List Deed → Type 0
-follows kinds c processor now action deeds = Follow action (aim_of kinds c action) processor now deeds
+follows kinds c processor now action deeds = FollowsAction action (aim_of kinds c action) processor now deeds
 
 -- an action is followed by what follows that action
-pub Follow-same : {S : Type 0} (takes : S → ℕ → TraceEvent → S → Type 0) (kinds : List TaskKind) (c : TaskProgress)
+pub FollowsAction-same : {S : Type 0} (takes : S → ℕ → TraceEvent → S → Type 0) (kinds : List TaskKind) (c : TaskProgress)
     (a b : Option Action) (processor now : ℕ) (x y : S) (s t : Simulation)
-    → a ≡ b → Lived takes kinds (Follow b (aim_of kinds c b) processor now) x s y t
-    → Lived takes kinds (Follow a (aim_of kinds c a) processor now) x s y t
-Follow-same takes kinds c a b processor now x y s t is lived =
-    subst (λ (o : Option Action). Lived takes kinds (follows kinds c processor now o) x s y t) (sym is) lived
+    → a ≡ b → GoesOnBy takes kinds (FollowsAction b (aim_of kinds c b) processor now) x s y t
+    → GoesOnBy takes kinds (FollowsAction a (aim_of kinds c a) processor now) x s y t
+FollowsAction-same takes kinds c a b processor now x y s t is goes_on =
+    subst (λ (o : Option Action). GoesOnBy takes kinds (follows kinds c processor now o) x s y t) (sym is) goes_on
 
 -- in one simulation nothing was done
-pub Same-here : (s : Simulation) → Same s s
-Same-here s = record {
+pub OnlyPlansOrCounts-here : (s : Simulation) → OnlyPlansOrCounts s s
+OnlyPlansOrCounts-here s = record {
   driver = refl;
   accounts = refl;
   stays = record { agrees = λ h. h; periods = refl; seed = refl; streams = refl; firsts = refl };
@@ -275,15 +261,15 @@ of_task_at f task a c there =
     there
 
 -- a phase has ended, and the task does its next action, for which a length is drawn where it takes one
-pub Silent-acts : (kinds : List TaskKind) (s m n t : Simulation) (processor task now length : ℕ) (action : Option Action)
+pub GoesOnUnreported-acts : (kinds : List TaskKind) (s m n t : Simulation) (processor task now length : ℕ) (action : Option Action)
     (c next : TaskProgress)
     → action ≡ next_action kinds c → SimulationStays s m → m.driver ≡ s.driver
     → accounts_of m.roster ≡ accounts_charged processor now (accounts_of s.roster) → IsPhaseDone (accounts_of m.roster) processor task c
     → DrawsFor task (asked_by (next_action kinds c)) m length n → next ≡ acted kinds (next_action kinds c) length now c
     → SimulationStays n t → t.driver ≡ n.driver → t.roster.by_task.items ≡ slice_set n.roster.by_task.items task next
     → t.roster.by_processor.items ≡ n.roster.by_processor.items
-    → Silent kinds (IsAct processor task now action (aim_of kinds c action)) s t
-Silent-acts kinds s m n t processor task now length action c next is ended driver counted done draws does set
+    → GoesOnUnreported kinds (IsAct processor task now action (aim_of kinds c action)) s t
+GoesOnUnreported-acts kinds s m n t processor task now length action c next is ended driver counted done draws does set
     driver' by_task by_processor drawn had firsts =
     let asked = asked_by (next_action kinds c) in
     let g = gives_if_asked task asked m length n draws drawn (streams-stay s m drawn ended had) in
@@ -306,7 +292,7 @@ Silent-acts kinds s m n t processor task now length action c next is ended drive
           firsts number first (ap (λ v. slice_get v.items number) (sym (set.firsts ∙ g.firsts ∙ ended.firsts)) ∙ there);
       begun = begun-same s t (set.firsts ∙ g.firsts ∙ ended.firsts);
       agrees = λ h. set.agrees (subst IsAgreed (sym g.roster) (ended.agrees h));
-      lives = (
+      leads = (
         c,
         subst P counted done,
         is,
@@ -321,14 +307,14 @@ Silent-acts kinds s m n t processor task now length action c next is ended drive
     }
 
 -- a task is there, with its stream
-pub Silent-joins : (kinds : List TaskKind) (s t : Simulation) (kind home : ℕ)
+pub GoesOnUnreported-joins : (kinds : List TaskKind) (s t : Simulation) (kind home : ℕ)
     → StaysAgreed s.roster t.roster → t.roster.periods ≡ s.roster.periods → t.seed ≡ s.seed → t.driver ≡ s.driver
     → t.firsts ≡ s.firsts → t.roster.by_task.items ≡ s.roster.by_task.items ++ fresh_task kind home (kind_start kinds kind) ∷ []
     → t.roster.by_processor.items ≡ s.roster.by_processor.items
     → t.streams.items ≡ s.streams.items ++ stream_of_task s.seed (length s.streams.items) ∷ []
     → IsTaskOfKind kinds (length s.roster.by_task.items) kind
-    → Silent kinds (IsJoin kind home) s t
-Silent-joins kinds s t kind home agrees periods seed driver kept by_task by_processor streams of drawn had firsts = record {
+    → GoesOnUnreported kinds (IsJoin kind home) s t
+GoesOnUnreported-joins kinds s t kind home agrees periods seed driver kept by_task by_processor streams of drawn had firsts = record {
   deeds = Joins kind home ∷ [];
   after = drawn ++ 0 ∷ [];
   periods = periods;
@@ -337,7 +323,7 @@ Silent-joins kinds s t kind home agrees periods seed driver kept by_task by_proc
   firsts = λ number first there. firsts number first (ap (λ v. slice_get v.items number) (sym kept) ∙ there);
   begun = begun-same s t kept;
   agrees = agrees;
-  lives = (
+  leads = (
     of,
     (
       refl,
@@ -349,11 +335,11 @@ Silent-joins kinds s t kind home agrees periods seed driver kept by_task by_proc
 }
 
 -- the first task of the next kind is kept
-pub Silent-begins : (kinds : List TaskKind) (s t : Simulation) (number : ℕ)
+pub GoesOnUnreported-begins : (kinds : List TaskKind) (s t : Simulation) (number : ℕ)
     → length s.firsts.items ≡ number → t.roster ≡ s.roster → t.seed ≡ s.seed → t.streams ≡ s.streams → t.driver ≡ s.driver
     → t.firsts.items ≡ s.firsts.items ++ first_task_of kinds number ∷ []
-    → Silent kinds (AreJust []) s t
-Silent-begins kinds s t number long roster seed streams driver pushed drawn had firsts = record {
+    → GoesOnUnreported kinds (AreJustEvents []) s t
+GoesOnUnreported-begins kinds s t number long roster seed streams driver pushed drawn had firsts = record {
   deeds = [];
   after = drawn;
   periods = ap (λ r. r.periods) roster;
@@ -363,20 +349,20 @@ Silent-begins kinds s t number long roster seed streams driver pushed drawn had 
       firsts-pushed kinds s.firsts.items number long firsts n first (ap (λ (l : List ℕ). slice_get l n) (sym pushed) ∙ there);
   begun = omega (arith, ap (λ (l : List ℕ). length l) pushed, length-append s.firsts.items (first_task_of kinds number ∷ []));
   agrees = λ h. subst IsAgreed (sym roster) h;
-  lives = (refl, driver, ap (λ r. record { accounts = accounts_of r; drawn = drawn }) roster);
+  leads = (refl, driver, ap (λ r. record { accounts = accounts_of r; drawn = drawn }) roster);
   are = refl;
 }
 
--- one deed of which nothing is reported and for which no length is drawn, and then what befalls
-pub Befell-first : {S : Type 0} (takes : S → ℕ → TraceEvent → S → Type 0) (A B : List Deed → Type 0)
+-- one deed of which nothing is reported and for which no length is drawn, and then what follows
+pub GoesOnForAnyKinds-first : {S : Type 0} (takes : S → ℕ → TraceEvent → S → Type 0) (A B : List Deed → Type 0)
     (x y : S) (s t u : Simulation) (deed : Deed)
     → SimulationStays s t → ((kinds : List TaskKind) (drawn : List ℕ) →
-    Lives kinds s.seed s.roster.periods s.driver (book_of s drawn) (deed ∷ []) [] t.driver (book_of t drawn))
-    → ((xs : List Deed) → A xs → B (deed ∷ xs)) → Befell takes A x t y u
-    → Befell takes B x s y u
-Befell-first takes A B x y s t u deed stays lives first befell kinds =
+    DeedsLead kinds s.seed s.roster.periods s.driver (book_of s drawn) (deed ∷ []) [] t.driver (book_of t drawn))
+    → ((xs : List Deed) → A xs → B (deed ∷ xs)) → GoesOnForAnyKinds takes A x t y u
+    → GoesOnForAnyKinds takes B x s y u
+GoesOnForAnyKinds-first takes A B x y s t u deed stays leads first goes_on kinds =
     let one : List Deed → Type 0 = λ xs. xs ≡ deed ∷ [] in
-    let silent : Silent kinds one s t =
+    let quiet : GoesOnUnreported kinds one s t =
     λ drawn had firsts. record {
       deeds = deed ∷ [];
       after = drawn;
@@ -386,47 +372,47 @@ Befell-first takes A B x y s t u deed stays lives first befell kinds =
       firsts = firsts-stay kinds s t stays firsts;
       begun = begun-stay s t stays;
       agrees = stays.agrees;
-      lives = lives kinds drawn;
+      leads = leads kinds drawn;
       are = refl;
     } in
-    Lived-join takes kinds one A B (λ xs ys is are. subst (λ (l : List Deed). B (l ++ ys)) (sym is) (first ys are)) x x y s t
-    u (Lived-silent takes kinds one x s t silent) (befell kinds)
+    GoesOnBy-join takes kinds one A B (λ xs ys is are. subst (λ (l : List Deed). B (l ++ ys)) (sym is) (first ys are)) x x y s t
+    u (GoesOnBy-unreported takes kinds one x s t quiet) (goes_on kinds)
 
 -- in one simulation nothing changes
 pub Stays-here : (s : Simulation) → SimulationStays s s
 Stays-here s = record { agrees = λ h. h; periods = refl; seed = refl; streams = refl; firsts = refl }
 
--- a clock beats, and then what befalls
-pub Befell-beats : {S : Type 0} (takes : S → ℕ → TraceEvent → S → Type 0) (A B : List Deed → Type 0) (x y : S)
+-- a clock beats, and then what follows
+pub GoesOnForAnyKinds-beats : {S : Type 0} (takes : S → ℕ → TraceEvent → S → Type 0) (A B : List Deed → Type 0) (x y : S)
     (s t u : Simulation) (processor now : ℕ)
     → TicksAt (accounts_of s.roster) processor now → is_busy (accounts_of s.roster) processor ≡ true → SimulationStays s t
     → t.driver ≡ s.driver → accounts_of t.roster ≡ beaten processor now s.roster.periods.tick (accounts_of s.roster)
-    → ((xs : List Deed) → A xs → B (Beats processor now ∷ xs)) → Befell takes A x t y u
-    → Befell takes B x s y u
-Befell-beats takes A B x y s t u processor now ticks busy stays driver accounts first befell =
-    Befell-first takes A B x y s t u (Beats processor now) stays
+    → ((xs : List Deed) → A xs → B (Beats processor now ∷ xs)) → GoesOnForAnyKinds takes A x t y u
+    → GoesOnForAnyKinds takes B x s y u
+GoesOnForAnyKinds-beats takes A B x y s t u processor now ticks busy stays driver accounts first goes_on =
+    GoesOnForAnyKinds-first takes A B x y s t u (Beats processor now) stays
     (λ kinds drawn. (ticks, busy, (refl, driver, ap (λ (a : Accounts). record { accounts = a; drawn = drawn }) accounts))) first
-    befell
+    goes_on
 
--- a processor looks for a task to pull, and then what befalls
-pub Befell-looks : {S : Type 0} (takes : S → ℕ → TraceEvent → S → Type 0) (A B : List Deed → Type 0) (x y : S)
+-- a processor looks for a task to pull, and then what follows
+pub GoesOnForAnyKinds-looks : {S : Type 0} (takes : S → ℕ → TraceEvent → S → Type 0) (A B : List Deed → Type 0) (x y : S)
     (s t u : Simulation) (processor now : ℕ) (source : Option ℕ)
     → LooksAt (accounts_of s.roster) processor now → IsSource s.roster.by_processor.items processor source → SimulationStays s t
     → t.driver ≡ s.driver → accounts_of t.roster ≡ looked processor now s.roster.periods.balance (accounts_of s.roster)
-    → ((xs : List Deed) → A xs → B (Looks processor now source ∷ xs)) → Befell takes A x t y u
-    → Befell takes B x s y u
-Befell-looks takes A B x y s t u processor now source looks from stays driver accounts first befell =
-    Befell-first takes A B x y s t u (Looks processor now source) stays
+    → ((xs : List Deed) → A xs → B (Looks processor now source ∷ xs)) → GoesOnForAnyKinds takes A x t y u
+    → GoesOnForAnyKinds takes B x s y u
+GoesOnForAnyKinds-looks takes A B x y s t u processor now source looks from stays driver accounts first goes_on =
+    GoesOnForAnyKinds-first takes A B x y s t u (Looks processor now source) stays
     (λ kinds drawn. (looks, from, (refl, driver, ap (λ (a : Accounts). record { accounts = a; drawn = drawn }) accounts)))
-    first befell
+    first goes_on
 
 -- an event happens
-pub Lived-event : {S : Type 0} (takes : S → ℕ → TraceEvent → S → Type 0) (A : List Deed → Type 0) (x y : S)
+pub GoesOnBy-event : {S : Type 0} (takes : S → ℕ → TraceEvent → S → Type 0) (A : List Deed → Type 0) (x y : S)
     (s t : Simulation) (event : Event) (reply : Reply)
-    → A (Happens event reply ∷ []) → MayCome event (accounts_of s.roster) → SimulationStays s t → Did takes x s.driver event reply y t.driver
+    → A (Happens event reply ∷ []) → MayCome event (accounts_of s.roster) → SimulationStays s t → EventIsDriven takes x s.driver event reply y t.driver
     → accounts_of t.roster ≡ after_event s.roster.periods event reply (accounts_of s.roster)
-    → Befell takes A x s y t
-Lived-event takes A x y s t event reply are due stays did accounts kinds drawn had firsts = record {
+    → GoesOnForAnyKinds takes A x s y t
+GoesOnBy-event takes A x y s t event reply are due stays did accounts kinds drawn had firsts = record {
   deeds = Happens event reply ∷ [];
   after = drawn;
   periods = stays.periods;
@@ -452,13 +438,13 @@ Lived-event takes A x y s t event reply are due stays did accounts kinds drawn h
 }
 
 -- an event of which the accounts know nothing
-pub Lived-drove : {S : Type 0} (takes : S → ℕ → TraceEvent → S → Type 0) (A : List Deed → Type 0)
+pub GoesOnBy-drove : {S : Type 0} (takes : S → ℕ → TraceEvent → S → Type 0) (A : List Deed → Type 0)
     (x y : S) (s t : Simulation) (event : Event)
     → ((reply : Reply) → A (Happens event reply ∷ [])) → MayCome event (accounts_of s.roster)
     → SimulationStays s t → ((reply : Reply) (a : Accounts) → after_event s.roster.periods event reply a ≡ a)
-    → Drove takes x s.driver (event ∷ []) y t.driver → accounts_of t.roster ≡ accounts_of s.roster
-    → Befell takes A x s y t
-Lived-drove takes A x y s t event are due stays quiet drove accounts kinds drawn had firsts =
+    → EventsAreDriven takes x s.driver (event ∷ []) y t.driver → accounts_of t.roster ≡ accounts_of s.roster
+    → GoesOnForAnyKinds takes A x s y t
+GoesOnBy-drove takes A x y s t event are due stays quiet drove accounts kinds drawn had firsts =
     let h = drove.holds in
     record {
       deeds = Happens event h.0 ∷ [];
@@ -490,13 +476,13 @@ Lived-drove takes A x y s t event are due stays quiet drove accounts kinds drawn
     }
 
 -- a task is woken, and the processor on which it was placed takes it in
-pub Lived-wakes : {S : Type 0} (takes : S → ℕ → TraceEvent → S → Type 0) (x y z : S) (s t : Simulation)
+pub GoesOnBy-wakes : {S : Type 0} (takes : S → ℕ → TraceEvent → S → Type 0) (x y z : S) (s t : Simulation)
     (m : Driver) (from task to now : ℕ) (reply : Reply)
     → IsWoken (accounts_of s.roster) from task → SimulationStays s t
-    → Gets takes x y (λ reported. PlacesWoken s.driver from task now to reported m) → Did takes y m (Drain to now) reply z t.driver
+    → Gets takes x y (λ reported. PlacesWoken s.driver from task now to reported m) → EventIsDriven takes y m (Drain to now) reply z t.driver
     → accounts_of t.roster ≡ after_event s.roster.periods (Drain to now) reply (of_task progress_woken task (accounts_of s.roster))
-    → Befell takes (AreWake from task now) x s z t
-Lived-wakes takes x y z s t m from task to now reply due stays woke did accounts kinds drawn had firsts =
+    → GoesOnForAnyKinds takes (AreWake from task now) x s z t
+GoesOnBy-wakes takes x y z s t m from task to now reply due stays woke did accounts kinds drawn had firsts =
     let h = woke.holds in
     let kept = ap (λ (a : Accounts). record { accounts = a; drawn = drawn }) accounts in
     record {

@@ -6,7 +6,7 @@ use Rattle.bq_parts.specs.declared.reply.Reply.{Reply}
 use Rattle.bq_trace.specs.TraceEvents.{TraceEvent, Reported, Gets}
 use Rattle.bq_trace.proofs.TakingLemmas.{TakesAll-append}
 use Rattle.bq_simulate.specs.declared.driver.Driver.{Driver}
-use Rattle.bq_simulate.specs.Drives.{Did, DrivesEvent, Drives, Drove, PlacesWoken, placed_at}
+use Rattle.bq_simulate.specs.Drives.{EventIsDriven, DrivesEvent, Drives, EventsAreDriven, PlacesWoken, placed_at}
 
 -- events one after another, and then others
 pub Drives-append : (d m e : Driver) (xs ys : List Event) (reported more : Reported)
@@ -26,19 +26,19 @@ Drives-append d m e (x ∷ xs) ys reported more (reply, mid, first, rest, does, 
 )
 
 -- one event
-pub Drove-one : {S : Type 0} (takes : S → ℕ → TraceEvent → S → Type 0) (old new : S) (d e : Driver)
+pub EventsAreDriven-one : {S : Type 0} (takes : S → ℕ → TraceEvent → S → Type 0) (old new : S) (d e : Driver)
     (x : Event) (reply : Reply)
-    → Gets takes old new (λ reported. DrivesEvent d x reply reported e) → Drove takes old d (x ∷ []) new e
-Drove-one takes old new d e x reply gets = record {
+    → Gets takes old new (λ reported. DrivesEvent d x reply reported e) → EventsAreDriven takes old d (x ∷ []) new e
+EventsAreDriven-one takes old new d e x reply gets = record {
   reported = gets.reported;
   taken = gets.taken;
   holds = (reply, e, gets.reported, [], gets.holds, (refl, refl), sym (append-nil gets.reported));
 }
 
 -- some, and then others
-pub Drove-join : {S : Type 0} (takes : S → ℕ → TraceEvent → S → Type 0) (a b c : S) (d m e : Driver) (xs ys : List Event)
-    → Drove takes a d xs b m → Drove takes b m ys c e → Drove takes a d (xs ++ ys) c e
-Drove-join takes a b c d m e xs ys first second = record {
+pub EventsAreDriven-join : {S : Type 0} (takes : S → ℕ → TraceEvent → S → Type 0) (a b c : S) (d m e : Driver) (xs ys : List Event)
+    → EventsAreDriven takes a d xs b m → EventsAreDriven takes b m ys c e → EventsAreDriven takes a d (xs ++ ys) c e
+EventsAreDriven-join takes a b c d m e xs ys first second = record {
   reported = first.reported ++ second.reported;
   taken = TakesAll-append takes a b c first.reported second.reported first.taken second.taken;
   holds = Drives-append d m e xs ys first.reported second.reported first.holds second.holds;
@@ -47,7 +47,7 @@ Drove-join takes a b c d m e xs ys first second = record {
 -- a wake begins, and ends with its task placed
 pub Places-of : {S : Type 0} (takes : S → ℕ → TraceEvent → S → Type 0) (a b c : S) (d m e : Driver)
     (from task now to : ℕ) (begun placed : Reply)
-    → Did takes a d (BeginWake from task) begun b m → placed_at placed ≡ Some to → Did takes b m (EndWake from now) placed c e
+    → EventIsDriven takes a d (BeginWake from task) begun b m → placed_at placed ≡ Some to → EventIsDriven takes b m (EndWake from now) placed c e
     → Gets takes a c (λ reported. PlacesWoken d from task now to reported e)
 Places-of takes a b c d m e from task now to begun placed first place second = record {
   reported = first.reported ++ second.reported;
@@ -66,10 +66,10 @@ Places-of takes a b c d m e from task now to begun placed first place second = r
 }
 
 -- a wake is two events
-pub Drove-places : {S : Type 0} (takes : S → ℕ → TraceEvent → S → Type 0) (a b : S) (d e : Driver) (from task now to : ℕ)
+pub EventsAreDriven-places : {S : Type 0} (takes : S → ℕ → TraceEvent → S → Type 0) (a b : S) (d e : Driver) (from task now to : ℕ)
     → Gets takes a b (λ reported. PlacesWoken d from task now to reported e)
-    → Drove takes a d (BeginWake from task ∷ EndWake from now ∷ []) b e
-Drove-places takes a b d e from task now to gets =
+    → EventsAreDriven takes a d (BeginWake from task ∷ EndWake from now ∷ []) b e
+EventsAreDriven-places takes a b d e from task now to gets =
     let h = gets.holds in
     record {
       reported = gets.reported;

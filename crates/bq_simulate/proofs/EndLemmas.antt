@@ -28,7 +28,7 @@ use Rattle.bq_simulate.specs.declared.simulation.Simulation.{Simulation}
 use Rattle.bq_simulate.specs.Actions.{acted, action_at, action_count, asked_by, next_action}
 use Rattle.bq_simulate.specs.Agreement.{AgreesWith, IsOnTime, ProcessorIsOnTime, RunsOnTime}
 use Rattle.bq_simulate.specs.Kept.{StandsAtAction}
-use Rattle.bq_simulate.specs.Order.{SimulationGoesWell, IsStrayAction}
+use Rattle.bq_simulate.specs.GoingWell.{SimulationGoesWell, IsStrayAction}
 use Rattle.bq_simulate.specs.Simulations.{streams_after}
 use Rattle.bq_simulate.proofs.AccountLemmas.{charged_there}
 use Rattle.bq_simulate.proofs.MeetAgreeLemmas.{advanced_home, agrees_charged, woken_one_home, world_of}

@@ -9,7 +9,7 @@ use Rattle.bq_parts.specs.World.{World, count_in}
 use Rattle.bq_parts.proofs.RefusalLemmas.{accepted, not_refused_is_there}
 use Rattle.bq_trace.specs.TraceEvents.{TraceEvent, Reported}
 use Rattle.bq_workload.specs.declared.progress.TaskProgress.{TaskProgress}
-use Rattle.bq_workload.specs.declared.roster.Periods.{Periods}
+use Rattle.bq_workload.specs.declared.periods.Periods.{Periods}
 use Rattle.bq_workload.specs.declared.workload.TaskKind.{TaskKind}
 use Rattle.bq_workload.specs.declared.workload.Workload.{Workload}
 use Rattle.bq_workload.specs.Accounts.{Accounts, accounts_of}
@@ -20,11 +20,11 @@ use Rattle.bq_simulate.specs.declared.driver.Driver.{Driver}
 use Rattle.bq_simulate.specs.declared.simulation.Simulation.{Simulation}
 use Rattle.bq_simulate.specs.Agreement.{IsOnTime}
 use Rattle.bq_simulate.specs.AgreementLaws.{BookAgrees}
-use Rattle.bq_simulate.specs.Chronicles.{Book, Deed, Lives, after_answer}
+use Rattle.bq_simulate.specs.Deeds.{Book, Deed, DeedsLead, after_answer}
 use Rattle.bq_simulate.specs.Drives.{DrivesEvent, runs_now}
-use Rattle.bq_simulate.specs.Order.{SimulationGoesWell, HasGoneWell}
-use Rattle.bq_simulate.specs.Simulations.{Lived, book_of, periods_of, with_seed}
-use Rattle.bq_simulate.specs.Steps.{AreJust, all_processors, last_ticks}
+use Rattle.bq_simulate.specs.GoingWell.{SimulationGoesWell, HasGoneWell}
+use Rattle.bq_simulate.specs.Simulations.{GoesOnBy, book_of, periods_of, with_seed}
+use Rattle.bq_simulate.specs.Steps.{AreJustEvents, all_processors, last_ticks}
 use Rattle.bq_simulate.proofs.KeptLemmas.{AreBy, by_kept}
 use Rattle.bq_simulate.proofs.MeetAgreeLemmas.{step_of, tick_agrees, world_of}
 use Rattle.bq_simulate.proofs.MirrorLemmas.{state_there}
@@ -58,19 +58,19 @@ tick_fits periods d e b processor now reply reported tick does h =
 -- ticks of some processors keep that phases fit
 ticks_fit : (kinds : List TaskKind) (seed : ℕ) (periods : Periods) (d e : Driver) (b c : Book) (now : ℕ) (processors : List ℕ)
     (deeds : List Deed) (reported : Reported)
-    → 1 ≤ periods.tick → AreJust (map (λ processor. Tick processor now) processors) deeds
-    → Lives kinds seed periods d b deeds reported e c → Fits now d b
+    → 1 ≤ periods.tick → AreJustEvents (map (λ processor. Tick processor now) processors) deeds
+    → DeedsLead kinds seed periods d b deeds reported e c → Fits now d b
     → Fits now e c
-ticks_fit kinds seed periods d e b c now [] deeds reported tick none lives h =
-    none_kept (Fits now) kinds seed periods d e b c deeds reported none lives h
-ticks_fit kinds seed periods d e b c now (processor ∷ processors) deeds reported tick (reply, more, is, just) lives h =
-    let (due, mid, first, rest, does, later, whole) = subst (λ l. Lives kinds seed periods d b l reported e c) is lives in
+ticks_fit kinds seed periods d e b c now [] deeds reported tick none leads h =
+    none_kept (Fits now) kinds seed periods d e b c deeds reported none leads h
+ticks_fit kinds seed periods d e b c now (processor ∷ processors) deeds reported tick (reply, more, is, just) leads h =
+    let (due, mid, first, rest, does, later, whole) = subst (λ l. DeedsLead kinds seed periods d b l reported e c) is leads in
     ticks_fit kinds seed periods mid e (after_answer periods (Tick processor now) reply b) c now processors more rest tick
     just later (tick_fits periods d mid b processor now reply first tick does h)
 
 -- with readings that are no later
 ticks_by : (now : ℕ) (processors : List ℕ) (deeds : List Deed)
-    → AreJust (map (λ processor. Tick processor now) processors) deeds → AreBy now deeds
+    → AreJustEvents (map (λ processor. Tick processor now) processors) deeds → AreBy now deeds
 ticks_by now [] deeds none = subst (λ l. AreBy now l) (sym none) tt
 ticks_by now (processor ∷ processors) deeds (reply, more, is, just) =
     let same : now ≤ now = omega arith in
@@ -78,7 +78,7 @@ ticks_by now (processor ∷ processors) deeds (reply, more, is, just) =
 
 -- ticks of some processors keep all
 ticks_keep : (w : Workload) (seed now : ℕ) (processors : List ℕ)
-    → first_flaw w ≡ None → KeepAll w seed now (AreJust (map (λ processor. Tick processor now) processors))
+    → first_flaw w ≡ None → KeepAll w seed now (AreJustEvents (map (λ processor. Tick processor now) processors))
 ticks_keep w seed now processors sound d e b c deeds reported are leads h =
     let v = with_seed w seed in
     let kinds = w.tasks.items in
@@ -99,13 +99,13 @@ ticks_keep w seed now processors sound d e b c deeds reported are leads h =
 -- a simulation goes on well by ticks of this many processors, and has as many processors as before
 pub ticked-well : {S : Type 0} (takes : S → ℕ → TraceEvent → S → Type 0) (x y : S) (w : Workload) (now processors : ℕ)
     (s t : Simulation)
-    → Lived takes w.tasks.items (AreJust (last_ticks now processors)) x s y t → SimulationGoesWell w now s
+    → GoesOnBy takes w.tasks.items (AreJustEvents (last_ticks now processors)) x s y t → SimulationGoesWell w now s
     → SimulationGoesWell w now t × (length t.roster.by_processor.items ≡ length s.roster.by_processor.items)
-ticked-well takes x y w now processors s t lived h =
-    let g = lived h.drawn h.streams h.firsts in
+ticked-well takes x y w now processors s t goes_on h =
+    let g = goes_on h.drawn h.streams h.firsts in
     let well =
-    goes-well takes (AreJust (last_ticks now processors)) x y w now s t
-    (ticks_keep w s.seed now (all_processors processors) h.sound) lived h in
+    goes-well takes (AreJustEvents (last_ticks now processors)) x y w now s t
+    (ticks_keep w s.seed now (all_processors processors) h.sound) goes_on h in
     let still =
     processors_kept w.tasks.items s.seed s.roster.periods s.driver t.driver (book_of s h.drawn) (book_of t g.after) g.deeds
     g.reports.reported g.reports.holds in

@@ -5,10 +5,10 @@ use Rattle.bq_parts.specs.declared.event.Event.TheVariants.{Admit, Retire, Draw,
 use Rattle.bq_simulate.specs.declared.drive_fault.DriveFault.TheVariants as fault
 use Rattle.bq_simulate.specs.Agreement.{IsAnswerTo, IsReadable}
 use Rattle.bq_simulate.specs.AgreementLaws.{AnswersFit, OnlyMemoryIsWanted}
-use Rattle.bq_simulate.specs.Drives.{Falls, reading_of_event}
+use Rattle.bq_simulate.specs.Drives.{ReadingFalls, reading_of_event}
 
 -- a reading that can be given doesn't fall
-readable : (last : ℕ) (reading : Option ℕ) → IsReadable last reading → Falls last reading → ⊥
+readable : (last : ℕ) (reading : Option ℕ) → IsReadable last reading → ReadingFalls last reading → ⊥
 readable last None h falls = falls
 readable last (Some now) h (inl early) = omega (arith, h.0, early)
 readable last (Some now) h (inr late) = omega (arith, h.1, late)
@@ -18,7 +18,6 @@ pub only_memory_is_wanted : OnlyMemoryIsWanted
 only_memory_is_wanted d event fault.OutOfMemory h taken why = refl
 only_memory_is_wanted d event (fault.Refused refusal) h taken why = absurd (none-some refusal (sym taken ∙ why))
 only_memory_is_wanted d event fault.Reading h taken why = absurd (readable d.now (reading_of_event event) h why)
-only_memory_is_wanted d event fault.Answer h taken why = absurd why
 
 -- an answer is of its event's kind
 pub answers_fit : AnswersFit

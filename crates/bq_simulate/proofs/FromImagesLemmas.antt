@@ -5,17 +5,17 @@ use Rattle.bq_workload.specs.declared.action.Action.{Action}
 use Rattle.bq_workload.specs.declared.action.Action.TheVariants.{Run, Wake}
 use Rattle.bq_workload.specs.declared.due.Due.{Due}
 use Rattle.bq_workload.specs.declared.due.Due.TheVariants as due
-use Rattle.bq_workload.specs.declared.roster.Periods.{Periods}
+use Rattle.bq_workload.specs.declared.periods.Periods.{Periods}
 use Rattle.bq_workload.specs.declared.workload.TaskKind.{TaskKind}
 use Rattle.bq_workload.specs.declared.workload.Workload.{Workload}
 use Rattle.bq_parts.specs.declared.event.Event.{Event}
 use Rattle.bq_parts.specs.declared.event.Event.TheVariants.{Block, Install, Tick}
 use Rattle.bq_trace.specs.TraceEvents.{Reported}
 use Rattle.bq_verify.specs.Accepted.{Accepted}
-use Rattle.bq_simulate.specs.Chronicles.{Book, Deed, Happens, events_of}
+use Rattle.bq_simulate.specs.Deeds.{Book, Deed, Happens, events_of}
 use Rattle.bq_simulate.specs.Replays.{AreOfImages, IsFromImages, IsLoadedFromImage}
 use Rattle.bq_simulate.specs.Simulations.{IsSimulation, Proceeds}
-use Rattle.bq_simulate.specs.Steps.{AreAdmitted, AreAllAdmitted, AreInstalled, AreJust, AreWake, Follow, Meet, MetDue, deeds_of, pulls_of}
+use Rattle.bq_simulate.specs.Steps.{AreAdmitted, AreAllAdmitted, AreInstalled, AreJustEvents, AreWake, FollowsAction, DeedsMeet, MetDue, deeds_of, pulls_of}
 use Rattle.bq_simulate.specs.Texts.{ByHook}
 
 -- each policy that the deeds install is that of the image at its hook
@@ -35,7 +35,7 @@ parts : (images : ByHook) {whole : List Deed} (xs ys : List Deed)
 parts images xs ys is h k = same images is (joined images xs ys h k)
 
 just : (images : ByHook) (events : List Event) (deeds : List Deed)
-    → AllByRecursion (IsFromImages images) events → AreJust events deeds → InstallsImages images deeds
+    → AllByRecursion (IsFromImages images) events → AreJustEvents events deeds → InstallsImages images deeds
 just images [] deeds h is = same images is tt
 just images (event ∷ events) deeds h (reply, more, is, rest) = same images is (h.0, just images events more h.1 rest)
 
@@ -70,11 +70,11 @@ all_admitted images processors number task (kind ∷ kinds) deeds (some, more, i
 wakes : (images : ByHook) (from task now : ℕ) (deeds : List Deed) → AreWake from task now deeds → InstallsImages images deeds
 wakes images from task now deeds (begun, placed, drained, to, at, is) = same images is (tt, (tt, (tt, tt)))
 
-blocks : (images : ByHook) (processor now : ℕ) (deeds : List Deed) → AreJust (Block processor now ∷ []) deeds → InstallsImages images deeds
+blocks : (images : ByHook) (processor now : ℕ) (deeds : List Deed) → AreJustEvents (Block processor now ∷ []) deeds → InstallsImages images deeds
 blocks images processor now deeds is = just images (Block processor now ∷ []) deeds (tt, tt) is
 
 follows : (images : ByHook) (action : Option Action) (aim : Option ℕ) (processor now : ℕ) (deeds : List Deed)
-    → Follow action aim processor now deeds → InstallsImages images deeds
+    → FollowsAction action aim processor now deeds → InstallsImages images deeds
 follows images (Some (Run asked)) aim processor now deeds is = same images is tt
 follows images (Some (Wake kind)) (Some task) processor now deeds (inl is) = same images is tt
 follows images (Some (Wake kind)) (Some task) processor now deeds (inr (more, is, woken)) =
@@ -91,12 +91,12 @@ pulls : (images : ByHook) (processor now : ℕ) (source : Option ℕ) → AllByR
 pulls images processor now None = tt
 pulls images processor now (Some from) = (tt, tt)
 
-meets : (images : ByHook) (due : Due) (now : ℕ) (deeds : List Deed) → Meet due now deeds → InstallsImages images deeds
+meets : (images : ByHook) (due : Due) (now : ℕ) (deeds : List Deed) → DeedsMeet due now deeds → InstallsImages images deeds
 meets images (due.End processor) now deeds (task, action, aim, more, is, rest) =
     same images is (follows images action aim processor now more rest)
 meets images (due.Wake task) now deeds (home, more, is, rest) = same images is (wakes images home task now more rest)
 meets images (due.Tick processor) now deeds (more, is, rest) = same images is (just images (Tick processor now ∷ []) more (tt, tt) rest)
-meets images (due.Pull processor) now deeds (source, more, is, rest) =
+meets images (due.Look processor) now deeds (source, more, is, rest) =
     same images is (just images (pulls_of processor now source) more (pulls images processor now source) rest)
 
 all_met : (images : ByHook) (steps : List MetDue) → InstallsImages images (deeds_of steps)

@@ -5,7 +5,7 @@ use Rattle.std.proofs.lemmas.List.{take_more}
 use Rattle.std.proofs.lemmas.Option.{get_or_from_slice_get, slice_get_within}
 use Rattle.bq_parts.specs.declared.event.Event.TheVariants.{Install}
 use Rattle.bq_verify.specs.Accepted.{Accepted}
-use Rattle.bq_simulate.specs.Chronicles.{Deed}
+use Rattle.bq_simulate.specs.Deeds.{Deed}
 use Rattle.bq_simulate.specs.Steps.{AreInstalled, IsInstalled, installs_of}
 use Rattle.bq_simulate.proofs.ProcessorStateLemmas.{each_more}
 

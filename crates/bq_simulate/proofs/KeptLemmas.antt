@@ -17,23 +17,23 @@ use Rattle.bq_workload.specs.declared.action.Action.TheVariants.{Run, Sleep, Wai
 use Rattle.bq_workload.specs.declared.due.Due.{Due}
 use Rattle.bq_workload.specs.declared.due.Due.TheVariants as due
 use Rattle.bq_workload.specs.declared.progress.TaskProgress.{TaskProgress}
-use Rattle.bq_workload.specs.declared.roster.Periods.{Periods}
+use Rattle.bq_workload.specs.declared.periods.Periods.{Periods}
 use Rattle.bq_workload.specs.declared.workload.TaskKind.{TaskKind}
 use Rattle.bq_workload.specs.declared.workload.Workload.{Workload}
 use Rattle.bq_workload.specs.Accounts.{Accounts, accounts_charged}
 use Rattle.bq_workload.specs.Next.{IsNextDue}
 use Rattle.bq_workload.specs.Soundness.{first_flaw}
 use Rattle.bq_simulate.specs.declared.driver.Driver.{Driver}
-use Rattle.bq_simulate.specs.Chronicles.{Acts, Beats, Book, Deed, Happens, Joins, Lives, Looks, Misses, Reaches, Rings, after_act, after_answer, after_beat, after_look}
-use Rattle.bq_simulate.specs.Drives.{Rises, Starts, reading_of_event}
+use Rattle.bq_simulate.specs.Deeds.{Acts, Beats, Book, Deed, Happens, Joins, DeedsLead, Looks, Misses, Reaches, Rings, after_act, after_answer, after_beat, after_look}
+use Rattle.bq_simulate.specs.Drives.{ReadingRises, Starts, reading_of_event}
 use Rattle.bq_simulate.specs.Kept.{IsKept, StandAtActions}
-use Rattle.bq_simulate.specs.KeptLaws.{AllIsKept, BeginningsAreKept, DeedsLead}
+use Rattle.bq_simulate.specs.KeptLaws.{AllIsKept, BeginningsAreKept, DeedsLeadIn}
 use Rattle.bq_simulate.specs.Simulations.{opening_book, periods_of}
-use Rattle.bq_simulate.specs.Steps.{AreInOrder, AreJust, AreWake, Follow, Meet, Opens, MetDue, WakesTask, deeds_of, pulls_of}
+use Rattle.bq_simulate.specs.Steps.{AreInOrder, AreJustEvents, AreWake, FollowsAction, DeedsMeet, Opens, MetDue, WakesTask, deeds_of, pulls_of}
 use Rattle.bq_simulate.proofs.AccountLemmas.{changed_at-length}
 use Rattle.bq_simulate.proofs.MeetAgreeLemmas.{meetings_agree, step_of, world_of}
 use Rattle.bq_simulate.proofs.MeetTimeLemmas.{meetings_are_on_time}
-use Rattle.bq_simulate.proofs.OrderLemmas.{kept-by}
+use Rattle.bq_simulate.proofs.BookLemmas.{kept-by}
 use Rattle.bq_simulate.proofs.SimulationAgreeLemmas.{none_kept, opened_open, part}
 use Rattle.bq_simulate.proofs.SoundKindLemmas.{sound_times}
 use Rattle.bq_simulate.proofs.StandingLemmas.{charged_keeps, count_of_places, event_keeps, standing_is_kept}
@@ -58,7 +58,7 @@ AreBy now (Misses task ∷ deeds) = AreBy now deeds
 AreBy now (Beats processor at ∷ deeds) = AreBy now deeds
 AreBy now (Looks processor at source ∷ deeds) = AreBy now deeds
 
-one_by : (now : ℕ) (event : Event) (deeds : List Deed) → IsReadBy now (reading_of_event event) → AreJust (event ∷ []) deeds → AreBy now deeds
+one_by : (now : ℕ) (event : Event) (deeds : List Deed) → IsReadBy now (reading_of_event event) → AreJustEvents (event ∷ []) deeds → AreBy now deeds
 one_by now event deeds read (reply, more, is, none) = subst (λ l. AreBy now l) (sym is) (read, subst (λ l. AreBy now l) (sym none) tt)
 
 none_by : (now : ℕ) (deeds : List Deed) → deeds ≡ [] → AreBy now deeds
@@ -74,7 +74,7 @@ wakes_by now task processor deeds (inl is) = subst (λ l. AreBy now l) (sym is) 
 wakes_by now task processor deeds (inr (more, is, wake)) = subst (λ l. AreBy now l) (sym is) (wake_by now processor task more wake)
 
 follow_by : (action : Option Action) (aim : Option ℕ) (processor now : ℕ) (deeds : List Deed)
-    → Follow action aim processor now deeds → AreBy now deeds
+    → FollowsAction action aim processor now deeds → AreBy now deeds
 follow_by None aim processor now deeds follow = one_by now (Block processor now) deeds (omega arith) follow
 follow_by (Some (Run asked)) aim processor now deeds follow = none_by now deeds follow
 follow_by (Some (Sleep asked)) aim processor now deeds follow = one_by now (Block processor now) deeds (omega arith) follow
@@ -82,19 +82,19 @@ follow_by (Some Wait) aim processor now deeds follow = one_by now (Block process
 follow_by (Some (Wake kind)) None processor now deeds follow = absurd follow
 follow_by (Some (Wake kind)) (Some task) processor now deeds follow = wakes_by now task processor deeds follow
 
-pulls_by : (source : Option ℕ) (processor now : ℕ) (deeds : List Deed) → AreJust (pulls_of processor now source) deeds → AreBy now deeds
+pulls_by : (source : Option ℕ) (processor now : ℕ) (deeds : List Deed) → AreJustEvents (pulls_of processor now source) deeds → AreBy now deeds
 pulls_by None processor now deeds none = none_by now deeds none
 pulls_by (Some from) processor now deeds just = one_by now (Pull processor from now) deeds (omega arith) just
 
-met_by : (due : Due) (now : ℕ) (deeds : List Deed) → Meet due now deeds → AreBy now deeds
+met_by : (due : Due) (now : ℕ) (deeds : List Deed) → DeedsMeet due now deeds → AreBy now deeds
 met_by (due.End processor) now deeds (task, action, aim, more, is, follow) =
     subst (λ l. AreBy now l) (sym is) (follow_by action aim processor now more follow)
 met_by (due.Wake task) now deeds (home, more, is, wake) = subst (λ l. AreBy now l) (sym is) (wake_by now home task more wake)
 met_by (due.Tick processor) now deeds (more, is, just) =
     subst (λ l. AreBy now l) (sym is) (one_by now (Tick processor now) more (omega arith) just)
-met_by (due.Pull processor) now deeds (source, more, is, just) = subst (λ l. AreBy now l) (sym is) (pulls_by source processor now more just)
+met_by (due.Look processor) now deeds (source, more, is, just) = subst (λ l. AreBy now l) (sym is) (pulls_by source processor now more just)
 
-rises_by : (now last next : ℕ) (reading : Option ℕ) → IsReadBy now reading → Rises last reading next → last ≤ now → next ≤ now
+rises_by : (now last next : ℕ) (reading : Option ℕ) → IsReadBy now reading → ReadingRises last reading next → last ≤ now → next ≤ now
 rises_by now last next None read rises low = omega (arith, rises, low)
 rises_by now last next (Some reading) read rises low = omega (arith, rises.2, read)
 
@@ -108,7 +108,7 @@ act_count kinds seed processor task now c b =
 -- no clock was given a later reading, and there are as many tasks and processors
 pub by_kept : (kinds : List TaskKind) (seed : ℕ) (periods : Periods) (d e : Driver) (b c : Book) (now : ℕ)
     (deeds : List Deed) (reported : Reported)
-    → AreBy now deeds → Lives kinds seed periods d b deeds reported e c → d.now ≤ now
+    → AreBy now deeds → DeedsLead kinds seed periods d b deeds reported e c → d.now ≤ now
     → (e.now ≤ now) × (length c.accounts.by_task ≡ length b.accounts.by_task) × (count_in (world_of e) ≡ count_in (world_of d))
 by_kept kinds seed periods d e b c now [] reported are (none, same, kept) low = (
   subst (λ (x : Driver). x.now ≤ now) (sym same) low,
@@ -116,9 +116,9 @@ by_kept kinds seed periods d e b c now [] reported are (none, same, kept) low = 
   ap (λ (x : Driver). count_in (world_of x)) same,
 )
 by_kept kinds seed periods d e b c now (Happens event reply ∷ deeds) reported are
-    (due, mid, first, rest, does, lives, whole) low =
+    (due, mid, first, rest, does, leads, whole) low =
     let later =
-    by_kept kinds seed periods mid e (after_answer periods event reply b) c now deeds rest are.1 lives
+    by_kept kinds seed periods mid e (after_answer periods event reply b) c now deeds rest are.1 leads
     (rises_by now d.now mid.now (reading_of_event event) are.0 does.rises low) in
     let step = step_of d event reply first mid does in (
       later.0,
@@ -127,20 +127,20 @@ by_kept kinds seed periods d e b c now (Happens event reply ∷ deeds) reported 
       later.2 ∙ step_count (by_programs (discipline_of d.machine.rule)) (world_of d) event does.happens.moves.step.calls
           (Ok reply) (world_of mid) step,
     )
-by_kept kinds seed periods d e b c now (Joins kind home ∷ deeds) reported are lives low = absurd are
-by_kept kinds seed periods d e b c now (Acts at task then action aim ∷ deeds) reported are (k, done, is, to, lives) low =
-    let later = by_kept kinds seed periods d e (after_act kinds seed at task then k b) c now deeds reported are lives low in
+by_kept kinds seed periods d e b c now (Joins kind home ∷ deeds) reported are leads low = absurd are
+by_kept kinds seed periods d e b c now (Acts at task then action aim ∷ deeds) reported are (k, done, is, to, leads) low =
+    let later = by_kept kinds seed periods d e (after_act kinds seed at task then k b) c now deeds reported are leads low in
     (later.0, later.1 ∙ act_count kinds seed at task then k b, later.2)
-by_kept kinds seed periods d e b c now (Rings task then ∷ deeds) reported are (k, there, asleep, timer, lives) low =
-    by_kept kinds seed periods d e b c now deeds reported are lives low
-by_kept kinds seed periods d e b c now (Reaches task ∷ deeds) reported are (k, there, waits, lives) low =
-    by_kept kinds seed periods d e b c now deeds reported are lives low
-by_kept kinds seed periods d e b c now (Misses task ∷ deeds) reported are (k, there, waits, lives) low =
-    by_kept kinds seed periods d e b c now deeds reported are lives low
-by_kept kinds seed periods d e b c now (Beats at then ∷ deeds) reported are (ticks, busy, lives) low =
-    by_kept kinds seed periods d e (after_beat periods at then b) c now deeds reported are lives low
-by_kept kinds seed periods d e b c now (Looks at then source ∷ deeds) reported are (looks, from, lives) low =
-    by_kept kinds seed periods d e (after_look periods at then b) c now deeds reported are lives low
+by_kept kinds seed periods d e b c now (Rings task then ∷ deeds) reported are (k, there, asleep, timer, leads) low =
+    by_kept kinds seed periods d e b c now deeds reported are leads low
+by_kept kinds seed periods d e b c now (Reaches task ∷ deeds) reported are (k, there, waits, leads) low =
+    by_kept kinds seed periods d e b c now deeds reported are leads low
+by_kept kinds seed periods d e b c now (Misses task ∷ deeds) reported are (k, there, waits, leads) low =
+    by_kept kinds seed periods d e b c now deeds reported are leads low
+by_kept kinds seed periods d e b c now (Beats at then ∷ deeds) reported are (ticks, busy, leads) low =
+    by_kept kinds seed periods d e (after_beat periods at then b) c now deeds reported are leads low
+by_kept kinds seed periods d e b c now (Looks at then source ∷ deeds) reported are (looks, from, leads) low =
+    by_kept kinds seed periods d e (after_look periods at then b) c now deeds reported are leads low
 
 -- From one thing to the next
 
@@ -151,7 +151,7 @@ none_stands w = record { tasks = λ task c at. absurd (none-some c at); streams 
 opened : (policies : List Accepted) (w : Workload) (d e : Driver) (b : Book) (deeds : List Deed) (first reported : Reported)
     → first_flaw w ≡ None → Starts w.machine.rule w.machine.size first d
     → Opens policies (processors_in w.machine.size) w.tasks.items deeds
-    → DeedsLead w d (opening_book w.machine) deeds reported e b
+    → DeedsLeadIn w d (opening_book w.machine) deeds reported e b
     → IsKept w.tasks.items 0 e b
 opened policies w d e b deeds first reported sound starts opens leads =
     let o = opened_open policies w d e b deeds first reported starts opens leads in
@@ -175,7 +175,7 @@ comes w d b due now time sound h next =
     )
 
 met : (w : Workload) (d e : Driver) (b c : Book) (due : Due) (now : ℕ) (deeds : List Deed) (reported : Reported)
-    → first_flaw w ≡ None → now ≤ w.machine.duration → Meet due now deeds → DeedsLead w d b deeds reported e c
+    → first_flaw w ≡ None → now ≤ w.machine.duration → DeedsMeet due now deeds → DeedsLeadIn w d b deeds reported e c
     → IsKept w.tasks.items now d b
     → IsKept w.tasks.items now e c
 met w d e b c due now deeds reported sound until meet leads h =
@@ -202,7 +202,7 @@ all_is_kept = record { opened = opened; comes = comes; met = met }
 -- along all that is met
 steps_kept : (w : Workload) (d e : Driver) (b c : Book) (steps : List MetDue) (reported : Reported) (now : ℕ)
     → first_flaw w ≡ None → AreInOrder w.tasks.items w.machine.seed (periods_of w.machine) b steps
-    → DeedsLead w d b (deeds_of steps) reported e c → now ≤ w.machine.duration → IsKept w.tasks.items now d b
+    → DeedsLeadIn w d b (deeds_of steps) reported e c → now ≤ w.machine.duration → IsKept w.tasks.items now d b
     → (last : ℕ) × (last ≤ w.machine.duration) × IsKept w.tasks.items last e c
 steps_kept w d e b c [] reported now sound order leads low h = (
   now,
@@ -232,9 +232,9 @@ beginnings_are_kept policies w reported sound s =
     let m = p.meets in
     let t =
     part kinds seed periods s.opening s.closing start s.book p.opening p.met s.more
-    (subst (λ l. Lives kinds seed periods s.opening start l s.more s.closing s.book) p.whole s.lives) in
+    (subst (λ l. DeedsLead kinds seed periods s.opening start l s.more s.closing s.book) p.whole s.leads) in
     let start_kept = opened policies w s.opening t.mid t.book p.opening s.first t.first sound s.starts p.opens t.one in
     let book = kept-by kinds seed periods s.opening t.mid start t.book p.opening t.first t.one in
     steps_kept w t.mid s.closing t.book s.book m.steps t.more 0 sound
     (subst (λ x. AreInOrder kinds seed periods x m.steps) (sym book) m.order)
-    (subst (λ l. Lives kinds seed periods t.mid t.book l t.more s.closing s.book) m.whole t.two) (omega arith) start_kept
+    (subst (λ l. DeedsLead kinds seed periods t.mid t.book l t.more s.closing s.book) m.whole t.two) (omega arith) start_kept

@@ -13,7 +13,7 @@ pub mod InAllLemmas
 pub mod InstallLemmas
 pub mod KindLemmas
 pub mod ProcessorStateLemmas
-pub mod OrderLemmas
+pub mod BookLemmas
 pub mod SoundKindLemmas
 pub mod StandingLemmas
 pub mod StepLemmas

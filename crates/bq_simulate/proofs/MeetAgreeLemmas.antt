@@ -28,7 +28,7 @@ use Rattle.bq_workload.specs.declared.progress.TaskProgress.{TaskProgress}
 use Rattle.bq_workload.specs.declared.progress.TaskState.{TaskState}
 use Rattle.bq_workload.specs.declared.progress.TaskState.TheVariants.{Asleep, Waiting, Runnable, Over}
 use Rattle.bq_workload.specs.declared.processor_state.ProcessorState.{ProcessorState}
-use Rattle.bq_workload.specs.declared.roster.Periods.{Periods}
+use Rattle.bq_workload.specs.declared.periods.Periods.{Periods}
 use Rattle.bq_workload.specs.declared.workload.TaskKind.{TaskKind}
 use Rattle.bq_workload.specs.Accounts.{Accounts, accounts_charged, runner_charged, of_processor, of_task}
 use Rattle.bq_workload.specs.Dues.{next_multiple, size_at}
@@ -39,9 +39,9 @@ use Rattle.bq_simulate.specs.declared.driver.Driver.{Driver}
 use Rattle.bq_simulate.specs.Actions.{acted, action_count, advanced_in, asked_by, next_action, woken_one_in}
 use Rattle.bq_simulate.specs.Agreement.{AgreesBut, AgreesWith, StandsAs, can_run, runner_at, state_at}
 use Rattle.bq_simulate.specs.AgreementLaws.{BookAgrees, MeetingsAgree}
-use Rattle.bq_simulate.specs.Chronicles.{Book, Deed, Happens, IsWokenFrom, Lives, after_act, after_answer, after_beat, after_look, length_taken}
+use Rattle.bq_simulate.specs.Deeds.{Book, Deed, Happens, IsWokenFrom, DeedsLead, after_act, after_answer, after_beat, after_look, length_taken}
 use Rattle.bq_simulate.specs.Drives.{DrivesEvent, placed_at}
-use Rattle.bq_simulate.specs.Steps.{AreJust, AreWake, Follow, Meet, WakesTask, pulls_of}
+use Rattle.bq_simulate.specs.Steps.{AreJustEvents, AreWake, FollowsAction, DeedsMeet, WakesTask, pulls_of}
 use Rattle.bq_simulate.proofs.AccountLemmas.{changed_at-length, read_changed, read_kept, reads_charged, state_others}
 use Rattle.bq_simulate.proofs.MirrorLemmas.{homes_charged, homes_task, tasks_kept}
 use Rattle.bq_simulate.proofs.TakenLemmas.{blocks_are_taken, pulls_are_taken, ticks_are_taken}
@@ -189,12 +189,6 @@ agrees_but_it w a task processor c new at sleeps home runs h =
 
 -- Single events
 
--- after an event that is done the sink has its answer, and that is all
-pub record LivedOne (periods : Periods) (d : Driver) (b : Book) (event : Event) (reply : Reply) (e : Driver) (c : Book) : Type 0 where
-  pub reported : Reported
-  pub does : DrivesEvent d event reply reported e
-  pub kept : c ≡ after_answer periods event reply b
-
 -- the step that it made in the world
 pub step_of : (d : Driver) (event : Event) (reply : Reply) (reported : Reported) (e : Driver)
     (does : DrivesEvent d event reply reported e)
@@ -253,7 +247,7 @@ same_rule d event reply reported e does = ap discipline_of does.happens.moves.sa
 wake_agrees : (kinds : List TaskKind) (seed : ℕ) (periods : Periods) (d e : Driver) (b c : Book) (from task now to : ℕ)
     (begun placed drained : Reply) (reported : Reported)
     → placed_at placed ≡ Some to
-    → Lives kinds seed periods d b
+    → DeedsLead kinds seed periods d b
     (Happens (BeginWake from task) begun ∷ Happens (EndWake from now) placed ∷ Happens (Drain to now) drained ∷ []) reported e
     c
     → BookAgrees d b
@@ -292,10 +286,10 @@ wake_agrees kinds seed periods d e b c from task now to begun placed drained rep
 -- a wake as it is met
 wake_met : (kinds : List TaskKind) (seed : ℕ) (periods : Periods) (d e : Driver) (b c : Book) (from task now : ℕ)
     (deeds : List Deed) (reported : Reported)
-    → AreWake from task now deeds → Lives kinds seed periods d b deeds reported e c → BookAgrees d b → BookAgrees e c
-wake_met kinds seed periods d e b c from task now deeds reported (begun, placed, drained, to, at, is) lives h =
+    → AreWake from task now deeds → DeedsLead kinds seed periods d b deeds reported e c → BookAgrees d b → BookAgrees e c
+wake_met kinds seed periods d e b c from task now deeds reported (begun, placed, drained, to, at, is) leads h =
     wake_agrees kinds seed periods d e b c from task now to begun placed drained reported at
-    (subst (λ l. Lives kinds seed periods d b l reported e c) is lives) h
+    (subst (λ l. DeedsLead kinds seed periods d b l reported e c) is leads) h
 
 -- What an action leaves
 
@@ -334,7 +328,7 @@ woken_one_home kinds kind c =
 -- a block, and nothing beside it
 block_one : (kinds : List TaskKind) (seed : ℕ) (periods : Periods) (d e : Driver) (b c : Book) (processor task now : ℕ)
     (reply : Reply) (reported : Reported)
-    → Lives kinds seed periods d b (Happens (Block processor now) reply ∷ []) reported e c
+    → DeedsLead kinds seed periods d b (Happens (Block processor now) reply ∷ []) reported e c
     → AgreesBut task (world_of d) b.accounts → runner_at b.accounts.by_processor processor ≡ Some task
     → BookAgrees e c
 block_one kinds seed periods d e b c processor task now reply reported
@@ -345,13 +339,13 @@ block_one kinds seed periods d e b c processor task now reply reported
 
 block_met : (kinds : List TaskKind) (seed : ℕ) (periods : Periods) (d e : Driver) (b c : Book) (processor task now : ℕ)
     (deeds : List Deed) (reported : Reported)
-    → AreJust (Block processor now ∷ []) deeds → Lives kinds seed periods d b deeds reported e c
+    → AreJustEvents (Block processor now ∷ []) deeds → DeedsLead kinds seed periods d b deeds reported e c
     → AgreesBut task (world_of d) b.accounts → runner_at b.accounts.by_processor processor ≡ Some task
     → BookAgrees e c
-block_met kinds seed periods d e b c processor task now deeds reported (reply, more, is, none) lives h runs =
+block_met kinds seed periods d e b c processor task now deeds reported (reply, more, is, none) leads h runs =
     let whole : deeds ≡ Happens (Block processor now) reply ∷ [] = is ∙ ap (λ l. Happens (Block processor now) reply ∷ l) none in
     block_one kinds seed periods d e b c processor task now reply reported
-    (subst (λ l. Lives kinds seed periods d b l reported e c) whole lives) h runs
+    (subst (λ l. DeedsLead kinds seed periods d b l reported e c) whole leads) h runs
 
 -- an event after which world and accounts agree, if they did before
 abbrev pub KeepsAgreement : Event → Type 0
@@ -362,7 +356,7 @@ KeepsAgreement event =
 -- such an event, and nothing beside it
 pub one_event : (event : Event) → KeepsAgreement event
     → (kinds : List TaskKind) (seed : ℕ) (periods : Periods) (d e : Driver) (b c : Book) (reply : Reply) (reported : Reported)
-    → Lives kinds seed periods d b (Happens event reply ∷ []) reported e c → BookAgrees d b
+    → DeedsLead kinds seed periods d b (Happens event reply ∷ []) reported e c → BookAgrees d b
     → BookAgrees e c
 one_event event keeps kinds seed periods d e b c reply reported
     (due, mid, first, rest, does, (nothing, same, kept), whole) h =
@@ -372,113 +366,113 @@ one_event event keeps kinds seed periods d e b c reply reported
 -- a single event, as it is met
 pub event_met : (event : Event) → KeepsAgreement event
     → (kinds : List TaskKind) (seed : ℕ) (periods : Periods) (d e : Driver) (b c : Book) (deeds : List Deed) (reported : Reported)
-    → AreJust (event ∷ []) deeds → Lives kinds seed periods d b deeds reported e c → BookAgrees d b
+    → AreJustEvents (event ∷ []) deeds → DeedsLead kinds seed periods d b deeds reported e c → BookAgrees d b
     → BookAgrees e c
-event_met event keeps kinds seed periods d e b c deeds reported (reply, more, is, none) lives h =
+event_met event keeps kinds seed periods d e b c deeds reported (reply, more, is, none) leads h =
     let whole : deeds ≡ Happens event reply ∷ [] = is ∙ ap (λ l. Happens event reply ∷ l) none in
-    one_event event keeps kinds seed periods d e b c reply reported (subst (λ l. Lives kinds seed periods d b l reported e c) whole lives) h
+    one_event event keeps kinds seed periods d e b c reply reported (subst (λ l. DeedsLead kinds seed periods d b l reported e c) whole leads) h
 
 -- nothing happens
 pub nothing_met : (kinds : List TaskKind) (seed : ℕ) (periods : Periods) (d e : Driver) (b c : Book)
     (deeds : List Deed) (reported : Reported)
-    → deeds ≡ [] → Lives kinds seed periods d b deeds reported e c → BookAgrees d b → BookAgrees e c
-nothing_met kinds seed periods d e b c deeds reported none lives h =
-    let (nothing, same, kept) = subst (λ l. Lives kinds seed periods d b l reported e c) none lives in
+    → deeds ≡ [] → DeedsLead kinds seed periods d b deeds reported e c → BookAgrees d b → BookAgrees e c
+nothing_met kinds seed periods d e b c deeds reported none leads h =
+    let (nothing, same, kept) = subst (λ l. DeedsLead kinds seed periods d b l reported e c) none leads in
     subst (λ x. BookAgrees e x) (sym kept) (subst (λ x. BookAgrees x b) (sym same) h)
 
 -- the wake of another task
 wakes_met : (kinds : List TaskKind) (seed : ℕ) (periods : Periods) (d e : Driver) (b c : Book) (processor task now : ℕ)
     (deeds : List Deed) (reported : Reported)
-    → WakesTask task processor now deeds → Lives kinds seed periods d b deeds reported e c → BookAgrees d b
+    → WakesTask task processor now deeds → DeedsLead kinds seed periods d b deeds reported e c → BookAgrees d b
     → BookAgrees e c
-wakes_met kinds seed periods d e b c processor task now deeds reported (inl is) lives h =
-    let (k, there, waits, rest) = subst (λ l. Lives kinds seed periods d b l reported e c) is lives in
+wakes_met kinds seed periods d e b c processor task now deeds reported (inl is) leads h =
+    let (k, there, waits, rest) = subst (λ l. DeedsLead kinds seed periods d b l reported e c) is leads in
     nothing_met kinds seed periods d e b c [] reported refl rest h
-wakes_met kinds seed periods d e b c processor task now deeds reported (inr (more, is, wake)) lives h =
-    let (k, there, waits, rest) = subst (λ l. Lives kinds seed periods d b l reported e c) is lives in
+wakes_met kinds seed periods d e b c processor task now deeds reported (inr (more, is, wake)) leads h =
+    let (k, there, waits, rest) = subst (λ l. DeedsLead kinds seed periods d b l reported e c) is leads in
     wake_met kinds seed periods d e b c processor task now more reported wake rest h
 
 -- what follows an action of the task that runs at a processor
 follow_met : (action : Option Action) (aim : Option ℕ) (kinds : List TaskKind) (seed : ℕ) (periods : Periods) (d e : Driver)
     (a : Accounts) (b f : Book) (processor task length now : ℕ) (c : TaskProgress) (deeds : List Deed) (reported : Reported)
-    → Follow action aim processor now deeds → b.accounts ≡ of_task (λ _. acted kinds action length now c) task a
+    → FollowsAction action aim processor now deeds → b.accounts ≡ of_task (λ _. acted kinds action length now c) task a
     → slice_get a.by_task task ≡ Some c → runner_at a.by_processor processor ≡ Some task → AgreesWith (world_of d) a
-    → Lives kinds seed periods d b deeds reported e f
+    → DeedsLead kinds seed periods d b deeds reported e f
     → BookAgrees e f
-follow_met None aim kinds seed periods d e a b f processor task length now c deeds reported follow is at runs h lives =
+follow_met None aim kinds seed periods d e a b f processor task length now c deeds reported follow is at runs h leads =
     let new : TaskProgress = acted kinds None length now c in
-    block_met kinds seed periods d e b f processor task now deeds reported follow lives
+    block_met kinds seed periods d e b f processor task now deeds reported follow leads
     (subst (λ x. AgreesBut task (world_of d) x) (sym is) (agrees_but_it (world_of d) a task processor c new at refl refl runs h))
     (ap (λ (x : Accounts). runner_at x.by_processor processor) is ∙ runs)
 follow_met (Some (Run asked)) aim kinds seed periods d e a b f processor task length now c deeds reported follow
-    is at runs h lives =
+    is at runs h leads =
     let new : TaskProgress = acted kinds (Some (Run asked)) length now c in
-    nothing_met kinds seed periods d e b f deeds reported follow lives
+    nothing_met kinds seed periods d e b f deeds reported follow leads
     (subst (λ x. AgreesWith (world_of d) x) (sym is)
     (agrees_further (world_of d) a task c new at (advanced_state (action_count kinds c) c) (advanced_home (action_count kinds c) c) h))
 follow_met (Some (Sleep asked)) aim kinds seed periods d e a b f processor task length now c deeds reported follow
-    is at runs h lives =
+    is at runs h leads =
     let new : TaskProgress = acted kinds (Some (Sleep asked)) length now c in
-    block_met kinds seed periods d e b f processor task now deeds reported follow lives
+    block_met kinds seed periods d e b f processor task now deeds reported follow leads
     (subst (λ x. AgreesBut task (world_of d) x) (sym is)
     (agrees_but_it (world_of d) a task processor c new at refl (advanced_home (action_count kinds c) c) runs h))
     (ap (λ (x : Accounts). runner_at x.by_processor processor) is ∙ runs)
-follow_met (Some Wait) aim kinds seed periods d e a b f processor task length now c deeds reported follow is at runs h lives =
+follow_met (Some Wait) aim kinds seed periods d e a b f processor task length now c deeds reported follow is at runs h leads =
     let new : TaskProgress = acted kinds (Some Wait) length now c in
-    block_met kinds seed periods d e b f processor task now deeds reported follow lives
+    block_met kinds seed periods d e b f processor task now deeds reported follow leads
     (subst (λ x. AgreesBut task (world_of d) x) (sym is)
     (agrees_but_it (world_of d) a task processor c new at refl (advanced_home (action_count kinds c) c) runs h))
     (ap (λ (x : Accounts). runner_at x.by_processor processor) is ∙ runs)
 follow_met (Some (Wake kind)) None kinds seed periods d e a b f processor task length now c deeds reported follow
-    is at runs h lives = absurd follow
+    is at runs h leads = absurd follow
 follow_met (Some (Wake kind)) (Some other) kinds seed periods d e a b f processor task length now c
-    deeds reported follow is at runs h lives =
+    deeds reported follow is at runs h leads =
     let new : TaskProgress = acted kinds (Some (Wake kind)) length now c in
-    wakes_met kinds seed periods d e b f processor other now deeds reported follow lives
+    wakes_met kinds seed periods d e b f processor other now deeds reported follow leads
     (subst (λ x. AgreesWith (world_of d) x) (sym is)
     (agrees_further (world_of d) a task c new at (woken_one_state kinds kind c) (woken_one_home kinds kind c) h))
 
 -- the end of a phase
 end_met : (kinds : List TaskKind) (seed : ℕ) (periods : Periods) (d e : Driver) (b c : Book) (processor now : ℕ)
     (deeds : List Deed) (reported : Reported)
-    → Meet (due.End processor) now deeds → Lives kinds seed periods d b deeds reported e c → BookAgrees d b
+    → DeedsMeet (due.End processor) now deeds → DeedsLead kinds seed periods d b deeds reported e c → BookAgrees d b
     → BookAgrees e c
-end_met kinds seed periods d e b c processor now deeds reported (task, action, aim, more, is, follow) lives h =
-    let (k, done, its, to, rest) = subst (λ l. Lives kinds seed periods d b l reported e c) is lives in
+end_met kinds seed periods d e b c processor now deeds reported (task, action, aim, more, is, follow) leads h =
+    let (k, done, its, to, rest) = subst (λ l. DeedsLead kinds seed periods d b l reported e c) is leads in
     let a : Accounts = accounts_charged processor now b.accounts in
     let next : Option Action = next_action kinds k in
     follow_met next aim kinds seed periods d e a (after_act kinds seed processor task now k b)
     c processor task (length_taken seed task b.drawn (asked_by next)) now k more reported
-    (subst (λ o. Follow o aim processor now more) its follow) refl done.there
+    (subst (λ o. FollowsAction o aim processor now more) its follow) refl done.there
     (ap (λ (o : Option ProcessorState). option_map_or (λ (l : ProcessorState). l.run) o None) done.at ∙ done.runs)
     (agrees_charged (world_of d) b.accounts processor now h) rest
 
 -- a look for a task
 look_met : (source : Option ℕ) (kinds : List TaskKind) (seed : ℕ) (periods : Periods) (d e : Driver) (b c : Book)
     (processor now : ℕ) (deeds : List Deed) (reported : Reported)
-    → AreJust (pulls_of processor now source) deeds → Lives kinds seed periods d b deeds reported e c → BookAgrees d b
+    → AreJustEvents (pulls_of processor now source) deeds → DeedsLead kinds seed periods d b deeds reported e c → BookAgrees d b
     → BookAgrees e c
-look_met None kinds seed periods d e b c processor now deeds reported none lives h =
-    nothing_met kinds seed periods d e b c deeds reported none lives h
-look_met (Some from) kinds seed periods d e b c processor now deeds reported just lives h =
+look_met None kinds seed periods d e b c processor now deeds reported none leads h =
+    nothing_met kinds seed periods d e b c deeds reported none leads h
+look_met (Some from) kinds seed periods d e b c processor now deeds reported just leads h =
     event_met (Pull processor from now) (λ p x y k reply some does agree. pull_agrees p x y k processor from now reply some does agree)
-    kinds seed periods d e b c deeds reported just lives h
+    kinds seed periods d e b c deeds reported just leads h
 
 -- accounts and world agree after each thing that is met
 pub meetings_agree : MeetingsAgree
-meetings_agree kinds seed periods d e b c (due.End processor) now deeds reported meet lives h =
-    end_met kinds seed periods d e b c processor now deeds reported meet lives h
-meetings_agree kinds seed periods d e b c (due.Wake task) now deeds reported (home, more, is, wake) lives h =
-    let (k, there, asleep, timer, rest) = subst (λ l. Lives kinds seed periods d b l reported e c) is lives in
+meetings_agree kinds seed periods d e b c (due.End processor) now deeds reported meet leads h =
+    end_met kinds seed periods d e b c processor now deeds reported meet leads h
+meetings_agree kinds seed periods d e b c (due.Wake task) now deeds reported (home, more, is, wake) leads h =
+    let (k, there, asleep, timer, rest) = subst (λ l. DeedsLead kinds seed periods d b l reported e c) is leads in
     wake_met kinds seed periods d e b c home task now more reported wake rest h
-meetings_agree kinds seed periods d e b c (due.Tick processor) now deeds reported (more, is, just) lives h =
-    let (ticks, busy, rest) = subst (λ l. Lives kinds seed periods d b l reported e c) is lives in
+meetings_agree kinds seed periods d e b c (due.Tick processor) now deeds reported (more, is, just) leads h =
+    let (ticks, busy, rest) = subst (λ l. DeedsLead kinds seed periods d b l reported e c) is leads in
     event_met (Tick processor now) (λ p x y k reply some does agree. tick_agrees p x y k processor now reply some does agree)
     kinds seed periods d e (after_beat periods processor now b) c more reported just rest
     (agrees_processor (λ l. record l { tick = Some (next_multiple periods.tick now) }) (λ l. refl)
     (λ l. refl) (world_of d) b.accounts processor h)
-meetings_agree kinds seed periods d e b c (due.Pull processor) now deeds reported (source, more, is, just) lives h =
-    let (looks, from, rest) = subst (λ l. Lives kinds seed periods d b l reported e c) is lives in
+meetings_agree kinds seed periods d e b c (due.Look processor) now deeds reported (source, more, is, just) leads h =
+    let (looks, from, rest) = subst (λ l. DeedsLead kinds seed periods d b l reported e c) is leads in
     look_met source kinds seed periods d e (after_look periods processor now b) c processor now more reported just rest
     (agrees_processor (λ l. record l { look = Some (next_multiple periods.balance now) }) (λ l. refl)
     (λ l. refl) (world_of d) b.accounts processor h)

@@ -28,7 +28,7 @@ use Rattle.bq_workload.specs.declared.processor_state.ProcessorState.{ProcessorS
 use Rattle.bq_workload.specs.declared.progress.TaskProgress.{TaskProgress}
 use Rattle.bq_workload.specs.declared.progress.TaskState.{TaskState}
 use Rattle.bq_workload.specs.declared.progress.TaskState.TheVariants.{Asleep, Waiting, Runnable, Over}
-use Rattle.bq_workload.specs.declared.roster.Periods.{Periods}
+use Rattle.bq_workload.specs.declared.periods.Periods.{Periods}
 use Rattle.bq_workload.specs.declared.workload.TaskKind.{TaskKind}
 use Rattle.bq_workload.specs.declared.workload.Workload.{Workload}
 use Rattle.bq_workload.specs.Accounts.{Accounts, accounts_charged, runner_charged, grown, is_same, of_processor, of_task, accounts_passed, shrunk, accounts_switched, taken_over}
@@ -43,12 +43,12 @@ use Rattle.bq_simulate.specs.Actions.{acted, asked_by, next_action}
 use Rattle.bq_simulate.specs.Agreement.{AgreesWith, can_run, runner_at}
 use Rattle.bq_simulate.specs.AgreementLaws.{BookAgrees, RunsAlone}
 use Rattle.bq_simulate.specs.AtOnce.{kind_actions, steps_left_at, left_in, left_of_processor, left_of_task, steps_ahead, uncounted, uncounted_at}
-use Rattle.bq_simulate.specs.Chronicles.{Book, Deed, Happens, Lives, after_act, after_beat, after_look, length_taken}
+use Rattle.bq_simulate.specs.Deeds.{Book, Deed, Happens, DeedsLead, after_act, after_beat, after_look, length_taken}
 use Rattle.bq_simulate.specs.Drives.{count_entered, runs_now, task_pulled}
 use Rattle.bq_simulate.specs.Kept.{IsKept, StandsAtAction}
-use Rattle.bq_simulate.specs.KeptLaws.{DeedsLead}
+use Rattle.bq_simulate.specs.KeptLaws.{DeedsLeadIn}
 use Rattle.bq_simulate.specs.Simulations.{periods_of}
-use Rattle.bq_simulate.specs.Steps.{AreJust, AreWake, Follow, Meet, WakesTask, pulls_of}
+use Rattle.bq_simulate.specs.Steps.{AreJustEvents, AreWake, FollowsAction, DeedsMeet, WakesTask, pulls_of}
 use Rattle.bq_simulate.proofs.AccountLemmas.{charged_there, read_kept, same_run}
 use Rattle.bq_simulate.proofs.ActLeftLemmas.{act-takes, at-most, stands-at}
 use Rattle.bq_simulate.proofs.InAllLemmas.{sum-most}
@@ -63,10 +63,10 @@ use Rattle.bq_simulate.proofs.TimeKeptLemmas.{run_of, tasks_run_alone}
 -- where nothing is done no more is left
 nothing-left : (kinds : List TaskKind) (seed : ℕ) (periods : Periods) (d e : Driver) (b c : Book) (now : ℕ)
     (deeds : List Deed) (reported : Reported)
-    → deeds ≡ [] → Lives kinds seed periods d b deeds reported e c
+    → deeds ≡ [] → DeedsLead kinds seed periods d b deeds reported e c
     → steps_left_at kinds now c.accounts ≤ steps_left_at kinds now b.accounts
-nothing-left kinds seed periods d e b c now deeds reported none lives =
-    let (nothing, same, kept) = subst (λ l. Lives kinds seed periods d b l reported e c) none lives in
+nothing-left kinds seed periods d e b c now deeds reported none leads =
+    let (nothing, same, kept) = subst (λ l. DeedsLead kinds seed periods d b l reported e c) none leads in
     omega (arith, ap (λ (x : Book). steps_left_at kinds now x.accounts) kept)
 
 -- Ticks
@@ -81,13 +81,13 @@ tests-false b m n is = ap (λ x. if x then m else n) is
 -- a tick, after which its processor may look for a task
 tick-takes : (kinds : List TaskKind) (seed : ℕ) (periods : Periods) (d e : Driver) (b c : Book) (processor now : ℕ)
     (deeds : List Deed) (reported : Reported)
-    → 1 ≤ periods.tick → Meet (due.Tick processor) now deeds → Lives kinds seed periods d b deeds reported e c
+    → 1 ≤ periods.tick → DeedsMeet (due.Tick processor) now deeds → DeedsLead kinds seed periods d b deeds reported e c
     → steps_left_at kinds now c.accounts + 1 ≤ steps_left_at kinds now b.accounts
-tick-takes kinds seed periods d e b c processor now deeds reported some (more, is, (reply, rest, just, none)) lives =
+tick-takes kinds seed periods d e b c processor now deeds reported some (more, is, (reply, rest, just, none)) leads =
     let whole : more ≡ Happens (Tick processor now) reply ∷ [] = just ∙ ap (λ l. Happens (Tick processor now) reply ∷ l) none in
-    let (ticks, runs, after) = subst (λ l. Lives kinds seed periods d b l reported e c) is lives in
+    let (ticks, runs, after) = subst (λ l. DeedsLead kinds seed periods d b l reported e c) is leads in
     let (may, mid, first, last, does, (nothing, same, kept), all) =
-    subst (λ l. Lives kinds seed periods d (after_beat periods processor now b) l reported e c) whole after in
+    subst (λ l. DeedsLead kinds seed periods d (after_beat periods processor now b) l reported e c) whole after in
     let f : ProcessorState → ProcessorState = λ l. record l { tick = Some (next_multiple periods.tick now) } in
     let l : ProcessorState = ticks.processor_state in
     let a : Accounts = of_processor f processor b.accounts in
@@ -134,14 +134,14 @@ pull-keeps d w v processor from now calls r step none =
 -- a look whose processor pulls a task, or none
 pulled-left : (source : Option ℕ) (kinds : List TaskKind) (seed : ℕ) (periods : Periods) (d e : Driver) (b c : Book)
     (processor now : ℕ) (deeds : List Deed) (reported : Reported)
-    → 1 ≤ periods.tick → AreJust (pulls_of processor now source) deeds → Lives kinds seed periods d b deeds reported e c
+    → 1 ≤ periods.tick → AreJustEvents (pulls_of processor now source) deeds → DeedsLead kinds seed periods d b deeds reported e c
     → ((k : ℕ) → runner_at b.accounts.by_processor k ≡ id_of (processor_at (world_of d) k).running.current)
     → steps_left_at kinds now c.accounts ≤ steps_left_at kinds now b.accounts
-pulled-left None kinds seed periods d e b c processor now deeds reported some none lives runs =
-    nothing-left kinds seed periods d e b c now deeds reported none lives
-pulled-left (Some from) kinds seed periods d e b c processor now deeds reported some (reply, more, is, none) lives runs =
+pulled-left None kinds seed periods d e b c processor now deeds reported some none leads runs =
+    nothing-left kinds seed periods d e b c now deeds reported none leads
+pulled-left (Some from) kinds seed periods d e b c processor now deeds reported some (reply, more, is, none) leads runs =
     let whole : deeds ≡ Happens (Pull processor from now) reply ∷ [] = is ∙ ap (λ l. Happens (Pull processor from now) reply ∷ l) none in
-    let (due, mid, first, rest, does, (nothing, same, kept), all) = subst (λ l. Lives kinds seed periods d b l reported e c) whole lives in
+    let (due, mid, first, rest, does, (nothing, same, kept), all) = subst (λ l. DeedsLead kinds seed periods d b l reported e c) whole leads in
     let a : Accounts = option_map_or (λ _. accounts_passed from processor b.accounts) (task_pulled reply) b.accounts in
     let run : Option ℕ = runs_now reply in
     let its : steps_left_at kinds now c.accounts ≡ steps_left_at kinds now (accounts_switched processor run now periods a) =
@@ -178,7 +178,7 @@ pulled-left (Some from) kinds seed periods d e b c processor now deeds reported 
 
 -- a processor that looks next does not tick at that instant: the tick would come before
 no-tick : (end processor now : ℕ) (a : Accounts) (l : ProcessorState)
-    → IsNextDue end a (due.Pull processor) now → slice_get a.by_processor processor ≡ Some l → l.look ≡ Some now
+    → IsNextDue end a (due.Look processor) now → slice_get a.by_processor processor ≡ Some l → l.look ≡ Some now
     → is_same l.tick (Some now) ≡ false
 no-tick end processor now a l next at look = elim (cases_Bool (is_same l.tick (Some now))) [
   | inl ticks ↦
@@ -196,11 +196,11 @@ no-tick end processor now a l next at look = elim (cases_Bool (is_same l.tick (S
 
 look-takes : (kinds : List TaskKind) (seed : ℕ) (periods : Periods) (d e : Driver) (b c : Book) (processor now end : ℕ)
     (deeds : List Deed) (reported : Reported)
-    → 1 ≤ periods.tick → 1 ≤ periods.balance → IsNextDue end b.accounts (due.Pull processor) now
-    → Meet (due.Pull processor) now deeds → Lives kinds seed periods d b deeds reported e c → BookAgrees d b
+    → 1 ≤ periods.tick → 1 ≤ periods.balance → IsNextDue end b.accounts (due.Look processor) now
+    → DeedsMeet (due.Look processor) now deeds → DeedsLead kinds seed periods d b deeds reported e c → BookAgrees d b
     → steps_left_at kinds now c.accounts + 1 ≤ steps_left_at kinds now b.accounts
-look-takes kinds seed periods d e b c processor now end deeds reported some balance next (source, more, is, just) lives h =
-    let (looks, from, after) = subst (λ l. Lives kinds seed periods d b l reported e c) is lives in
+look-takes kinds seed periods d e b c processor now end deeds reported some balance next (source, more, is, just) leads h =
+    let (looks, from, after) = subst (λ l. DeedsLead kinds seed periods d b l reported e c) is leads in
     let f : ProcessorState → ProcessorState = λ l. record l { look = Some (next_multiple periods.balance now) } in
     let l : ProcessorState = looks.processor_state in
     let still : is_same l.tick (Some now) ≡ false = no-tick end processor now b.accounts l next looks.at looks.look in
@@ -223,11 +223,11 @@ look-takes kinds seed periods d e b c processor now end deeds reported some bala
 wake-left : (kinds : List TaskKind) (seed : ℕ) (periods : Periods) (d e : Driver) (b c : Book) (from task now taken : ℕ)
     (k : TaskProgress) (deeds : List Deed) (reported : Reported)
     → 1 ≤ periods.tick → AreWake from task now deeds
-    → Lives kinds seed periods d b deeds reported e c → slice_get b.accounts.by_task task ≡ Some k
+    → DeedsLead kinds seed periods d b deeds reported e c → slice_get b.accounts.by_task task ≡ Some k
     → left_of_task kinds now b.accounts.by_processor task (progress_woken k) + taken ≤ left_of_task kinds now b.accounts.by_processor task k
     → steps_left_at kinds now c.accounts + taken ≤ steps_left_at kinds now b.accounts + 1
 wake-left kinds seed periods d e b c from task now taken k deeds reported some
-    (begun, placed, drained, to, at, is) lives there less =
+    (begun, placed, drained, to, at, is) leads there less =
     let (
       woke,
       one,
@@ -236,7 +236,7 @@ wake-left kinds seed periods d e b c from task now taken k deeds reported some
       begins,
       (due, two, second, more, ends, (too, three, third, last, drains, (none, same, kept), whole3), whole2),
       whole,
-    ) = subst (λ l. Lives kinds seed periods d b l reported e c) is lives in
+    ) = subst (λ l. DeedsLead kinds seed periods d b l reported e c) is leads in
     let a : Accounts = of_task progress_woken task b.accounts in
     let mid : Accounts = grown to (count_entered drained) a in
     let its : steps_left_at kinds now c.accounts ≡ steps_left_at kinds now (accounts_switched to (runs_now drained) now periods mid) =
@@ -256,10 +256,10 @@ woken-most kinds now ls task k = at-most Runnable (k.timer == now) (nat_le 0 (0 
 
 ring-takes : (kinds : List TaskKind) (seed : ℕ) (periods : Periods) (d e : Driver) (b c : Book) (task now : ℕ)
     (deeds : List Deed) (reported : Reported)
-    → 1 ≤ periods.tick → Meet (due.Wake task) now deeds → Lives kinds seed periods d b deeds reported e c
+    → 1 ≤ periods.tick → DeedsMeet (due.Wake task) now deeds → DeedsLead kinds seed periods d b deeds reported e c
     → steps_left_at kinds now c.accounts + 1 ≤ steps_left_at kinds now b.accounts
-ring-takes kinds seed periods d e b c task now deeds reported some (home, more, is, wake) lives =
-    let (k, there, asleep, timer, rest) = subst (λ l. Lives kinds seed periods d b l reported e c) is lives in
+ring-takes kinds seed periods d e b c task now deeds reported some (home, more, is, wake) leads =
+    let (k, there, asleep, timer, rest) = subst (λ l. DeedsLead kinds seed periods d b l reported e c) is leads in
     let ls = b.accounts.by_processor in
     let steps = steps_ahead kinds k in
     let has : left_of_task kinds now ls task k ≡ 2 + steps * 2 =
@@ -273,13 +273,13 @@ ring-takes kinds seed periods d e b c task now deeds reported some (home, more, 
 
 wakes-left : (kinds : List TaskKind) (seed : ℕ) (periods : Periods) (d e : Driver) (b c : Book) (processor task now : ℕ)
     (deeds : List Deed) (reported : Reported)
-    → 1 ≤ periods.tick → WakesTask task processor now deeds → Lives kinds seed periods d b deeds reported e c
+    → 1 ≤ periods.tick → WakesTask task processor now deeds → DeedsLead kinds seed periods d b deeds reported e c
     → steps_left_at kinds now c.accounts ≤ steps_left_at kinds now b.accounts + 1
-wakes-left kinds seed periods d e b c processor task now deeds reported some (inl is) lives =
-    let (k, there, waits, rest) = subst (λ l. Lives kinds seed periods d b l reported e c) is lives in
+wakes-left kinds seed periods d e b c processor task now deeds reported some (inl is) leads =
+    let (k, there, waits, rest) = subst (λ l. DeedsLead kinds seed periods d b l reported e c) is leads in
     omega (arith, nothing-left kinds seed periods d e b c now [] reported refl rest)
-wakes-left kinds seed periods d e b c processor task now deeds reported some (inr (more, is, wake)) lives =
-    let (k, there, waits, rest) = subst (λ l. Lives kinds seed periods d b l reported e c) is lives in
+wakes-left kinds seed periods d e b c processor task now deeds reported some (inr (more, is, wake)) leads =
+    let (k, there, waits, rest) = subst (λ l. DeedsLead kinds seed periods d b l reported e c) is leads in
     let ls = b.accounts.by_processor in
     let has : left_of_task kinds now ls task k ≡ steps_ahead kinds k * 2 =
     ap (λ (s : TaskState). left_in s (k.timer == now) (nat_le k.due (k.got + uncounted now ls task)) (steps_ahead kinds k))
@@ -294,11 +294,11 @@ wakes-left kinds seed periods d e b c processor task now deeds reported some (in
 
 block-left : (kinds : List TaskKind) (seed : ℕ) (periods : Periods) (d e : Driver) (b c : Book) (processor now : ℕ)
     (deeds : List Deed) (reported : Reported)
-    → 1 ≤ periods.tick → AreJust (Block processor now ∷ []) deeds → Lives kinds seed periods d b deeds reported e c
+    → 1 ≤ periods.tick → AreJustEvents (Block processor now ∷ []) deeds → DeedsLead kinds seed periods d b deeds reported e c
     → steps_left_at kinds now c.accounts ≤ steps_left_at kinds now b.accounts + 1
-block-left kinds seed periods d e b c processor now deeds reported some (reply, more, is, none) lives =
+block-left kinds seed periods d e b c processor now deeds reported some (reply, more, is, none) leads =
     let whole : deeds ≡ Happens (Block processor now) reply ∷ [] = is ∙ ap (λ l. Happens (Block processor now) reply ∷ l) none in
-    let (due, mid, first, rest, does, (nothing, same, kept), all) = subst (λ l. Lives kinds seed periods d b l reported e c) whole lives in
+    let (due, mid, first, rest, does, (nothing, same, kept), all) = subst (λ l. DeedsLead kinds seed periods d b l reported e c) whole leads in
     let its : steps_left_at kinds now c.accounts
     ≡ steps_left_at kinds now (accounts_switched processor (runs_now reply) now periods (shrunk processor b.accounts)) =
     ap (λ (x : Book). steps_left_at kinds now x.accounts) kept in
@@ -311,19 +311,19 @@ block-left kinds seed periods d e b c processor now deeds reported some (reply, 
 
 follow-left : (action : Option Action) (aim : Option ℕ) (kinds : List TaskKind) (seed : ℕ) (periods : Periods) (d e : Driver)
     (b c : Book) (processor now : ℕ) (deeds : List Deed) (reported : Reported)
-    → 1 ≤ periods.tick → Follow action aim processor now deeds → Lives kinds seed periods d b deeds reported e c
+    → 1 ≤ periods.tick → FollowsAction action aim processor now deeds → DeedsLead kinds seed periods d b deeds reported e c
     → steps_left_at kinds now c.accounts ≤ steps_left_at kinds now b.accounts + 1
-follow-left None aim kinds seed periods d e b c processor now deeds reported some follow lives =
-    block-left kinds seed periods d e b c processor now deeds reported some follow lives
-follow-left (Some (Run asked)) aim kinds seed periods d e b c processor now deeds reported some follow lives =
-    omega (arith, nothing-left kinds seed periods d e b c now deeds reported follow lives)
-follow-left (Some (Sleep asked)) aim kinds seed periods d e b c processor now deeds reported some follow lives =
-    block-left kinds seed periods d e b c processor now deeds reported some follow lives
-follow-left (Some Wait) aim kinds seed periods d e b c processor now deeds reported some follow lives =
-    block-left kinds seed periods d e b c processor now deeds reported some follow lives
-follow-left (Some (Wake kind)) None kinds seed periods d e b c processor now deeds reported some follow lives = absurd follow
-follow-left (Some (Wake kind)) (Some task) kinds seed periods d e b c processor now deeds reported some follow lives =
-    wakes-left kinds seed periods d e b c processor task now deeds reported some follow lives
+follow-left None aim kinds seed periods d e b c processor now deeds reported some follow leads =
+    block-left kinds seed periods d e b c processor now deeds reported some follow leads
+follow-left (Some (Run asked)) aim kinds seed periods d e b c processor now deeds reported some follow leads =
+    omega (arith, nothing-left kinds seed periods d e b c now deeds reported follow leads)
+follow-left (Some (Sleep asked)) aim kinds seed periods d e b c processor now deeds reported some follow leads =
+    block-left kinds seed periods d e b c processor now deeds reported some follow leads
+follow-left (Some Wait) aim kinds seed periods d e b c processor now deeds reported some follow leads =
+    block-left kinds seed periods d e b c processor now deeds reported some follow leads
+follow-left (Some (Wake kind)) None kinds seed periods d e b c processor now deeds reported some follow leads = absurd follow
+follow-left (Some (Wake kind)) (Some task) kinds seed periods d e b c processor now deeds reported some follow leads =
+    wakes-left kinds seed periods d e b c processor task now deeds reported some follow leads
 
 -- a task that runs can run
 runs-can : (s : TaskState) → (can_run s ≡ false → ⊥) → s ≡ Runnable
@@ -355,14 +355,14 @@ none-uncounted now processor task a l at runs since alone =
     )
 
 end-takes : (w : Workload) (d e : Driver) (b c : Book) (processor now : ℕ) (deeds : List Deed) (reported : Reported)
-    → first_flaw w ≡ None → now < 2 ^ 48 → Meet (due.End processor) now deeds → DeedsLead w d b deeds reported e c
+    → first_flaw w ≡ None → now < 2 ^ 48 → DeedsMeet (due.End processor) now deeds → DeedsLeadIn w d b deeds reported e c
     → IsKept w.tasks.items now d b
     → steps_left_at w.tasks.items now c.accounts + 1 ≤ steps_left_at w.tasks.items now b.accounts
-end-takes w d e b c processor now deeds reported sound early (task, action, aim, more, is, follow) lives h =
+end-takes w d e b c processor now deeds reported sound early (task, action, aim, more, is, follow) leads h =
     let kinds = w.tasks.items in
     let seed = w.machine.seed in
     let periods = periods_of w.machine in
-    let (k, done, its, to, rest) = subst (λ l. Lives kinds seed periods d b l reported e c) is lives in
+    let (k, done, its, to, rest) = subst (λ l. DeedsLead kinds seed periods d b l reported e c) is leads in
     let was : Accounts = b.accounts in
     let a : Accounts = accounts_charged processor now was in
     let next : Option Action = next_action kinds k in
@@ -407,8 +407,8 @@ end-takes w d e b c processor now deeds reported sound early (task, action, aim,
 
 -- each thing that is the next takes a step of those that are left, where all is kept
 pub meet-takes : (w : Workload) (d e : Driver) (b c : Book) (next : Due) (now : ℕ) (deeds : List Deed) (reported : Reported)
-    → first_flaw w ≡ None → now ≤ w.machine.duration → IsNextDue w.machine.duration b.accounts next now → Meet next now deeds
-    → DeedsLead w d b deeds reported e c → IsKept w.tasks.items now d b
+    → first_flaw w ≡ None → now ≤ w.machine.duration → IsNextDue w.machine.duration b.accounts next now → DeedsMeet next now deeds
+    → DeedsLeadIn w d b deeds reported e c → IsKept w.tasks.items now d b
     → steps_left_at w.tasks.items now c.accounts + 1 ≤ steps_left_at w.tasks.items now b.accounts
 meet-takes w d e b c (due.End processor) now deeds reported sound until is meet leads h =
     end-takes w d e b c processor now deeds reported sound (omega (arith, until, (sound_times w sound).duration)) meet leads h
@@ -418,6 +418,6 @@ meet-takes w d e b c (due.Wake task) now deeds reported sound until is meet lead
 meet-takes w d e b c (due.Tick processor) now deeds reported sound until is meet leads h =
     tick-takes w.tasks.items w.machine.seed (periods_of w.machine) d e b c processor now deeds reported
     (sound_times w sound).tick meet leads
-meet-takes w d e b c (due.Pull processor) now deeds reported sound until is meet leads h =
+meet-takes w d e b c (due.Look processor) now deeds reported sound until is meet leads h =
     look-takes w.tasks.items w.machine.seed (periods_of w.machine) d e b c processor now w.machine.duration deeds reported
     (sound_times w sound).tick (sound_times w sound).balance is meet leads h.agrees

@@ -13,7 +13,7 @@ use Rattle.bq_workload.specs.declared.due.Due.TheVariants as due
 use Rattle.bq_workload.specs.declared.progress.TaskProgress.{TaskProgress}
 use Rattle.bq_workload.specs.declared.progress.TaskState.TheVariants.{Asleep}
 use Rattle.bq_workload.specs.declared.processor_state.ProcessorState.{ProcessorState}
-use Rattle.bq_workload.specs.declared.roster.Periods.{Periods}
+use Rattle.bq_workload.specs.declared.periods.Periods.{Periods}
 use Rattle.bq_workload.specs.declared.workload.TaskKind.{TaskKind}
 use Rattle.bq_workload.specs.Accounts.{Accounts, IsPhaseDone, changed_at, accounts_charged, runner_charged, grown, is_same, of_processor, of_task, accounts_passed, shrunk, accounts_switched, taken_over}
 use Rattle.bq_workload.specs.Dues.{next_multiple}
@@ -23,9 +23,9 @@ use Rattle.bq_simulate.specs.declared.driver.Driver.{Driver}
 use Rattle.bq_simulate.specs.Actions.{acted, action_count, asked_by, next_action}
 use Rattle.bq_simulate.specs.Agreement.{AgreesWith, IsOnTime, ProcessorIsOnTime, RunsOnTime, StandsAs, can_run, runner_at}
 use Rattle.bq_simulate.specs.AgreementLaws.{BookAgrees, MeetingsAreOnTime, RunsAlone}
-use Rattle.bq_simulate.specs.Chronicles.{Book, Deed, Happens, Lives, after_act, after_beat, after_look, length_taken}
+use Rattle.bq_simulate.specs.Deeds.{Book, Deed, Happens, DeedsLead, after_act, after_beat, after_look, length_taken}
 use Rattle.bq_simulate.specs.Drives.{count_entered, runs_now, task_pulled}
-use Rattle.bq_simulate.specs.Steps.{AreJust, AreWake, Follow, Meet, WakesTask, pulls_of}
+use Rattle.bq_simulate.specs.Steps.{AreJustEvents, AreWake, FollowsAction, DeedsMeet, WakesTask, pulls_of}
 use Rattle.bq_simulate.proofs.AccountLemmas.{charged_there, read_kept}
 use Rattle.bq_simulate.proofs.MeetAgreeLemmas.{advanced_state, agrees_charged, agrees_further, agrees_processor, meetings_agree, runs_away, sleeps_if_woken, woken_one_home, woken_one_state, world_of}
 use Rattle.bq_simulate.proofs.TimeKeptLemmas.{beaten_kept, carried, charged_on_time, looked_kept, processors_changed, run_of, switched_kept, tasks_changed, tasks_run_alone}
@@ -81,12 +81,12 @@ sized_alone at processor g a alone other task here there =
 
 tick_time : (kinds : List TaskKind) (seed : ℕ) (periods : Periods) (d e : Driver) (b c : Book) (processor now : ℕ)
     (deeds : List Deed) (reported : Reported)
-    → 1 ≤ periods.tick → AreJust (Tick processor now ∷ []) deeds → Lives kinds seed periods d b deeds reported e c → BookAgrees d b
+    → 1 ≤ periods.tick → AreJustEvents (Tick processor now ∷ []) deeds → DeedsLead kinds seed periods d b deeds reported e c → BookAgrees d b
     → BookAgrees e c → IsOnTime now b.accounts
     → IsOnTime now c.accounts
-tick_time kinds seed periods d e b c processor now deeds reported some (reply, more, is, none) lives h after time =
+tick_time kinds seed periods d e b c processor now deeds reported some (reply, more, is, none) leads h after time =
     let whole : deeds ≡ Happens (Tick processor now) reply ∷ [] = is ∙ ap (λ l. Happens (Tick processor now) reply ∷ l) none in
-    let (due, mid, first, rest, does, (nothing, same, kept), all) = subst (λ l. Lives kinds seed periods d b l reported e c) whole lives in
+    let (due, mid, first, rest, does, (nothing, same, kept), all) = subst (λ l. DeedsLead kinds seed periods d b l reported e c) whole leads in
     let a : Accounts = b.accounts in
     let its : c.accounts ≡ accounts_switched processor (runs_now reply) now periods a = ap (λ (x : Book). x.accounts) kept in
     same_accounts now (accounts_switched processor (runs_now reply) now periods a) c.accounts its
@@ -107,23 +107,23 @@ passed_alone processor from (Some id) a alone =
 
 nothing_time : (kinds : List TaskKind) (seed : ℕ) (periods : Periods) (d e : Driver) (b c : Book) (now : ℕ)
     (deeds : List Deed) (reported : Reported)
-    → deeds ≡ [] → Lives kinds seed periods d b deeds reported e c → IsOnTime now b.accounts
+    → deeds ≡ [] → DeedsLead kinds seed periods d b deeds reported e c → IsOnTime now b.accounts
     → IsOnTime now c.accounts
-nothing_time kinds seed periods d e b c now deeds reported none lives h =
-    let (nothing, same, kept) = subst (λ l. Lives kinds seed periods d b l reported e c) none lives in
+nothing_time kinds seed periods d e b c now deeds reported none leads h =
+    let (nothing, same, kept) = subst (λ l. DeedsLead kinds seed periods d b l reported e c) none leads in
     same_accounts now b.accounts c.accounts (ap (λ (x : Book). x.accounts) kept) h
 
 look_time : (source : Option ℕ) (kinds : List TaskKind) (seed : ℕ) (periods : Periods) (d e : Driver) (b c : Book)
     (processor now : ℕ) (deeds : List Deed) (reported : Reported)
-    → 1 ≤ periods.tick → AreJust (pulls_of processor now source) deeds → Lives kinds seed periods d b deeds reported e c
+    → 1 ≤ periods.tick → AreJustEvents (pulls_of processor now source) deeds → DeedsLead kinds seed periods d b deeds reported e c
     → BookAgrees d b → BookAgrees e c → IsOnTime now b.accounts
     → IsOnTime now c.accounts
-look_time None kinds seed periods d e b c processor now deeds reported some none lives h after time =
-    nothing_time kinds seed periods d e b c now deeds reported none lives time
+look_time None kinds seed periods d e b c processor now deeds reported some none leads h after time =
+    nothing_time kinds seed periods d e b c now deeds reported none leads time
 look_time (Some from) kinds seed periods d e b c processor now deeds reported some (reply, more, is, none)
-    lives h after time =
+    leads h after time =
     let whole : deeds ≡ Happens (Pull processor from now) reply ∷ [] = is ∙ ap (λ l. Happens (Pull processor from now) reply ∷ l) none in
-    let (due, mid, first, rest, does, (nothing, same, kept), all) = subst (λ l. Lives kinds seed periods d b l reported e c) whole lives in
+    let (due, mid, first, rest, does, (nothing, same, kept), all) = subst (λ l. DeedsLead kinds seed periods d b l reported e c) whole leads in
     let a : Accounts = option_map_or (λ _. accounts_passed from processor b.accounts) (task_pulled reply) b.accounts in
     let its : c.accounts ≡ accounts_switched processor (runs_now reply) now periods a = ap (λ (x : Book). x.accounts) kept in
     same_accounts now (accounts_switched processor (runs_now reply) now periods a) c.accounts its
@@ -157,11 +157,11 @@ woken_on_time now task a rests h = record {
 
 wake_time : (kinds : List TaskKind) (seed : ℕ) (periods : Periods) (d e : Driver) (b c : Book) (from task now : ℕ)
     (deeds : List Deed) (reported : Reported)
-    → 1 ≤ periods.tick → AreWake from task now deeds → Lives kinds seed periods d b deeds reported e c
+    → 1 ≤ periods.tick → AreWake from task now deeds → DeedsLead kinds seed periods d b deeds reported e c
     → BookAgrees d b → BookAgrees e c → IsOnTime now b.accounts
     → IsOnTime now c.accounts
 wake_time kinds seed periods d e b c from task now deeds reported some (begun, placed, drained, to, at, is)
-    lives h after time =
+    leads h after time =
     let (
       woke,
       one,
@@ -170,7 +170,7 @@ wake_time kinds seed periods d e b c from task now deeds reported some (begun, p
       begins,
       (due, two, second, more, ends, (too, three, third, last, drains, (none, same, kept), whole3), whole2),
       whole,
-    ) = subst (λ l. Lives kinds seed periods d b l reported e c) is lives in
+    ) = subst (λ l. DeedsLead kinds seed periods d b l reported e c) is leads in
     let sleeps = sleeps_if_woken b.accounts woke.progress.task_state woke.progress.home from woke.place in
     let a : Accounts = of_task progress_woken task b.accounts in
     let mid : Accounts = grown to (count_entered drained) a in
@@ -185,14 +185,14 @@ wake_time kinds seed periods d e b c from task now deeds reported some (begun, p
 
 wakes_time : (kinds : List TaskKind) (seed : ℕ) (periods : Periods) (d e : Driver) (b c : Book) (processor task now : ℕ)
     (deeds : List Deed) (reported : Reported)
-    → 1 ≤ periods.tick → WakesTask task processor now deeds → Lives kinds seed periods d b deeds reported e c
+    → 1 ≤ periods.tick → WakesTask task processor now deeds → DeedsLead kinds seed periods d b deeds reported e c
     → BookAgrees d b → BookAgrees e c → IsOnTime now b.accounts
     → IsOnTime now c.accounts
-wakes_time kinds seed periods d e b c processor task now deeds reported some (inl is) lives h after time =
-    let (k, there, waits, rest) = subst (λ l. Lives kinds seed periods d b l reported e c) is lives in
+wakes_time kinds seed periods d e b c processor task now deeds reported some (inl is) leads h after time =
+    let (k, there, waits, rest) = subst (λ l. DeedsLead kinds seed periods d b l reported e c) is leads in
     nothing_time kinds seed periods d e b c now [] reported refl rest time
-wakes_time kinds seed periods d e b c processor task now deeds reported some (inr (more, is, wake)) lives h after time =
-    let (k, there, waits, rest) = subst (λ l. Lives kinds seed periods d b l reported e c) is lives in
+wakes_time kinds seed periods d e b c processor task now deeds reported some (inr (more, is, wake)) leads h after time =
+    let (k, there, waits, rest) = subst (λ l. DeedsLead kinds seed periods d b l reported e c) is leads in
     wake_time kinds seed periods d e b c processor task now more reported some wake rest h after time
 
 -- Ends of phases
@@ -256,12 +256,12 @@ given_on_time now processor task a c new l at runs since there got timer alone h
 
 block_time : (kinds : List TaskKind) (seed : ℕ) (periods : Periods) (d e : Driver) (b c : Book) (processor now : ℕ)
     (deeds : List Deed) (reported : Reported)
-    → 1 ≤ periods.tick → AreJust (Block processor now ∷ []) deeds → Lives kinds seed periods d b deeds reported e c
+    → 1 ≤ periods.tick → AreJustEvents (Block processor now ∷ []) deeds → DeedsLead kinds seed periods d b deeds reported e c
     → RunsAlone b.accounts processor → BookAgrees e c → IsOnTime now b.accounts
     → IsOnTime now c.accounts
-block_time kinds seed periods d e b c processor now deeds reported some (reply, more, is, none) lives alone after time =
+block_time kinds seed periods d e b c processor now deeds reported some (reply, more, is, none) leads alone after time =
     let whole : deeds ≡ Happens (Block processor now) reply ∷ [] = is ∙ ap (λ l. Happens (Block processor now) reply ∷ l) none in
-    let (due, mid, first, rest, does, (nothing, same, kept), all) = subst (λ l. Lives kinds seed periods d b l reported e c) whole lives in
+    let (due, mid, first, rest, does, (nothing, same, kept), all) = subst (λ l. DeedsLead kinds seed periods d b l reported e c) whole leads in
     let a : Accounts = shrunk processor b.accounts in
     let its : c.accounts ≡ accounts_switched processor (runs_now reply) now periods a = ap (λ (x : Book). x.accounts) kept in
     same_accounts now (accounts_switched processor (runs_now reply) now periods a) c.accounts its
@@ -271,30 +271,30 @@ block_time kinds seed periods d e b c processor now deeds reported some (reply, 
 
 follow_time : (action : Option Action) (aim : Option ℕ) (kinds : List TaskKind) (seed : ℕ) (periods : Periods) (d e : Driver)
     (a : Accounts) (b f : Book) (processor task length now : ℕ) (c : TaskProgress) (deeds : List Deed) (reported : Reported)
-    → 1 ≤ periods.tick → Follow action aim processor now deeds
+    → 1 ≤ periods.tick → FollowsAction action aim processor now deeds
     → b.accounts ≡ of_task (λ _. acted kinds action length now c) task a → slice_get a.by_task task ≡ Some c
-    → AgreesWith (world_of d) a → Lives kinds seed periods d b deeds reported e f → BookAgrees e f → IsOnTime now b.accounts
+    → AgreesWith (world_of d) a → DeedsLead kinds seed periods d b deeds reported e f → BookAgrees e f → IsOnTime now b.accounts
     → IsOnTime now f.accounts
 follow_time None aim kinds seed periods d e a b f processor task length now c deeds reported some follow is at
-    h lives after time =
-    block_time kinds seed periods d e b f processor now deeds reported some follow lives
+    h leads after time =
+    block_time kinds seed periods d e b f processor now deeds reported some follow leads
     (subst (λ (x : Accounts). RunsAlone x processor) (sym is) (tasks_run_alone (world_of d) a processor h)) after time
 follow_time (Some (Run asked)) aim kinds seed periods d e a b f processor task length now c deeds reported some follow is at
-    h lives after time = nothing_time kinds seed periods d e b f now deeds reported follow lives time
+    h leads after time = nothing_time kinds seed periods d e b f now deeds reported follow leads time
 follow_time (Some (Sleep asked)) aim kinds seed periods d e a b f processor task length now c deeds
-    reported some follow is at h lives after time =
-    block_time kinds seed periods d e b f processor now deeds reported some follow lives
+    reported some follow is at h leads after time =
+    block_time kinds seed periods d e b f processor now deeds reported some follow leads
     (subst (λ (x : Accounts). RunsAlone x processor) (sym is) (tasks_run_alone (world_of d) a processor h)) after time
 follow_time (Some Wait) aim kinds seed periods d e a b f processor task length now c deeds reported some follow is at
-    h lives after time =
-    block_time kinds seed periods d e b f processor now deeds reported some follow lives
+    h leads after time =
+    block_time kinds seed periods d e b f processor now deeds reported some follow leads
     (subst (λ (x : Accounts). RunsAlone x processor) (sym is) (tasks_run_alone (world_of d) a processor h)) after time
 follow_time (Some (Wake kind)) None kinds seed periods d e a b f processor task length now c deeds
-    reported some follow is at h lives after time = absurd follow
+    reported some follow is at h leads after time = absurd follow
 follow_time (Some (Wake kind)) (Some other) kinds seed periods d e a b f processor task length now c deeds
-    reported some follow is at h lives after time =
+    reported some follow is at h leads after time =
     let new : TaskProgress = acted kinds (Some (Wake kind)) length now c in
-    wakes_time kinds seed periods d e b f processor other now deeds reported some follow lives
+    wakes_time kinds seed periods d e b f processor other now deeds reported some follow leads
     (subst (λ x. AgreesWith (world_of d) x) (sym is)
     (agrees_further (world_of d) a task c new at (woken_one_state kinds kind c) (woken_one_home kinds kind c) h)) after time
 
@@ -328,41 +328,41 @@ taken_up_on_time action kinds w was processor task length now c early h done tim
 
 end_time : (kinds : List TaskKind) (seed : ℕ) (periods : Periods) (d e : Driver) (b c : Book) (processor now : ℕ)
     (deeds : List Deed) (reported : Reported)
-    → 1 ≤ periods.tick → now < 2 ^ 48 → Meet (due.End processor) now deeds → Lives kinds seed periods d b deeds reported e c
+    → 1 ≤ periods.tick → now < 2 ^ 48 → DeedsMeet (due.End processor) now deeds → DeedsLead kinds seed periods d b deeds reported e c
     → BookAgrees d b → BookAgrees e c → IsOnTime now b.accounts
     → IsOnTime now c.accounts
 end_time kinds seed periods d e b c processor now deeds reported some early (task, action, aim, more, is, follow)
-    lives h after time =
-    let (k, done, its, to, rest) = subst (λ l. Lives kinds seed periods d b l reported e c) is lives in
+    leads h after time =
+    let (k, done, its, to, rest) = subst (λ l. DeedsLead kinds seed periods d b l reported e c) is leads in
     let a : Accounts = accounts_charged processor now b.accounts in
     let next : Option Action = next_action kinds k in
     let long : ℕ = length_taken seed task b.drawn (asked_by next) in
     let given = taken_up_on_time next kinds (world_of d) b.accounts processor task long now k early h done time in
     follow_time next aim kinds seed periods d e a (after_act kinds seed processor task now k b) c processor
-    task long now k more reported some (subst (λ o. Follow o aim processor now more) its follow) refl done.there
+    task long now k more reported some (subst (λ o. FollowsAction o aim processor now more) its follow) refl done.there
     (agrees_charged (world_of d) b.accounts processor now h) rest after given
 
 -- nothing is past after a thing that is met
 pub meetings_are_on_time : MeetingsAreOnTime
-meetings_are_on_time kinds seed periods d e b c (due.End processor) now deeds reported tick balance early meet lives h time =
-    end_time kinds seed periods d e b c processor now deeds reported tick early meet lives h
-    (meetings_agree kinds seed periods d e b c (due.End processor) now deeds reported meet lives h) time
-meetings_are_on_time kinds seed periods d e b c (due.Wake task) now deeds reported tick balance early meet lives h time =
-    let after : BookAgrees e c = meetings_agree kinds seed periods d e b c (due.Wake task) now deeds reported meet lives h in
+meetings_are_on_time kinds seed periods d e b c (due.End processor) now deeds reported tick balance early meet leads h time =
+    end_time kinds seed periods d e b c processor now deeds reported tick early meet leads h
+    (meetings_agree kinds seed periods d e b c (due.End processor) now deeds reported meet leads h) time
+meetings_are_on_time kinds seed periods d e b c (due.Wake task) now deeds reported tick balance early meet leads h time =
+    let after : BookAgrees e c = meetings_agree kinds seed periods d e b c (due.Wake task) now deeds reported meet leads h in
     let (home, more, is, wake) = meet in
-    let (k, there, asleep, timer, rest) = subst (λ l. Lives kinds seed periods d b l reported e c) is lives in
+    let (k, there, asleep, timer, rest) = subst (λ l. DeedsLead kinds seed periods d b l reported e c) is leads in
     wake_time kinds seed periods d e b c home task now more reported tick wake rest h after time
-meetings_are_on_time kinds seed periods d e b c (due.Tick processor) now deeds reported tick balance early meet lives h time =
-    let after : BookAgrees e c = meetings_agree kinds seed periods d e b c (due.Tick processor) now deeds reported meet lives h in
+meetings_are_on_time kinds seed periods d e b c (due.Tick processor) now deeds reported tick balance early meet leads h time =
+    let after : BookAgrees e c = meetings_agree kinds seed periods d e b c (due.Tick processor) now deeds reported meet leads h in
     let (more, is, just) = meet in
-    let (ticks, busy, rest) = subst (λ l. Lives kinds seed periods d b l reported e c) is lives in
+    let (ticks, busy, rest) = subst (λ l. DeedsLead kinds seed periods d b l reported e c) is leads in
     tick_time kinds seed periods d e (after_beat periods processor now b) c processor now more reported tick just rest
     (agrees_processor (λ l. record l { tick = Some (next_multiple periods.tick now) }) (λ l. refl)
     (λ l. refl) (world_of d) b.accounts processor h) after (beaten_kept now processor periods.tick b.accounts tick busy time)
-meetings_are_on_time kinds seed periods d e b c (due.Pull processor) now deeds reported tick balance early meet lives h time =
-    let after : BookAgrees e c = meetings_agree kinds seed periods d e b c (due.Pull processor) now deeds reported meet lives h in
+meetings_are_on_time kinds seed periods d e b c (due.Look processor) now deeds reported tick balance early meet leads h time =
+    let after : BookAgrees e c = meetings_agree kinds seed periods d e b c (due.Look processor) now deeds reported meet leads h in
     let (source, more, is, just) = meet in
-    let (looks, from, rest) = subst (λ l. Lives kinds seed periods d b l reported e c) is lives in
+    let (looks, from, rest) = subst (λ l. DeedsLead kinds seed periods d b l reported e c) is leads in
     look_time source kinds seed periods d e (after_look periods processor now b) c processor now more reported tick just rest
     (agrees_processor (λ l. record l { look = Some (next_multiple periods.balance now) }) (λ l. refl)
     (λ l. refl) (world_of d) b.accounts processor h) after (looked_kept now processor periods.balance b.accounts balance time)

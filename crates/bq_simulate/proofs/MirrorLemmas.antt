@@ -24,7 +24,7 @@ use Rattle.bq_core.proofs.OrderLemmas.{step_keeps}
 use Rattle.bq_core.proofs.SizeLemmas.{step_count}
 use Rattle.bq_workload.specs.declared.progress.TaskProgress.{TaskProgress}
 use Rattle.bq_workload.specs.declared.processor_state.ProcessorState.{ProcessorState}
-use Rattle.bq_workload.specs.declared.roster.Periods.{Periods}
+use Rattle.bq_workload.specs.declared.periods.Periods.{Periods}
 use Rattle.bq_workload.specs.Accounts.{Accounts, accounts_charged, runner_charged, is_same, occupied, of_processor, of_task, accounts_switched, taken_over}
 use Rattle.bq_workload.specs.TaskProgress.{moved_to, run_for}
 use Rattle.bq_workload.specs.Dues.{size_at}

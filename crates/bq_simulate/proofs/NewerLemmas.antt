@@ -9,7 +9,7 @@ use Rattle.bq_verify.specs.Accepted.{Accepted}
 use Rattle.bq_simulate.specs.declared.driver.Driver.{Driver}
 use Rattle.bq_simulate.specs.Drives.{DrivesEvent, Drives}
 use Rattle.bq_simulate.specs.Kept.{IsNewerFrom}
-use Rattle.bq_simulate.specs.Order.{HasGenerations}
+use Rattle.bq_simulate.specs.GoingWell.{HasGenerations}
 use Rattle.bq_simulate.proofs.GenerationLemmas.{generations_are_newer}
 use Rattle.bq_simulate.proofs.MeetAgreeLemmas.{step_of, world_of}
 

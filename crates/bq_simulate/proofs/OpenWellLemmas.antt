@@ -8,7 +8,7 @@ use Rattle.bq_trace.specs.TraceEvents.{TraceEvent, Reported}
 use Rattle.bq_verify.specs.Accepted.{Accepted}
 use Rattle.bq_words.specs.Sizes.{processors_in}
 use Rattle.bq_words.proofs.SizeLemmas.{processors_in-few}
-use Rattle.bq_workload.specs.declared.roster.Periods.{Periods}
+use Rattle.bq_workload.specs.declared.periods.Periods.{Periods}
 use Rattle.bq_workload.specs.declared.workload.TaskKind.{TaskKind}
 use Rattle.bq_workload.specs.declared.workload.Workload.{Workload}
 use Rattle.bq_workload.specs.Accounts.{Accounts}
@@ -17,14 +17,14 @@ use Rattle.bq_workload.specs.Soundness.{first_flaw}
 use Rattle.bq_simulate.specs.declared.driver.Driver.{Driver}
 use Rattle.bq_simulate.specs.declared.simulation.Simulation.{Simulation}
 use Rattle.bq_simulate.specs.Actions.{first_task_of}
-use Rattle.bq_simulate.specs.Chronicles.{Book, Deed, Happens, Lives}
+use Rattle.bq_simulate.specs.Deeds.{Book, Deed, Happens, DeedsLead}
 use Rattle.bq_simulate.specs.Drives.{Starts}
 use Rattle.bq_simulate.specs.Kept.{HasAllFirsts, StandAtActions, WereDrawn}
-use Rattle.bq_simulate.specs.KeptLaws.{DeedsLead}
-use Rattle.bq_simulate.specs.Order.{SimulationGoesWell, IsOpening, OpensWell, StartsWell}
-use Rattle.bq_simulate.specs.Simulations.{Befell, Lived, LivedFrom, Silent, book_of, opening_book, periods_of, streams_after, with_seed}
-use Rattle.bq_simulate.specs.Steps.{AreAdmitted, AreInstalled, AreJust, all_processors, installs_of}
-use Rattle.bq_simulate.proofs.DeedLemmas.{Lived-silent}
+use Rattle.bq_simulate.specs.KeptLaws.{DeedsLeadIn}
+use Rattle.bq_simulate.specs.GoingWell.{SimulationGoesWell, IsOpening, OpensWell, StartsWell}
+use Rattle.bq_simulate.specs.Simulations.{GoesOnForAnyKinds, GoesOnBy, GoesOnFromBook, GoesOnUnreported, book_of, opening_book, periods_of, streams_after, with_seed}
+use Rattle.bq_simulate.specs.Steps.{AreAdmitted, AreInstalled, AreJustEvents, all_processors, installs_of}
+use Rattle.bq_simulate.proofs.DeedLemmas.{GoesOnBy-unreported}
 use Rattle.bq_simulate.proofs.GenerationLemmas.{generations_are_newer}
 use Rattle.bq_simulate.proofs.KindLemmas.{kind-within}
 use Rattle.bq_simulate.proofs.KeptLemmas.{none_stands}
@@ -38,21 +38,21 @@ use Rattle.bq_simulate.proofs.WholeLemmas.{IsNew, firsts-none}
 abbrev pub Opening : Workload → ℕ → ℕ → ℕ → (List Deed → Type 0) → Type 0
 Opening w seed from to Are =
     (d e : Driver) (b c : Book) (deeds : List Deed) (reported : Reported) → Are deeds →
-    DeedsLead (with_seed w seed) d b deeds reported e c → IsOpening (processors_in w.machine.size) from d b →
+    DeedsLeadIn (with_seed w seed) d b deeds reported e c → IsOpening (processors_in w.machine.size) from d b →
     IsOpening (processors_in w.machine.size) to e c
 
 -- by those it opens well, where the tasks are counted
 pub opens-well : {S : Type 0} (takes : S → ℕ → TraceEvent → S → Type 0) (Are : List Deed → Type 0) (x y : S)
     (w : Workload) (from to : ℕ) (s t : Simulation)
-    → Opening w s.seed from to Are → t.counts.tasks ≡ to → Lived takes w.tasks.items Are x s y t → OpensWell w from s
+    → Opening w s.seed from to Are → t.counts.tasks ≡ to → GoesOnBy takes w.tasks.items Are x s y t → OpensWell w from s
     → OpensWell w to t
-opens-well takes Are x y w from to s t keep counted lived h =
+opens-well takes Are x y w from to s t keep counted goes_on h =
     let kinds = w.tasks.items in
-    let g = lived h.drawn h.streams h.firsts in
+    let g = goes_on h.drawn h.streams h.firsts in
     let was = book_of s h.drawn in
     let is = book_of t g.after in
-    let leads : DeedsLead (with_seed w s.seed) s.driver was g.deeds g.reports.reported t.driver is =
-    subst (λ (p : Periods). Lives kinds s.seed p s.driver was g.deeds g.reports.reported t.driver is)
+    let leads : DeedsLeadIn (with_seed w s.seed) s.driver was g.deeds g.reports.reported t.driver is =
+    subst (λ (p : Periods). DeedsLead kinds s.seed p s.driver was g.deeds g.reports.reported t.driver is)
     h.periods g.reports.holds in
     record {
       sound = h.sound;
@@ -67,7 +67,7 @@ opens-well takes Are x y w from to s t keep counted lived h =
     }
 
 -- no deed
-pub nothing-opens : (w : Workload) (seed tasks : ℕ) → Opening w seed tasks tasks (AreJust [])
+pub nothing-opens : (w : Workload) (seed tasks : ℕ) → Opening w seed tasks tasks (AreJustEvents [])
 nothing-opens w seed tasks d e b c deeds reported none leads h =
     none_kept (IsOpening (processors_in w.machine.size) tasks) w.tasks.items seed (periods_of w.machine) d e b c deeds
     reported none leads h
@@ -86,7 +86,7 @@ draw-opens w seed tasks generation d e b c deeds reported is leads h =
 
 -- the installs of a policy
 pub installs-open : (w : Workload) (seed tasks count generation : ℕ) (policy : Accepted)
-    → Opening w seed tasks tasks (AreJust (installs_of count generation policy))
+    → Opening w seed tasks tasks (AreJustEvents (installs_of count generation policy))
 installs-open w seed tasks count generation policy d e b c deeds reported just leads h =
     let n = processors_in w.machine.size in
     just_kept (IsOpening n tasks) (λ processor. Install processor policy.hook generation (Some policy))
@@ -103,31 +103,31 @@ policies-open w seed tasks policies d e b c deeds reported are leads h =
 -- a simulation opens well once policies are installed
 pub installed-well : {S : Type 0} (takes : S → ℕ → TraceEvent → S → Type 0) (x y : S) (w : Workload)
     (policies : List Accepted) (count : ℕ) (s t : Simulation)
-    → count ≡ processors_in w.machine.size → Befell takes (AreInstalled count policies) x s y t
+    → count ≡ processors_in w.machine.size → GoesOnForAnyKinds takes (AreInstalled count policies) x s y t
     → t.counts ≡ s.counts → OpensWell w 0 s
     → OpensWell w 0 t
-installed-well takes x y w policies count s t all befell counts h =
-    let lived = subst (λ (n : ℕ). Lived takes w.tasks.items (AreInstalled n policies) x s y t) all (befell w.tasks.items) in
+installed-well takes x y w policies count s t all goes_on counts h =
+    let installs = subst (λ (n : ℕ). GoesOnBy takes w.tasks.items (AreInstalled n policies) x s y t) all (goes_on w.tasks.items) in
     opens-well takes (AreInstalled (processors_in w.machine.size) policies) x y w 0 0 s t (policies-open w s.seed 0 policies)
-    (ap (λ k. k.tasks) counts ∙ h.counted) lived h
+    (ap (λ k. k.tasks) counts ∙ h.counted) installs h
 
 -- all processors are there from then on
 pub processors-there : {S : Type 0} (takes : S → ℕ → TraceEvent → S → Type 0) (Are : Book → List Deed → Type 0) (x y : S)
     (w : Workload) (tasks : ℕ) (s t : Simulation)
-    → LivedFrom takes w.tasks.items Are x s y t → OpensWell w tasks s
+    → GoesOnFromBook takes w.tasks.items Are x s y t → OpensWell w tasks s
     → count_in t.driver.machine.world ≡ processors_in w.machine.size
-processors-there takes Are x y w tasks s t lived h =
-    let g = lived h.drawn h.streams h.firsts h.agreed in
+processors-there takes Are x y w tasks s t goes_on h =
+    let g = goes_on h.drawn h.streams h.firsts h.agreed in
     processors_kept w.tasks.items s.seed s.roster.periods s.driver t.driver (book_of s h.drawn) (book_of t g.after)
     g.deeds g.reports.reported g.reports.holds
     ∙ h.opening.processors_there
 
 -- a simulation opens well once a kind has begun
 pub begun-well : {S : Type 0} (takes : S → ℕ → TraceEvent → S → Type 0) (w : Workload) (tasks : ℕ) (x : S) (s t : Simulation)
-    → Silent w.tasks.items (AreJust []) s t → t.counts ≡ s.counts → OpensWell w tasks s → OpensWell w tasks t
-begun-well takes w tasks x s t silent counts h =
-    opens-well takes (AreJust []) x x w tasks tasks s t (nothing-opens w s.seed tasks) (ap (λ k. k.tasks) counts ∙ h.counted)
-    (Lived-silent takes w.tasks.items (AreJust []) x s t silent) h
+    → GoesOnUnreported w.tasks.items (AreJustEvents []) s t → t.counts ≡ s.counts → OpensWell w tasks s → OpensWell w tasks t
+begun-well takes w tasks x s t goes_on counts h =
+    opens-well takes (AreJustEvents []) x x w tasks tasks s t (nothing-opens w s.seed tasks) (ap (λ k. k.tasks) counts ∙ h.counted)
+    (GoesOnBy-unreported takes w.tasks.items (AreJustEvents []) x s t goes_on) h
 
 -- some tasks of a kind
 pub tasks-open : (w : Workload) (seed number : ℕ) (kind : TaskKind) (task count : ℕ)

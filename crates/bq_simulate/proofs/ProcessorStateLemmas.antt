@@ -6,7 +6,7 @@ use Rattle.std.specs.Option.{option_map_or}
 use Rattle.std.proofs.lemmas.List.{map-append}
 use Rattle.bq_workload.specs.declared.processor_state.ProcessorState.{ProcessorState}
 use Rattle.bq_workload.specs.Accounts.{Accounts}
-use Rattle.bq_simulate.specs.Chronicles.{is_busy}
+use Rattle.bq_simulate.specs.Deeds.{is_busy}
 use Rattle.bq_simulate.specs.Steps.{all_processors}
 
 -- numbers up to the next

@@ -26,7 +26,7 @@ use Rattle.bq_trace.specs.Machines.{discipline_of}
 use Rattle.bq_trace.specs.TraceEvents.{Reported}
 use Rattle.bq_words.specs.Sizes.{processors_in}
 use Rattle.bq_workload.specs.declared.processor_state.ProcessorState.{ProcessorState}
-use Rattle.bq_workload.specs.declared.roster.Periods.{Periods}
+use Rattle.bq_workload.specs.declared.periods.Periods.{Periods}
 use Rattle.bq_workload.specs.declared.workload.TaskKind.{TaskKind}
 use Rattle.bq_workload.specs.declared.workload.Workload.{Workload}
 use Rattle.bq_workload.specs.Accounts.{Accounts, processor_at_rest, first_look, opening_accounts}
@@ -38,11 +38,11 @@ use Rattle.bq_simulate.specs.declared.driver.Driver.{Driver}
 use Rattle.bq_simulate.specs.Actions.{kind_start}
 use Rattle.bq_simulate.specs.Agreement.{AgreesWith, IsOnTime, ProcessorIsOnTime, RunsOnTime, TaskIsOnTime}
 use Rattle.bq_simulate.specs.AgreementLaws.{BookAgrees, SimulationsAgree, accounts_with_task}
-use Rattle.bq_simulate.specs.Chronicles.{Acts, Beats, Book, Deed, Happens, Joins, Lives, Looks, Misses, Reaches, Rings, after_act, after_answer, after_beat, after_look, task_added}
+use Rattle.bq_simulate.specs.Deeds.{Acts, Beats, Book, Deed, Happens, Joins, DeedsLead, Looks, Misses, Reaches, Rings, after_act, after_answer, after_beat, after_look, task_added}
 use Rattle.bq_simulate.specs.Drives.{DrivesEvent, Starts}
-use Rattle.bq_simulate.specs.Order.{IsOpening}
+use Rattle.bq_simulate.specs.GoingWell.{IsOpening}
 use Rattle.bq_simulate.specs.Simulations.{IsSimulation, Proceeds, opening_book, periods_of}
-use Rattle.bq_simulate.specs.Steps.{AreAdmitted, AreAllAdmitted, AreInstalled, AreJust, Opens, MetDue, all_processors, deeds_of}
+use Rattle.bq_simulate.specs.Steps.{AreAdmitted, AreAllAdmitted, AreInstalled, AreJustEvents, Opens, MetDue, all_processors, deeds_of}
 use Rattle.bq_simulate.proofs.AccountLemmas.{read}
 use Rattle.bq_simulate.proofs.AdmissionTakenLemmas.{admit_kept, appended, appended_others}
 use Rattle.bq_simulate.proofs.MeetAgreeLemmas.{meetings_agree, step_of, tick_agrees, world_of}
@@ -56,17 +56,17 @@ pub record Parted (kinds : List TaskKind) (seed : ℕ) (periods : Periods) (d : 
   pub book : Book
   pub first : Reported
   pub more : Reported
-  pub one : Lives kinds seed periods d b xs first mid book
-  pub two : Lives kinds seed periods mid book ys more e c
+  pub one : DeedsLead kinds seed periods d b xs first mid book
+  pub two : DeedsLead kinds seed periods mid book ys more e c
 
 -- deeds in a row are done in two parts
 pub part : (kinds : List TaskKind) (seed : ℕ) (periods : Periods) (d e : Driver) (b c : Book) (xs ys : List Deed)
     (reported : Reported)
-    → Lives kinds seed periods d b (xs ++ ys) reported e c → Parted kinds seed periods d b xs ys e c
+    → DeedsLead kinds seed periods d b (xs ++ ys) reported e c → Parted kinds seed periods d b xs ys e c
 part kinds seed periods d e b c [] ys reported h =
     record { mid = d; book = b; first = []; more = reported; one = (refl, refl, refl); two = h }
-part kinds seed periods d e b c (Happens event reply ∷ xs) ys reported (due, mid, first, rest, does, lives, whole) =
-    let s = part kinds seed periods mid e (after_answer periods event reply b) c xs ys rest lives in
+part kinds seed periods d e b c (Happens event reply ∷ xs) ys reported (due, mid, first, rest, does, leads, whole) =
+    let s = part kinds seed periods mid e (after_answer periods event reply b) c xs ys rest leads in
     record {
       mid = s.mid;
       book = s.book;
@@ -75,26 +75,26 @@ part kinds seed periods d e b c (Happens event reply ∷ xs) ys reported (due, m
       one = (due, mid, first, s.first, does, s.one, refl);
       two = s.two;
     }
-part kinds seed periods d e b c (Joins kind home ∷ xs) ys reported (of, lives) =
-    let s = part kinds seed periods d e (task_added kinds kind home b) c xs ys reported lives in
+part kinds seed periods d e b c (Joins kind home ∷ xs) ys reported (of, leads) =
+    let s = part kinds seed periods d e (task_added kinds kind home b) c xs ys reported leads in
     record { mid = s.mid; book = s.book; first = s.first; more = s.more; one = (of, s.one); two = s.two }
-part kinds seed periods d e b c (Acts at task now action aim ∷ xs) ys reported (k, done, is, to, lives) =
-    let s = part kinds seed periods d e (after_act kinds seed at task now k b) c xs ys reported lives in
+part kinds seed periods d e b c (Acts at task now action aim ∷ xs) ys reported (k, done, is, to, leads) =
+    let s = part kinds seed periods d e (after_act kinds seed at task now k b) c xs ys reported leads in
     record { mid = s.mid; book = s.book; first = s.first; more = s.more; one = (k, done, is, to, s.one); two = s.two }
-part kinds seed periods d e b c (Rings task now ∷ xs) ys reported (k, there, asleep, timer, lives) =
-    let s = part kinds seed periods d e b c xs ys reported lives in
+part kinds seed periods d e b c (Rings task now ∷ xs) ys reported (k, there, asleep, timer, leads) =
+    let s = part kinds seed periods d e b c xs ys reported leads in
     record { mid = s.mid; book = s.book; first = s.first; more = s.more; one = (k, there, asleep, timer, s.one); two = s.two }
-part kinds seed periods d e b c (Reaches task ∷ xs) ys reported (k, there, waits, lives) =
-    let s = part kinds seed periods d e b c xs ys reported lives in
+part kinds seed periods d e b c (Reaches task ∷ xs) ys reported (k, there, waits, leads) =
+    let s = part kinds seed periods d e b c xs ys reported leads in
     record { mid = s.mid; book = s.book; first = s.first; more = s.more; one = (k, there, waits, s.one); two = s.two }
-part kinds seed periods d e b c (Misses task ∷ xs) ys reported (k, there, waits, lives) =
-    let s = part kinds seed periods d e b c xs ys reported lives in
+part kinds seed periods d e b c (Misses task ∷ xs) ys reported (k, there, waits, leads) =
+    let s = part kinds seed periods d e b c xs ys reported leads in
     record { mid = s.mid; book = s.book; first = s.first; more = s.more; one = (k, there, waits, s.one); two = s.two }
-part kinds seed periods d e b c (Beats at now ∷ xs) ys reported (ticks, busy, lives) =
-    let s = part kinds seed periods d e (after_beat periods at now b) c xs ys reported lives in
+part kinds seed periods d e b c (Beats at now ∷ xs) ys reported (ticks, busy, leads) =
+    let s = part kinds seed periods d e (after_beat periods at now b) c xs ys reported leads in
     record { mid = s.mid; book = s.book; first = s.first; more = s.more; one = (ticks, busy, s.one); two = s.two }
-part kinds seed periods d e b c (Looks at now source ∷ xs) ys reported (looks, from, lives) =
-    let s = part kinds seed periods d e (after_look periods at now b) c xs ys reported lives in
+part kinds seed periods d e b c (Looks at now source ∷ xs) ys reported (looks, from, leads) =
+    let s = part kinds seed periods d e (after_look periods at now b) c xs ys reported leads in
     record { mid = s.mid; book = s.book; first = s.first; more = s.more; one = (looks, from, s.one); two = s.two }
 
 -- what an event keeps
@@ -106,21 +106,21 @@ Keeps P event =
 -- no deed keeps all
 pub none_kept : (P : Driver → Book → Type 0) (kinds : List TaskKind) (seed : ℕ) (periods : Periods) (d e : Driver)
     (b c : Book) (deeds : List Deed) (reported : Reported)
-    → deeds ≡ [] → Lives kinds seed periods d b deeds reported e c → P d b → P e c
-none_kept P kinds seed periods d e b c deeds reported none lives h =
-    let (nothing, same, kept) = subst (λ l. Lives kinds seed periods d b l reported e c) none lives in
+    → deeds ≡ [] → DeedsLead kinds seed periods d b deeds reported e c → P d b → P e c
+none_kept P kinds seed periods d e b c deeds reported none leads h =
+    let (nothing, same, kept) = subst (λ l. DeedsLead kinds seed periods d b l reported e c) none leads in
     subst (λ x. P e x) (sym kept) (subst (λ x. P x b) (sym same) h)
 
 -- events that each keep a property keep it together
 pub just_kept : (P : Driver → Book → Type 0) (f : ℕ → Event) → ((n : ℕ) → Keeps P (f n))
     → (kinds : List TaskKind) (seed : ℕ) (periods : Periods) (d e : Driver) (b c : Book) (numbers : List ℕ)
     (deeds : List Deed) (reported : Reported)
-    → AreJust (map f numbers) deeds → Lives kinds seed periods d b deeds reported e c → P d b
+    → AreJustEvents (map f numbers) deeds → DeedsLead kinds seed periods d b deeds reported e c → P d b
     → P e c
-just_kept P f keeps kinds seed periods d e b c [] deeds reported none lives h =
-    none_kept P kinds seed periods d e b c deeds reported none lives h
-just_kept P f keeps kinds seed periods d e b c (n ∷ numbers) deeds reported (reply, more, is, just) lives h =
-    let (due, mid, first, rest, does, later, whole) = subst (λ l. Lives kinds seed periods d b l reported e c) is lives in
+just_kept P f keeps kinds seed periods d e b c [] deeds reported none leads h =
+    none_kept P kinds seed periods d e b c deeds reported none leads h
+just_kept P f keeps kinds seed periods d e b c (n ∷ numbers) deeds reported (reply, more, is, just) leads h =
+    let (due, mid, first, rest, does, later, whole) = subst (λ l. DeedsLead kinds seed periods d b l reported e c) is leads in
     just_kept P f keeps kinds seed periods mid e (after_answer periods (f n) reply b) c numbers more rest just later
     (keeps n periods d mid b reply first does h)
 
@@ -161,15 +161,15 @@ install_opens processors tasks generation policy processor periods d e b reply r
 -- policies are installed
 pub installed_opens : (kinds : List TaskKind) (seed : ℕ) (periods : Periods) (d e : Driver) (b c : Book)
     (processors tasks : ℕ) (policies : List Accepted) (deeds : List Deed) (reported : Reported)
-    → AreInstalled processors policies deeds → Lives kinds seed periods d b deeds reported e c
+    → AreInstalled processors policies deeds → DeedsLead kinds seed periods d b deeds reported e c
     → IsOpening processors tasks d b
     → IsOpening processors tasks e c
-installed_opens kinds seed periods d e b c processors tasks [] deeds reported none lives h =
-    none_kept (IsOpening processors tasks) kinds seed periods d e b c deeds reported none lives h
+installed_opens kinds seed periods d e b c processors tasks [] deeds reported none leads h =
+    none_kept (IsOpening processors tasks) kinds seed periods d e b c deeds reported none leads h
 installed_opens kinds seed periods d e b c processors tasks (policy ∷ policies) deeds reported
-    (some, more, whole, (generation, rest, is, just), others) lives h =
-    let s = part kinds seed periods d e b c some more reported (subst (λ l. Lives kinds seed periods d b l reported e c) whole lives) in
-    let (due, mid, first, left, does, later, wholly) = subst (λ l. Lives kinds seed periods d b l s.first s.mid s.book) is s.one in
+    (some, more, whole, (generation, rest, is, just), others) leads h =
+    let s = part kinds seed periods d e b c some more reported (subst (λ l. DeedsLead kinds seed periods d b l reported e c) whole leads) in
+    let (due, mid, first, left, does, later, wholly) = subst (λ l. DeedsLead kinds seed periods d b l s.first s.mid s.book) is s.one in
     let drawn = draw_opens processors tasks periods d mid b (Drawn generation) first does h in
     let one =
     just_kept (IsOpening processors tasks) (λ processor. Install processor policy.hook generation (Some policy))
@@ -200,7 +200,7 @@ joined_on_time a c none h =
 admission_opens : (kinds : List TaskKind) (seed : ℕ) (periods : Periods) (d e : Driver) (b c : Book)
     (processors number task home : ℕ) (kind : TaskKind) (reply : Reply) (reported : Reported)
     → IsFirstAllowed processors kind.mask home
-    → Lives kinds seed periods d b (Happens (Admit task kind.nice kind.mask kind.slice) reply ∷ Joins number home ∷ []) reported e c
+    → DeedsLead kinds seed periods d b (Happens (Admit task kind.nice kind.mask kind.slice) reply ∷ Joins number home ∷ []) reported e c
     → IsOpening processors task d b
     → IsOpening processors (task + 1) e c
 admission_opens kinds seed periods d e b c processors number task home kind reply reported allowed
@@ -233,19 +233,19 @@ admission_opens kinds seed periods d e b c processors number task home kind repl
 -- the tasks of a kind
 pub admitted_open : (kinds : List TaskKind) (seed : ℕ) (periods : Periods) (d e : Driver) (b c : Book) (processors number : ℕ)
     (kind : TaskKind) (task count : ℕ) (deeds : List Deed) (reported : Reported)
-    → AreAdmitted processors number kind task count deeds → Lives kinds seed periods d b deeds reported e c
+    → AreAdmitted processors number kind task count deeds → DeedsLead kinds seed periods d b deeds reported e c
     → IsOpening processors task d b
     → IsOpening processors (task + count) e c
-admitted_open kinds seed periods d e b c processors number kind task zero deeds reported none lives h =
+admitted_open kinds seed periods d e b c processors number kind task zero deeds reported none leads h =
     let all : task ≡ task + 0 = omega arith in
     subst (λ n. IsOpening processors n e c) all
-    (none_kept (IsOpening processors task) kinds seed periods d e b c deeds reported none lives h)
+    (none_kept (IsOpening processors task) kinds seed periods d e b c deeds reported none leads h)
 admitted_open kinds seed periods d e b c processors number kind task (suc count) deeds reported
-    (some, more, whole, (reply, home, first, is), rest) lives h =
-    let s = part kinds seed periods d e b c some more reported (subst (λ l. Lives kinds seed periods d b l reported e c) whole lives) in
+    (some, more, whole, (reply, home, first, is), rest) leads h =
+    let s = part kinds seed periods d e b c some more reported (subst (λ l. DeedsLead kinds seed periods d b l reported e c) whole leads) in
     let one =
     admission_opens kinds seed periods d s.mid b s.book processors number task home kind reply s.first first
-    (subst (λ l. Lives kinds seed periods d b l s.first s.mid s.book) is s.one) h in
+    (subst (λ l. DeedsLead kinds seed periods d b l s.first s.mid s.book) is s.one) h in
     let all : (task + 1) + count ≡ task + suc count = omega arith in
     subst (λ n. IsOpening processors n e c) all
     (admitted_open kinds seed periods s.mid e s.book c processors number kind (task + 1) count more s.more rest s.two one)
@@ -253,16 +253,16 @@ admitted_open kinds seed periods d e b c processors number kind task (suc count)
 -- all tasks
 pub all_admitted_open : (all : List TaskKind) (seed : ℕ) (periods : Periods) (d e : Driver) (b c : Book)
     (processors number task : ℕ) (kinds : List TaskKind) (deeds : List Deed) (reported : Reported)
-    → AreAllAdmitted processors number task kinds deeds → Lives all seed periods d b deeds reported e c
+    → AreAllAdmitted processors number task kinds deeds → DeedsLead all seed periods d b deeds reported e c
     → IsOpening processors task d b
     → IsOpening processors (task + tasks_in kinds) e c
-all_admitted_open all seed periods d e b c processors number task [] deeds reported none lives h =
+all_admitted_open all seed periods d e b c processors number task [] deeds reported none leads h =
     let same : task ≡ task + tasks_in [] = omega arith in
     subst (λ n. IsOpening processors n e c) same
-    (none_kept (IsOpening processors task) all seed periods d e b c deeds reported none lives h)
+    (none_kept (IsOpening processors task) all seed periods d e b c deeds reported none leads h)
 all_admitted_open all seed periods d e b c processors number task (kind ∷ kinds) deeds reported
-    (some, more, whole, are, rest) lives h =
-    let s = part all seed periods d e b c some more reported (subst (λ l. Lives all seed periods d b l reported e c) whole lives) in
+    (some, more, whole, are, rest) leads h =
+    let s = part all seed periods d e b c some more reported (subst (λ l. DeedsLead all seed periods d b l reported e c) whole leads) in
     let one = admitted_open all seed periods d s.mid b s.book processors number kind task kind.count some s.first are s.one h in
     let count : TaskKind → ℕ = λ k. k.count in
     let first : sum_by count (kind ∷ []) ≡ kind.count = omega arith in
@@ -274,10 +274,10 @@ all_admitted_open all seed periods d e b c processors number task (kind ∷ kind
 -- all that is met
 met_agree : (kinds : List TaskKind) (seed : ℕ) (periods : Periods) (d e : Driver) (b c : Book) (steps : List MetDue)
     (reported : Reported)
-    → Lives kinds seed periods d b (deeds_of steps) reported e c → BookAgrees d b → BookAgrees e c
-met_agree kinds seed periods d e b c [] reported lives h = none_kept BookAgrees kinds seed periods d e b c [] reported refl lives h
-met_agree kinds seed periods d e b c (step ∷ steps) reported lives h =
-    let s = part kinds seed periods d e b c step.deeds (deeds_of steps) reported lives in
+    → DeedsLead kinds seed periods d b (deeds_of steps) reported e c → BookAgrees d b → BookAgrees e c
+met_agree kinds seed periods d e b c [] reported leads h = none_kept BookAgrees kinds seed periods d e b c [] reported refl leads h
+met_agree kinds seed periods d e b c (step ∷ steps) reported leads h =
+    let s = part kinds seed periods d e b c step.deeds (deeds_of steps) reported leads in
     met_agree kinds seed periods s.mid e s.book c steps s.more s.two
     (meetings_agree kinds seed periods d s.mid b s.book step.due step.at step.deeds s.first step.meet s.one h)
 
@@ -353,9 +353,9 @@ opening_opens w d first starts =
 pub opened_open : (policies : List Accepted) (w : Workload) (d e : Driver) (b : Book) (deeds : List Deed)
     (first reported : Reported)
     → Starts w.machine.rule w.machine.size first d → Opens policies (processors_in w.machine.size) w.tasks.items deeds
-    → Lives w.tasks.items w.machine.seed (periods_of w.machine) d (opening_book w.machine) deeds reported e b
+    → DeedsLead w.tasks.items w.machine.seed (periods_of w.machine) d (opening_book w.machine) deeds reported e b
     → IsOpening (processors_in w.machine.size) (tasks_in w.tasks.items) e b
-opened_open policies w d e b deeds first reported starts o lives =
+opened_open policies w d e b deeds first reported starts o leads =
     let kinds = w.tasks.items in
     let seed = w.machine.seed in
     let periods = periods_of w.machine in
@@ -364,7 +364,7 @@ opened_open policies w d e b deeds first reported starts o lives =
     let opens : IsOpening n 0 d start = opening_opens w d first starts in
     let t =
     part kinds seed periods d e start b o.installs o.admissions reported
-    (subst (λ l. Lives kinds seed periods d start l reported e b) o.whole lives) in
+    (subst (λ l. DeedsLead kinds seed periods d start l reported e b) o.whole leads) in
     let installed = installed_opens kinds seed periods d t.mid start t.book n 0 policies o.installs t.first o.installed t.one opens in
     let all : 0 + tasks_in kinds ≡ tasks_in kinds = omega arith in
     subst (λ i. IsOpening n i e b) all
@@ -376,20 +376,20 @@ proceeds_agree : (policies : List Accepted) (w : Workload) (d e : Driver) (b : B
     → Starts w.machine.rule w.machine.size first d
     → Proceeds policies (processors_in w.machine.size) w.tasks.items w.machine.seed (periods_of w.machine) most end
     (opening_book w.machine) deeds
-    → Lives w.tasks.items w.machine.seed (periods_of w.machine) d (opening_book w.machine) deeds reported e b
+    → DeedsLead w.tasks.items w.machine.seed (periods_of w.machine) d (opening_book w.machine) deeds reported e b
     → BookAgrees e b
-proceeds_agree policies w d e b most end deeds first reported starts p lives =
+proceeds_agree policies w d e b most end deeds first reported starts p leads =
     let kinds = w.tasks.items in
     let seed = w.machine.seed in
     let periods = periods_of w.machine in
     let start = opening_book w.machine in
     let s =
     part kinds seed periods d e start b p.opening p.met reported
-    (subst (λ l. Lives kinds seed periods d start l reported e b) p.whole lives) in
+    (subst (λ l. DeedsLead kinds seed periods d start l reported e b) p.whole leads) in
     let opened = opened_open policies w d s.mid s.book p.opening first s.first starts p.opens s.one in
     let m = p.meets in
     met_agree kinds seed periods s.mid e s.book b m.steps s.more
-    (subst (λ l. Lives kinds seed periods s.mid s.book l s.more e b) m.whole s.two) opened.agree
+    (subst (λ l. DeedsLead kinds seed periods s.mid s.book l s.more e b) m.whole s.two) opened.agree
 
 whole_agrees : (policies : List Accepted) (w : Workload) (reported : Reported) (s : IsSimulation policies w reported)
     → BookAgrees s.closing s.book
@@ -401,7 +401,7 @@ whole_agrees policies w reported s =
     let x = s.ends in
     let p =
     part kinds seed periods s.opening s.closing start s.book x.until x.last s.more
-    (subst (λ l. Lives kinds seed periods s.opening start l s.more s.closing s.book) x.whole s.lives) in
+    (subst (λ l. DeedsLead kinds seed periods s.opening start l s.more s.closing s.book) x.whole s.leads) in
     let until : BookAgrees p.mid p.book =
     proceeds_agree policies w s.opening p.mid p.book _ _ x.until s.first p.first s.starts x.proceeds p.one in
     just_kept BookAgrees (λ processor. Tick processor w.machine.duration)
@@ -413,5 +413,5 @@ pub simulations_agree : SimulationsAgree
 simulations_agree = record {
   whole = whole_agrees;
   begun = λ policies w reported s.
-      proceeds_agree policies w s.opening s.closing s.book _ _ s.deeds s.first s.more s.starts s.proceeds s.lives;
+      proceeds_agree policies w s.opening s.closing s.book _ _ s.deeds s.first s.more s.starts s.proceeds s.leads;
 }

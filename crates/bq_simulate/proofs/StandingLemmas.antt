@@ -12,7 +12,7 @@ use Rattle.bq_workload.specs.declared.action.Action.TheVariants.{Run, Sleep, Wai
 use Rattle.bq_workload.specs.declared.action.Length.{Length}
 use Rattle.bq_workload.specs.declared.progress.TaskProgress.{TaskProgress}
 use Rattle.bq_workload.specs.declared.processor_state.ProcessorState.{ProcessorState}
-use Rattle.bq_workload.specs.declared.roster.Periods.{Periods}
+use Rattle.bq_workload.specs.declared.periods.Periods.{Periods}
 use Rattle.bq_workload.specs.declared.workload.TaskKind.{TaskKind}
 use Rattle.bq_workload.specs.declared.workload.Workload.{Workload}
 use Rattle.bq_workload.specs.Accounts.{Accounts, changed_at, accounts_charged, runner_charged, grown, idled, is_same, occupied, of_processor, of_task, accounts_passed, shrunk, accounts_switched, taken_over}
@@ -21,7 +21,7 @@ use Rattle.bq_workload.specs.Soundness.{first_flaw}
 use Rattle.bq_workload.specs.TaskProgress.{fresh_task, moved_to, run_for, progress_woken}
 use Rattle.bq_workload.proofs.AgreeLemmas.{changed_at-here, changed_at-others, some_or_none}
 use Rattle.bq_simulate.specs.Actions.{IsTaskOfKind, acted, action_at, action_count, advanced_in, asked_by, next_action, kind_start, woken_one_in}
-use Rattle.bq_simulate.specs.Chronicles.{Acts, Beats, Book, Happens, Joins, Looks, Misses, Reaches, Rings, after_act, after_answer, after_beat, after_event, after_look, drawn_with, task_added, length_taken}
+use Rattle.bq_simulate.specs.Deeds.{Acts, Beats, Book, Happens, Joins, Looks, Misses, Reaches, Rings, after_act, after_answer, after_beat, after_event, after_look, drawn_with, task_added, length_taken}
 use Rattle.bq_simulate.specs.Drives.{count_entered, runs_now, task_pulled}
 use Rattle.bq_simulate.specs.Kept.{StandAtActions, StandsAtAction}
 use Rattle.bq_simulate.specs.KeptLaws.{StandingIsKept}
@@ -323,24 +323,24 @@ event_stands kinds periods event reply b h = record {
 -- whatever is done each task stands at an action
 pub standing_is_kept : StandingIsKept
 standing_is_kept w d e b c [] reported sound (none, same, kept) h = subst (λ (x : Book). StandAtActions w.tasks.items x) (sym kept) h
-standing_is_kept w d e b c (Happens event reply ∷ deeds) reported sound (due, mid, first, rest, does, lives, whole) h =
-    standing_is_kept w mid e (after_answer (periods_of w.machine) event reply b) c deeds rest sound lives
+standing_is_kept w d e b c (Happens event reply ∷ deeds) reported sound (due, mid, first, rest, does, leads, whole) h =
+    standing_is_kept w mid e (after_answer (periods_of w.machine) event reply b) c deeds rest sound leads
     (event_stands w.tasks.items (periods_of w.machine) event reply b h)
-standing_is_kept w d e b c (Joins kind home ∷ deeds) reported sound (of, lives) h =
-    standing_is_kept w d e (task_added w.tasks.items kind home b) c deeds reported sound lives
+standing_is_kept w d e b c (Joins kind home ∷ deeds) reported sound (of, leads) h =
+    standing_is_kept w d e (task_added w.tasks.items kind home b) c deeds reported sound leads
     (join_stands w sound kind home b of h)
-standing_is_kept w d e b c (Acts at task now action aim ∷ deeds) reported sound (k, done, is, to, lives) h =
-    standing_is_kept w d e (after_act w.tasks.items w.machine.seed at task now k b) c deeds reported sound lives
+standing_is_kept w d e b c (Acts at task now action aim ∷ deeds) reported sound (k, done, is, to, leads) h =
+    standing_is_kept w d e (after_act w.tasks.items w.machine.seed at task now k b) c deeds reported sound leads
     (act_stands w sound at task now k b done.there h)
-standing_is_kept w d e b c (Rings task now ∷ deeds) reported sound (k, there, asleep, timer, lives) h =
-    standing_is_kept w d e b c deeds reported sound lives h
-standing_is_kept w d e b c (Reaches task ∷ deeds) reported sound (k, there, waits, lives) h =
-    standing_is_kept w d e b c deeds reported sound lives h
-standing_is_kept w d e b c (Misses task ∷ deeds) reported sound (k, there, waits, lives) h =
-    standing_is_kept w d e b c deeds reported sound lives h
-standing_is_kept w d e b c (Beats at now ∷ deeds) reported sound (ticks, busy, lives) h =
-    standing_is_kept w d e (after_beat (periods_of w.machine) at now b) c deeds reported sound lives
+standing_is_kept w d e b c (Rings task now ∷ deeds) reported sound (k, there, asleep, timer, leads) h =
+    standing_is_kept w d e b c deeds reported sound leads h
+standing_is_kept w d e b c (Reaches task ∷ deeds) reported sound (k, there, waits, leads) h =
+    standing_is_kept w d e b c deeds reported sound leads h
+standing_is_kept w d e b c (Misses task ∷ deeds) reported sound (k, there, waits, leads) h =
+    standing_is_kept w d e b c deeds reported sound leads h
+standing_is_kept w d e b c (Beats at now ∷ deeds) reported sound (ticks, busy, leads) h =
+    standing_is_kept w d e (after_beat (periods_of w.machine) at now b) c deeds reported sound leads
     (record { tasks = h.tasks; streams = h.streams })
-standing_is_kept w d e b c (Looks at now source ∷ deeds) reported sound (looks, from, lives) h =
-    standing_is_kept w d e (after_look (periods_of w.machine) at now b) c deeds reported sound lives
+standing_is_kept w d e b c (Looks at now source ∷ deeds) reported sound (looks, from, leads) h =
+    standing_is_kept w d e (after_look (periods_of w.machine) at now b) c deeds reported sound leads
     (record { tasks = h.tasks; streams = h.streams })

@@ -3,28 +3,28 @@ use Rattle.std.proofs.Common.{◌≡◌, ℕ, ◌+◌, ◌≤◌, List, [], ◌�
 use Rattle.std.proofs.lemmas.Grind.{flat_map-append}
 use Rattle.bq_workload.specs.declared.due.Due.{Due}
 use Rattle.bq_parts.specs.declared.event.Event.{Event}
-use Rattle.bq_workload.specs.declared.roster.Periods.{Periods}
+use Rattle.bq_workload.specs.declared.periods.Periods.{Periods}
 use Rattle.bq_workload.specs.declared.workload.TaskKind.{TaskKind}
 use Rattle.bq_workload.specs.Next.{IsNextDue}
-use Rattle.bq_simulate.specs.Chronicles.{Book, Deed, after_deed, after_deeds}
-use Rattle.bq_simulate.specs.Steps.{AreAllMet, AreInOrder, AreJust, AreMet, Meet, Rise, MetDue, deeds_of}
+use Rattle.bq_simulate.specs.Deeds.{Book, Deed, after_deed, after_deeds}
+use Rattle.bq_simulate.specs.Steps.{AreAllMet, AreInOrder, AreJustEvents, AreMet, DeedsMeet, InstantsRise, MetDue, deeds_of}
 
 -- some events, and then others
-pub AreJust-join : (xs ys : List Event) (ds es : List Deed) → AreJust xs ds → AreJust ys es → AreJust (xs ++ ys) (ds ++ es)
-AreJust-join [] ys ds es h k = subst (λ (l : List Deed). AreJust ys (l ++ es)) (sym h) k
-AreJust-join (x ∷ xs) ys ds es (reply, more, is, rest) k =
-    (reply, more ++ es, ap (λ (l : List Deed). l ++ es) is, AreJust-join xs ys more es rest k)
+pub AreJustEvents-join : (xs ys : List Event) (ds es : List Deed) → AreJustEvents xs ds → AreJustEvents ys es → AreJustEvents (xs ++ ys) (ds ++ es)
+AreJustEvents-join [] ys ds es h k = subst (λ (l : List Deed). AreJustEvents ys (l ++ es)) (sym h) k
+AreJustEvents-join (x ∷ xs) ys ds es (reply, more, is, rest) k =
+    (reply, more ++ es, ap (λ (l : List Deed). l ++ es) is, AreJustEvents-join xs ys more es rest k)
 
 -- instants that never fall, and one more
-Rise-more : (first last : ℕ) (steps : List MetDue) (step : MetDue)
-    → Rise first steps last → last ≤ step.at → Rise first (steps ++ step ∷ []) step.at
-Rise-more first last [] step h k = (omega (arith, h, k), omega arith)
-Rise-more first last (s ∷ steps) step h k = (h.0, Rise-more s.at last steps step h.1 k)
+InstantsRise-more : (first last : ℕ) (steps : List MetDue) (step : MetDue)
+    → InstantsRise first steps last → last ≤ step.at → InstantsRise first (steps ++ step ∷ []) step.at
+InstantsRise-more first last [] step h k = (omega (arith, h, k), omega arith)
+InstantsRise-more first last (s ∷ steps) step h k = (h.0, InstantsRise-more s.at last steps step h.1 k)
 
 -- until a later instant they never fall either
-pub Rise-later : (first last later : ℕ) (steps : List MetDue) → Rise first steps last → last ≤ later → Rise first steps later
-Rise-later first last later [] h k = omega (arith, h, k)
-Rise-later first last later (s ∷ steps) h k = (h.0, Rise-later s.at last later steps h.1 k)
+pub InstantsRise-later : (first last later : ℕ) (steps : List MetDue) → InstantsRise first steps last → last ≤ later → InstantsRise first steps later
+InstantsRise-later first last later [] h k = omega (arith, h, k)
+InstantsRise-later first last later (s ∷ steps) h k = (h.0, InstantsRise-later s.at last later steps h.1 k)
 
 -- nothing has come due yet
 pub AreMet-none : (kinds : List TaskKind) (seed : ℕ) (periods : Periods) (b : Book) → AreAllMet kinds seed periods 0 0 b []
@@ -55,7 +55,7 @@ order-more kinds seed periods b (s ∷ steps) step h next =
 pub AreMet-more : (kinds : List TaskKind) (seed : ℕ) (periods : Periods) (b : Book) (due : Due)
     (count last now : ℕ) (ds es : List Deed)
     → last ≤ now → AreAllMet kinds seed periods count last b ds
-    → IsNextDue periods.end (after_deeds kinds seed periods b ds).accounts due now → Meet due now es
+    → IsNextDue periods.end (after_deeds kinds seed periods b ds).accounts due now → DeedsMeet due now es
     → AreAllMet kinds seed periods (count + 1) now b (ds ++ es)
 AreMet-more kinds seed periods b due count last now ds es later (met, all) next meet =
     let step : MetDue = record { due = due; at = now; deeds = es; meet = meet } in
@@ -65,7 +65,7 @@ AreMet-more kinds seed periods b due count last now ds es later (met, all) next 
       record {
         steps = met.steps ++ step ∷ [];
         whole = ap (λ l. l ++ es) met.whole ∙ sym added;
-        rise = Rise-more 0 last met.steps step met.rise later;
+        rise = InstantsRise-more 0 last met.steps step met.rise later;
         few = omega (arith, longer);
         order =
             order-more kinds seed periods b met.steps step met.order
@@ -82,7 +82,7 @@ abbrev pub AreMet-within : (kinds : List TaskKind) (seed : ℕ) (periods : Perio
 AreMet-within kinds seed periods few most last end b ds low later met = record {
   steps = met.steps;
   whole = met.whole;
-  rise = Rise-later 0 last end met.steps met.rise later;
+  rise = InstantsRise-later 0 last end met.steps met.rise later;
   few = omega (arith, met.few, low);
   order = met.order;
 }

@@ -9,7 +9,7 @@ use Rattle.std.proofs.lemmas.Nat.{div-add-mod'}
 use Rattle.bq_parts.specs.World.{World, count_in}
 use Rattle.bq_workload.specs.declared.progress.TaskProgress.{TaskProgress}
 use Rattle.bq_workload.specs.declared.processor_state.ProcessorState.{ProcessorState}
-use Rattle.bq_workload.specs.declared.roster.Periods.{Periods}
+use Rattle.bq_workload.specs.declared.periods.Periods.{Periods}
 use Rattle.bq_workload.specs.Accounts.{Accounts, accounts_charged, is_same, of_processor, accounts_switched, taken_over}
 use Rattle.bq_workload.specs.Next.{TaskRests, runs_at}
 use Rattle.bq_workload.specs.Strays.{HasNoNext, IsStrayCharge, IsStrayProcessor, IsStrayRun, IsStraySwitch, IsStrayTakeover}

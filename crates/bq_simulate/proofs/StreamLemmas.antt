@@ -8,7 +8,7 @@ use Rattle.bq_workload.specs.Streams.{stream_of_task, after_draw, after_draws}
 use Rattle.bq_workload.specs.Accounts.{changed_at}
 use Rattle.bq_simulate.specs.declared.simulation.Simulation.{Simulation}
 use Rattle.bq_simulate.specs.Actions.{length_of_draw, next_length}
-use Rattle.bq_simulate.specs.Chronicles.{draws_of, drawn_with, length_taken}
+use Rattle.bq_simulate.specs.Deeds.{draws_of, drawn_with, length_taken}
 use Rattle.bq_simulate.specs.Simulations.{DrawsLength, DrawsFor, HasDrawn, streams_after}
 
 -- one draw more

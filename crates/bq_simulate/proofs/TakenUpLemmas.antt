@@ -8,7 +8,7 @@ use Rattle.bq_workload.specs.declared.action.Action.{Action}
 use Rattle.bq_workload.specs.declared.action.Action.TheVariants.{Run, Sleep, Wait, Wake}
 use Rattle.bq_workload.specs.declared.progress.TaskProgress.{TaskProgress}
 use Rattle.bq_workload.specs.declared.processor_state.ProcessorState.{ProcessorState}
-use Rattle.bq_workload.specs.declared.roster.Periods.{Periods}
+use Rattle.bq_workload.specs.declared.periods.Periods.{Periods}
 use Rattle.bq_workload.specs.declared.workload.TaskKind.{TaskKind}
 use Rattle.bq_workload.specs.declared.workload.Workload.{Workload}
 use Rattle.bq_workload.specs.Accounts.{Accounts, IsPhaseDone, accounts_of, accounts_charged, of_task}
@@ -17,14 +17,12 @@ use Rattle.bq_simulate.specs.declared.driver.Driver.{Driver}
 use Rattle.bq_simulate.specs.declared.simulation.Simulation.{Simulation}
 use Rattle.bq_simulate.specs.Actions.{acted, aim_of, wake_target, asked_by, first_task_of, next_action}
 use Rattle.bq_simulate.specs.Agreement.{AgreesBut, AgreesWith, IsOnTime, can_run, runner_at}
-use Rattle.bq_simulate.specs.Chronicles.{Book, Lives, is_busy, length_taken}
-use Rattle.bq_simulate.specs.Kept.{IsKept}
-use Rattle.bq_simulate.specs.KeptLaws.{DeedsLead}
-use Rattle.bq_simulate.specs.Order.{CanFollow, FallsAsleep, SimulationGoesWell}
-use Rattle.bq_simulate.specs.Simulations.{GoesUnreported, Same, book_of, with_seed}
+use Rattle.bq_simulate.specs.Deeds.{Book, DeedsLead, is_busy, length_taken}
+use Rattle.bq_simulate.specs.KeptLaws.{DeedsLeadIn}
+use Rattle.bq_simulate.specs.GoingWell.{CanFollow, FallsAsleep, SimulationGoesWell}
+use Rattle.bq_simulate.specs.Simulations.{GoesByUnreportedDeeds, book_of, with_seed}
 use Rattle.bq_simulate.specs.Steps.{IsAct}
 use Rattle.bq_simulate.proofs.AccountLemmas.{changed_at-length}
-use Rattle.bq_simulate.proofs.DeedLemmas.{firsts-stay, streams-stay}
 use Rattle.bq_simulate.proofs.EndLemmas.{acted_home}
 use Rattle.bq_simulate.proofs.MeetAgreeLemmas.{agrees_but_it, agrees_charged, agrees_further, woken_one_home, woken_one_state, world_of}
 use Rattle.bq_simulate.proofs.MeetTimeLemmas.{taken_up_on_time}
@@ -46,12 +44,12 @@ pub record TakesUp (kinds : List TaskKind) (now processor task : ℕ) (action : 
 
 takes_up : (kinds : List TaskKind) (now processor task : ℕ) (action : Option Action) (aim : Option ℕ)
     (s t : Simulation) (drawn : List ℕ)
-    → GoesUnreported kinds (IsAct processor task now action aim) s drawn t
+    → GoesByUnreportedDeeds kinds (IsAct processor task now action aim) s drawn t
     → TakesUp kinds now processor task action aim s t
 takes_up kinds now processor task action aim s t drawn h =
     let (c, done, is, to, (none, same, kept)) =
-    subst (λ l. Lives kinds s.seed s.roster.periods s.driver (book_of s drawn) l [] t.driver (book_of t h.after)) h.are
-    h.lives in
+    subst (λ l. DeedsLead kinds s.seed s.roster.periods s.driver (book_of s drawn) l [] t.driver (book_of t h.after)) h.are
+    h.leads in
     let a : Accounts = accounts_charged processor now (accounts_of s.roster) in
     let long : ℕ = length_taken s.seed task drawn (asked_by (next_action kinds c)) in
     record {
@@ -91,7 +89,7 @@ stands_then w now processor task action aim s t h u =
 -- where it cannot run any more it falls asleep
 falls_asleep : (w : Workload) (now processor task : ℕ) (action : Option Action) (aim : Option ℕ) (s t : Simulation)
     → ((length : ℕ) (c : TaskProgress) → can_run (acted w.tasks.items action length now c).task_state ≡ false)
-    → (h : SimulationGoesWell w now s) → GoesUnreported w.tasks.items (IsAct processor task now action aim) s h.drawn t
+    → (h : SimulationGoesWell w now s) → GoesByUnreportedDeeds w.tasks.items (IsAct processor task now action aim) s h.drawn t
     → FallsAsleep w now processor t
 falls_asleep w now processor task action aim s t sleeps h g =
     let kinds : List TaskKind = w.tasks.items in
@@ -119,7 +117,7 @@ falls_asleep w now processor task action aim s t sleeps h g =
 
 -- where it wakes others all goes well
 wakes_well : (w : Workload) (now processor task kind : ℕ) (aim : Option ℕ) (s t : Simulation)
-    → (h : SimulationGoesWell w now s) → GoesUnreported w.tasks.items (IsAct processor task now (Some (Wake kind)) aim) s h.drawn t
+    → (h : SimulationGoesWell w now s) → GoesByUnreportedDeeds w.tasks.items (IsAct processor task now (Some (Wake kind)) aim) s h.drawn t
     → SimulationGoesWell w now t
 wakes_well w now processor task kind aim s t h g =
     let kinds : List TaskKind = w.tasks.items in
@@ -132,8 +130,8 @@ wakes_well w now processor task kind aim s t h g =
     let further =
     agrees_further (world_of s.driver) a task c new u.done.there (woken_one_state kinds kind c)
     (woken_one_home kinds kind c) then.counted in
-    let leads : DeedsLead (with_seed w s.seed) s.driver (book_of s h.drawn) g.deeds [] t.driver (book_of t g.after) =
-    subst (λ (p : Periods). Lives kinds s.seed p s.driver (book_of s h.drawn) g.deeds [] t.driver (book_of t g.after)) h.periods g.lives in
+    let leads : DeedsLeadIn (with_seed w s.seed) s.driver (book_of s h.drawn) g.deeds [] t.driver (book_of t g.after) =
+    subst (λ (p : Periods). DeedsLead kinds s.seed p s.driver (book_of s h.drawn) g.deeds [] t.driver (book_of t g.after)) h.periods g.leads in
     record {
       sound = h.sound;
       until = h.until;
@@ -185,7 +183,7 @@ wakes_one w now processor task kind before s t h u =
 -- what a task has taken up can follow
 pub can_follow : (action : Option Action) (w : Workload) (before : TaskProgress) (now processor task : ℕ) (s t : Simulation)
     → (h : SimulationGoesWell w now s)
-    → GoesUnreported w.tasks.items (IsAct processor task now action (aim_of w.tasks.items before action)) s h.drawn t
+    → GoesByUnreportedDeeds w.tasks.items (IsAct processor task now action (aim_of w.tasks.items before action)) s h.drawn t
     → CanFollow w action before processor now t
 can_follow None w before now processor task s t h g = falls_asleep w now processor task None None s t (λ length c. refl) h g
 can_follow (Some (Run asked)) w before now processor task s t h g = tt
@@ -199,49 +197,3 @@ can_follow (Some (Wake kind)) w before now processor task s t h g =
       still_busy w.tasks.items now processor task (Some (Wake kind)) aim s t u,
       wakes_one w now processor task kind before s t h u,
     )
-
--- Where nothing is done but to count
-
-well_same : (w : Workload) (now : ℕ) (s t : Simulation) → Same s t → SimulationGoesWell w now s → SimulationGoesWell w now t
-well_same w now s t same h =
-    let kinds : List TaskKind = w.tasks.items in
-    record {
-      sound = h.sound;
-      until = h.until;
-      periods = same.stays.periods ∙ h.periods;
-      drawn = h.drawn;
-      streams = streams-stay s t h.drawn same.stays h.streams;
-      firsts = firsts-stay kinds s t same.stays h.firsts;
-      all_firsts = omega (arith, h.all_firsts, ap (λ v. length v.items) same.stays.firsts);
-      kept =
-          subst (λ (d : Driver). IsKept kinds now d (book_of t h.drawn)) (sym same.driver)
-          (subst (λ (a : Accounts). IsKept kinds now s.driver (record { accounts = a; drawn = h.drawn })) (sym same.accounts) h.kept);
-      agreed = same.stays.agrees h.agreed;
-    }
-
-asleep_same : (w : Workload) (now processor : ℕ) (s t : Simulation)
-    → Same s t → FallsAsleep w now processor s → FallsAsleep w now processor t
-asleep_same w now processor s t same h = record {
-  sound = h.sound;
-  until = h.until;
-  periods = same.stays.periods ∙ h.periods;
-  few = subst (λ (d : Driver). count_in (world_of d) ≤ 64) (sym same.driver) h.few;
-  read = subst (λ (d : Driver). d.now ≤ now) (sym same.driver) h.read;
-  on_time = subst (λ (a : Accounts). IsOnTime now a) (sym same.accounts) h.on_time;
-  task = h.task;
-  runs = ap (λ (a : Accounts). runner_at a.by_processor processor) same.accounts ∙ h.runs;
-  agrees =
-      subst (λ (d : Driver). AgreesBut h.task (world_of d) (accounts_of t.roster)) (sym same.driver)
-      (subst (λ (a : Accounts). AgreesBut h.task (world_of s.driver) a) (sym same.accounts) h.agrees);
-  agreed = same.stays.agrees h.agreed;
-}
-
--- what can follow can follow in a simulation that has only counted
-pub can_follow_same : (action : Option Action) (w : Workload) (c : TaskProgress) (now processor : ℕ) (s t : Simulation)
-    → Same s t → CanFollow w action c processor now s → CanFollow w action c processor now t
-can_follow_same None w c now processor s t same h = asleep_same w now processor s t same h
-can_follow_same (Some (Run asked)) w c now processor s t same h = tt
-can_follow_same (Some (Sleep asked)) w c now processor s t same h = asleep_same w now processor s t same h
-can_follow_same (Some Wait) w c now processor s t same h = asleep_same w now processor s t same h
-can_follow_same (Some (Wake kind)) w c now processor s t same h =
-    (well_same w now s t same h.0, ap (λ (a : Accounts). is_busy a processor) same.accounts ∙ h.1, h.2)

@@ -15,7 +15,7 @@ use Rattle.bq_parts.proofs.OnceLemmas.{count_of-held_by, held_two, standing_once
 use Rattle.bq_workload.specs.declared.progress.TaskProgress.{TaskProgress}
 use Rattle.bq_workload.specs.declared.progress.TaskState.{TaskState}
 use Rattle.bq_workload.specs.declared.processor_state.ProcessorState.{ProcessorState}
-use Rattle.bq_workload.specs.declared.roster.Periods.{Periods}
+use Rattle.bq_workload.specs.declared.periods.Periods.{Periods}
 use Rattle.bq_workload.specs.Accounts.{Accounts, beaten, changed_at, accounts_charged, runner_charged, idled, is_same, looked, occupied, of_processor, accounts_switched, taken_over}
 use Rattle.bq_workload.specs.Dues.{next_multiple}
 use Rattle.bq_workload.specs.TaskProgress.{fresh_task, lengthened, migrates_to, moved_to, run_for}
@@ -23,7 +23,7 @@ use Rattle.bq_workload.proofs.AgreeLemmas.{changed_at-here, changed_at-others, s
 use Rattle.bq_workload.proofs.AgreedLemmas.{both, charged-is, counted, since_now, stood_before_change}
 use Rattle.bq_simulate.specs.Agreement.{AgreesWith, IsOnTime, ProcessorIsOnTime, RunsOnTime, StandsAs, TaskIsOnTime, runner_at, state_at}
 use Rattle.bq_simulate.specs.AgreementLaws.{RunsAlone, StaysOnTime, TasksRunAlone}
-use Rattle.bq_simulate.specs.Chronicles.{is_busy}
+use Rattle.bq_simulate.specs.Deeds.{is_busy}
 use Rattle.bq_simulate.proofs.AccountLemmas.{Reads, changed_at-length, reads_charged, reads_switched}
 use Rattle.bq_simulate.proofs.MeetAgreeLemmas.{current_counted, runs_away}
 

@@ -4,7 +4,7 @@ use Rattle.std.specs.Prelude.{◌&&◌, nat_le, nat_lt, option_and_then, slice_g
 use Rattle.std.proofs.lemmas.Bool.{and_from, and_parts, cases_lt, le-leb, leb-true, lt-ltb}
 use Rattle.std.proofs.lemmas.Option.{none-some}
 use Rattle.bq_workload.specs.declared.due.Due.{Due}
-use Rattle.bq_workload.specs.declared.due.Due.TheVariants.{End, Wake, Tick, Pull}
+use Rattle.bq_workload.specs.declared.due.Due.TheVariants.{End, Wake, Tick, Look}
 use Rattle.bq_workload.specs.declared.progress.TaskProgress.{TaskProgress}
 use Rattle.bq_workload.specs.declared.progress.TaskState.{TaskState}
 use Rattle.bq_workload.specs.declared.progress.TaskState.TheVariants.{Asleep, Waiting, Runnable, Over}
@@ -112,7 +112,7 @@ tick_comes end now time processor a h comes = elim (some_or_none (slice_get a.by
       ]
 ]
 
-look_comes : (end now time processor : ℕ) (a : Accounts) → IsOnTime now a → comes_at end a (Pull processor) ≡ Some time → Comes now time end
+look_comes : (end now time processor : ℕ) (a : Accounts) → IsOnTime now a → comes_at end a (Look processor) ≡ Some time → Comes now time end
 look_comes end now time processor a h comes = elim (some_or_none (slice_get a.by_processor processor)) [
   | inl none ↦ absurd (none-some time (sym (ap (λ (o : Option ProcessorState). option_and_then (look_at end) o) none) ∙ comes))
   | inr (l, at) ↦
@@ -132,7 +132,7 @@ comes_later : (end now time : ℕ) (a : Accounts) (due : Due) → end < 2 ^ 48 �
 comes_later end now time a (End processor) early h comes = end_comes end now time processor a early h comes
 comes_later end now time a (Wake task) early h comes = wake_comes end now time task a h comes
 comes_later end now time a (Tick processor) early h comes = tick_comes end now time processor a h comes
-comes_later end now time a (Pull processor) early h comes = look_comes end now time processor a h comes
+comes_later end now time a (Look processor) early h comes = look_comes end now time processor a h comes
 
 -- what is on time at an instant is so at a later one, before which nothing comes
 on_time_later : (end now time : ℕ) (a : Accounts) → now ≤ time
@@ -150,7 +150,7 @@ on_time_later end now time a later first h =
             since = omega (arith, p.since, later);
             looks =
                 λ x is.
-                first (Pull processor) x (look-of end processor a l at ∙ ap (λ (o : Option ℕ). option_and_then (until end) o) is);
+                first (Look processor) x (look-of end processor a l at ∙ ap (λ (o : Option ℕ). option_and_then (until end) o) is);
             runs = λ task runs.
                 let r : RunsOnTime now a.by_task l task = p.runs task runs in
                 let ends : time ≤ phase_end l.since r.progress =

@@ -31,7 +31,7 @@ use Rattle.bq_core.proofs.OrderLemmas.{step_keeps}
 use Rattle.bq_core.proofs.SizeLemmas.{step_count}
 use Rattle.bq_workload.specs.declared.progress.TaskProgress.{TaskProgress}
 use Rattle.bq_workload.specs.declared.processor_state.ProcessorState.{ProcessorState}
-use Rattle.bq_workload.specs.declared.roster.Periods.{Periods}
+use Rattle.bq_workload.specs.declared.periods.Periods.{Periods}
 use Rattle.bq_workload.specs.Accounts.{Accounts, accounts_entered, grown, of_task}
 use Rattle.bq_workload.specs.TaskProgress.{progress_woken}
 use Rattle.bq_workload.proofs.AgreeLemmas.{changed_at-here}

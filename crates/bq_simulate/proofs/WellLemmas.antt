@@ -10,7 +10,7 @@ use Rattle.bq_parts.specs.World.{count_in}
 use Rattle.bq_trace.specs.Machines.{discipline_of}
 use Rattle.bq_trace.specs.TraceEvents.{TraceEvent, Reported}
 use Rattle.bq_workload.specs.declared.due.Due.{Due}
-use Rattle.bq_workload.specs.declared.roster.Periods.{Periods}
+use Rattle.bq_workload.specs.declared.periods.Periods.{Periods}
 use Rattle.bq_workload.specs.declared.workload.TaskKind.{TaskKind}
 use Rattle.bq_workload.specs.declared.workload.Workload.{Workload}
 use Rattle.bq_workload.specs.Accounts.{accounts_of}
@@ -20,14 +20,14 @@ use Rattle.bq_simulate.specs.declared.driver.Driver.{Driver}
 use Rattle.bq_simulate.specs.declared.fault.SimulateFault.{SimulateFault}
 use Rattle.bq_simulate.specs.declared.fault.SimulateFault.TheVariants as why
 use Rattle.bq_simulate.specs.declared.simulation.Simulation.{Simulation}
-use Rattle.bq_simulate.specs.Chronicles.{Book, Deed, Lives, events_of}
+use Rattle.bq_simulate.specs.Deeds.{Book, Deed, DeedsLead, events_of}
 use Rattle.bq_simulate.specs.Drives.{Drives}
 use Rattle.bq_simulate.specs.Kept.{IsKept}
-use Rattle.bq_simulate.specs.KeptLaws.{DeedsLead}
-use Rattle.bq_simulate.specs.Order.{EndsEarly, SimulationGoesWell}
-use Rattle.bq_simulate.specs.Simulations.{Lived, book_of, with_seed}
-use Rattle.bq_simulate.specs.Steps.{Meet}
-use Rattle.bq_simulate.proofs.DeedLemmas.{drives-of-lives}
+use Rattle.bq_simulate.specs.KeptLaws.{DeedsLeadIn}
+use Rattle.bq_simulate.specs.GoingWell.{EndsEarly, SimulationGoesWell}
+use Rattle.bq_simulate.specs.Simulations.{GoesOnBy, book_of, with_seed}
+use Rattle.bq_simulate.specs.Steps.{DeedsMeet}
+use Rattle.bq_simulate.proofs.DeedLemmas.{drives-of-deeds}
 use Rattle.bq_simulate.proofs.KeptLemmas.{all_is_kept}
 use Rattle.bq_simulate.proofs.MeetAgreeLemmas.{step_of, world_of}
 
@@ -44,9 +44,9 @@ drives_count d e (event ∷ events) reported (reply, mid, first, more, does, res
 -- deeds keep the number of processors
 pub processors_kept : (kinds : List TaskKind) (seed : ℕ) (periods : Periods) (d e : Driver) (b c : Book)
     (deeds : List Deed) (reported : Reported)
-    → Lives kinds seed periods d b deeds reported e c → count_in (world_of e) ≡ count_in (world_of d)
-processors_kept kinds seed periods d e b c deeds reported lives =
-    drives_count d e (events_of deeds) reported (drives-of-lives kinds seed periods d e b c deeds reported lives)
+    → DeedsLead kinds seed periods d b deeds reported e c → count_in (world_of e) ≡ count_in (world_of d)
+processors_kept kinds seed periods d e b c deeds reported leads =
+    drives_count d e (events_of deeds) reported (drives-of-deeds kinds seed periods d e b c deeds reported leads)
 
 -- what comes next comes until the end, and nothing is past then
 pub comes-well : (w : Workload) (last now : ℕ) (due : Due) (s : Simulation)
@@ -74,17 +74,17 @@ comes-well w last now due s h next =
 abbrev pub KeepAll : Workload → ℕ → ℕ → (List Deed → Type 0) → Type 0
 KeepAll w seed now Are =
     (d e : Driver) (b c : Book) (deeds : List Deed) (reported : Reported) → Are deeds →
-    DeedsLead (with_seed w seed) d b deeds reported e c → IsKept w.tasks.items now d b → IsKept w.tasks.items now e c
+    DeedsLeadIn (with_seed w seed) d b deeds reported e c → IsKept w.tasks.items now d b → IsKept w.tasks.items now e c
 
 -- by those it goes on well
 pub goes-well : {S : Type 0} (takes : S → ℕ → TraceEvent → S → Type 0) (Are : List Deed → Type 0) (x y : S)
     (w : Workload) (now : ℕ) (s t : Simulation)
-    → KeepAll w s.seed now Are → Lived takes w.tasks.items Are x s y t → SimulationGoesWell w now s → SimulationGoesWell w now t
-goes-well takes Are x y w now s t keep lived h =
-    let g = lived h.drawn h.streams h.firsts in
+    → KeepAll w s.seed now Are → GoesOnBy takes w.tasks.items Are x s y t → SimulationGoesWell w now s → SimulationGoesWell w now t
+goes-well takes Are x y w now s t keep goes_on h =
+    let g = goes_on h.drawn h.streams h.firsts in
     let leads =
     subst
-    (λ (p : Periods). Lives w.tasks.items s.seed p s.driver (book_of s h.drawn) g.deeds g.reports.reported t.driver (book_of t g.after))
+    (λ (p : Periods). DeedsLead w.tasks.items s.seed p s.driver (book_of s h.drawn) g.deeds g.reports.reported t.driver (book_of t g.after))
     h.periods g.reports.holds in
     let was = book_of s h.drawn in
     let is = book_of t g.after in
@@ -104,11 +104,11 @@ goes-well takes Are x y w now s t keep lived h =
 -- a simulation goes on well by what is done when something comes due
 pub met-well : {S : Type 0} (takes : S → ℕ → TraceEvent → S → Type 0) (x y : S) (w : Workload)
     (due : Due) (now : ℕ) (s t : Simulation)
-    → Lived takes w.tasks.items (Meet due now) x s y t → SimulationGoesWell w now s → SimulationGoesWell w now t
-met-well takes x y w due now s t lived h =
-    goes-well takes (Meet due now) x y w now s t
+    → GoesOnBy takes w.tasks.items (DeedsMeet due now) x s y t → SimulationGoesWell w now s → SimulationGoesWell w now t
+met-well takes x y w due now s t goes_on h =
+    goes-well takes (DeedsMeet due now) x y w now s t
     (λ d e b c deeds reported meet leads kept.
-    all_is_kept.met (with_seed w s.seed) d e b c due now deeds reported h.sound h.until meet leads kept) lived h
+    all_is_kept.met (with_seed w s.seed) d e b c due now deeds reported h.sound h.until meet leads kept) goes_on h
 
 -- what holds of an error that is handed on
 pub err-by : {T E : Type 0} {Q P : E → Type 0} (r : Result T E) → IsErrAnd r Q → ((e : E) → Q e → P e) → IfErr r P

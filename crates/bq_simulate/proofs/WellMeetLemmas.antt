@@ -12,9 +12,9 @@ use Rattle.bq_workload.specs.Strays.{IsStrayBeat, IsStrayLook}
 use Rattle.bq_workload.proofs.AgreeLemmas.{some_or_none}
 use Rattle.bq_simulate.specs.declared.simulation.Simulation.{Simulation}
 use Rattle.bq_simulate.specs.Agreement.{IsOnTime, ProcessorIsOnTime}
-use Rattle.bq_simulate.specs.Chronicles.{is_busy}
+use Rattle.bq_simulate.specs.Deeds.{is_busy}
 use Rattle.bq_simulate.specs.Kept.{IsKept}
-use Rattle.bq_simulate.specs.Order.{SimulationGoesWell}
+use Rattle.bq_simulate.specs.GoingWell.{SimulationGoesWell}
 use Rattle.bq_simulate.proofs.MeetAgreeLemmas.{agrees_processor, world_of}
 use Rattle.bq_simulate.proofs.ProcessorStateLemmas.{busy_at}
 use Rattle.bq_simulate.proofs.SoundKindLemmas.{sound_times}

@@ -17,7 +17,7 @@ use Rattle.bq_trace.specs.TraceEvents.{Reported}
 use Rattle.bq_workload.specs.declared.progress.TaskState.{TaskState}
 use Rattle.bq_workload.specs.declared.progress.TaskState.TheVariants.{Asleep, Waiting, Runnable, Over}
 use Rattle.bq_workload.specs.declared.processor_state.ProcessorState.{ProcessorState}
-use Rattle.bq_workload.specs.declared.roster.Periods.{Periods}
+use Rattle.bq_workload.specs.declared.periods.Periods.{Periods}
 use Rattle.bq_workload.specs.declared.workload.Workload.{Workload}
 use Rattle.bq_workload.specs.Accounts.{Accounts, accounts_of, accounts_entered, grown, of_task, accounts_passed, shrunk}
 use Rattle.bq_workload.specs.Dues.{size_at}
@@ -30,9 +30,9 @@ use Rattle.bq_simulate.specs.declared.driver.Driver.{Driver}
 use Rattle.bq_simulate.specs.declared.simulation.Simulation.{Simulation}
 use Rattle.bq_simulate.specs.Agreement.{AgreesWith, can_run}
 use Rattle.bq_simulate.specs.AgreementLaws.{FailsForMemory, IsDriverReady}
-use Rattle.bq_simulate.specs.Chronicles.{IsWokenFrom, IsWoken, is_busy}
+use Rattle.bq_simulate.specs.Deeds.{IsWokenFrom, IsWoken, is_busy}
 use Rattle.bq_simulate.specs.Drives.{DrivesEvent, IsWakeFault, PlacesWoken, count_entered, runs_now, task_pulled}
-use Rattle.bq_simulate.specs.Order.{SimulationGoesWell}
+use Rattle.bq_simulate.specs.GoingWell.{SimulationGoesWell}
 use Rattle.bq_simulate.specs.Simulations.{book_of}
 use Rattle.bq_simulate.proofs.CallLemmas.{calls_fail_for_memory}
 use Rattle.bq_simulate.proofs.MeetAgreeLemmas.{pull_agrees, same_rule, sleeps_if_woken, step_of, tick_agrees, world_of}

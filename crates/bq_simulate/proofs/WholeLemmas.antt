@@ -10,15 +10,15 @@ use Rattle.bq_words.specs.Sizes.{processors_in}
 use Rattle.bq_simulate.specs.declared.driver.Driver.{Driver}
 use Rattle.bq_simulate.specs.Drives.{Starts}
 use Rattle.bq_workload.specs.Accounts.{Accounts, accounts_of}
-use Rattle.bq_workload.specs.declared.roster.Periods.{Periods}
+use Rattle.bq_workload.specs.declared.periods.Periods.{Periods}
 use Rattle.bq_simulate.specs.declared.simulation.Simulation.{Simulation}
 use Rattle.bq_workload.specs.Bounds.{most_steps, steps_at_once}
-use Rattle.bq_simulate.specs.Chronicles.{Book, Deed, Lives, after_deeds}
+use Rattle.bq_simulate.specs.Deeds.{Book, Deed, DeedsLead, after_deeds}
 use Rattle.bq_workload.specs.Next.{IsAgreed, NothingComes}
-use Rattle.bq_simulate.specs.Simulations.{SimulationBegins, GoesByDeeds, HasFirsts, IsFollowed, IsSimulation, IsTooLong, Lived, LivedFrom, Proceeds, ProceedsBy, ProceedsIn, ProceedsOut, Runs, ComesToBound, RunsToEndOrEnough, book_of, opening_book, periods_of}
+use Rattle.bq_simulate.specs.Simulations.{SimulationBegins, GoesByDeeds, HasFirsts, IsFollowed, IsSimulation, IsTooLong, GoesOnBy, GoesOnFromBook, Proceeds, ProceedsBy, ProceedsIn, ProceedsOut, RunsToLastTicks, ComesToBound, RunsToEndOrEnough, book_of, opening_book, periods_of}
 use Rattle.bq_simulate.specs.Steps.{AreAllAdmitted, AreAllMet, AreInstalled, AreMet, Opens}
-use Rattle.bq_simulate.proofs.DeedLemmas.{GoesByDeeds-join, GoesByDeeds-weaker, Lives-append, drives-of-lives}
-use Rattle.bq_simulate.proofs.OrderLemmas.{book-after}
+use Rattle.bq_simulate.proofs.DeedLemmas.{GoesByDeeds-join, GoesByDeeds-weaker, DeedsLead-append, drives-of-deeds}
+use Rattle.bq_simulate.proofs.BookLemmas.{book-after}
 use Rattle.bq_simulate.proofs.StepLemmas.{AreAllMet-within, AreMet-within}
 
 -- what is installed, and then what is admitted
@@ -33,9 +33,9 @@ opened-join : {S : Type 0} (takes : S → ℕ → TraceEvent → S → Type 0) (
     (kinds : List TaskKind) (Met Are : ℕ → Periods → Book → List Deed → Type 0)
     → ((seed : ℕ) (periods : Periods) (b : Book) (xs ys : List Deed) → Opens policies processors kinds xs →
     Met seed periods (after_deeds kinds seed periods b xs) ys → Are seed periods b (xs ++ ys))
-    → (x y z : S) (s t u : Simulation) → Lived takes kinds (Opens policies processors kinds) x s y t
-    → LivedFrom takes kinds (Met t.seed t.roster.periods) y t z u
-    → LivedFrom takes kinds (Are s.seed s.roster.periods) x s z u
+    → (x y z : S) (s t u : Simulation) → GoesOnBy takes kinds (Opens policies processors kinds) x s y t
+    → GoesOnFromBook takes kinds (Met t.seed t.roster.periods) y t z u
+    → GoesOnFromBook takes kinds (Are s.seed s.roster.periods) x s z u
 opened-join takes policies processors kinds Met Are whole x y z s t u opened met drawn had firsts agreed =
     let one = opened drawn had firsts in
     let two = met one.after one.streams one.firsts (one.agrees agreed) in
@@ -51,9 +51,9 @@ opened-join takes policies processors kinds Met Are whole x y z s t u opened met
 -- what opens it, and then what comes due
 pub Proceeds-join : {S : Type 0} (takes : S → ℕ → TraceEvent → S → Type 0) (policies : List Accepted) (processors : ℕ)
     (kinds : List TaskKind) (most end : ℕ) (x y z : S) (s t u : Simulation)
-    → Lived takes kinds (Opens policies processors kinds) x s y t
-    → LivedFrom takes kinds (AreMet kinds t.seed t.roster.periods most end) y t z u
-    → LivedFrom takes kinds (Proceeds policies processors kinds s.seed s.roster.periods most end) x s z u
+    → GoesOnBy takes kinds (Opens policies processors kinds) x s y t
+    → GoesOnFromBook takes kinds (AreMet kinds t.seed t.roster.periods most end) y t z u
+    → GoesOnFromBook takes kinds (Proceeds policies processors kinds s.seed s.roster.periods most end) x s z u
 Proceeds-join takes policies processors kinds most end =
     opened-join takes policies processors kinds (λ n p. AreMet kinds n p most end) (λ n p. Proceeds policies processors kinds n p most end)
     (λ n p b xs ys opens meets. record { opening = xs; met = ys; whole = refl; opens = opens; meets = meets })
@@ -61,35 +61,35 @@ Proceeds-join takes policies processors kinds most end =
 -- just that many come due
 pub ProceedsBy-join : {S : Type 0} (takes : S → ℕ → TraceEvent → S → Type 0) (policies : List Accepted) (processors : ℕ)
     (kinds : List TaskKind) (count end : ℕ) (x y z : S) (s t u : Simulation)
-    → Lived takes kinds (Opens policies processors kinds) x s y t
-    → LivedFrom takes kinds (AreAllMet kinds t.seed t.roster.periods count end) y t z u
-    → LivedFrom takes kinds (ProceedsBy policies processors kinds s.seed s.roster.periods count end) x s z u
+    → GoesOnBy takes kinds (Opens policies processors kinds) x s y t
+    → GoesOnFromBook takes kinds (AreAllMet kinds t.seed t.roster.periods count end) y t z u
+    → GoesOnFromBook takes kinds (ProceedsBy policies processors kinds s.seed s.roster.periods count end) x s z u
 ProceedsBy-join takes policies processors kinds count end =
     opened-join takes policies processors kinds (λ n p. AreAllMet kinds n p count end)
     (λ n p. ProceedsBy policies processors kinds n p count end)
     (λ n p b xs ys opens meets. (record { opening = xs; met = ys; whole = refl; opens = opens; meets = meets.0 }, meets.1))
 
 -- what comes due by an earlier instant comes due by a later, and fewer things are at most as many
-pub LivedFrom-within : {S : Type 0} (takes : S → ℕ → TraceEvent → S → Type 0) (kinds : List TaskKind) (seed : ℕ)
+pub GoesOnFromBook-within : {S : Type 0} (takes : S → ℕ → TraceEvent → S → Type 0) (kinds : List TaskKind) (seed : ℕ)
     (periods : Periods) (count most last end : ℕ) (x y : S) (s t : Simulation)
-    → count ≤ most → last ≤ end → LivedFrom takes kinds (AreAllMet kinds seed periods count last) x s y t
-    → LivedFrom takes kinds (AreMet kinds seed periods most end) x s y t
-LivedFrom-within takes kinds seed periods count most last end x y s t few low lived = λ drawn had firsts agreed.
+    → count ≤ most → last ≤ end → GoesOnFromBook takes kinds (AreAllMet kinds seed periods count last) x s y t
+    → GoesOnFromBook takes kinds (AreMet kinds seed periods most end) x s y t
+GoesOnFromBook-within takes kinds seed periods count most last end x y s t few low goes_on = λ drawn had firsts agreed.
     GoesByDeeds-weaker takes kinds (AreAllMet kinds seed periods count last (book_of s drawn))
     (AreMet kinds seed periods most end (book_of s drawn))
     (λ xs met. AreMet-within kinds seed periods count most last end (book_of s drawn) xs few low met.0) _ _ _ drawn _
-    (lived drawn had firsts agreed)
+    (goes_on drawn had firsts agreed)
 
 -- exactly as many things come due by a later instant
-pub LivedFrom-all : {S : Type 0} (takes : S → ℕ → TraceEvent → S → Type 0) (kinds : List TaskKind) (seed : ℕ)
+pub GoesOnFromBook-all : {S : Type 0} (takes : S → ℕ → TraceEvent → S → Type 0) (kinds : List TaskKind) (seed : ℕ)
     (periods : Periods) (count most last end : ℕ) (x y : S) (s t : Simulation)
-    → count ≡ most → last ≤ end → LivedFrom takes kinds (AreAllMet kinds seed periods count last) x s y t
-    → LivedFrom takes kinds (AreAllMet kinds seed periods most end) x s y t
-LivedFrom-all takes kinds seed periods count most last end x y s t same low lived = λ drawn had firsts agreed.
+    → count ≡ most → last ≤ end → GoesOnFromBook takes kinds (AreAllMet kinds seed periods count last) x s y t
+    → GoesOnFromBook takes kinds (AreAllMet kinds seed periods most end) x s y t
+GoesOnFromBook-all takes kinds seed periods count most last end x y s t same low goes_on = λ drawn had firsts agreed.
     GoesByDeeds-weaker takes kinds (AreAllMet kinds seed periods count last (book_of s drawn))
     (AreAllMet kinds seed periods most end (book_of s drawn))
     (λ xs met. AreAllMet-within kinds seed periods count most last end (book_of s drawn) xs same low met) _ _ _ drawn _
-    (lived drawn had firsts agreed)
+    (goes_on drawn had firsts agreed)
 
 -- where none is kept, each is that of its kind
 pub firsts-none : (kinds : List TaskKind) (s : Simulation) → s.firsts.items ≡ [] → HasFirsts kinds s
@@ -115,24 +115,24 @@ record Begun {S : Type 0} (takes : S → ℕ → TraceEvent → S → Type 0) (A
     (s : Simulation) (c : S) (t : Simulation) : Type 0 where
   goes : GoesByDeeds takes w.tasks.items (Are s.seed s.roster.periods (book_of s [])) b s [] c t
   are : Are w.machine.seed (periods_of w.machine) (opening_book w.machine) goes.deeds
-  lives : Lives w.tasks.items w.machine.seed (periods_of w.machine) d (opening_book w.machine) goes.deeds
+  leads : DeedsLead w.tasks.items w.machine.seed (periods_of w.machine) d (opening_book w.machine) goes.deeds
       goes.reports.reported t.driver (book_of t goes.after)
 
 begun : {S : Type 0} (takes : S → ℕ → TraceEvent → S → Type 0) (b c : S) (Are : By) (w : Workload)
     (d : Driver) (s t : Simulation)
-    → IsNew w d s → LivedFrom takes w.tasks.items (Are s.seed s.roster.periods) b s c t
+    → IsNew w d s → GoesOnFromBook takes w.tasks.items (Are s.seed s.roster.periods) b s c t
     → Begun takes Are w d b s c t
-begun takes b c Are w d s t new lived =
+begun takes b c Are w d s t new goes_on =
     let kinds = w.tasks.items in
     let machine = w.machine in
-    let met = lived [] new.streams (firsts-none kinds s new.firsts) new.agreed in
+    let met = goes_on [] new.streams (firsts-none kinds s new.firsts) new.agreed in
     let stood = book_of t met.after in
-    let T : ℕ → Type 0 = λ x. Lives kinds x s.roster.periods s.driver (book_of s []) met.deeds met.reports.reported t.driver stood in
+    let T : ℕ → Type 0 = λ x. DeedsLead kinds x s.roster.periods s.driver (book_of s []) met.deeds met.reports.reported t.driver stood in
     let P : Driver → Type 0 =
     λ x.
-    Lives kinds machine.seed (periods_of machine) x (opening_book machine) met.deeds met.reports.reported t.driver stood in
-    let Q : Book → Type 0 = λ x. Lives kinds machine.seed (periods_of machine) s.driver x met.deeds met.reports.reported t.driver stood in
-    let R : Periods → Type 0 = λ x. Lives kinds machine.seed x s.driver (book_of s []) met.deeds met.reports.reported t.driver stood in
+    DeedsLead kinds machine.seed (periods_of machine) x (opening_book machine) met.deeds met.reports.reported t.driver stood in
+    let Q : Book → Type 0 = λ x. DeedsLead kinds machine.seed (periods_of machine) s.driver x met.deeds met.reports.reported t.driver stood in
+    let R : Periods → Type 0 = λ x. DeedsLead kinds machine.seed x s.driver (book_of s []) met.deeds met.reports.reported t.driver stood in
     let opens : book_of s [] ≡ opening_book machine = ap (λ (x : Accounts). record { accounts = x; drawn = [] }) new.accounts in
     let K : ℕ → Type 0 = λ x. Are x s.roster.periods (book_of s []) met.deeds in
     let L : Periods → Type 0 = λ x. Are machine.seed x (book_of s []) met.deeds in
@@ -140,7 +140,7 @@ begun takes b c Are w d s t new lived =
     record {
       goes = met;
       are = subst M opens (subst L new.periods (subst K new.seed met.are));
-      lives = subst P new.driver (subst Q opens (subst R new.periods (subst T new.seed met.reports.holds)));
+      leads = subst P new.driver (subst Q opens (subst R new.periods (subst T new.seed met.reports.holds)));
     }
 
 -- what is reported of the opening machine, and then of the deeds by which it goes on
@@ -174,9 +174,9 @@ beginning takes a b c Are policies w d s t first begun proceeds =
       more = met.reports.reported;
       starts = first.holds;
       drives =
-          drives-of-lives kinds machine.seed (periods_of machine) d t.driver (opening_book machine) (book_of t met.after)
-          met.deeds met.reports.reported begun.lives;
-      lives = begun.lives;
+          drives-of-deeds kinds machine.seed (periods_of machine) d t.driver (opening_book machine) (book_of t met.after)
+          met.deeds met.reports.reported begun.leads;
+      leads = begun.leads;
       whole = refl;
       proceeds = proceeds;
     }
@@ -210,7 +210,7 @@ too-long-of takes a b c policies w d s t first new large runs =
 simulation-of : {S : Type 0} (takes : S → ℕ → TraceEvent → S → Type 0) (a b c : S) (policies : List Accepted)
     (w : Workload) (d : Driver) (s t : Simulation)
     → Gets takes a b (λ reported. Starts w.machine.rule w.machine.size reported d) → IsNew w d s
-    → Runs takes policies w.tasks.items (most_steps w) w.machine.duration (processors_in w.machine.size) b s c t
+    → RunsToLastTicks takes policies w.tasks.items (most_steps w) w.machine.duration (processors_in w.machine.size) b s c t
     → Gets takes a c (IsSimulation policies w)
 simulation-of takes a b c policies w d s t first new runs =
     let kinds = w.tasks.items in
@@ -222,19 +222,19 @@ simulation-of takes a b c policies w d s t first new runs =
     let stood = book_of ended met.after in
     let U : ℕ → Type 0 =
     λ x.
-    Lives kinds x ended.roster.periods ended.driver stood ticks.deeds ticks.reports.reported t.driver
+    DeedsLead kinds x ended.roster.periods ended.driver stood ticks.deeds ticks.reports.reported t.driver
     (book_of t ticks.after) in
     let V : Periods → Type 0 =
-    λ x. Lives kinds machine.seed x ended.driver stood ticks.deeds ticks.reports.reported t.driver (book_of t ticks.after) in
+    λ x. DeedsLead kinds machine.seed x ended.driver stood ticks.deeds ticks.reports.reported t.driver (book_of t ticks.after) in
     let none =
     subst (λ (p : Periods). NothingComes p.end (accounts_of ended.roster)) (met.periods ∙ new.periods)
     (runs.none (met.agrees new.agreed)) in
     let last = subst V (met.periods ∙ new.periods) (subst U (met.seed ∙ new.seed) ticks.reports.holds) in
     let deeds = met.deeds ++ ticks.deeds in
     let reported = met.reports.reported ++ ticks.reports.reported in
-    let lives =
-    Lives-append kinds machine.seed (periods_of machine) d ended.driver t.driver (opening_book machine) stood
-    (book_of t ticks.after) met.deeds ticks.deeds met.reports.reported ticks.reports.reported begun.lives last in
+    let leads =
+    DeedsLead-append kinds machine.seed (periods_of machine) d ended.driver t.driver (opening_book machine) stood
+    (book_of t ticks.after) met.deeds ticks.deeds met.reports.reported ticks.reports.reported begun.leads last in
     record {
       reported = first.reported ++ reported;
       taken =
@@ -249,9 +249,9 @@ simulation-of takes a b c policies w d s t first new runs =
         more = reported;
         starts = first.holds;
         drives =
-            drives-of-lives kinds machine.seed (periods_of machine) d t.driver (opening_book machine)
-            (book_of t ticks.after) deeds reported lives;
-        lives = lives;
+            drives-of-deeds kinds machine.seed (periods_of machine) d t.driver (opening_book machine)
+            (book_of t ticks.after) deeds reported leads;
+        leads = leads;
         whole = refl;
         ends = record {
           until = met.deeds;
@@ -261,7 +261,7 @@ simulation-of takes a b c policies w d s t first new runs =
           reported = met.reports.reported;
           driver = ended.driver;
           book = stood;
-          lives = begun.lives;
+          leads = begun.leads;
           none = none;
           over = runs.over;
           ticks = ticks.are;

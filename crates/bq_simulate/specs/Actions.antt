@@ -18,15 +18,15 @@ use Rattle.bq_simulate.specs.declared.acting.Doing.{Doing}
 
 -- the action that a task does next; none if it has done all of them as often as it is to
 abbrev pub action_at : TaskKind → TaskProgress → Option Action
-action_at kind c = if is_same kind.loops (Some c.loops) then None else slice_get kind.actions.items c.action
+action_at kind progress = if is_same kind.loops (Some progress.loops) then None else slice_get kind.actions.items progress.action
 
 -- the action that a task does next, by the kinds of all tasks
 abbrev pub next_action : List TaskKind → TaskProgress → Option Action
-next_action kinds c = option_and_then (λ kind. action_at kind c) (slice_get kinds c.kind)
+next_action kinds progress = option_and_then (λ kind. action_at kind progress) (slice_get kinds progress.kind)
 
 -- how many actions it goes through
 abbrev pub action_count : List TaskKind → TaskProgress → ℕ
-action_count kinds c = option_map_or (λ (kind : TaskKind). length kind.actions.items) (slice_get kinds c.kind) 0
+action_count kinds progress = option_map_or (λ (kind : TaskKind). length kind.actions.items) (slice_get kinds progress.kind) 0
 
 -- when the timers of a kind first wake its tasks
 abbrev pub kind_start : List TaskKind → ℕ → ℕ
@@ -48,28 +48,28 @@ length_of_draw seed task others asked = next_length asked (after_draws others (s
 
 -- a task has done its action, and comes to the next
 abbrev pub advanced_in : List TaskKind → TaskProgress → TaskProgress
-advanced_in kinds c = advanced (action_count kinds c) c
+advanced_in kinds progress = advanced (action_count kinds progress) progress
 
 -- one more task of the kind has been woken; after the last one the waker goes on to its next action
 abbrev pub woken_one_in : List TaskKind → ℕ → TaskProgress → TaskProgress
-woken_one_in kinds kind c = if nat_lt (c.woken + 1) (kind_count kinds kind) then record c { woken = c.woken + 1 } else advanced_in kinds c
+woken_one_in kinds kind progress = if nat_lt (progress.woken + 1) (kind_count kinds kind) then record progress { woken = progress.woken + 1 } else advanced_in kinds progress
 
 -- a task has no phase, and sleeps
 abbrev pub resting : TaskState → TaskProgress → TaskProgress
-resting task_state c = record (phase_begun 0 c) { task_state = task_state }
+resting task_state progress = record (phase_begun 0 progress) { task_state = task_state }
 
 -- a task sleeps until its timer wakes it after this length, as far as 64 bits count
 abbrev pub asleep_for : ℕ → ℕ → TaskProgress → TaskProgress
-asleep_for length now c = record (resting Asleep c) { timer = min (now + length) 18446744073709551615 }
+asleep_for length now progress = record (resting Asleep progress) { timer = min (now + length) 18446744073709551615 }
 
 -- a task takes up the action at an instant; `length` is how long it lasts, if it is a run or a sleep. Only a task that runs has
 -- a phase afterwards
 abbrev pub acted : List TaskKind → Option Action → ℕ → ℕ → TaskProgress → TaskProgress
-acted kinds None length now c = resting Over c
-acted kinds (Some (Run asked)) length now c = phase_begun length (advanced_in kinds c)
-acted kinds (Some (Sleep asked)) length now c = asleep_for length now (advanced_in kinds c)
-acted kinds (Some Wait) length now c = resting Waiting (advanced_in kinds c)
-acted kinds (Some (Wake kind)) length now c = phase_begun 0 (woken_one_in kinds kind c)
+acted kinds None length now progress = resting Over progress
+acted kinds (Some (Run asked)) length now progress = phase_begun length (advanced_in kinds progress)
+acted kinds (Some (Sleep asked)) length now progress = asleep_for length now (advanced_in kinds progress)
+acted kinds (Some Wait) length now progress = resting Waiting (advanced_in kinds progress)
+acted kinds (Some (Wake kind)) length now progress = phase_begun 0 (woken_one_in kinds kind progress)
 
 -- how many tasks have kinds before this one
 abbrev pub first_task_of : List TaskKind → ℕ → ℕ
@@ -77,12 +77,12 @@ first_task_of kinds number = sum_by (λ (kind : TaskKind). kind.count) (take num
 
 -- the task to which a wake comes next, if the action is a wake: the first of its kind, and then one after another
 abbrev pub aim_of : List TaskKind → TaskProgress → Option Action → Option ℕ
-aim_of kinds c (Some (Wake kind)) = Some (first_task_of kinds kind + c.woken)
-aim_of kinds c action = None
+aim_of kinds progress (Some (Wake kind)) = Some (first_task_of kinds kind + progress.woken)
+aim_of kinds progress action = None
 
 -- the task to which the wake of a task comes next, if its next action is a wake
 abbrev pub wake_target : List TaskKind → TaskProgress → Option ℕ
-wake_target kinds c = aim_of kinds c (next_action kinds c)
+wake_target kinds progress = aim_of kinds progress (next_action kinds progress)
 
 -- the task to which the wake comes of one that does this
 abbrev pub aim_in : List TaskKind → Doing → Option ℕ

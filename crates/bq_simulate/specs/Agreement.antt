@@ -22,11 +22,11 @@ use Rattle.bq_workload.specs.Dues.{size_at}
 
 -- the state of a task by the accounts; none of a task that has not begun
 abbrev pub state_at : List TaskProgress → ℕ → Option TaskState
-state_at by_task task = option_map_or (λ (c : TaskProgress). Some c.task_state) (slice_get by_task task) None
+state_at by_task task = option_map_or (λ (progress : TaskProgress). Some progress.task_state) (slice_get by_task task) None
 
 -- the task that runs at a processor by the accounts
 abbrev pub runner_at : List ProcessorState → ℕ → Option ℕ
-runner_at by_processor processor = option_map_or (λ (l : ProcessorState). l.run) (slice_get by_processor processor) None
+runner_at by_processor processor = option_map_or (λ (state : ProcessorState). state.run) (slice_get by_processor processor) None
 
 -- a task that can run is away from the lobby; one that is asleep, that waits or that is over is not
 abbrev pub can_run : TaskState → Bool
@@ -68,7 +68,7 @@ pub record IsSettled (w : World) : Type 0 where
 
 -- each task was last at a processor of this many
 abbrev pub HaveProcessors : ℕ → Accounts → Type 0
-HaveProcessors count a = (task : ℕ) (c : TaskProgress) → slice_get a.by_task task ≡ Some c → c.home < count
+HaveProcessors count a = (task : ℕ) (progress : TaskProgress) → slice_get a.by_task task ≡ Some progress → progress.home < count
 
 -- Accounts agree with a world in order, in which no task is on its way.
 pub record AgreesWith (w : World) (a : Accounts) : Type 0 where
@@ -87,30 +87,30 @@ pub record AgreesBut (task : ℕ) (w : World) (a : Accounts) : Type 0 where
   pub homes : HaveProcessors (count_in w) a
 
 -- at an instant a task has got no more than its phase takes, and if it sleeps until its timer wakes it, the timer is not past
-pub record TaskIsOnTime (now : ℕ) (c : TaskProgress) : Type 0 where
-  pub phase : c.got ≤ c.due
-  pub timer : c.task_state ≡ Asleep → now ≤ c.timer
+pub record TaskIsOnTime (now : ℕ) (progress : TaskProgress) : Type 0 where
+  pub phase : progress.got ≤ progress.due
+  pub timer : progress.task_state ≡ Asleep → now ≤ progress.timer
 
 -- a task that runs at a processor has got no more than its phase takes once its time is counted until now, and the next tick is not past
-pub record RunsOnTime (now : ℕ) (by_task : List TaskProgress) (l : ProcessorState) (task : ℕ) : Type 0 where
+pub record RunsOnTime (now : ℕ) (by_task : List TaskProgress) (state : ProcessorState) (task : ℕ) : Type 0 where
   pub progress : TaskProgress
   pub there : slice_get by_task task ≡ Some progress
-  pub phase : progress.got + (now - l.since) ≤ progress.due
+  pub phase : progress.got + (now - state.since) ≤ progress.due
   pub next : ℕ
-  pub tick : l.tick ≡ Some next
+  pub tick : state.tick ≡ Some next
   pub later : now ≤ next
 
 -- the time of a processor is counted until now at the latest, its next look is not past, and it ticks exactly when something runs
-pub record ProcessorIsOnTime (now : ℕ) (by_task : List TaskProgress) (l : ProcessorState) : Type 0 where
-  pub since : l.since ≤ now
-  pub looks : (time : ℕ) → l.look ≡ Some time → now ≤ time
-  pub runs : (task : ℕ) → l.run ≡ Some task → RunsOnTime now by_task l task
-  pub rests : l.run ≡ None → l.tick ≡ None
+pub record ProcessorIsOnTime (now : ℕ) (by_task : List TaskProgress) (state : ProcessorState) : Type 0 where
+  pub since : state.since ≤ now
+  pub looks : (time : ℕ) → state.look ≡ Some time → now ≤ time
+  pub runs : (task : ℕ) → state.run ≡ Some task → RunsOnTime now by_task state task
+  pub rests : state.run ≡ None → state.tick ≡ None
 
 -- At this instant nothing in the accounts is past: no timer, no end of a phase, no tick and no look.
 pub record IsOnTime (now : ℕ) (a : Accounts) : Type 0 where
-  pub tasks : (task : ℕ) (c : TaskProgress) → slice_get a.by_task task ≡ Some c → TaskIsOnTime now c
-  pub processors : (processor : ℕ) (l : ProcessorState) → slice_get a.by_processor processor ≡ Some l → ProcessorIsOnTime now a.by_task l
+  pub tasks : (task : ℕ) (progress : TaskProgress) → slice_get a.by_task task ≡ Some progress → TaskIsOnTime now progress
+  pub processors : (processor : ℕ) (state : ProcessorState) → slice_get a.by_processor processor ≡ Some state → ProcessorIsOnTime now a.by_task state
 
 -- a reading can be given to a clock: it is no less than the last that any was given, and no later than the latest
 abbrev pub IsReadable : ℕ → Option ℕ → Type 0
@@ -122,11 +122,11 @@ abbrev pub IsAnswerTo : Event → Reply → Type 0
 IsAnswerTo (Admit task nice mask slice) Admitted = Unit {0}
 IsAnswerTo (Retire task) Retired = Unit {0}
 IsAnswerTo Draw (Drawn generation) = Unit {0}
-IsAnswerTo (Install c hook generation policy) Installed = Unit {0}
-IsAnswerTo (BeginWake c task) (Begun id loads) = Unit {0}
-IsAnswerTo (EndWake c now) (Placed task to by steps) = Unit {0}
-IsAnswerTo (Drain c now) (Drained count run by steps) = Unit {0}
-IsAnswerTo (Tick c now) (Ticked run by steps) = Unit {0}
-IsAnswerTo (Block c now) (Blocked task run) = Unit {0}
-IsAnswerTo (Pull c from now) (Pulled task run by steps) = Unit {0}
+IsAnswerTo (Install processor hook generation policy) Installed = Unit {0}
+IsAnswerTo (BeginWake processor task) (Begun id loads) = Unit {0}
+IsAnswerTo (EndWake processor now) (Placed task to by steps) = Unit {0}
+IsAnswerTo (Drain processor now) (Drained count run by steps) = Unit {0}
+IsAnswerTo (Tick processor now) (Ticked run by steps) = Unit {0}
+IsAnswerTo (Block processor now) (Blocked task run) = Unit {0}
+IsAnswerTo (Pull processor from now) (Pulled task run by steps) = Unit {0}
 IsAnswerTo event reply = ⊥

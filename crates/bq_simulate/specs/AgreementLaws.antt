@@ -13,7 +13,7 @@ use Rattle.bq_parts.specs.World.{World, count_in, processor_at}
 use Rattle.bq_installed.specs.Attachments.{at_hook}
 use Rattle.bq_workload.specs.declared.due.Due.{Due}
 use Rattle.bq_workload.specs.declared.progress.TaskProgress.{TaskProgress}
-use Rattle.bq_workload.specs.declared.roster.Periods.{Periods}
+use Rattle.bq_workload.specs.declared.periods.Periods.{Periods}
 use Rattle.bq_workload.specs.declared.workload.TaskKind.{TaskKind}
 use Rattle.bq_workload.specs.declared.workload.Workload.{Workload}
 use Rattle.bq_workload.specs.declared.processor_state.ProcessorState.{ProcessorState}
@@ -26,10 +26,10 @@ use Rattle.bq_trace.specs.TraceEvents.{Reported}
 use Rattle.bq_simulate.specs.declared.drive_fault.DriveFault.{DriveFault}
 use Rattle.bq_simulate.specs.declared.drive_fault.DriveFault.TheVariants.{OutOfMemory}
 use Rattle.bq_simulate.specs.declared.driver.Driver.{Driver}
-use Rattle.bq_simulate.specs.Chronicles.{Book, Deed, Lives, after_event, is_busy}
+use Rattle.bq_simulate.specs.Deeds.{Book, Deed, DeedsLead, after_event, is_busy}
 use Rattle.bq_simulate.specs.Drives.{IsDriveFault, IsWakeFault, PlacesWoken, count_entered, placed_at, reading_of_event}
 use Rattle.bq_simulate.specs.Simulations.{SimulationBegins, IsSimulation}
-use Rattle.bq_simulate.specs.Steps.{IsAdmissible, Meet}
+use Rattle.bq_simulate.specs.Steps.{IsAdmissible, DeedsMeet}
 
 -- an event is not refused; and in each way to do it, its answer and the world that it leaves have this property
 pub record IsTaken (d : Discipline) (w : World) (event : Event) (Leaves : Reply → World → Type 0) : Type 0 where
@@ -70,7 +70,7 @@ InstallsAreTaken =
 
 -- one task more
 abbrev pub accounts_with_task : TaskProgress → Accounts → Accounts
-accounts_with_task c a = record a { by_task = a.by_task ++ c ∷ [] }
+accounts_with_task progress a = record a { by_task = a.by_task ++ progress ∷ [] }
 
 -- The next task of a kind whose numbers are in their ranges is admitted, and is there: its home is the first processor that it may use.
 abbrev pub AdmissionsAreTaken : Type 0
@@ -86,8 +86,8 @@ IsTakenIn d periods a now placed w =
 -- A wake of a task that sleeps is taken: it begins, it ends, and the task is taken in where it was placed.
 abbrev pub WakesAreTaken : Type 0
 WakesAreTaken =
-    (d : Discipline) (periods : Periods) (w : World) (a : Accounts) (from task now : ℕ) (c : TaskProgress) → AgreesWith w a → from < count_in w →
-    slice_get a.by_task task ≡ Some c → can_run c.task_state ≡ false →
+    (d : Discipline) (periods : Periods) (w : World) (a : Accounts) (from task now : ℕ) (progress : TaskProgress) → AgreesWith w a → from < count_in w →
+    slice_get a.by_task task ≡ Some progress → can_run progress.task_state ≡ false →
     IsTaken d w (BeginWake from task) (λ begun v. IsTaken d v (EndWake from now) (IsTakenIn d periods (after_event periods (BeginWake from task) begun a) now))
 
 -- the machine's world and what is kept of it agree
@@ -98,7 +98,7 @@ BookAgrees d b = AgreesWith d.machine.world b.accounts
 abbrev pub MeetingsAgree : Type 0
 MeetingsAgree =
     (kinds : List TaskKind) (seed : ℕ) (periods : Periods) (d e : Driver) (b c : Book) (due : Due) (now : ℕ) (deeds : List Deed) (reported : Reported) →
-    Meet due now deeds → Lives kinds seed periods d b deeds reported e c → BookAgrees d b → BookAgrees e c
+    DeedsMeet due now deeds → DeedsLead kinds seed periods d b deeds reported e c → BookAgrees d b → BookAgrees e c
 
 -- So the accounts agree at the end of each simulation, and wherever one has been followed to.
 pub record SimulationsAgree : Type 0 where
@@ -132,11 +132,11 @@ pub record CallsFailForMemory : Type 0 where
       runner_at a.by_processor processor ≡ Some task → FailsForMemory d (Block processor now)
   pub pulls : (d : Driver) (a : Accounts) (processor from now : ℕ) → IsDriverReady d a now → processor < count_in d.machine.world → from < count_in d.machine.world → processor ≢ from →
       FailsForMemory d (Pull processor from now)
-  pub wakes : (d : Driver) (a : Accounts) (from task now : ℕ) (c : TaskProgress) (why : DriveFault) → IsDriverReady d a now →
-      from < count_in d.machine.world → slice_get a.by_task task ≡ Some c → can_run c.task_state ≡ false → IsWakeFault d from task now why → why ≡ OutOfMemory
+  pub wakes : (d : Driver) (a : Accounts) (from task now : ℕ) (progress : TaskProgress) (why : DriveFault) → IsDriverReady d a now →
+      from < count_in d.machine.world → slice_get a.by_task task ≡ Some progress → can_run progress.task_state ≡ false → IsWakeFault d from task now why → why ≡ OutOfMemory
   -- once a wake has placed its task, the task can be taken in
-  pub drains : (d e : Driver) (a : Accounts) (from task to now : ℕ) (c : TaskProgress) (reported : Reported) → IsDriverReady d a now →
-      from < count_in d.machine.world → slice_get a.by_task task ≡ Some c → can_run c.task_state ≡ false → PlacesWoken d from task now to reported e → FailsForMemory e (Drain to now)
+  pub drains : (d e : Driver) (a : Accounts) (from task to now : ℕ) (progress : TaskProgress) (reported : Reported) → IsDriverReady d a now →
+      from < count_in d.machine.world → slice_get a.by_task task ≡ Some progress → can_run progress.task_state ≡ false → PlacesWoken d from task now to reported e → FailsForMemory e (Drain to now)
 
 -- Each answer is of its event's kind.
 abbrev pub AnswersFit : Type 0
@@ -152,8 +152,8 @@ RunsAlone a processor = (other task : ℕ) → runner_at a.by_processor processo
 
 -- Nothing is past at an instant after what was done then: another task runs, as an answer says; a clock beats; a processor looks.
 pub record StaysOnTime : Type 0 where
-  pub switched_on_time : (periods : Periods) (now processor : ℕ) (run : Option ℕ) (v : World) (a : Accounts) (l : ProcessorState) →
-      1 ≤ periods.tick → slice_get a.by_processor processor ≡ Some l → RunsAlone a processor → AgreesWith v (accounts_switched processor run now periods a) → IsOnTime now a →
+  pub switched_on_time : (periods : Periods) (now processor : ℕ) (run : Option ℕ) (v : World) (a : Accounts) (state : ProcessorState) →
+      1 ≤ periods.tick → slice_get a.by_processor processor ≡ Some state → RunsAlone a processor → AgreesWith v (accounts_switched processor run now periods a) → IsOnTime now a →
       IsOnTime now (accounts_switched processor run now periods a)
   pub beaten_on_time : (now processor tick : ℕ) (a : Accounts) → 1 ≤ tick → is_busy a processor ≡ true → IsOnTime now a → IsOnTime now (beaten processor now tick a)
   pub looked_on_time : (now processor balance : ℕ) (a : Accounts) → 1 ≤ balance → IsOnTime now a → IsOnTime now (looked processor now balance a)
@@ -166,5 +166,5 @@ TasksRunAlone = (w : World) (a : Accounts) (processor : ℕ) → AgreesWith w a 
 abbrev pub MeetingsAreOnTime : Type 0
 MeetingsAreOnTime =
     (kinds : List TaskKind) (seed : ℕ) (periods : Periods) (d e : Driver) (b c : Book) (due : Due) (now : ℕ) (deeds : List Deed) (reported : Reported) →
-    1 ≤ periods.tick → 1 ≤ periods.balance → now < 2 ^ 48 → Meet due now deeds →
-    Lives kinds seed periods d b deeds reported e c → BookAgrees d b → IsOnTime now b.accounts → IsOnTime now c.accounts
+    1 ≤ periods.tick → 1 ≤ periods.balance → now < 2 ^ 48 → DeedsMeet due now deeds →
+    DeedsLead kinds seed periods d b deeds reported e c → BookAgrees d b → IsOnTime now b.accounts → IsOnTime now c.accounts

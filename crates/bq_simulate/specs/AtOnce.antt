@@ -27,15 +27,15 @@ kind_actions kinds number = option_map_or (λ (kind : TaskKind). kind.actions.it
 
 -- the rest of a task's actions in this round, and then all of them again
 abbrev pub actions_ahead : List TaskKind → TaskProgress → List Action
-actions_ahead kinds c = drop c.action (kind_actions kinds c.kind) ++ kind_actions kinds c.kind
+actions_ahead kinds progress = drop progress.action (kind_actions kinds progress.kind) ++ kind_actions kinds progress.kind
 
 -- how many steps a task takes before its next action that takes time
 abbrev pub steps_ahead : List TaskKind → TaskProgress → ℕ
-steps_ahead kinds c = steps_until kinds c.woken (actions_ahead kinds c)
+steps_ahead kinds progress = steps_until kinds progress.woken (actions_ahead kinds progress)
 
 -- for how long a task has run at a processor since its time was counted last
 abbrev pub uncounted_at : ℕ → ℕ → ProcessorState → ℕ
-uncounted_at now task l = if is_same l.run (Some task) then now - l.since else 0
+uncounted_at now task state = if is_same state.run (Some task) then now - state.since else 0
 
 -- for how long a task has run at all processors since its time was counted last
 abbrev pub uncounted : ℕ → List ProcessorState → ℕ → ℕ
@@ -52,16 +52,16 @@ left_in Over rings done steps = 0
 
 -- the most steps that a task takes at this instant
 abbrev pub left_of_task : List TaskKind → ℕ → List ProcessorState → ℕ → TaskProgress → ℕ
-left_of_task kinds now by_processor task c = left_in c.task_state (c.timer == now) (nat_le c.due (c.got + uncounted now by_processor task)) (steps_ahead kinds c)
+left_of_task kinds now by_processor task progress = left_in progress.task_state (progress.timer == now) (nat_le progress.due (progress.got + uncounted now by_processor task)) (steps_ahead kinds progress)
 
 -- the most steps of a processor at this instant: a tick, after which it may look for a task; or a look
 abbrev pub left_of_processor : ℕ → ProcessorState → ℕ
-left_of_processor now l = if is_same l.tick (Some now) then 2 else if is_same l.look (Some now) then 1 else 0
+left_of_processor now state = if is_same state.tick (Some now) then 2 else if is_same state.look (Some now) then 1 else 0
 
 -- a sum over all tasks, each with its number
 abbrev pub in_all : (ℕ → TaskProgress → ℕ) → List TaskProgress → ℕ
 in_all f [] = 0
-in_all f (c ∷ more) = f 0 c + in_all (λ task. f (suc task)) more
+in_all f (progress ∷ more) = f 0 progress + in_all (λ task. f (suc task)) more
 
 -- the most steps that all tasks and processors take at this instant
 abbrev pub steps_left_at : List TaskKind → ℕ → Accounts → ℕ

@@ -12,27 +12,27 @@ use Rattle.bq_trace.specs.TraceEvents.{TraceEvent, Reported, Opened, Gets}
 use Rattle.bq_trace.specs.Reporting.{Happens}
 use Rattle.bq_parts.specs.Refusals.{refusal}
 use Rattle.bq_simulate.specs.declared.drive_fault.DriveFault.{DriveFault}
-use Rattle.bq_simulate.specs.declared.drive_fault.DriveFault.TheVariants.{Answer, OutOfMemory, Reading, Refused}
+use Rattle.bq_simulate.specs.declared.drive_fault.DriveFault.TheVariants.{OutOfMemory, Reading, Refused}
 use Rattle.bq_simulate.specs.declared.driver.Driver.{Driver}
 
 -- the reading that comes with an event
 abbrev pub reading_of_event : Event → Option ℕ
-reading_of_event (EndWake c now) = Some now
-reading_of_event (Drain c now) = Some now
-reading_of_event (Tick c now) = Some now
-reading_of_event (Block c now) = Some now
-reading_of_event (Pull c from now) = Some now
+reading_of_event (EndWake processor now) = Some now
+reading_of_event (Drain processor now) = Some now
+reading_of_event (Tick processor now) = Some now
+reading_of_event (Block processor now) = Some now
+reading_of_event (Pull processor from now) = Some now
 reading_of_event event = None
 
 -- a reading is no less than the last that any clock was given, and counts as it is
-abbrev pub Rises : ℕ → Option ℕ → ℕ → Type 0
-Rises last None next = next ≡ last
-Rises last (Some now) next = (last ≤ now) × (now < 2 ^ 48) × (next ≡ now)
+abbrev pub ReadingRises : ℕ → Option ℕ → ℕ → Type 0
+ReadingRises last None next = next ≡ last
+ReadingRises last (Some now) next = (last ≤ now) × (now < 2 ^ 48) × (next ≡ now)
 
 -- a reading is less than the last that any clock was given, or too late to count
-abbrev pub Falls : ℕ → Option ℕ → Type 0
-Falls last None = ⊥
-Falls last (Some now) = (now < last) ⊎ (2 ^ 48 ≤ now)
+abbrev pub ReadingFalls : ℕ → Option ℕ → Type 0
+ReadingFalls last None = ⊥
+ReadingFalls last (Some now) = (now < last) ⊎ (2 ^ 48 ≤ now)
 
 -- a machine to which nothing has happened: the first line of a trace
 pub record Starts (rule : Rule) (size : ProcessorCount) (reported : Reported) (d : Driver) : Type 0 where
@@ -44,16 +44,14 @@ pub record Starts (rule : Rule) (size : ProcessorCount) (reported : Reported) (d
 -- the event of the next line is done, and is not refused
 pub record DrivesEvent (d : Driver) (event : Event) (reply : Reply) (reported : Reported) (e : Driver) : Type 0 where
   pub line : e.line ≡ one_more d.line
-  pub rises : Rises d.now (reading_of_event event) e.now
+  pub rises : ReadingRises d.now (reading_of_event event) e.now
   pub happens : Happens d.machine e.line event (Ok reply) reported e.machine
 
--- why an event is not done: its reading falls, the machine refuses it for the first reason that there is, or memory runs out;
--- never for the kind of its answer
+-- why an event is not done: its reading falls, the machine refuses it for the first reason that there is, or memory runs out
 abbrev pub IsDriveFault : Driver → Event → DriveFault → Type 0
-IsDriveFault d event Reading = Falls d.now (reading_of_event event)
+IsDriveFault d event Reading = ReadingFalls d.now (reading_of_event event)
 IsDriveFault d event (Refused why) = refusal d.machine.world event ≡ Some why
 IsDriveFault d event OutOfMemory = Unit {0}
-IsDriveFault d event Answer = ⊥
 
 -- why a wake from a processor is not done: its begin is not, or it has begun and its end is not
 abbrev pub IsWakeFault : Driver → ℕ → ℕ → ℕ → DriveFault → Type 0
@@ -70,9 +68,9 @@ IsUntouched fault d e old new = Unit {0}
 abbrev pub SinkTakes : Type 0 → Type 1
 SinkTakes S = S → ℕ → TraceEvent → S → Type 0
 
--- a sink gets what comes of it
-abbrev pub Did : {S : Type 0} → SinkTakes S → S → Driver → Event → Reply → S → Driver → Type 0
-Did takes old d event reply new e = Gets takes old new (λ reported. DrivesEvent d event reply reported e)
+-- an event is done, and a sink gets what comes of it
+abbrev pub EventIsDriven : {S : Type 0} → SinkTakes S → S → Driver → Event → Reply → S → Driver → Type 0
+EventIsDriven takes old d event reply new e = Gets takes old new (λ reported. DrivesEvent d event reply reported e)
 
 -- the task that runs at the event's processor now, as an answer says
 abbrev pub runs_now : Reply → Option ℕ
@@ -98,14 +96,14 @@ placed_at (Placed task to by steps) = Some to
 placed_at reply = None
 
 -- a sink gets what comes of a drain, whose answer says that this many tasks entered the queue and that this one runs there now, or none
-abbrev pub TookIn : {S : Type 0} → SinkTakes S → S → Driver → ℕ → ℕ → ℕ → Option ℕ → S → Driver → Type 0
-TookIn takes old d processor now count run new e =
-    (reply : Reply) × (runs_now reply ≡ run) × (count_entered reply ≡ count) × Did takes old d (Drain processor now) reply new e
+abbrev pub DrainIsDriven : {S : Type 0} → SinkTakes S → S → Driver → ℕ → ℕ → ℕ → Option ℕ → S → Driver → Type 0
+DrainIsDriven takes old d processor now count run new e =
+    (reply : Reply) × (runs_now reply ≡ run) × (count_entered reply ≡ count) × EventIsDriven takes old d (Drain processor now) reply new e
 
 -- a sink gets what comes of a pull, whose answer says that this task was taken, or none, and that this one runs there now, or none
-abbrev pub TookFrom : {S : Type 0} → SinkTakes S → S → Driver → ℕ → ℕ → ℕ → Option ℕ → Option ℕ → S → Driver → Type 0
-TookFrom takes old d processor from now task run new e =
-    (reply : Reply) × (runs_now reply ≡ run) × (task_pulled reply ≡ task) × Did takes old d (Pull processor from now) reply new e
+abbrev pub PullIsDriven : {S : Type 0} → SinkTakes S → S → Driver → ℕ → ℕ → ℕ → Option ℕ → Option ℕ → S → Driver → Type 0
+PullIsDriven takes old d processor from now task run new e =
+    (reply : Reply) × (runs_now reply ≡ run) × (task_pulled reply ≡ task) × EventIsDriven takes old d (Pull processor from now) reply new e
 
 -- a wake from a processor begins and ends there, and its answer says that the task was placed on this one
 pub record PlacesWoken (d : Driver) (from task now to : ℕ) (reported : Reported) (e : Driver) : Type 0 where
@@ -126,10 +124,6 @@ Drives d (event ∷ events) reported e =
     (reply : Reply) × (mid : Driver) × (first : Reported) × (more : Reported)
     × DrivesEvent d event reply first mid × Drives mid events more e × (reported ≡ first ++ more)
 
--- a sink gets what comes of them
-abbrev pub Drove : {S : Type 0} → SinkTakes S → S → Driver → List Event → S → Driver → Type 0
-Drove takes old d events new e = Gets takes old new (λ reported. Drives d events reported e)
-
--- a sink gets what comes of some events
-abbrev pub Went : {S : Type 0} → SinkTakes S → S → Driver → S → Driver → Type 0
-Went takes old d new e = (events : List Event) × Drove takes old d events new e
+-- events are done one after another, and a sink gets what comes of them
+abbrev pub EventsAreDriven : {S : Type 0} → SinkTakes S → S → Driver → List Event → S → Driver → Type 0
+EventsAreDriven takes old d events new e = Gets takes old new (λ reported. Drives d events reported e)

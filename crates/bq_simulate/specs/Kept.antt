@@ -12,17 +12,17 @@ use Rattle.bq_simulate.specs.declared.driver.Driver.{Driver}
 use Rattle.bq_simulate.specs.declared.simulation.Simulation.{Simulation}
 use Rattle.bq_simulate.specs.Actions.{IsTaskOfKind, action_count, next_action}
 use Rattle.bq_simulate.specs.Agreement.{AgreesWith, IsOnTime}
-use Rattle.bq_simulate.specs.Chronicles.{Book}
+use Rattle.bq_simulate.specs.Deeds.{Book}
 
 -- a task is at one of the actions of its kind; if it wakes others next, its wake has come to fewer than there are
-pub record StandsAtAction (kinds : List TaskKind) (task : ℕ) (c : TaskProgress) : Type 0 where
-  pub of_kind : IsTaskOfKind kinds task c.kind
-  pub action : c.action < action_count kinds c
-  pub woken : (number : ℕ) → next_action kinds c ≡ Some (Wake number) → c.woken < kind_count kinds number
+pub record StandsAtAction (kinds : List TaskKind) (task : ℕ) (progress : TaskProgress) : Type 0 where
+  pub of_kind : IsTaskOfKind kinds task progress.kind
+  pub action : progress.action < action_count kinds progress
+  pub woken : (number : ℕ) → next_action kinds progress ≡ Some (Wake number) → progress.woken < kind_count kinds number
 
 -- each task does, and has a stream of its own
 pub record StandAtActions (kinds : List TaskKind) (b : Book) : Type 0 where
-  pub tasks : (task : ℕ) (c : TaskProgress) → slice_get b.accounts.by_task task ≡ Some c → StandsAtAction kinds task c
+  pub tasks : (task : ℕ) (progress : TaskProgress) → slice_get b.accounts.by_task task ≡ Some progress → StandsAtAction kinds task progress
   pub streams : length b.drawn ≡ length b.accounts.by_task
 
 -- All that is kept at an instant, once all tasks of these kinds have been admitted: the accounts agree with the machine's world,

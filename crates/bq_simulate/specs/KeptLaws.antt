@@ -19,31 +19,31 @@ use Rattle.bq_workload.specs.Next.{IsNextDue}
 use Rattle.bq_workload.specs.Soundness.{first_flaw}
 use Rattle.bq_simulate.specs.declared.driver.Driver.{Driver}
 use Rattle.bq_simulate.specs.AtOnce.{steps_left_at}
-use Rattle.bq_simulate.specs.Chronicles.{Book, Deed, Lives}
+use Rattle.bq_simulate.specs.Deeds.{Book, Deed, DeedsLead}
 use Rattle.bq_simulate.specs.Drives.{Starts}
 use Rattle.bq_simulate.specs.Kept.{IsKept, IsNewerFrom, StandAtActions, WereDrawn}
 use Rattle.bq_simulate.specs.Simulations.{SimulationBegins, opening_book, periods_of}
-use Rattle.bq_simulate.specs.Steps.{Meet, Opens}
+use Rattle.bq_simulate.specs.Steps.{DeedsMeet, Opens}
 
 -- for the kinds, the seed and the periods of a workload these deeds lead from the first state to the second
-abbrev pub DeedsLead : Workload → Driver → Book → List Deed → Reported → Driver → Book → Type 0
-DeedsLead w d b deeds reported e c = Lives w.tasks.items w.machine.seed (periods_of w.machine) d b deeds reported e c
+abbrev pub DeedsLeadIn : Workload → Driver → Book → List Deed → Reported → Driver → Book → Type 0
+DeedsLeadIn w d b deeds reported e c = DeedsLead w.tasks.items w.machine.seed (periods_of w.machine) d b deeds reported e c
 
 -- Whatever is done, each task is at an action of its kind, if each was before.
 abbrev pub StandingIsKept : Type 0
 StandingIsKept =
-    (w : Workload) (d e : Driver) (b c : Book) (deeds : List Deed) (reported : Reported) → first_flaw w ≡ None → DeedsLead w d b deeds reported e c →
+    (w : Workload) (d e : Driver) (b c : Book) (deeds : List Deed) (reported : Reported) → first_flaw w ≡ None → DeedsLeadIn w d b deeds reported e c →
     StandAtActions w.tasks.items b → StandAtActions w.tasks.items c
 
 -- All is kept, of a workload that can be followed: at instant 0 once it has opened, from there until the next thing comes, and when that is met.
 pub record AllIsKept : Type 0 where
   pub opened : (policies : List Accepted) (w : Workload) (d e : Driver) (b : Book) (deeds : List Deed) (first reported : Reported) → first_flaw w ≡ None →
       Starts w.machine.rule w.machine.size first d → Opens policies (processors_in w.machine.size) w.tasks.items deeds →
-      DeedsLead w d (opening_book w.machine) deeds reported e b → IsKept w.tasks.items 0 e b
+      DeedsLeadIn w d (opening_book w.machine) deeds reported e b → IsKept w.tasks.items 0 e b
   pub comes : (w : Workload) (d : Driver) (b : Book) (due : Due) (now time : ℕ) → first_flaw w ≡ None → IsKept w.tasks.items now d b → IsNextDue w.machine.duration b.accounts due time →
       (now ≤ time) × (time ≤ w.machine.duration) × IsKept w.tasks.items time d b
   pub met : (w : Workload) (d e : Driver) (b c : Book) (due : Due) (now : ℕ) (deeds : List Deed) (reported : Reported) → first_flaw w ≡ None →
-      now ≤ w.machine.duration → Meet due now deeds → DeedsLead w d b deeds reported e c → IsKept w.tasks.items now d b → IsKept w.tasks.items now e c
+      now ≤ w.machine.duration → DeedsMeet due now deeds → DeedsLeadIn w d b deeds reported e c → IsKept w.tasks.items now d b → IsKept w.tasks.items now e c
 
 -- So wherever a simulation has been followed to, there is an instant until its end at which all is kept.
 abbrev pub BeginningsAreKept : Type 0
@@ -66,7 +66,7 @@ pub record FewComeAtOnce : Type 0 where
   pub few : (w : Workload) (now : ℕ) (d : Driver) (b : Book) → first_flaw w ≡ None → IsKept w.tasks.items now d b →
       length b.accounts.by_processor ≡ processors_in w.machine.size → steps_left_at w.tasks.items now b.accounts < steps_at_once w
   pub met : (w : Workload) (d e : Driver) (b c : Book) (due : Due) (now : ℕ) (deeds : List Deed) (reported : Reported) → first_flaw w ≡ None →
-      now ≤ w.machine.duration → IsNextDue w.machine.duration b.accounts due now → Meet due now deeds → DeedsLead w d b deeds reported e c → IsKept w.tasks.items now d b →
+      now ≤ w.machine.duration → IsNextDue w.machine.duration b.accounts due now → DeedsMeet due now deeds → DeedsLeadIn w d b deeds reported e c → IsKept w.tasks.items now d b →
       steps_left_at w.tasks.items now c.accounts < steps_left_at w.tasks.items now b.accounts
 
 -- So wherever a simulation has been followed to, fewer things have come than the bound of all instants until its end.

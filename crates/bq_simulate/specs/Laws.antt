@@ -27,12 +27,12 @@ CanStandInLine (Some bytes) = IsImageOfLine bytes
 
 -- an install with an image asks to load it; an install without one takes away the policy at the hook
 abbrev pub install_asked : Option (List ℕ) → ℕ → Hook → ℕ → LineCommand
-install_asked None c hook generation = Does (Install c hook generation None)
-install_asked (Some bytes) c hook generation = Load c hook generation (encode_lower bytes)
+install_asked None processor hook generation = Does (Install processor hook generation None)
+install_asked (Some bytes) processor hook generation = Load processor hook generation (encode_lower bytes)
 
 -- what the line of an event asks for: any other is asked for as it is
 abbrev pub event_command : Option (List ℕ) → Event → LineCommand
-event_command image (Install c hook generation policy) = install_asked image c hook generation
+event_command image (Install processor hook generation policy) = install_asked image processor hook generation
 event_command image event = Does event
 
 -- The line of an event is read as exactly that event.

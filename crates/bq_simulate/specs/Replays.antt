@@ -32,8 +32,8 @@ AreOfImages images policies = AllByRecursion (λ (policy : Accepted). IsLoadedFr
 
 -- a policy that is installed is that of the image at its hook; and a policy is taken away only at a hook without an image
 abbrev pub IsFromImages : ByHook → Event → Type 0
-IsFromImages images (Install c hook generation None) = images hook ≡ None
-IsFromImages images (Install c hook generation (Some policy)) = IsLoadedFromImage (images hook) policy
+IsFromImages images (Install processor hook generation None) = images hook ≡ None
+IsFromImages images (Install processor hook generation (Some policy)) = IsLoadedFromImage (images hook) policy
 IsFromImages images event = Unit {0}
 
 -- a line that a trace skips

@@ -2,7 +2,7 @@
 use Rattle.std.specs.Prelude.{◌≡◌, ◌⊎◌, ℕ, ◌++◌, ◌+◌, ◌-◌, ◌^◌, ◌≤◌, Bool, true, List, [], ◌∷◌, Option, Some, None, length, slice_get, slice_set}
 use Rattle.rand_pcg.specs.Lcg.{Lcg}
 use Rattle.bq_workload.specs.declared.action.Length.{Length}
-use Rattle.bq_workload.specs.declared.roster.Periods.{Periods}
+use Rattle.bq_workload.specs.declared.periods.Periods.{Periods}
 use Rattle.bq_workload.specs.declared.setup.Setup.{Setup}
 use Rattle.bq_workload.specs.declared.workload.TaskKind.{TaskKind}
 use Rattle.bq_workload.specs.declared.workload.Workload.{Workload}
@@ -17,8 +17,8 @@ use Rattle.bq_simulate.specs.declared.simulation.Simulation.{Simulation}
 use Rattle.bq_simulate.specs.Actions.{IsTaskOfKind, first_task_of, next_length, kind_start}
 use Rattle.bq_workload.specs.Bounds.{most_steps}
 use Rattle.bq_workload.specs.Next.{IsAgreed, NothingComes, StaysAgreed}
-use Rattle.bq_simulate.specs.Chronicles.{Book, Deed, Lives, after_deeds, events_of}
-use Rattle.bq_simulate.specs.Steps.{AreAllMet, AreJust, AreMet, IsJoin, Opens, last_ticks}
+use Rattle.bq_simulate.specs.Deeds.{Book, Deed, DeedsLead, after_deeds, events_of}
+use Rattle.bq_simulate.specs.Steps.{AreAllMet, AreJustEvents, AreMet, IsJoin, Opens, last_ticks}
 
 -- a workload with another seed
 abbrev pub with_seed : Workload → ℕ → Workload
@@ -64,10 +64,10 @@ pub record SimulationEnds (policies : List Accepted) (w : Workload) (d : Driver)
   pub reported : Reported
   pub driver : Driver
   pub book : Book
-  pub lives : Lives w.tasks.items w.machine.seed (periods_of w.machine) d (opening_book w.machine) until reported driver book
+  pub leads : DeedsLead w.tasks.items w.machine.seed (periods_of w.machine) d (opening_book w.machine) until reported driver book
   pub none : NothingComes w.machine.duration book.accounts
   pub over : is_over w.machine.duration book.accounts ≡ true
-  pub ticks : AreJust (last_ticks w.machine.duration (processors_in w.machine.size)) last
+  pub ticks : AreJustEvents (last_ticks w.machine.duration (processors_in w.machine.size)) last
 
 -- It makes the machine that the workload asks for, with these policies at all processors. Then events are done one after
 -- another; none is refused, and readings never fall. So it is the trace of those events, with their answers, and the answers say
@@ -88,7 +88,7 @@ pub record IsSimulation (policies : List Accepted) (w : Workload) (reported : Re
   pub more : Reported
   pub starts : Starts w.machine.rule w.machine.size first opening
   pub drives : Drives opening (events_of deeds) more closing
-  pub lives : Lives w.tasks.items w.machine.seed (periods_of w.machine) opening (opening_book w.machine) deeds more closing book
+  pub leads : DeedsLead w.tasks.items w.machine.seed (periods_of w.machine) opening (opening_book w.machine) deeds more closing book
   pub whole : reported ≡ first ++ more
   pub ends : SimulationEnds policies w opening deeds
 
@@ -103,7 +103,7 @@ pub record SimulationBegins (policies : List Accepted) (w : Workload) (reported 
   pub more : Reported
   pub starts : Starts w.machine.rule w.machine.size first opening
   pub drives : Drives opening (events_of deeds) more closing
-  pub lives : Lives w.tasks.items w.machine.seed (periods_of w.machine) opening (opening_book w.machine) deeds more closing book
+  pub leads : DeedsLead w.tasks.items w.machine.seed (periods_of w.machine) opening (opening_book w.machine) deeds more closing book
   pub whole : reported ≡ first ++ more
   pub proceeds : ProceedsIn policies w w.machine.seed (periods_of w.machine) (opening_book w.machine) deeds
 
@@ -134,8 +134,8 @@ abbrev pub HasFirsts : List TaskKind → Simulation → Type 0
 HasFirsts kinds s = (number first : ℕ) → slice_get s.firsts.items number ≡ Some first → first ≡ first_task_of kinds number
 
 -- the first tasks of as many kinds are kept at least
-abbrev pub BeginsMore : Simulation → Simulation → Type 0
-BeginsMore s t = length s.firsts.items ≤ length t.firsts.items
+abbrev pub KeepsAsManyFirsts : Simulation → Simulation → Type 0
+KeepsAsManyFirsts s t = length s.firsts.items ≤ length t.firsts.items
 
 -- what is kept by a simulation, and how many lengths its streams have given
 abbrev pub book_of : Simulation → List ℕ → Book
@@ -150,77 +150,77 @@ pub record GoesByDeeds {S : Type 0} (takes : SinkTakes S) (kinds : List TaskKind
   pub seed : t.seed ≡ s.seed
   pub streams : HasDrawn t after
   pub firsts : HasFirsts kinds t
-  pub begun : BeginsMore s t
+  pub begun : KeepsAsManyFirsts s t
   pub agrees : StaysAgreed s.roster t.roster
-  pub reports : Gets takes old new (λ reported. Lives kinds s.seed s.roster.periods s.driver (book_of s drawn) deeds reported t.driver (book_of t after))
+  pub reports : Gets takes old new (λ reported. DeedsLead kinds s.seed s.roster.periods s.driver (book_of s drawn) deeds reported t.driver (book_of t after))
   pub are : Are deeds
 
 -- from a state whose streams and firsts are right, the simulation goes on by deeds of this sort, and reports them to the sink
-abbrev pub Lived : {S : Type 0} → SinkTakes S → List TaskKind → (List Deed → Type 0) → S → Simulation → S → Simulation → Type 0
-Lived takes kinds Are old s new t = (drawn : List ℕ) → HasDrawn s drawn → HasFirsts kinds s → GoesByDeeds takes kinds Are old s drawn new t
+abbrev pub GoesOnBy : {S : Type 0} → SinkTakes S → List TaskKind → (List Deed → Type 0) → S → Simulation → S → Simulation → Type 0
+GoesOnBy takes kinds Are old s new t = (drawn : List ℕ) → HasDrawn s drawn → HasFirsts kinds s → GoesByDeeds takes kinds Are old s drawn new t
 
 -- if its event queue agrees with its accounts, the simulation goes on by deeds of this sort, by what was kept
-abbrev pub LivedFrom : {S : Type 0} → SinkTakes S → List TaskKind → (Book → List Deed → Type 0) → S → Simulation → S → Simulation → Type 0
-LivedFrom takes kinds Are old s new t = (drawn : List ℕ) → HasDrawn s drawn → HasFirsts kinds s → IsAgreed s.roster → GoesByDeeds takes kinds (Are (book_of s drawn)) old s drawn new t
+abbrev pub GoesOnFromBook : {S : Type 0} → SinkTakes S → List TaskKind → (Book → List Deed → Type 0) → S → Simulation → S → Simulation → Type 0
+GoesOnFromBook takes kinds Are old s new t = (drawn : List ℕ) → HasDrawn s drawn → HasFirsts kinds s → IsAgreed s.roster → GoesByDeeds takes kinds (Are (book_of s drawn)) old s drawn new t
 
 -- it goes on by deeds of this sort, whatever the kinds of its tasks: what tasks do has no part in it
-abbrev pub Befell : {S : Type 0} → SinkTakes S → (List Deed → Type 0) → S → Simulation → S → Simulation → Type 0
-Befell takes Are old s new t = (kinds : List TaskKind) → Lived takes kinds Are old s new t
+abbrev pub GoesOnForAnyKinds : {S : Type 0} → SinkTakes S → (List Deed → Type 0) → S → Simulation → S → Simulation → Type 0
+GoesOnForAnyKinds takes Are old s new t = (kinds : List TaskKind) → GoesOnBy takes kinds Are old s new t
 
 -- it goes on by deeds of which nothing is reported
-pub record GoesUnreported (kinds : List TaskKind) (Are : List Deed → Type 0) (s : Simulation) (drawn : List ℕ) (t : Simulation) : Type 0 where
+pub record GoesByUnreportedDeeds (kinds : List TaskKind) (Are : List Deed → Type 0) (s : Simulation) (drawn : List ℕ) (t : Simulation) : Type 0 where
   pub deeds : List Deed
   pub after : List ℕ
   pub periods : t.roster.periods ≡ s.roster.periods
   pub seed : t.seed ≡ s.seed
   pub streams : HasDrawn t after
   pub firsts : HasFirsts kinds t
-  pub begun : BeginsMore s t
+  pub begun : KeepsAsManyFirsts s t
   pub agrees : StaysAgreed s.roster t.roster
-  pub lives : Lives kinds s.seed s.roster.periods s.driver (book_of s drawn) deeds [] t.driver (book_of t after)
+  pub leads : DeedsLead kinds s.seed s.roster.periods s.driver (book_of s drawn) deeds [] t.driver (book_of t after)
   pub are : Are deeds
 
 -- from a state whose streams and firsts are right, the simulation goes on by deeds of this sort, and reports nothing
-abbrev pub Silent : List TaskKind → (List Deed → Type 0) → Simulation → Simulation → Type 0
-Silent kinds Are s t = (drawn : List ℕ) → HasDrawn s drawn → HasFirsts kinds s → GoesUnreported kinds Are s drawn t
+abbrev pub GoesOnUnreported : List TaskKind → (List Deed → Type 0) → Simulation → Simulation → Type 0
+GoesOnUnreported kinds Are s t = (drawn : List ℕ) → HasDrawn s drawn → HasFirsts kinds s → GoesByUnreportedDeeds kinds Are s drawn t
 
 -- one more task is there, with this home, of a kind that starts then: if it is the next of its kind, and each task has a stream
 abbrev pub JoinsNext : ℕ → ℕ → ℕ → Simulation → Simulation → Type 0
 JoinsNext kind home start s t =
     (kinds : List TaskKind) → IsTaskOfKind kinds (length s.roster.by_task.items) kind → start ≡ kind_start kinds kind →
-    length s.streams.items ≡ length s.roster.by_task.items → Silent kinds (IsJoin kind home) s t
+    length s.streams.items ≡ length s.roster.by_task.items → GoesOnUnreported kinds (IsJoin kind home) s t
 
 -- a simulation goes on until no timer, no end of a phase, no tick and no look is left, and then each processor ticks at the end
-pub record Runs {S : Type 0} (takes : SinkTakes S) (policies : List Accepted) (kinds : List TaskKind) (most end processors : ℕ)
+pub record RunsToLastTicks {S : Type 0} (takes : SinkTakes S) (policies : List Accepted) (kinds : List TaskKind) (most end processors : ℕ)
     (old : S) (s : Simulation) (new : S) (t : Simulation) : Type 0 where
   pub sink : S
   pub ended : Simulation
-  pub proceeds : LivedFrom takes kinds (Proceeds policies processors kinds s.seed s.roster.periods most end) old s sink ended
+  pub proceeds : GoesOnFromBook takes kinds (Proceeds policies processors kinds s.seed s.roster.periods most end) old s sink ended
   pub none : IsAgreed ended.roster → NothingComes ended.roster.periods.end (accounts_of ended.roster)
   pub over : is_over end (accounts_of ended.roster) ≡ true
-  pub ticks : Lived takes kinds (AreJust (last_ticks end processors)) sink ended new t
+  pub ticks : GoesOnBy takes kinds (AreJustEvents (last_ticks end processors)) sink ended new t
 
 -- the simulation of a workload is opened, and goes on by some of what comes due in it until its end
 abbrev pub HasProceeded : {S : Type 0} → SinkTakes S → List Accepted → Workload → S → Simulation → S → Simulation → Type 0
-HasProceeded takes policies w old s new t = LivedFrom takes w.tasks.items (ProceedsIn policies w s.seed s.roster.periods) old s new t
+HasProceeded takes policies w old s new t = GoesOnFromBook takes w.tasks.items (ProceedsIn policies w s.seed s.roster.periods) old s new t
 
 -- it goes on to its end, or until the sink has enough
 abbrev pub RunsToEndOrEnough : {S : Type 0} → SinkTakes S → (S → Bool) → List Accepted → Workload → S → Simulation → S → Simulation → Type 0
 RunsToEndOrEnough takes sated policies w old s new t =
-    Runs takes policies w.tasks.items (most_steps w) w.machine.duration (processors_in w.machine.size) old s new t
+    RunsToLastTicks takes policies w.tasks.items (most_steps w) w.machine.duration (processors_in w.machine.size) old s new t
     ⊎ ((sated new ≡ true) × HasProceeded takes policies w old s new t)
 
 -- it goes on until as many things have come due as its bound for all instants until its end, as far as 64 bits count
 abbrev pub ComesToBound : {S : Type 0} → SinkTakes S → List Accepted → Workload → S → Simulation → S → Simulation → Type 0
-ComesToBound takes policies w old s new t = LivedFrom takes w.tasks.items (ProceedsOut policies w s.seed s.roster.periods) old s new t
+ComesToBound takes policies w old s new t = GoesOnFromBook takes w.tasks.items (ProceedsOut policies w s.seed s.roster.periods) old s new t
 
 -- it goes on by what comes due until its end; at most this many things come due
 abbrev pub RunsToEnd : {S : Type 0} → SinkTakes S → Workload → ℕ → S → Simulation → S → Simulation → Type 0
-RunsToEnd takes w most old s new t = LivedFrom takes w.tasks.items (AreMet w.tasks.items s.seed s.roster.periods most w.machine.duration) old s new t
+RunsToEnd takes w most old s new t = GoesOnFromBook takes w.tasks.items (AreMet w.tasks.items s.seed s.roster.periods most w.machine.duration) old s new t
 
 -- it goes on until exactly this many things have come due
 abbrev pub RunsToLimit : {S : Type 0} → SinkTakes S → Workload → ℕ → S → Simulation → S → Simulation → Type 0
-RunsToLimit takes w count old s new t = LivedFrom takes w.tasks.items (AreAllMet w.tasks.items s.seed s.roster.periods count w.machine.duration) old s new t
+RunsToLimit takes w count old s new t = GoesOnFromBook takes w.tasks.items (AreAllMet w.tasks.items s.seed s.roster.periods count w.machine.duration) old s new t
 
 -- what stays beside the machine and the accounts, and that the event queue agrees with them
 pub record SimulationStays (s t : Simulation) : Type 0 where
@@ -231,7 +231,7 @@ pub record SimulationStays (s t : Simulation) : Type 0 where
   pub firsts : t.firsts ≡ s.firsts
 
 -- nothing was done but to plan or to count
-pub record Same (s t : Simulation) : Type 0 where
+pub record OnlyPlansOrCounts (s t : Simulation) : Type 0 where
   pub driver : t.driver ≡ s.driver
   pub accounts : accounts_of t.roster ≡ accounts_of s.roster
   pub stays : SimulationStays s t

@@ -29,13 +29,13 @@ abbrev pub event_operands : Option (List ℕ) → Event → List (List ℕ)
 event_operands image (Admit task nice mask slice) = decimal task ∷ signed_decimal nice ∷ decimal mask ∷ decimal slice ∷ []
 event_operands image (Retire task) = decimal task ∷ []
 event_operands image Draw = []
-event_operands image (Install c hook generation policy) = decimal c ∷ decimal generation ∷ hook_word hook ∷ image_word image ∷ []
-event_operands image (BeginWake c task) = decimal c ∷ decimal task ∷ []
-event_operands image (EndWake c now) = decimal c ∷ decimal now ∷ []
-event_operands image (Drain c now) = decimal c ∷ decimal now ∷ []
-event_operands image (Tick c now) = decimal c ∷ decimal now ∷ []
-event_operands image (Block c now) = decimal c ∷ decimal now ∷ []
-event_operands image (Pull c from now) = decimal c ∷ decimal from ∷ decimal now ∷ []
+event_operands image (Install processor hook generation policy) = decimal processor ∷ decimal generation ∷ hook_word hook ∷ image_word image ∷ []
+event_operands image (BeginWake processor task) = decimal processor ∷ decimal task ∷ []
+event_operands image (EndWake processor now) = decimal processor ∷ decimal now ∷ []
+event_operands image (Drain processor now) = decimal processor ∷ decimal now ∷ []
+event_operands image (Tick processor now) = decimal processor ∷ decimal now ∷ []
+event_operands image (Block processor now) = decimal processor ∷ decimal now ∷ []
+event_operands image (Pull processor from now) = decimal processor ∷ decimal from ∷ decimal now ∷ []
 
 -- the words that ask for an event
 abbrev pub event_words : Option (List ℕ) → Event → List (List ℕ)
@@ -58,10 +58,10 @@ abbrev pub HasFittingNumbers : Event → Type 0
 HasFittingNumbers (Admit task nice mask slice) = (task < 2 ^ 16) × FitsSigned w8 nice × (mask < 2 ^ 64) × (slice < 2 ^ 64)
 HasFittingNumbers (Retire task) = task < 2 ^ 16
 HasFittingNumbers Draw = Unit {0}
-HasFittingNumbers (Install c hook generation policy) = (c < 2 ^ 8) × (generation < 2 ^ 64)
-HasFittingNumbers (BeginWake c task) = (c < 2 ^ 8) × (task < 2 ^ 16)
-HasFittingNumbers (EndWake c now) = (c < 2 ^ 8) × (now < 2 ^ 64)
-HasFittingNumbers (Drain c now) = (c < 2 ^ 8) × (now < 2 ^ 64)
-HasFittingNumbers (Tick c now) = (c < 2 ^ 8) × (now < 2 ^ 64)
-HasFittingNumbers (Block c now) = (c < 2 ^ 8) × (now < 2 ^ 64)
-HasFittingNumbers (Pull c from now) = (c < 2 ^ 8) × (from < 2 ^ 8) × (now < 2 ^ 64)
+HasFittingNumbers (Install processor hook generation policy) = (processor < 2 ^ 8) × (generation < 2 ^ 64)
+HasFittingNumbers (BeginWake processor task) = (processor < 2 ^ 8) × (task < 2 ^ 16)
+HasFittingNumbers (EndWake processor now) = (processor < 2 ^ 8) × (now < 2 ^ 64)
+HasFittingNumbers (Drain processor now) = (processor < 2 ^ 8) × (now < 2 ^ 64)
+HasFittingNumbers (Tick processor now) = (processor < 2 ^ 8) × (now < 2 ^ 64)
+HasFittingNumbers (Block processor now) = (processor < 2 ^ 8) × (now < 2 ^ 64)
+HasFittingNumbers (Pull processor from now) = (processor < 2 ^ 8) × (from < 2 ^ 8) × (now < 2 ^ 64)

@@ -14,17 +14,17 @@ use Rattle.bq_parts.specs.declared.reply.Reply.{Reply}
 use Rattle.bq_parts.specs.declared.reply.Reply.TheVariants.{Drawn}
 use Rattle.bq_verify.specs.Accepted.{Accepted}
 use Rattle.bq_words.specs.Sizes.{processors_in}
-use Rattle.bq_workload.specs.declared.roster.Periods.{Periods}
+use Rattle.bq_workload.specs.declared.periods.Periods.{Periods}
 use Rattle.bq_workload.specs.Next.{IsNextDue}
 use Rattle.bq_workload.specs.Soundness.{IsFirstAllowed, has_numbers}
 use Rattle.bq_simulate.specs.Actions.{first_task_of}
-use Rattle.bq_simulate.specs.Chronicles.{Acts, Beats, Book, Deed, Happens, Joins, Looks, Misses, Reaches, Rings, after_deeds}
+use Rattle.bq_simulate.specs.Deeds.{Acts, Beats, Book, Deed, Happens, Joins, Looks, Misses, Reaches, Rings, after_deeds}
 use Rattle.bq_simulate.specs.Drives.{placed_at}
 
 -- these events happen, whatever their answers are, and nothing beside them
-abbrev pub AreJust : List Event → List Deed → Type 0
-AreJust [] deeds = deeds ≡ []
-AreJust (event ∷ events) deeds = (reply : Reply) × (more : List Deed) × (deeds ≡ Happens event reply ∷ more) × AreJust events more
+abbrev pub AreJustEvents : List Event → List Deed → Type 0
+AreJustEvents [] deeds = deeds ≡ []
+AreJustEvents (event ∷ events) deeds = (reply : Reply) × (more : List Deed) × (deeds ≡ Happens event reply ∷ more) × AreJustEvents events more
 
 -- the numbers of this many processors
 abbrev pub all_processors : ℕ → List ℕ
@@ -37,7 +37,7 @@ installs_of processors generation policy = map (λ processor. Install processor 
 -- a generation is drawn, and a policy is installed as that generation
 abbrev pub IsInstalled : ℕ → Accepted → List Deed → Type 0
 IsInstalled processors policy deeds =
-    (generation : ℕ) × (some : List Deed) × (deeds ≡ Happens Draw (Drawn generation) ∷ some) × AreJust (installs_of processors generation policy) some
+    (generation : ℕ) × (some : List Deed) × (deeds ≡ Happens Draw (Drawn generation) ∷ some) × AreJustEvents (installs_of processors generation policy) some
 
 -- these policies are installed, one after another
 abbrev pub AreInstalled : ℕ → List Accepted → List Deed → Type 0
@@ -103,11 +103,11 @@ WakesTask task processor now deeds = (deeds ≡ Misses task ∷ []) ⊎ ((more :
 
 -- what follows an action at once: a task that runs on does nothing; one that wakes others wakes the one that it aims at, or
 -- misses it; any other blocks
-abbrev pub Follow : Option Action → Option ℕ → ℕ → ℕ → List Deed → Type 0
-Follow (Some (Run asked)) aim processor now deeds = deeds ≡ []
-Follow (Some (Wake kind)) (Some task) processor now deeds = WakesTask task processor now deeds
-Follow (Some (Wake kind)) None processor now deeds = ⊥
-Follow action aim processor now deeds = AreJust (Block processor now ∷ []) deeds
+abbrev pub FollowsAction : Option Action → Option ℕ → ℕ → ℕ → List Deed → Type 0
+FollowsAction (Some (Run asked)) aim processor now deeds = deeds ≡ []
+FollowsAction (Some (Wake kind)) (Some task) processor now deeds = WakesTask task processor now deeds
+FollowsAction (Some (Wake kind)) None processor now deeds = ⊥
+FollowsAction action aim processor now deeds = AreJustEvents (Block processor now ∷ []) deeds
 
 -- a task takes up its next action
 abbrev pub IsAct : ℕ → ℕ → ℕ → Option Action → Option ℕ → List Deed → Type 0
@@ -119,29 +119,29 @@ pulls_of processor now None = []
 pulls_of processor now (Some from) = Pull processor from now ∷ []
 
 -- what is done when something comes due
-abbrev pub Meet : Due → ℕ → List Deed → Type 0
-Meet (due.End processor) now deeds =
+abbrev pub DeedsMeet : Due → ℕ → List Deed → Type 0
+DeedsMeet (due.End processor) now deeds =
     (task : ℕ) × (action : Option Action) × (aim : Option ℕ) × (more : List Deed)
-    × (deeds ≡ Acts processor task now action aim ∷ more) × Follow action aim processor now more
-Meet (due.Wake task) now deeds = (home : ℕ) × (more : List Deed) × (deeds ≡ Rings task now ∷ more) × AreWake home task now more
-Meet (due.Tick processor) now deeds = (more : List Deed) × (deeds ≡ Beats processor now ∷ more) × AreJust (Tick processor now ∷ []) more
-Meet (due.Pull processor) now deeds = (source : Option ℕ) × (more : List Deed) × (deeds ≡ Looks processor now source ∷ more) × AreJust (pulls_of processor now source) more
+    × (deeds ≡ Acts processor task now action aim ∷ more) × FollowsAction action aim processor now more
+DeedsMeet (due.Wake task) now deeds = (home : ℕ) × (more : List Deed) × (deeds ≡ Rings task now ∷ more) × AreWake home task now more
+DeedsMeet (due.Tick processor) now deeds = (more : List Deed) × (deeds ≡ Beats processor now ∷ more) × AreJustEvents (Tick processor now ∷ []) more
+DeedsMeet (due.Look processor) now deeds = (source : Option ℕ) × (more : List Deed) × (deeds ≡ Looks processor now source ∷ more) × AreJustEvents (pulls_of processor now source) more
 
 -- something that comes due, when, and the deeds by which it is met
 pub record MetDue : Type 0 where
   pub due : Due
   pub at : ℕ
   pub deeds : List Deed
-  pub meet : Meet due at deeds
+  pub meet : DeedsMeet due at deeds
 
 -- the deeds of some steps, one after another
 abbrev pub deeds_of : List MetDue → List Deed
 deeds_of steps = flat_map (λ (step : MetDue). step.deeds) steps
 
 -- instants that never fall, from the first to the last of these two
-abbrev pub Rise : ℕ → List MetDue → ℕ → Type 0
-Rise first [] last = first ≤ last
-Rise first (step ∷ steps) last = (first ≤ step.at) × Rise step.at steps last
+abbrev pub InstantsRise : ℕ → List MetDue → ℕ → Type 0
+InstantsRise first [] last = first ≤ last
+InstantsRise first (step ∷ steps) last = (first ≤ step.at) × InstantsRise step.at steps last
 
 -- each step is the next by the accounts before it: of all that comes until the end it is the first, by its time, at one instant
 -- by its kind, and of one kind by its number
@@ -153,7 +153,7 @@ AreInOrder kinds seed periods b (step ∷ steps) = IsNextDue periods.end b.accou
 pub record AreMet (kinds : List TaskKind) (seed : ℕ) (periods : Periods) (most last : ℕ) (b : Book) (deeds : List Deed) : Type 0 where
   pub steps : List MetDue
   pub whole : deeds ≡ deeds_of steps
-  pub rise : Rise 0 steps last
+  pub rise : InstantsRise 0 steps last
   pub few : length steps ≤ most
   pub order : AreInOrder kinds seed periods b steps
 

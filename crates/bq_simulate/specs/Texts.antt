@@ -28,7 +28,7 @@ image_at images hooks.Pull = optional_image_bytes images.pull
 
 -- the image that an event brings
 abbrev pub brought : ByHook → Event → Option (List ℕ)
-brought images (Install c hook generation policy) = images hook
+brought images (Install processor hook generation policy) = images hook
 brought images event = None
 
 -- the lines that an event writes: one, or none

@@ -9,10 +9,10 @@ ghost use Rattle.bq_workload.specs.declared.workload.Workload.{Workload};
 ghost use Rattle.bq_simulate.specs.Actions.{acted, action_at, action_count, asleep_for, advanced_in, aim_in, asked_by, first_task_of, next_action, resting, woken_one_in};
 ghost use Rattle.bq_workload.specs.Accounts.{accounts_of};
 ghost use Rattle.bq_workload.specs.Next.{IsNextDue};
-ghost use Rattle.bq_simulate.specs.Chronicles.{is_busy};
-ghost use Rattle.bq_simulate.specs.Order.{CanFollow, FallsAsleep, SimulationGoesWell, IsStrayAction, WantsMemory};
-ghost use Rattle.bq_simulate.specs.Simulations.{Befell, DrawsFor, Lived, Same, Silent};
-ghost use Rattle.bq_simulate.specs.Steps.{AreJust, Follow, IsAct, Meet, WakesTask};
+ghost use Rattle.bq_simulate.specs.Deeds.{is_busy};
+ghost use Rattle.bq_simulate.specs.GoingWell.{CanFollow, FallsAsleep, SimulationGoesWell, IsStrayAction, WantsMemory};
+ghost use Rattle.bq_simulate.specs.Simulations.{GoesOnForAnyKinds, DrawsFor, GoesOnBy, OnlyPlansOrCounts, GoesOnUnreported};
+ghost use Rattle.bq_simulate.specs.Steps.{AreJustEvents, FollowsAction, IsAct, DeedsMeet, WakesTask};
 
 use crate::fault::SimulateFault;
 use crate::simulation::Simulation;
@@ -163,11 +163,10 @@ impl Simulation {
         now: u64,
         sink: &mut S,
     ) -> Result<(), SimulateFault>
-        ensures lived { OnOk result (Lived S.takes workload.now.tasks.items (Meet (Due.End processor) now) sink.old self.old sink.new self.new) }
+        ensures goes_on { OnOk result (GoesOnBy S.takes workload.now.tasks.items (DeedsMeet (Due.End processor) now) sink.old self.old sink.new self.new) }
         ensures ends { SimulationGoesWell workload.now now self.old → IsNextDue workload.now.machine.duration (accounts_of self.old.roster) (Due.End processor) now → IfErr result WantsMemory }
     {
         let doing = self.take_action(workload, processor, now)?;
-        self.count_phase(&doing.before);
         self.follow(alloc, processor, &doing, now, sink)
     }
 
@@ -179,7 +178,7 @@ impl Simulation {
         processor: u8,
         now: u64,
     ) -> Result<Doing, BrokenInvariant>
-        ensures acts { IfOk result (λ doing. Silent workload.now.tasks.items (IsAct processor doing.task now doing.action (aim_in workload.now.tasks.items doing)) self.old self.new) }
+        ensures acts { IfOk result (λ doing. GoesOnUnreported workload.now.tasks.items (IsAct processor doing.task now doing.action (aim_in workload.now.tasks.items doing)) self.old self.new) }
         ensures ends { SimulationGoesWell workload.now now self.old → IsNextDue workload.now.machine.duration (accounts_of self.old.roster) (Due.End processor) now → IfErr result (λ _. ⊥) }
     {
         let (task, before) = self.roster.end_phase(processor, now)?;
@@ -205,14 +204,6 @@ impl Simulation {
         }
     }
 
-    /// Counts a run phase that has ended. A task that was only now woken, or has woken others, had none.
-    fn count_phase(&mut self, before: &TaskProgress)
-        ensures { Same self.old self.new }
-    {
-        let phases = u64::from(before.due > 0);
-        self.counts.phases = self.counts.phases.saturating_add(phases);
-    }
-
     /// What comes of an action that a task has taken up.
     fn follow<S: Sink>(
         &mut self,
@@ -222,7 +213,7 @@ impl Simulation {
         now: u64,
         sink: &mut S,
     ) -> Result<(), SimulateFault>
-        ensures lived { OnOk result ((kinds : List TaskKind) → Lived S.takes kinds (Follow doing.now.action (aim_in kinds doing.now) processor now) sink.old self.old sink.new self.new) }
+        ensures goes_on { OnOk result ((kinds : List TaskKind) → GoesOnBy S.takes kinds (FollowsAction doing.now.action (aim_in kinds doing.now) processor now) sink.old self.old sink.new self.new) }
         ensures ends { (w : Workload) → CanFollow w doing.now.action doing.now.before processor now self.old → IfErr result WantsMemory }
     {
         match doing.action {
@@ -244,7 +235,7 @@ impl Simulation {
         now: u64,
         sink: &mut S,
     ) -> Result<(), SimulateFault>
-        ensures befell { OnOk result (Befell S.takes (AreJust (Block processor now ∷ [])) sink.old self.old sink.new self.new) }
+        ensures goes_on { OnOk result (GoesOnForAnyKinds S.takes (AreJustEvents (Block processor now ∷ [])) sink.old self.old sink.new self.new) }
         ensures ends { (w : Workload) → FallsAsleep w now processor self.old → IfErr result WantsMemory }
     {
         let run = self.driver.block(alloc, processor, now, sink)?;
@@ -263,7 +254,7 @@ impl Simulation {
         now: u64,
         sink: &mut S,
     ) -> Result<(), SimulateFault>
-        ensures lived { OnOk result ((kinds : List TaskKind) → Lived S.takes kinds (WakesTask (first_task_of kinds kind + woken) processor now) sink.old self.old sink.new self.new) }
+        ensures goes_on { OnOk result ((kinds : List TaskKind) → GoesOnBy S.takes kinds (WakesTask (first_task_of kinds kind + woken) processor now) sink.old self.old sink.new self.new) }
         ensures ends { (w : Workload) → SimulationGoesWell w now self.old → is_busy (accounts_of self.old.roster) processor ≡ true → woken < kind_count w.tasks.items kind → IfErr result WantsMemory }
     {
         let first = self.first_of(kind)?;
@@ -294,7 +285,7 @@ impl Simulation {
 
     /// A wake comes to a task that does not wait.
     fn miss(&mut self)
-        ensures { Same self.old self.new }
+        ensures { OnlyPlansOrCounts self.old self.new }
     {
         self.counts.missed = self.counts.missed.saturating_add(1);
     }

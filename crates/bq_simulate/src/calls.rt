@@ -1,9 +1,9 @@
-//! The events by their answers.
+//! A call for each kind of event, which returns what the answer says.
 ghost use Rattle.std.specs.Prelude.{◌≡◌, ◌∷◌, [], IfErr, IfOk, OnOk, Some};
 ghost use Rattle.bq_parts.specs.declared.event.Event.TheVariants.{Admit, Draw, Install, EndWake, Drain, Tick, Block, Pull};
 ghost use Rattle.bq_parts.specs.declared.reply.Reply.{Reply};
 ghost use Rattle.bq_parts.specs.declared.reply.Reply.TheVariants.{Drawn};
-ghost use Rattle.bq_simulate.specs.Drives.{Did, Drove, IsDriveFault, IsWakeFault, PlacesWoken, TookFrom, TookIn, placed_at, runs_now};
+ghost use Rattle.bq_simulate.specs.Drives.{EventIsDriven, EventsAreDriven, IsDriveFault, IsWakeFault, PlacesWoken, PullIsDriven, DrainIsDriven, placed_at, runs_now};
 ghost use Rattle.bq_trace.specs.TraceEvents.{Gets};
 
 use crate::drive_fault::DriveFault;
@@ -39,7 +39,7 @@ impl Driver {
         slice: u64,
         sink: &mut S,
     ) -> Result<(), DriveFault>
-        ensures does { OnOk result ((reply : Reply) × Did S.takes sink.old self.old (Admit task nice mask slice) reply sink.new self.new) }
+        ensures does { OnOk result ((reply : Reply) × EventIsDriven S.takes sink.old self.old (Admit task nice mask slice) reply sink.new self.new) }
         ensures fault { IfErr result (λ fault. IsDriveFault self.old (Admit task nice mask slice) fault) }
     {
         let event = Event::Admit {
@@ -50,7 +50,7 @@ impl Driver {
         };
         match self.perform(alloc, event, sink)? {
             Reply::Admitted => Ok(()),
-            _ => Err(DriveFault::Answer),
+            _ => unreachable!(),
         }
     }
 
@@ -68,7 +68,7 @@ impl Driver {
     {
         match self.perform(alloc, Event::BeginWake { processor, task }, sink)? {
             Reply::Begun { .. } => self.place(alloc, processor, now, sink),
-            _ => Err(DriveFault::Answer),
+            _ => unreachable!(),
         }
     }
 
@@ -80,12 +80,12 @@ impl Driver {
         now: u64,
         sink: &mut S,
     ) -> Result<u8, DriveFault>
-        ensures does { IfOk result (λ to. (reply : Reply) × (placed_at reply ≡ Some to) × Did S.takes sink.old self.old (EndWake processor now) reply sink.new self.new) }
+        ensures does { IfOk result (λ to. (reply : Reply) × (placed_at reply ≡ Some to) × EventIsDriven S.takes sink.old self.old (EndWake processor now) reply sink.new self.new) }
         ensures fault { IfErr result (λ fault. IsDriveFault self.old (EndWake processor now) fault) }
     {
         match self.perform(alloc, Event::EndWake { processor, now }, sink)? {
             Reply::Placed { to, .. } => Ok(to),
-            _ => Err(DriveFault::Answer),
+            _ => unreachable!(),
         }
     }
 
@@ -97,12 +97,12 @@ impl Driver {
         now: u64,
         sink: &mut S,
     ) -> Result<Entered, DriveFault>
-        ensures does { IfOk result (λ entered. TookIn S.takes sink.old self.old processor now entered.count entered.run sink.new self.new) }
+        ensures does { IfOk result (λ entered. DrainIsDriven S.takes sink.old self.old processor now entered.count entered.run sink.new self.new) }
         ensures fault { IfErr result (λ fault. IsDriveFault self.old (Drain processor now) fault) }
     {
         match self.perform(alloc, Event::Drain { processor, now }, sink)? {
             Reply::Drained { count, run, .. } => Ok(Entered { count, run }),
-            _ => Err(DriveFault::Answer),
+            _ => unreachable!(),
         }
     }
 
@@ -114,12 +114,12 @@ impl Driver {
         now: u64,
         sink: &mut S,
     ) -> Result<Option<u16>, DriveFault>
-        ensures does { IfOk result (λ run. (reply : Reply) × (runs_now reply ≡ run) × Did S.takes sink.old self.old (Tick processor now) reply sink.new self.new) }
+        ensures does { IfOk result (λ run. (reply : Reply) × (runs_now reply ≡ run) × EventIsDriven S.takes sink.old self.old (Tick processor now) reply sink.new self.new) }
         ensures fault { IfErr result (λ fault. IsDriveFault self.old (Tick processor now) fault) }
     {
         match self.perform(alloc, Event::Tick { processor, now }, sink)? {
             Reply::Ticked { run, .. } => Ok(run),
-            _ => Err(DriveFault::Answer),
+            _ => unreachable!(),
         }
     }
 
@@ -131,12 +131,12 @@ impl Driver {
         now: u64,
         sink: &mut S,
     ) -> Result<Option<u16>, DriveFault>
-        ensures does { IfOk result (λ run. (reply : Reply) × (runs_now reply ≡ run) × Did S.takes sink.old self.old (Block processor now) reply sink.new self.new) }
+        ensures does { IfOk result (λ run. (reply : Reply) × (runs_now reply ≡ run) × EventIsDriven S.takes sink.old self.old (Block processor now) reply sink.new self.new) }
         ensures fault { IfErr result (λ fault. IsDriveFault self.old (Block processor now) fault) }
     {
         match self.perform(alloc, Event::Block { processor, now }, sink)? {
             Reply::Blocked { run, .. } => Ok(run),
-            _ => Err(DriveFault::Answer),
+            _ => unreachable!(),
         }
     }
 
@@ -149,7 +149,7 @@ impl Driver {
         now: u64,
         sink: &mut S,
     ) -> Result<Moved, DriveFault>
-        ensures does { IfOk result (λ moved. TookFrom S.takes sink.old self.old processor from now moved.task moved.run sink.new self.new) }
+        ensures does { IfOk result (λ moved. PullIsDriven S.takes sink.old self.old processor from now moved.task moved.run sink.new self.new) }
         ensures fault { IfErr result (λ fault. IsDriveFault self.old (Pull processor from now) fault) }
     {
         let event = Event::Pull {
@@ -159,18 +159,18 @@ impl Driver {
         };
         match self.perform(alloc, event, sink)? {
             Reply::Pulled { task, run, .. } => Ok(Moved { task, run }),
-            _ => Err(DriveFault::Answer),
+            _ => unreachable!(),
         }
     }
 
     /// The next generation's number.
     pub fn draw<S: Sink>(&mut self, alloc: Global, sink: &mut S) -> Result<u64, DriveFault>
-        ensures does { IfOk result (λ generation. Did S.takes sink.old self.old Draw (Drawn generation) sink.new self.new) }
+        ensures does { IfOk result (λ generation. EventIsDriven S.takes sink.old self.old Draw (Drawn generation) sink.new self.new) }
         ensures fault { IfErr result (λ fault. IsDriveFault self.old Draw fault) }
     {
         match self.perform(alloc, Event::Draw, sink)? {
             Reply::Drawn { generation } => Ok(generation),
-            _ => Err(DriveFault::Answer),
+            _ => unreachable!(),
         }
     }
 
@@ -184,7 +184,7 @@ impl Driver {
         policy: Policy,
         sink: &mut S,
     ) -> Result<(), DriveFault>
-        ensures does { OnOk result (Drove S.takes sink.old self.old (Install processor hook generation (Some policy) ∷ []) sink.new self.new) }
+        ensures does { OnOk result (EventsAreDriven S.takes sink.old self.old (Install processor hook generation (Some policy) ∷ []) sink.new self.new) }
         ensures fault { IfErr result (λ fault. IsDriveFault self.old (Install processor hook generation (Some policy)) fault) }
     {
         let event = Event::Install {
@@ -195,7 +195,7 @@ impl Driver {
         };
         match self.perform(alloc, event, sink)? {
             Reply::Installed => Ok(()),
-            _ => Err(DriveFault::Answer),
+            _ => unreachable!(),
         }
     }
 }

@@ -5,8 +5,6 @@
 pub struct Counts {
     /// How many tasks there were.
     pub tasks: u16,
-    /// How many run phases ended, each with exactly the processor time that it takes.
-    pub phases: u64,
     /// How many wakes came to a task that did not wait; they did nothing.
     pub missed: u64,
 }

@@ -1,4 +1,4 @@
-//! Why a drive ends before its time.
+//! Why an event is not done.
 ghost use Rattle.std.specs.Prelude.{◌≡◌};
 ghost use Rattle.bq_simulate.specs.declared.drive_fault.DriveFault.TheVariants.{OutOfMemory};
 
@@ -18,9 +18,6 @@ pub enum DriveFault {
     /// The reading of a clock fell, or passed 2^48 - 1.
     #[error("a clock went back, or past its latest reading")]
     Reading,
-    /// An answer that is not of its event's kind.
-    #[error("an answer is not of its event's kind")]
-    Answer,
 }
 
 impl From<AllocError> for DriveFault {

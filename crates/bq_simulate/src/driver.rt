@@ -1,6 +1,6 @@
 //! A machine, and how far it was driven.
 ghost use Rattle.std.specs.Prelude.{◌≡◌, IfErr, IfOk, OnErr, OnOk};
-ghost use Rattle.bq_simulate.specs.Drives.{reading_of_event, Falls, IsDriveFault, IsUntouched, Rises, DrivesEvent, Starts};
+ghost use Rattle.bq_simulate.specs.Drives.{reading_of_event, ReadingFalls, IsDriveFault, IsUntouched, ReadingRises, DrivesEvent, Starts};
 ghost use Rattle.bq_simulate.specs.declared.drive_fault.DriveFault.TheVariants.{OutOfMemory, Reading};
 ghost use Rattle.bq_trace.specs.TraceEvents.{Gets};
 
@@ -76,10 +76,10 @@ impl Driver {
 
     /// A reading is given to a clock, unless it is less than the last or too late.
     fn read(&mut self, reading: Option<u64>) -> Result<(), DriveFault>
-        ensures rises { OnOk result (Rises self.old.now reading self.new.now) }
+        ensures rises { OnOk result (ReadingRises self.old.now reading self.new.now) }
         ensures machine { self.new.machine ≡ self.old.machine }
         ensures line { self.new.line ≡ self.old.line }
-        ensures falls { IfErr result (λ fault. (fault ≡ Reading) × Falls self.old.now reading) }
+        ensures falls { IfErr result (λ fault. (fault ≡ Reading) × ReadingFalls self.old.now reading) }
         ensures kept { OnErr result (self.new ≡ self.old) }
     {
         let Some(reading) = reading else {

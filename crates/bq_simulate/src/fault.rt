@@ -2,7 +2,7 @@
 ghost use Rattle.std.specs.Prelude.{◌≡◌, ◌≢◌, None};
 ghost use Rattle.bq_workload.specs.declared.workload.Workload.{Workload};
 ghost use Rattle.bq_simulate.specs.Faults.{reported_flaw};
-ghost use Rattle.bq_simulate.specs.Order.{EndsEarly, IsCutOff};
+ghost use Rattle.bq_simulate.specs.GoingWell.{EndsEarly, IsCutOff};
 ghost use Rattle.bq_simulate.specs.declared.drive_fault.DriveFault.TheVariants as drive;
 ghost use Rattle.bq_simulate.specs.declared.fault.SimulateFault.TheVariants.{BrokenInvariant, Endless, Enough, OutOfMemory};
 

@@ -1,5 +1,5 @@
 //! A simulation from its beginning to its end.
-ghost use Rattle.std.specs.Prelude.{◌≡◌, ◌≢◌, ◌≤◌, None, false, true, [], OnOk, IfOk, IfErr, length};
+ghost use Rattle.std.specs.Prelude.{◌≡◌, ◌≢◌, ◌≤◌, None, false, true, OnOk, IfOk, IfErr, length};
 ghost use Rattle.bq_workload.specs.Accounts.{accounts_of};
 ghost use Rattle.bq_workload.specs.Bounds.{most_steps};
 ghost use Rattle.bq_workload.specs.Kinds.{tasks_in};
@@ -7,9 +7,9 @@ ghost use Rattle.bq_workload.specs.Next.{IsAgreed, NothingComes};
 ghost use Rattle.bq_workload.specs.Soundness.{first_flaw};
 ghost use Rattle.bq_workload.specs.declared.workload.Workload.{Workload};
 ghost use Rattle.bq_simulate.specs.Faults.{reported_flaw};
-ghost use Rattle.bq_simulate.specs.Order.{EndsEarly, SimulationGoesWell, HasGoneWell, HasProcessors, IfEndless, IsCutOff, StartsWell, WantsMemory};
-ghost use Rattle.bq_simulate.specs.Simulations.{Befell, RunsToEnd, RunsToLimit, HasEnough, HasProceeded, IsFollowed, IsSimulation, IsTooLong, ComesToBound, RunsToEndOrEnough, opening_book, periods_of, with_seed};
-ghost use Rattle.bq_simulate.specs.Steps.{AreJust, last_ticks};
+ghost use Rattle.bq_simulate.specs.GoingWell.{EndsEarly, SimulationGoesWell, HasGoneWell, HasProcessors, IfEndless, IsCutOff, StartsWell, WantsMemory};
+ghost use Rattle.bq_simulate.specs.Simulations.{GoesOnForAnyKinds, RunsToEnd, RunsToLimit, HasEnough, HasProceeded, IsFollowed, IsSimulation, IsTooLong, ComesToBound, RunsToEndOrEnough, with_seed};
+ghost use Rattle.bq_simulate.specs.Steps.{AreJustEvents, last_ticks};
 ghost use Rattle.bq_simulate.specs.declared.fault.SimulateFault.TheVariants as why;
 ghost use Rattle.bq_trace.specs.TraceEvents.{Gets};
 
@@ -20,11 +20,11 @@ use crate::fault::SimulateFault;
 use crate::simulation::Simulation;
 use bq_installed::Policy;
 use bq_trace::Sink;
-use bq_workload::{Periods, Roster, Setup, Workload, most_steps, soundness};
+use bq_workload::{Workload, most_steps, soundness};
 use std::alloc::Global;
 
 /// Follows a workload to its end, with these policies at all processors, and reports its events to a sink: line 1 of their trace
-/// makes the machine, and each event is a line. Returns the counts of tasks, run phases and missed wakes. Each sleep lasts
+/// makes the machine, and each event is a line. Returns the counts of tasks and missed wakes. Each sleep lasts
 /// exactly its length. Each tick and each look for a task to pull comes exactly when it is to. What comes first is done next.
 /// When it ends, no timer, no end of a phase, no tick and no look is left that comes until the end, and each processor ticks at the
 /// end. If the sink has enough before the end, that is the fault, and the sink got all that came until then.
@@ -101,45 +101,6 @@ fn follow<S: Sink + Enough>(
 }
 
 impl Simulation {
-    /// Nothing is admitted yet.
-    fn new(
-        alloc: Global,
-        machine: &Setup,
-        seed: u64,
-        driver: Driver,
-    ) -> Result<Simulation, SimulateFault>
-        ensures driver { IfOk result (λ simulation. simulation.driver ≡ driver) }
-        ensures accounts { IfOk result (λ simulation. accounts_of simulation.roster ≡ (opening_book machine.now).accounts) }
-        ensures seed { IfOk result (λ simulation. simulation.seed ≡ seed) }
-        ensures streams { IfOk result (λ simulation. simulation.streams.items ≡ []) }
-        ensures firsts { IfOk result (λ simulation. simulation.firsts.items ≡ []) }
-        ensures tasks { IfOk result (λ simulation. simulation.roster.by_task.items ≡ []) }
-        ensures periods { IfOk result (λ simulation. simulation.roster.periods ≡ periods_of machine.now) }
-        ensures agrees { IfOk result (λ simulation. IsAgreed simulation.roster) }
-        ensures counts { IfOk result (λ simulation. simulation.counts.tasks ≡ 0) }
-        ensures ends { IfErr result WantsMemory }
-    {
-        let periods = Periods {
-            end: machine.duration,
-            tick: machine.tick,
-            balance: machine.balance,
-            migration_cost: machine.migration_cost,
-        };
-        let counts = Counts {
-            tasks: 0,
-            phases: 0,
-            missed: 0,
-        };
-        Ok(Simulation {
-            driver,
-            roster: Roster::new(alloc, machine.size.processors(), periods)?,
-            streams: Vec::new(alloc),
-            firsts: Vec::new(alloc),
-            counts,
-            seed,
-        })
-    }
-
     /// Runs from the opening machine to the end, or until the sink has enough. Returns what was counted.
     fn run<S: Sink + Enough>(
         &mut self,
@@ -179,7 +140,7 @@ impl Simulation {
         requires streams { length self.old.streams.items ≡ 0 }
         ensures tasks { IfOk result (λ tasks. tasks ≡ tasks_in workload.now.tasks.items) }
         ensures none { OnOk result (S.sated sink.new ≡ false → IsAgreed self.new.roster → NothingComes self.new.roster.periods.end (accounts_of self.new.roster)) }
-        ensures lived { OnOk result (HasProceeded S.takes policies.now workload.now sink.old self.old sink.new self.new) }
+        ensures goes_on { OnOk result (HasProceeded S.takes policies.now workload.now sink.old self.old sink.new self.new) }
         ensures well { OnOk result (StartsWell workload.now self.old → HasGoneWell workload.now self.new) }
         ensures ends { StartsWell workload.now self.old → IfErr result (EndsEarly workload.now) }
         ensures endless { StartsWell workload.now self.old → IfErr result (IfEndless (ComesToBound S.takes policies.now workload.now sink.old self.old sink.new self.new)) }
@@ -212,7 +173,7 @@ impl Simulation {
         sink: &mut S,
     ) -> Result<(), SimulateFault>
         ensures none { OnOk result (S.sated sink.new ≡ false → IsAgreed self.new.roster → NothingComes self.new.roster.periods.end (accounts_of self.new.roster)) }
-        ensures lived { OnOk result (RunsToEnd S.takes workload.now most sink.old self.old sink.new self.new) }
+        ensures goes_on { OnOk result (RunsToEnd S.takes workload.now most sink.old self.old sink.new self.new) }
         ensures well { OnOk result (SimulationGoesWell workload.now 0 self.old → HasGoneWell workload.now self.new) }
         ensures ends { SimulationGoesWell workload.now 0 self.old → HasProcessors workload.now self.old → most ≡ most_steps workload.now → IfErr result (EndsEarly workload.now) }
         ensures endless { SimulationGoesWell workload.now 0 self.old → IfErr result (IfEndless (RunsToLimit S.takes workload.now most sink.old self.old sink.new self.new)) }
@@ -243,7 +204,7 @@ impl Simulation {
         end: u64,
         sink: &mut S,
     ) -> Result<(), SimulateFault>
-        ensures befell { OnOk result (Befell S.takes (AreJust (last_ticks end processors)) sink.old self.old sink.new self.new) }
+        ensures goes_on { OnOk result (GoesOnForAnyKinds S.takes (AreJustEvents (last_ticks end processors)) sink.old self.old sink.new self.new) }
         ensures ends { (w : Workload) → SimulationGoesWell w end self.old → processors ≤ length self.old.roster.by_processor.items → IfErr result WantsMemory }
     {
         'processors: for processor in 0..processors {

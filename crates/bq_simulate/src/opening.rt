@@ -1,5 +1,5 @@
 //! How a simulation begins: policies are installed, and tasks are admitted.
-ghost use Rattle.std.specs.Prelude.{◌≡◌, ◌≢◌, ◌+◌, ◌<◌, ℕ, true, [], ◌∷◌, IfErr, IfOk, OnOk, Some, List, length, slice_get};
+ghost use Rattle.std.specs.Prelude.{◌≡◌, ◌≢◌, ◌+◌, ◌<◌, ℕ, [], ◌∷◌, IfErr, IfOk, OnOk, Some, List, length, slice_get};
 ghost use Rattle.bq_disc.specs.declared.limits.TheConstants.{TASKS};
 ghost use Rattle.bq_parts.specs.declared.event.Event.TheVariants.{Admit};
 ghost use Rattle.bq_workload.specs.Kinds.{tasks_in};
@@ -7,9 +7,9 @@ ghost use Rattle.bq_workload.specs.declared.workload.TaskKind.{TaskKind};
 ghost use Rattle.bq_workload.specs.declared.workload.Workload.{Workload};
 ghost use Rattle.bq_simulate.specs.Actions.{first_task_of};
 ghost use Rattle.bq_simulate.specs.Kept.{HasAllFirsts};
-ghost use Rattle.bq_simulate.specs.Order.{HasGenerations, HasNewer, OpensBefore, OpensWell, StartsWell, WantsMemory};
-ghost use Rattle.bq_simulate.specs.Simulations.{Befell, JoinsNext, Lived, Same, Silent};
-ghost use Rattle.bq_simulate.specs.Steps.{AreAdmissions, AreInstalled, AreJust, AreKindAdmissions, IsAdmissible, installs_of};
+ghost use Rattle.bq_simulate.specs.GoingWell.{HasGenerations, HasNewer, OpensBefore, OpensWell, StartsWell, WantsMemory};
+ghost use Rattle.bq_simulate.specs.Simulations.{GoesOnForAnyKinds, JoinsNext, GoesOnBy, OnlyPlansOrCounts, GoesOnUnreported};
+ghost use Rattle.bq_simulate.specs.Steps.{AreAdmissions, AreInstalled, AreJustEvents, AreKindAdmissions, IsAdmissible, installs_of};
 ghost use Rattle.bq_words.specs.Sizes.{processors_in};
 
 use crate::fault::SimulateFault;
@@ -28,7 +28,7 @@ impl Simulation {
         policies: &[Policy],
         sink: &mut S,
     ) -> Result<(), SimulateFault>
-        ensures befell { OnOk result (Befell S.takes (AreInstalled processors policies.now) sink.old self.old sink.new self.new) }
+        ensures goes_on { OnOk result (GoesOnForAnyKinds S.takes (AreInstalled processors policies.now) sink.old self.old sink.new self.new) }
         ensures roster { self.new.roster ≡ self.old.roster }
         ensures streams { self.new.streams ≡ self.old.streams }
         ensures firsts { self.new.firsts ≡ self.old.firsts }
@@ -42,6 +42,7 @@ impl Simulation {
         Ok(())
     }
 
+    /// A policy is installed at its hook of every processor, as this generation.
     fn install_one<S: Sink>(
         &mut self,
         alloc: Global,
@@ -50,7 +51,7 @@ impl Simulation {
         policy: &Policy,
         sink: &mut S,
     ) -> Result<(), SimulateFault>
-        ensures befell { OnOk result (Befell S.takes (AreJust (installs_of processors generation policy.now)) sink.old self.old sink.new self.new) }
+        ensures goes_on { OnOk result (GoesOnForAnyKinds S.takes (AreJustEvents (installs_of processors generation policy.now)) sink.old self.old sink.new self.new) }
         ensures roster { self.new.roster ≡ self.old.roster }
         ensures streams { self.new.streams ≡ self.old.streams }
         ensures firsts { self.new.firsts ≡ self.old.firsts }
@@ -75,7 +76,7 @@ impl Simulation {
     ) -> Result<(), SimulateFault>
         requires tasks { length self.old.roster.by_task.items ≡ 0 }
         requires streams { length self.old.streams.items ≡ 0 }
-        ensures lived { OnOk result (Lived S.takes workload.now.tasks.items (AreAdmissions workload.now) sink.old self.old sink.new self.new) }
+        ensures goes_on { OnOk result (GoesOnBy S.takes workload.now.tasks.items (AreAdmissions workload.now) sink.old self.old sink.new self.new) }
         ensures streams { OnOk result (length self.new.streams.items ≡ tasks_in workload.now.tasks.items) }
         ensures firsts { OnOk result (length self.old.firsts.items ≡ 0 → HasAllFirsts workload.now.tasks.items self.new) }
         ensures well { OnOk result (OpensWell workload.now 0 self.old → OpensWell workload.now (tasks_in workload.now.tasks.items) self.new) }
@@ -100,7 +101,7 @@ impl Simulation {
         requires kind { slice_get workload.now.tasks.items number ≡ Some kind.now }
         requires first { length self.old.roster.by_task.items ≡ first_task_of workload.now.tasks.items number }
         requires streams { length self.old.streams.items ≡ first_task_of workload.now.tasks.items number }
-        ensures lived { OnOk result (Lived S.takes workload.now.tasks.items (AreKindAdmissions workload.now number kind.now) sink.old self.old sink.new self.new) }
+        ensures goes_on { OnOk result (GoesOnBy S.takes workload.now.tasks.items (AreKindAdmissions workload.now number kind.now) sink.old self.old sink.new self.new) }
         ensures tasks { OnOk result (length self.new.roster.by_task.items ≡ length self.old.roster.by_task.items + kind.now.count) }
         ensures streams { OnOk result (length self.new.streams.items ≡ length self.old.streams.items + kind.now.count) }
         ensures firsts { OnOk result (self.new.firsts ≡ self.old.firsts) }
@@ -120,7 +121,7 @@ impl Simulation {
 
     /// The next task is the first of the next kind, which has this number.
     fn begin_kind(&mut self, number: usize) -> Result<(), SimulateFault>
-        ensures silent { OnOk result ((kinds : List TaskKind) → length self.old.streams.items ≡ first_task_of kinds number → Silent kinds (AreJust []) self.old self.new) }
+        ensures goes_on { OnOk result ((kinds : List TaskKind) → length self.old.streams.items ≡ first_task_of kinds number → GoesOnUnreported kinds (AreJustEvents []) self.old self.new) }
         ensures by_task { self.new.roster ≡ self.old.roster }
         ensures streams { self.new.streams ≡ self.old.streams }
         ensures firsts { OnOk result (length self.new.firsts.items ≡ length self.old.firsts.items + 1) }
@@ -151,7 +152,7 @@ impl Simulation {
 
     /// Counts a task, which is the last until now.
     fn count_task(&mut self, task: u16)
-        ensures same { Same self.old self.new }
+        ensures same { OnlyPlansOrCounts self.old self.new }
         ensures by_task { self.new.roster.by_task ≡ self.old.roster.by_task }
         ensures counted { task < TASKS → self.new.counts.tasks ≡ task + 1 }
     {
@@ -161,7 +162,7 @@ impl Simulation {
     /// Adds one more task of a kind, with a stream of its own. Its first wake is at the start of its kind, from this processor,
     /// and its timer is planned.
     fn join(&mut self, task: u16, kind: usize, home: u8, start: u64) -> Result<(), SimulateFault>
-        ensures silent { OnOk result (JoinsNext kind home start self.old self.new) }
+        ensures goes_on { OnOk result (JoinsNext kind home start self.old self.new) }
         ensures number { OnOk result (task ≡ length self.old.streams.items) }
         ensures streams { OnOk result (length self.new.streams.items ≡ length self.old.streams.items + 1) }
         ensures tasks { OnOk result (length self.new.roster.by_task.items ≡ length self.old.roster.by_task.items + 1) }
@@ -179,6 +180,7 @@ impl Simulation {
         }
     }
 
+    /// A task is admitted, by what its kind says.
     fn admit_one<S: Sink>(
         &mut self,
         alloc: Global,
@@ -186,7 +188,7 @@ impl Simulation {
         kind: &TaskKind,
         sink: &mut S,
     ) -> Result<(), SimulateFault>
-        ensures befell { OnOk result (Befell S.takes (AreJust (Admit task kind.now.nice kind.now.mask kind.now.slice ∷ [])) sink.old self.old sink.new self.new) }
+        ensures goes_on { OnOk result (GoesOnForAnyKinds S.takes (AreJustEvents (Admit task kind.now.nice kind.now.mask kind.now.slice ∷ [])) sink.old self.old sink.new self.new) }
         ensures by_task { self.new.roster ≡ self.old.roster }
         ensures streams { self.new.streams ≡ self.old.streams }
         ensures firsts { self.new.firsts ≡ self.old.firsts }

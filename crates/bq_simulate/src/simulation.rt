@@ -1,23 +1,25 @@
 //! A simulation on its way.
 ghost use Rattle.std.specs.Prelude.{◌≡◌, ◌≢◌, ◌⊎◌, ℕ, ◌<◌, false, [], ◌∷◌, IfOk, IfErr, None, OnOk, length, slice_get};
 ghost use Rattle.bq_parts.specs.declared.event.Event.TheVariants.{BeginWake, EndWake, Drain, Pull, Tick};
-ghost use Rattle.bq_simulate.specs.Drives.{Drove};
+ghost use Rattle.bq_simulate.specs.Drives.{EventsAreDriven};
 ghost use Rattle.bq_workload.specs.Accounts.{accounts_of, accounts_switched};
-ghost use Rattle.bq_workload.specs.Next.{IsNextDue, StaysAgreed};
+ghost use Rattle.bq_workload.specs.Next.{IsAgreed, IsNextDue, StaysAgreed};
 ghost use Rattle.bq_workload.specs.Strays.{IsStrayPass};
-ghost use Rattle.bq_simulate.specs.Chronicles.{IsWoken, accounts_pulled};
+ghost use Rattle.bq_simulate.specs.Deeds.{IsWoken, accounts_pulled};
 ghost use Rattle.bq_workload.specs.Lengths.{is_length};
 ghost use Rattle.bq_workload.specs.declared.workload.Workload.{Workload};
-ghost use Rattle.bq_simulate.specs.Order.{SimulationGoesWell, HasBoth, IsStrayPull, WantsMemory};
-ghost use Rattle.bq_simulate.specs.Simulations.{Befell, DrawsLength, Lived};
-ghost use Rattle.bq_simulate.specs.Steps.{AreJust, AreWake, Meet};
+ghost use Rattle.bq_simulate.specs.GoingWell.{SimulationGoesWell, HasBoth, IsStrayPull, WantsMemory};
+ghost use Rattle.bq_simulate.specs.Simulations.{DrawsLength, GoesOnBy, GoesOnForAnyKinds, opening_book, periods_of};
+ghost use Rattle.bq_simulate.specs.Steps.{AreJustEvents, AreWake, DeedsMeet};
 
 use crate::Driver;
 use crate::calls::Moved;
 use crate::counts::Counts;
 use crate::fault::SimulateFault;
 use bq_trace::Sink;
-use bq_workload::{BrokenInvariant, Due, Length, Roster, Stream, TaskState, Workload};
+use bq_workload::{
+    BrokenInvariant, Due, Length, Periods, Roster, Setup, Stream, TaskState, Workload,
+};
 use std::alloc::Global;
 
 /// A simulation on its way: its machine, its tasks and processors, the draws of each task, the first task of each kind,
@@ -33,6 +35,44 @@ pub struct Simulation {
 }
 
 impl Simulation {
+    /// A simulation of this machine that has done nothing: no task is there.
+    pub(crate) fn new(
+        alloc: Global,
+        machine: &Setup,
+        seed: u64,
+        driver: Driver,
+    ) -> Result<Simulation, SimulateFault>
+        ensures driver { IfOk result (λ simulation. simulation.driver ≡ driver) }
+        ensures accounts { IfOk result (λ simulation. accounts_of simulation.roster ≡ (opening_book machine.now).accounts) }
+        ensures seed { IfOk result (λ simulation. simulation.seed ≡ seed) }
+        ensures streams { IfOk result (λ simulation. simulation.streams.items ≡ []) }
+        ensures firsts { IfOk result (λ simulation. simulation.firsts.items ≡ []) }
+        ensures tasks { IfOk result (λ simulation. simulation.roster.by_task.items ≡ []) }
+        ensures periods { IfOk result (λ simulation. simulation.roster.periods ≡ periods_of machine.now) }
+        ensures agrees { IfOk result (λ simulation. IsAgreed simulation.roster) }
+        ensures counts { IfOk result (λ simulation. simulation.counts.tasks ≡ 0) }
+        ensures ends { IfErr result WantsMemory }
+    {
+        let periods = Periods {
+            end: machine.duration,
+            tick: machine.tick,
+            balance: machine.balance,
+            migration_cost: machine.migration_cost,
+        };
+        let counts = Counts {
+            tasks: 0,
+            missed: 0,
+        };
+        Ok(Simulation {
+            driver,
+            roster: Roster::new(alloc, machine.size.processors(), periods)?,
+            streams: Vec::new(alloc),
+            firsts: Vec::new(alloc),
+            counts,
+            seed,
+        })
+    }
+
     /// What comes due at an instant is done.
     pub(crate) fn meet<S: Sink>(
         &mut self,
@@ -42,14 +82,14 @@ impl Simulation {
         now: u64,
         sink: &mut S,
     ) -> Result<(), SimulateFault>
-        ensures lived { OnOk result (Lived S.takes workload.now.tasks.items (Meet due now) sink.old self.old sink.new self.new) }
+        ensures goes_on { OnOk result (GoesOnBy S.takes workload.now.tasks.items (DeedsMeet due now) sink.old self.old sink.new self.new) }
         ensures ends { SimulationGoesWell workload.now now self.old → IsNextDue workload.now.machine.duration (accounts_of self.old.roster) due now → IfErr result WantsMemory }
     {
         match due {
             Due::End(processor) => self.act(alloc, workload, processor, now, sink),
             Due::Wake(task) => self.wake_by_timer(alloc, task, now, sink),
             Due::Tick(processor) => self.tick_on_time(alloc, processor, now, sink),
-            Due::Pull(processor) => self.pull(alloc, processor, now, sink),
+            Due::Look(processor) => self.look(alloc, processor, now, sink),
         }
     }
 
@@ -61,7 +101,7 @@ impl Simulation {
         now: u64,
         sink: &mut S,
     ) -> Result<(), SimulateFault>
-        ensures befell { OnOk result (Befell S.takes (Meet (Due.Wake task) now) sink.old self.old sink.new self.new) }
+        ensures goes_on { OnOk result (GoesOnForAnyKinds S.takes (DeedsMeet (Due.Wake task) now) sink.old self.old sink.new self.new) }
         ensures ends { (w : Workload) → SimulationGoesWell w now self.old → IsNextDue w.machine.duration (accounts_of self.old.roster) (Due.Wake task) now → IfErr result WantsMemory }
     {
         let progress = self.roster.progress(task)?;
@@ -84,8 +124,8 @@ impl Simulation {
         sink: &mut S,
     ) -> Result<(), SimulateFault>
         requires { IsWoken (accounts_of self.old.roster) from task }
-        ensures events { OnOk result ((to : ℕ) × Drove S.takes sink.old self.old.driver (BeginWake from task ∷ EndWake from now ∷ Drain to now ∷ []) sink.new self.new.driver) }
-        ensures lived { OnOk result (Befell S.takes (AreWake from task now) sink.old self.old sink.new self.new) }
+        ensures events { OnOk result ((to : ℕ) × EventsAreDriven S.takes sink.old self.old.driver (BeginWake from task ∷ EndWake from now ∷ Drain to now ∷ []) sink.new self.new.driver) }
+        ensures goes_on { OnOk result (GoesOnForAnyKinds S.takes (AreWake from task now) sink.old self.old sink.new self.new) }
         ensures ends { (w : Workload) → SimulationGoesWell w now self.old → IfErr result WantsMemory }
     {
         self.roster.wake(task)?;
@@ -103,7 +143,7 @@ impl Simulation {
         now: u64,
         sink: &mut S,
     ) -> Result<(), SimulateFault>
-        ensures befell { OnOk result (Befell S.takes (Meet (Due.Tick processor) now) sink.old self.old sink.new self.new) }
+        ensures goes_on { OnOk result (GoesOnForAnyKinds S.takes (DeedsMeet (Due.Tick processor) now) sink.old self.old sink.new self.new) }
         ensures ends { (w : Workload) → SimulationGoesWell w now self.old → IsNextDue w.machine.duration (accounts_of self.old.roster) (Due.Tick processor) now → IfErr result WantsMemory }
     {
         let processor_state = self.roster.processor_state(processor)?;
@@ -122,7 +162,7 @@ impl Simulation {
         now: u64,
         sink: &mut S,
     ) -> Result<(), SimulateFault>
-        ensures befell { OnOk result (Befell S.takes (AreJust (Tick processor now ∷ [])) sink.old self.old sink.new self.new) }
+        ensures goes_on { OnOk result (GoesOnForAnyKinds S.takes (AreJustEvents (Tick processor now ∷ [])) sink.old self.old sink.new self.new) }
         ensures ends { (w : Workload) → SimulationGoesWell w now self.old → processor < length self.old.roster.by_processor.items → IfErr result WantsMemory }
     {
         let run = self.driver.tick(alloc, processor, now, sink)?;
@@ -130,16 +170,16 @@ impl Simulation {
         Ok(())
     }
 
-    /// A processor looks now for a task in the queue of the processor that has the most, if that is another.
-    fn pull<S: Sink>(
+    /// A processor looks now for a task in the queue of the processor that has the most, if that is another, and pulls it.
+    fn look<S: Sink>(
         &mut self,
         alloc: Global,
         processor: u8,
         now: u64,
         sink: &mut S,
     ) -> Result<(), SimulateFault>
-        ensures befell { OnOk result (Befell S.takes (Meet (Due.Pull processor) now) sink.old self.old sink.new self.new) }
-        ensures ends { (w : Workload) → SimulationGoesWell w now self.old → IsNextDue w.machine.duration (accounts_of self.old.roster) (Due.Pull processor) now → IfErr result WantsMemory }
+        ensures goes_on { OnOk result (GoesOnForAnyKinds S.takes (DeedsMeet (Due.Look processor) now) sink.old self.old sink.new self.new) }
+        ensures ends { (w : Workload) → SimulationGoesWell w now self.old → IsNextDue w.machine.duration (accounts_of self.old.roster) (Due.Look processor) now → IfErr result WantsMemory }
     {
         let source = self.roster.look(processor, now)?;
         match source {
@@ -148,6 +188,7 @@ impl Simulation {
         }
     }
 
+    /// A processor pulls a task from another, if the machine finds one that it may take.
     fn pull_from<S: Sink>(
         &mut self,
         alloc: Global,
@@ -156,7 +197,7 @@ impl Simulation {
         now: u64,
         sink: &mut S,
     ) -> Result<(), SimulateFault>
-        ensures befell { OnOk result (Befell S.takes (AreJust (Pull processor from now ∷ [])) sink.old self.old sink.new self.new) }
+        ensures goes_on { OnOk result (GoesOnForAnyKinds S.takes (AreJustEvents (Pull processor from now ∷ [])) sink.old self.old sink.new self.new) }
         ensures ends { (w : Workload) → SimulationGoesWell w now self.old → HasBoth processor from self.old → IfErr result WantsMemory }
     {
         let moved = self.driver.pull(alloc, processor, from, now, sink)?;

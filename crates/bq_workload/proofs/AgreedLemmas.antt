@@ -6,9 +6,9 @@ use Rattle.std.proofs.lemmas.Bool.{cases_eq}
 use Rattle.std.proofs.lemmas.Option.{none-some, same_Some}
 use Rattle.bq_workload.specs.declared.progress.TaskProgress.{TaskProgress}
 use Rattle.bq_workload.specs.declared.due.Due.{Due}
-use Rattle.bq_workload.specs.declared.due.Due.TheVariants.{End, Wake, Tick, Pull}
+use Rattle.bq_workload.specs.declared.due.Due.TheVariants.{End, Wake, Tick, Look}
 use Rattle.bq_workload.specs.declared.processor_state.ProcessorState.{ProcessorState}
-use Rattle.bq_workload.specs.declared.roster.Periods.{Periods}
+use Rattle.bq_workload.specs.declared.periods.Periods.{Periods}
 use Rattle.bq_workload.specs.Accounts.{Accounts, changed_at, accounts_charged, runner_charged, idled, occupied, of_processor, taken_over}
 use Rattle.bq_workload.specs.TaskProgress.{moved_to, run_for}
 use Rattle.bq_workload.specs.Dues.{IsDue, phase_end, next_multiple, due_place, until}
@@ -44,7 +44,7 @@ pub record AgreesBut (end p : ℕ) (a : Accounts) (x : List ℕ) : Type 0 where
   pub ends : (q : ℕ) → q ≢ p → AgreesAt end a x (End q)
   pub wakes : (k : ℕ) → AgreesAt end a x (Wake k)
   pub ticks : (q : ℕ) → AgreesAt end a x (Tick q)
-  pub looks : (q : ℕ) → AgreesAt end a x (Pull q)
+  pub looks : (q : ℕ) → AgreesAt end a x (Look q)
   pub homes : HaveHomes a
 
 -- what agrees, except for that end
@@ -53,7 +53,7 @@ agrees_but_one_end end p a x h = record {
   ends = λ q other. h.all (End q);
   wakes = λ k. h.all (Wake k);
   ticks = λ q. h.all (Tick q);
-  looks = λ q. h.all (Pull q);
+  looks = λ q. h.all (Look q);
   homes = h.homes;
 }
 
@@ -63,7 +63,7 @@ with_end end p a x h at (End q) =
     elim (cases_eq q p) [ inl same ↦ subst (λ k. AgreesAt end a x (End k)) (sym same) at | inr other ↦ h.ends q other ]
 with_end end p a x h at (Wake k) = h.wakes k
 with_end end p a x h at (Tick q) = h.ticks q
-with_end end p a x h at (Pull q) = h.looks q
+with_end end p a x h at (Look q) = h.looks q
 
 -- only at the places of a processor has an event queue changed
 abbrev Elsewhere : ℕ → List ℕ → List ℕ → Type 0
@@ -80,7 +80,7 @@ pub record Changes (end p : ℕ) (a b : Accounts) (x y : List ℕ) : Type 0 wher
   pub places : Elsewhere p x y
   pub ends : AgreesAt end b y (End p)
   pub ticks : AgreesAt end b y (Tick p)
-  pub looks : AgreesAt end b y (Pull p)
+  pub looks : AgreesAt end b y (Look p)
   pub home : (task : ℕ) (processor_state : ProcessorState) → slice_get b.by_processor p ≡ Some processor_state
       → processor_state.run ≡ Some task
       → HasHome b task p
@@ -102,10 +102,10 @@ after-change end p a b x y h c =
           (ap (λ (o : Option ProcessorState). option_and_then (tick_at end) o) (c.by_processor q other))
           (λ few. c.places (1088 + q) (omega arith) (omega arith) (omega arith) (omega arith)) (h.ticks q)
     ] in
-    let looks : (q : ℕ) → AgreesAt end b y (Pull q) = λ q. elim (cases_eq q p) [
-      | inl same ↦ subst (λ k. AgreesAt end b y (Pull k)) (sym same) c.looks
+    let looks : (q : ℕ) → AgreesAt end b y (Look q) = λ q. elim (cases_eq q p) [
+      | inl same ↦ subst (λ k. AgreesAt end b y (Look k)) (sym same) c.looks
       | inr other ↦
-          agrees_if_kept end a b x y (Pull q)
+          agrees_if_kept end a b x y (Look q)
           (ap (λ (o : Option ProcessorState). option_and_then (look_at end) o) (c.by_processor q other))
           (λ few. c.places (1152 + q) (omega arith) (omega arith) (omega arith) (omega arith)) (h.looks q)
     ] in
@@ -197,9 +197,9 @@ agrees_if_times_same end p f a b x y run ends tick look is event_queue h =
           (changed_at-read f (tick_at end) (λ l. ap (λ (o : Option ℕ). option_and_then (until end) o) (tick l)) a.by_processor p q)
           (place (Tick q)) (h.all (Tick q));
       looks = λ q.
-          agrees_if_kept end a c x y (Pull q)
+          agrees_if_kept end a c x y (Look q)
           (changed_at-read f (look_at end) (λ l. ap (λ (o : Option ℕ). option_and_then (until end) o) (look l)) a.by_processor p q)
-          (place (Pull q)) (h.all (Pull q));
+          (place (Look q)) (h.all (Look q));
       homes = homes-read f run p a c refl (λ k. refl) h.homes;
     } in
     let whole : QueueAgrees end c y = record {
@@ -290,8 +290,8 @@ charged-agrees end p now processor_state a x at h =
           agrees_if_kept end a c x x (Tick q) (changed_at-read f (tick_at end) (λ l. refl) a.by_processor p q)
           (λ low. refl) (h.all (Tick q));
       looks = λ q.
-          agrees_if_kept end a c x x (Pull q) (changed_at-read f (look_at end) (λ l. refl) a.by_processor p q)
-          (λ low. refl) (h.all (Pull q));
+          agrees_if_kept end a c x x (Look q) (changed_at-read f (look_at end) (λ l. refl) a.by_processor p q)
+          (λ low. refl) (h.all (Look q));
       homes = homes-read f (λ l. refl) p a c refl (λ k. counted-read home_of processor_state now a.by_task k (λ d ran. refl)) h.homes;
     } in
     subst (λ (z : Accounts). AgreesBut end p z x) (sym (charged-is p now processor_state a at)) new
@@ -303,7 +303,7 @@ tick-of end p a l at = ap (λ (o : Option ProcessorState). option_and_then (tick
 
 -- a processor looks when its processor state says
 pub look-of : (end p : ℕ) (a : Accounts) (l : ProcessorState)
-    → slice_get a.by_processor p ≡ Some l → comes_at end a (Pull p) ≡ look_at end l
+    → slice_get a.by_processor p ≡ Some l → comes_at end a (Look p) ≡ look_at end l
 look-of end p a l at = ap (λ (o : Option ProcessorState). option_and_then (look_at end) o) at
 
 -- the phase of a task that runs at a processor ends when it has got what is left of it
@@ -342,13 +342,13 @@ tick-others periods p now (Some time) x y same k few other = ap (λ (l : List �
 
 -- a look that is put down where there are looks
 look-planned : (periods : Periods) (p now : ℕ) (look : Option ℕ) (a b : Accounts) (x y : List ℕ)
-    → comes_at periods.end a (Pull p) ≡ option_and_then (until periods.end) look
-    → comes_at periods.end b (Pull p) ≡ option_and_then (until periods.end) (option_map (λ _. now) look)
-    → PlansLook periods p now look x y → AgreesAt periods.end a x (Pull p)
-    → AgreesAt periods.end b y (Pull p)
+    → comes_at periods.end a (Look p) ≡ option_and_then (until periods.end) look
+    → comes_at periods.end b (Look p) ≡ option_and_then (until periods.end) (option_map (λ _. now) look)
+    → PlansLook periods p now look x y → AgreesAt periods.end a x (Look p)
+    → AgreesAt periods.end b y (Look p)
 look-planned periods p now None a b x y was is same h =
-    agrees_if_kept periods.end a b x y (Pull p) (is ∙ sym was) (λ low. ap (λ (l : List ℕ). at_place l (1152 + p)) same) h
-look-planned periods p now (Some time) a b x y was is plans h = agrees_if_planned periods.end now b x y (Pull p) plans is
+    agrees_if_kept periods.end a b x y (Look p) (is ∙ sym was) (λ low. ap (λ (l : List ℕ). at_place l (1152 + p)) same) h
+look-planned periods p now (Some time) a b x y was is plans h = agrees_if_planned periods.end now b x y (Look p) plans is
 
 look-others : (periods : Periods) (p now : ℕ) (look : Option ℕ) (x y : List ℕ)
     → PlansLook periods p now look x y → (k : ℕ) → k < 2048 → k ≢ 1152 + p → at_place y k ≡ at_place x k
@@ -385,7 +385,7 @@ started-agrees periods p t now processor_state c a b x y h at rests is there pla
       ends = agrees_if_planned end (phase_end now c) d plans.mid y (End p) plans.ends (end-of end p t d (f processor_state) c new refl runs);
       ticks = agrees_if_same_there end d plans.mid y (Tick p) (λ few. plans.ends.others (1088 + p) (omega arith) (omega arith)) mid;
       looks =
-          agrees_if_kept end a d x y (Pull p)
+          agrees_if_kept end a d x y (Look p)
           (look-of end p d (f processor_state) new ∙ sym (look-of end p a processor_state at))
           (λ few.
           plans.ends.others (1152 + p) (omega arith) (omega arith)
@@ -413,8 +413,8 @@ idled-agrees periods p now processor_state a b x y h at is plans =
     let one = plans.ends.others in
     let two = plans.ticks.others in
     let three = look-others periods p now processor_state.look plans.still y plans.looks in
-    let still : AgreesAt end a plans.still (Pull p) =
-    agrees_if_same_there end a x plans.still (Pull p)
+    let still : AgreesAt end a plans.still (Look p) =
+    agrees_if_same_there end a x plans.still (Look p)
     (λ few. two (1152 + p) (omega arith) (omega arith) ∙ one (1152 + p) (omega arith) (omega arith)) (h.looks p) in
     let whole : QueueAgrees end d y = after-change end p a d x y h (record {
       low = low;

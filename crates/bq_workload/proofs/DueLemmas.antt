@@ -8,9 +8,9 @@ use Rattle.bq_workload.specs.declared.progress.TaskProgress.{TaskProgress}
 use Rattle.bq_workload.specs.declared.progress.TaskState.{TaskState}
 use Rattle.bq_workload.specs.declared.progress.TaskState.TheVariants.{Asleep, Waiting, Runnable, Over}
 use Rattle.bq_workload.specs.declared.due.Due.{Due}
-use Rattle.bq_workload.specs.declared.due.Due.TheVariants.{End, Wake, Tick, Pull}
+use Rattle.bq_workload.specs.declared.due.Due.TheVariants.{End, Wake, Tick, Look}
 use Rattle.bq_workload.specs.declared.processor_state.ProcessorState.{ProcessorState}
-use Rattle.bq_workload.specs.declared.roster.Periods.{Periods}
+use Rattle.bq_workload.specs.declared.periods.Periods.{Periods}
 use Rattle.bq_workload.specs.declared.roster.Roster.{Roster}
 use Rattle.bq_workload.specs.Accounts.{Accounts, IsPhaseDone, accounts_of, processor_at_rest, beaten, changed_at, accounts_charged, first_look, grown, looked, of_processor, of_task, opening_accounts, shrunk}
 use Rattle.bq_workload.specs.TaskProgress.{run_for, progress_woken}
@@ -84,8 +84,8 @@ beaten-agrees end p now between a b x y processor_state at is plan h =
           (λ few. plan.others p (omega arith) (omega arith)) (h.all (End p));
       ticks = agrees_if_planned end (next_multiple between now) d x y (Tick p) plan (tick-of end p d (f processor_state) new);
       looks =
-          agrees_if_kept end a d x y (Pull p) (changed_at-read f (look_at end) (λ l. refl) a.by_processor p p)
-          (λ few. plan.others (1152 + p) (omega arith) (omega arith)) (h.all (Pull p));
+          agrees_if_kept end a d x y (Look p) (changed_at-read f (look_at end) (λ l. refl) a.by_processor p p)
+          (λ few. plan.others (1152 + p) (omega arith) (omega arith)) (h.all (Look p));
       home = λ task l here mine. homes p task l here mine;
     }) in
     subst (λ (z : Accounts). QueueAgrees end z y) (sym is) whole
@@ -93,7 +93,7 @@ beaten-agrees end p now between a b x y processor_state at is plan h =
 -- a processor looks next then
 pub looked-agrees : (end p now between : ℕ) (a b : Accounts) (x y : List ℕ) (processor_state : ProcessorState)
     → slice_get a.by_processor p ≡ Some processor_state → b ≡ looked p now between a
-    → IsPlanned end (Pull p) (next_multiple between now) x y → QueueAgrees end a x
+    → IsPlanned end (Look p) (next_multiple between now) x y → QueueAgrees end a x
     → QueueAgrees end b y
 looked-agrees end p now between a b x y processor_state at is plan h =
     let f : ProcessorState → ProcessorState = λ l. record l { look = Some (next_multiple between now) } in
@@ -113,7 +113,7 @@ looked-agrees end p now between a b x y processor_state at is plan h =
       ticks =
           agrees_if_kept end a d x y (Tick p) (changed_at-read f (tick_at end) (λ l. refl) a.by_processor p p)
           (λ few. plan.others (1088 + p) (omega arith) (omega arith)) (h.all (Tick p));
-      looks = agrees_if_planned end (next_multiple between now) d x y (Pull p) plan (look-of end p d (f processor_state) new);
+      looks = agrees_if_planned end (next_multiple between now) d x y (Look p) plan (look-of end p d (f processor_state) new);
       home = λ task l here mine. homes p task l here mine;
     }) in
     subst (λ (z : Accounts). QueueAgrees end z y) (sym is) whole
@@ -194,8 +194,8 @@ taken_up-agrees end p task processor_state c a b x y at by_task by_processor pla
           agrees_if_kept end a d x y (Tick q) refl
           (λ small. one (1088 + q) (omega arith) (omega arith) ∙ two (1088 + q) (omega arith) (omega arith)) (h.all (Tick q));
       looks = λ q.
-          agrees_if_kept end a d x y (Pull q) refl
-          (λ small. one (1152 + q) (omega arith) (omega arith) ∙ two (1152 + q) (omega arith) (omega arith)) (h.all (Pull q));
+          agrees_if_kept end a d x y (Look q) refl
+          (λ small. one (1152 + q) (omega arith) (omega arith) ∙ two (1152 + q) (omega arith) (omega arith)) (h.all (Look q));
       homes = homes;
     } in
     let ends =
@@ -231,7 +231,7 @@ woken-agrees end task a b x y rests is plan h =
             (λ small. plan.others (64 + k) (omega arith) (omega arith)) (h.all (Wake k))
       ];
       ticks = λ q. agrees_if_kept end a d x y (Tick q) refl (λ small. plan.others (1088 + q) (omega arith) (omega arith)) (h.all (Tick q));
-      looks = λ q. agrees_if_kept end a d x y (Pull q) refl (λ small. plan.others (1152 + q) (omega arith) (omega arith)) (h.all (Pull q));
+      looks = λ q. agrees_if_kept end a d x y (Look q) refl (λ small. plan.others (1152 + q) (omega arith) (omega arith)) (h.all (Look q));
       homes = homes;
     } in
     let whole : QueueAgrees end d y = record { all = with_end end 64 d y rest (ends 64); homes = homes } in
@@ -291,7 +291,7 @@ added-agrees end task c a b x y number asleep by_task by_processor plan h =
             (λ small. plan.others (64 + k) (omega arith) (omega arith)) (h.all (Wake k))
       ];
       ticks = λ q. agrees_if_kept end a d x y (Tick q) refl (λ small. plan.others (1088 + q) (omega arith) (omega arith)) (h.all (Tick q));
-      looks = λ q. agrees_if_kept end a d x y (Pull q) refl (λ small. plan.others (1152 + q) (omega arith) (omega arith)) (h.all (Pull q));
+      looks = λ q. agrees_if_kept end a d x y (Look q) refl (λ small. plan.others (1152 + q) (omega arith) (omega arith)) (h.all (Look q));
       homes = homes;
     } in
     let whole : QueueAgrees end d y = record { all = with_end end 64 d y rest (ends 64); homes = homes } in
@@ -357,7 +357,7 @@ place-low : (due : Due) → IsDue due → due_place due < 1216
 place-low (End p) h = omega (arith, h)
 place-low (Wake k) h = omega (arith, h)
 place-low (Tick p) h = omega (arith, h)
-place-low (Pull p) h = omega (arith, h)
+place-low (Look p) h = omega (arith, h)
 
 -- what is at a place is due, and has that place
 abbrev Stands : ℕ → Due → Type 0
@@ -365,7 +365,7 @@ Stands n due = IsDue due × (due_place due ≡ n)
 
 stands-by : (n : ℕ) (due : Due) (a b c d : Bool) → nat_lt n 64 ≡ a → nat_lt n 1088 ≡ b → nat_lt n 1152 ≡ c → nat_lt n 1216 ≡ d
     → (if a then Some (End n) else if b then Some (Wake (n - 64)) else if c then Some (Tick (n - 1088))
-    else if d then Some (Pull (n - 1152)) else None)
+    else if d then Some (Look (n - 1152)) else None)
     ≡ Some due
     → Stands n due
 stands-by n due true b c d e f g h is = subst (Stands n) (same_Some (End n) due is) (ltb-true n 64 e, refl)
@@ -380,7 +380,7 @@ stands-by n due false false true d e f g h is =
 stands-by n due false false false true e f g h is =
     let low = ltb-false n 1152 g in
     let high = ltb-true n 1216 h in
-    subst (Stands n) (same_Some (Pull (n - 1152)) due is) (omega (arith, low, high), omega (arith, low, high))
+    subst (Stands n) (same_Some (Look (n - 1152)) due is) (omega (arith, low, high), omega (arith, low, high))
 stands-by n due false false false false e f g h is = absurd (none-some due is)
 
 stands : (n : ℕ) (due : Due) → due_at n ≡ Some due → Stands n due
@@ -465,7 +465,7 @@ beaten-agreed p now next processor_state r m s at is plan by_task by_processor p
 -- a roster whose processor looks next then
 pub looked-agreed : (p now next : ℕ) (processor_state : ProcessorState) (r m s : Roster)
     → slice_get r.by_processor.items p ≡ Some processor_state → next ≡ next_multiple r.periods.balance now
-    → IsPlanned r.periods.end (Pull p) next r.event_queue m.event_queue
+    → IsPlanned r.periods.end (Look p) next r.event_queue m.event_queue
     → m.by_task ≡ r.by_task → m.by_processor ≡ r.by_processor → m.periods ≡ r.periods
     → s.by_processor.items ≡ slice_set m.by_processor.items p (record processor_state { look = Some next })
     → s.by_task ≡ m.by_task → s.event_queue ≡ m.event_queue → s.periods ≡ m.periods
@@ -479,8 +479,8 @@ looked-agreed p now next processor_state r m s at is plan by_task by_processor p
     ∙ sym (changed_at-is f r.by_processor.items p processor_state at) in
     let whole : accounts_of s ≡ looked p now r.periods.balance (accounts_of r) =
     same-accounts _ _ _ _ (ap (λ v. v.items) (by_task' ∙ by_task)) new in
-    let put : IsPlanned end (Pull p) (next_multiple r.periods.balance now) r.event_queue m.event_queue =
-    subst (λ (n : ℕ). IsPlanned end (Pull p) n r.event_queue m.event_queue) is plan in
+    let put : IsPlanned end (Look p) (next_multiple r.periods.balance now) r.event_queue m.event_queue =
+    subst (λ (n : ℕ). IsPlanned end (Look p) n r.event_queue m.event_queue) is plan in
     subst (λ (k : Periods). QueueAgrees k.end (accounts_of s) s.event_queue) (sym (periods' ∙ periods))
     (subst (λ (l : List ℕ). QueueAgrees end (accounts_of s) l) (sym event_queue)
     (looked-agrees end p now r.periods.balance (accounts_of r) (accounts_of s) r.event_queue
@@ -532,9 +532,9 @@ opening-agrees end processors balance x few looks =
     let count = min processors 64 in
     let all : count ≡ processors = omega arith in
     let a : Accounts = opening_accounts processors balance in
-    let look : (q : ℕ) → AgreesAt end a x (Pull q) = λ q. elim (cases_lt q processors) [
+    let look : (q : ℕ) → AgreesAt end a x (Look q) = λ q. elim (cases_lt q processors) [
       | inl low ↦
-          let comes : comes_at end a (Pull q) ≡ time = look-of end q a processor_state (there-replicate processors q processor_state low) in
+          let comes : comes_at end a (Look q) ≡ time = look-of end q a processor_state (there-replicate processors q processor_state low) in
           record {
             at = λ there.
                 looks (1152 + q) (omega arith) ∙ ap (due_number (1152 + q)) (look-within count time q (omega arith))
@@ -542,7 +542,7 @@ opening-agrees end processors balance x few looks =
             there = λ t some. omega arith;
           }
       | inr high ↦
-          let comes : comes_at end a (Pull q) ≡ None =
+          let comes : comes_at end a (Look q) ≡ None =
           ap (λ (o : Option ProcessorState). option_and_then (look_at end) o)
           (past-replicate processors q processor_state high) in
           record {

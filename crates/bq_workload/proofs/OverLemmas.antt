@@ -8,7 +8,7 @@ use Rattle.std.proofs.lemmas.Option.{none-some}
 use Rattle.bq_workload.specs.declared.progress.TaskProgress.{TaskProgress}
 use Rattle.bq_workload.specs.declared.progress.TaskState.{TaskState}
 use Rattle.bq_workload.specs.declared.progress.TaskState.TheVariants.{Asleep, Waiting, Runnable, Over}
-use Rattle.bq_workload.specs.declared.due.Due.TheVariants.{End, Wake, Tick, Pull}
+use Rattle.bq_workload.specs.declared.due.Due.TheVariants.{End, Wake, Tick, Look}
 use Rattle.bq_workload.specs.declared.processor_state.ProcessorState.{ProcessorState}
 use Rattle.bq_workload.specs.Accounts.{Accounts, is_over, is_past, rests_past, runs_past}
 use Rattle.bq_workload.specs.TaskProgress.{keeps_phase, keeps_time, lacks_more, rings_past, sleeps_past}
@@ -92,7 +92,7 @@ over-where-none end a low homes none =
     let rests : list_all (rests_past end) a.by_processor ≡ true =
     all-from (rests_past end) a.by_processor (λ k l at.
     and_from (is_past end l.tick) (is_past end l.look) (past-of end l.tick low (sym (tick-of end k a l at) ∙ none (Tick k)))
-    (past-of end l.look low (sym (look-of end k a l at) ∙ none (Pull k)))) in
+    (past-of end l.look low (sym (look-of end k a l at) ∙ none (Look k)))) in
     elim (cases_Bool (list_all keeps_phase cs)) [
       | inl all ↦
           let keeps : list_all (keeps_time end) cs ≡ true =

@@ -4,7 +4,7 @@ use Rattle.std.specs.List.{list_all}
 use Rattle.std.specs.Option.{option_map_or}
 use Rattle.bq_workload.specs.declared.progress.TaskProgress.{TaskProgress}
 use Rattle.bq_workload.specs.declared.processor_state.ProcessorState.{ProcessorState}
-use Rattle.bq_workload.specs.declared.roster.Periods.{Periods}
+use Rattle.bq_workload.specs.declared.periods.Periods.{Periods}
 use Rattle.bq_workload.specs.declared.roster.Roster.{Roster}
 use Rattle.bq_workload.specs.TaskProgress.{run_for, moved_to, lacks_more, keeps_time}
 use Rattle.bq_workload.specs.Dues.{next_multiple}
@@ -49,24 +49,24 @@ runner_charged processor_state now a = option_map_or (λ task. of_task (run_for 
 -- the time of the task that runs at a processor, if one does, is counted up to now
 abbrev pub accounts_charged : ℕ → ℕ → Accounts → Accounts
 accounts_charged processor now a =
-    option_map_or (λ (processor_state : ProcessorState). of_processor (λ l. record l { since = now }) processor (runner_charged processor_state now a))
+    option_map_or (λ (processor_state : ProcessorState). of_processor (λ state. record state { since = now }) processor (runner_charged processor_state now a))
     (slice_get a.by_processor processor) a
 
 -- the task runs at this processor, and has got exactly what its phase takes
-pub record IsPhaseDone (a : Accounts) (processor task : ℕ) (c : TaskProgress) : Type 0 where
+pub record IsPhaseDone (a : Accounts) (processor task : ℕ) (progress : TaskProgress) : Type 0 where
   pub processor_state : ProcessorState
   pub at : slice_get a.by_processor processor ≡ Some processor_state
   pub runs : processor_state.run ≡ Some task
-  pub there : slice_get a.by_task task ≡ Some c
-  pub done : c.got ≡ c.due
+  pub there : slice_get a.by_task task ≡ Some progress
+  pub done : progress.got ≡ progress.due
 
 -- nothing runs at this processor from now on: it has no tick, and looks for a task at once, if it looks at all
 abbrev pub idled : ℕ → ProcessorState → ProcessorState
-idled now l = record l { run = None; tick = None; look = option_map (λ _. now) l.look }
+idled now state = record state { run = None; tick = None; look = option_map (λ _. now) state.look }
 
 -- a task runs at this processor from now on; if none ran before, the processor ticks next at the next multiple of the tick period
 abbrev pub occupied : ℕ → ℕ → ℕ → ProcessorState → ProcessorState
-occupied tick task now l = record l { run = Some task; since = now; tick = Some (unwrap_or l.tick (next_multiple tick now)) }
+occupied tick task now state = record state { run = Some task; since = now; tick = Some (unwrap_or state.tick (next_multiple tick now)) }
 
 -- this task runs at a processor from now on, or none does
 abbrev pub taken_over : ℕ → Option ℕ → ℕ → Periods → Accounts → Accounts
@@ -87,11 +87,11 @@ accounts_switched processor run now periods a =
 
 -- a processor has one task less
 abbrev pub shrunk : ℕ → Accounts → Accounts
-shrunk processor a = of_processor (λ l. record l { size = l.size - 1 }) processor a
+shrunk processor a = of_processor (λ state. record state { size = state.size - 1 }) processor a
 
 -- a processor has this many tasks more
 abbrev pub grown : ℕ → ℕ → Accounts → Accounts
-grown processor count a = of_processor (λ l. record l { size = l.size + count }) processor a
+grown processor count a = of_processor (λ state. record state { size = state.size + count }) processor a
 
 -- the task that ran has gone from the queue, and another runs, or none
 abbrev pub left_by : ℕ → Option ℕ → ℕ → Periods → Accounts → Accounts
@@ -113,7 +113,7 @@ pub record TicksAt (a : Accounts) (processor now : ℕ) : Type 0 where
 
 -- the clock of a processor beats: its next tick is at the next multiple of the tick period
 abbrev pub beaten : ℕ → ℕ → ℕ → Accounts → Accounts
-beaten processor now tick a = of_processor (λ l. record l { tick = Some (next_multiple tick now) }) processor a
+beaten processor now tick a = of_processor (λ state. record state { tick = Some (next_multiple tick now) }) processor a
 
 -- a processor looks next at this instant for a task to pull
 pub record LooksAt (a : Accounts) (processor now : ℕ) : Type 0 where
@@ -123,7 +123,7 @@ pub record LooksAt (a : Accounts) (processor now : ℕ) : Type 0 where
 
 -- a processor looks for a task: its next look is at the next multiple of the time between two looks
 abbrev pub looked : ℕ → ℕ → ℕ → Accounts → Accounts
-looked processor now balance a = of_processor (λ l. record l { look = Some (next_multiple balance now) }) processor a
+looked processor now balance a = of_processor (λ state. record state { look = Some (next_multiple balance now) }) processor a
 
 -- the phase of the task that runs at a processor ends after the end of the simulation, if the task's time is counted up to `since`; true if
 -- none runs, false if there is no such task

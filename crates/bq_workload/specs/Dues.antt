@@ -3,32 +3,34 @@ use Rattle.std.specs.Prelude.{◌≡◌, ℕ, ◌+◌, ◌-◌, ◌*◌, ◌/◌
 use Rattle.std.specs.Option.{option_map_or}
 use Rattle.bq_disc.specs.declared.limits.TheConstants.{PROCESSORS, TASKS}
 use Rattle.bq_workload.specs.declared.progress.TaskProgress.{TaskProgress}
+use Rattle.bq_workload.specs.declared.due.TheConstants.{FIRST_LOOK, FIRST_TICK, FIRST_WAKE, PLACES}
+use Rattle.bq_workload.specs.declared.event_queue.TheConstants.{LEAVES}
 use Rattle.bq_workload.specs.declared.due.Due.{Due}
-use Rattle.bq_workload.specs.declared.due.Due.TheVariants.{End, Wake, Tick, Pull}
+use Rattle.bq_workload.specs.declared.due.Due.TheVariants.{End, Wake, Tick, Look}
 use Rattle.bq_workload.specs.declared.processor_state.ProcessorState.{ProcessorState}
 use Rattle.bq_workload.specs.Minima.{at_place, never_due, due_number, ChangesOnly}
 
--- processors have numbers below 64, and tasks below 1024
+-- the number of a processor is below the most that a machine has, and that of a task below the most tasks
 abbrev pub IsDue : Due → Type 0
 IsDue (End processor) = processor < PROCESSORS
 IsDue (Wake task) = task < TASKS
 IsDue (Tick processor) = processor < PROCESSORS
-IsDue (Pull processor) = processor < PROCESSORS
+IsDue (Look processor) = processor < PROCESSORS
 
 -- the place of a thing in the order of one instant: phase ends first, then wakes, ticks and looks
 abbrev pub due_place : Due → ℕ
 due_place (End processor) = processor
-due_place (Wake task) = 64 + task
-due_place (Tick processor) = 1088 + processor
-due_place (Pull processor) = 1152 + processor
+due_place (Wake task) = FIRST_WAKE + task
+due_place (Tick processor) = FIRST_TICK + processor
+due_place (Look processor) = FIRST_LOOK + processor
 
--- the thing at a place, if the place is below 1216
+-- the thing at a place, if there is such a place
 abbrev pub due_at : ℕ → Option Due
 due_at n =
-    if nat_lt n 64 then Some (End n)
-    else if nat_lt n 1088 then Some (Wake (n - 64))
-    else if nat_lt n 1152 then Some (Tick (n - 1088))
-    else if nat_lt n 1216 then Some (Pull (n - 1152))
+    if nat_lt n FIRST_WAKE then Some (End n)
+    else if nat_lt n FIRST_TICK then Some (Wake (n - FIRST_WAKE))
+    else if nat_lt n FIRST_LOOK then Some (Tick (n - FIRST_TICK))
+    else if nat_lt n PLACES then Some (Look (n - FIRST_LOOK))
     else None
 
 -- the first multiple of the time between two things that comes after an instant
@@ -53,15 +55,15 @@ pub record IsDropped (due : Due) (old new : List ℕ) : Type 0 where
 
 -- when the thing at a place comes due, if each of this many processors looks at this time and nothing else comes
 abbrev pub look_of : ℕ → Option ℕ → ℕ → Option ℕ
-look_of processors time place = if nat_le (due_place (Pull 0)) place && nat_lt place (due_place (Pull processors)) then time else None
+look_of processors time place = if nat_le (due_place (Look 0)) place && nat_lt place (due_place (Look processors)) then time else None
 
 -- each of this many processors looks for a task then, if ever, and nothing else comes due
 abbrev pub AreLooks : ℕ → Option ℕ → List ℕ → Type 0
-AreLooks processors time event_queue = (place : ℕ) → place < 2048 → at_place event_queue place ≡ due_number place (look_of processors time place)
+AreLooks processors time event_queue = (place : ℕ) → place < LEAVES → at_place event_queue place ≡ due_number place (look_of processors time place)
 
 -- when a task that runs from now on has got what its phase takes, as far as 64 bits count
 abbrev pub phase_end : ℕ → TaskProgress → ℕ
-phase_end now c = min (now + (c.due - c.got)) (2 ^ 64 - 1)
+phase_end now progress = min (now + (progress.due - progress.got)) (2 ^ 64 - 1)
 
 -- how many tasks a processor has; 0 if there is no such processor
 abbrev pub size_at : List ProcessorState → ℕ → ℕ

@@ -5,7 +5,7 @@ use Rattle.bq_workload.specs.declared.progress.TaskProgress.{TaskProgress}
 use Rattle.bq_workload.specs.declared.progress.TaskState.{TaskState}
 use Rattle.bq_workload.specs.declared.progress.TaskState.TheVariants.{Asleep}
 use Rattle.bq_workload.specs.declared.due.Due.{Due}
-use Rattle.bq_workload.specs.declared.due.Due.TheVariants.{End, Wake, Tick, Pull}
+use Rattle.bq_workload.specs.declared.due.Due.TheVariants.{End, Wake, Tick, Look}
 use Rattle.bq_workload.specs.declared.processor_state.ProcessorState.{ProcessorState}
 use Rattle.bq_workload.specs.declared.roster.Roster.{Roster}
 use Rattle.bq_workload.specs.Accounts.{Accounts, accounts_of, is_same}
@@ -14,7 +14,7 @@ use Rattle.bq_workload.specs.Minima.{at_place, due_number}
 
 -- when a phase ends: when the task that runs there, if one does, has got what is left of it
 abbrev pub phase_ends_at : ℕ → List TaskProgress → ProcessorState → Option ℕ
-phase_ends_at end by_task processor_state = option_and_then (λ task. option_and_then (λ c. until end (phase_end processor_state.since c)) (slice_get by_task task)) processor_state.run
+phase_ends_at end by_task processor_state = option_and_then (λ task. option_and_then (λ progress. until end (phase_end processor_state.since progress)) (slice_get by_task task)) processor_state.run
 
 -- when the timer of a task rings: only if the task sleeps until its timer wakes it
 abbrev pub rings_at : ℕ → TaskState → ℕ → Option ℕ
@@ -24,9 +24,9 @@ rings_at end task_state timer = None
 -- when this comes by the accounts, if it does until the end
 abbrev pub comes_at : ℕ → Accounts → Due → Option ℕ
 comes_at end a (End processor) = option_and_then (phase_ends_at end a.by_task) (slice_get a.by_processor processor)
-comes_at end a (Wake task) = option_and_then (λ c. rings_at end c.task_state c.timer) (slice_get a.by_task task)
+comes_at end a (Wake task) = option_and_then (λ progress. rings_at end progress.task_state progress.timer) (slice_get a.by_task task)
 comes_at end a (Tick processor) = option_and_then (λ processor_state. option_and_then (until end) processor_state.tick) (slice_get a.by_processor processor)
-comes_at end a (Pull processor) = option_and_then (λ processor_state. option_and_then (until end) processor_state.look) (slice_get a.by_processor processor)
+comes_at end a (Look processor) = option_and_then (λ processor_state. option_and_then (until end) processor_state.look) (slice_get a.by_processor processor)
 
 -- one thing is before another: it comes earlier, or at one instant with it and at a lesser place
 abbrev pub IsBefore : ℕ → Due → ℕ → Due → Type 0

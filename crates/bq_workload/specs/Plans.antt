@@ -3,9 +3,9 @@ use Rattle.std.specs.Prelude.{◌≡◌, ℕ, Bool, true, false, List, Option, N
 use Rattle.bq_workload.specs.declared.progress.TaskProgress.{TaskProgress}
 use Rattle.bq_workload.specs.declared.progress.TaskState.{TaskState}
 use Rattle.bq_workload.specs.declared.progress.TaskState.TheVariants.{Asleep}
-use Rattle.bq_workload.specs.declared.due.Due.TheVariants.{End, Wake, Tick, Pull}
+use Rattle.bq_workload.specs.declared.due.Due.TheVariants.{End, Wake, Tick, Look}
 use Rattle.bq_workload.specs.declared.processor_state.ProcessorState.{ProcessorState}
-use Rattle.bq_workload.specs.declared.roster.Periods.{Periods}
+use Rattle.bq_workload.specs.declared.periods.Periods.{Periods}
 use Rattle.bq_workload.specs.declared.roster.Roster.{Roster}
 use Rattle.bq_workload.specs.Accounts.{Accounts, is_same}
 use Rattle.bq_workload.specs.Dues.{IsDropped, IsPlanned, phase_end, next_multiple}
@@ -16,15 +16,15 @@ PlansTick periods processor now None old new = IsPlanned periods.end (Tick proce
 PlansTick periods processor now (Some time) old new = new ≡ old
 
 -- a task with this progress runs at a processor: its phase ends when it has got the rest of what it takes
-pub record PlansTask (periods : Periods) (processor now : ℕ) (tick : Option ℕ) (c : TaskProgress) (old new : List ℕ) : Type 0 where
+pub record PlansTask (periods : Periods) (processor now : ℕ) (tick : Option ℕ) (progress : TaskProgress) (old new : List ℕ) : Type 0 where
   pub mid : List ℕ
   pub ticks : PlansTick periods processor now tick old mid
-  pub ends : IsPlanned periods.end (End processor) (phase_end now c) mid new
+  pub ends : IsPlanned periods.end (End processor) (phase_end now progress) mid new
 
 -- a processor that looks for tasks looks at once
 abbrev pub PlansLook : Periods → ℕ → ℕ → Option ℕ → List ℕ → List ℕ → Type 0
 PlansLook periods processor now None old new = new ≡ old
-PlansLook periods processor now (Some time) old new = IsPlanned periods.end (Pull processor) now old new
+PlansLook periods processor now (Some time) old new = IsPlanned periods.end (Look processor) now old new
 
 -- nothing runs there: no phase ends, and it does not tick
 pub record PlansNone (periods : Periods) (processor now : ℕ) (look : Option ℕ) (old new : List ℕ) : Type 0 where
@@ -38,7 +38,7 @@ pub record PlansNone (periods : Periods) (processor now : ℕ) (look : Option �
 abbrev pub PlansRun : Periods → ℕ → Option ℕ → ℕ → ProcessorState → List TaskProgress → List ℕ → List ℕ → Type 0
 PlansRun periods processor None now processor_state by_task old new = PlansNone periods processor now processor_state.look old new
 PlansRun periods processor (Some task) now processor_state by_task old new =
-    (c : TaskProgress) × (slice_get by_task task ≡ Some c) × PlansTask periods processor now processor_state.tick c old new
+    (progress : TaskProgress) × (slice_get by_task task ≡ Some progress) × PlansTask periods processor now processor_state.tick progress old new
 
 -- the plans of a roster are those of a processor at which this task runs from now on, or none
 abbrev pub TakeoverIsPlanned : ℕ → Option ℕ → ℕ → Roster → Roster → Type 0
@@ -67,15 +67,15 @@ PlansTimer end task Asleep timer old new = IsPlanned end (Wake task) timer old n
 PlansTimer end task task_state timer old new = IsDropped (Wake task) old new
 
 -- the task that runs at a processor has this progress: its timer is planned, and the end of its phase
-pub record PlansProgress (end processor task : ℕ) (processor_state : ProcessorState) (c : TaskProgress) (old new : List ℕ) : Type 0 where
+pub record PlansProgress (end processor task : ℕ) (processor_state : ProcessorState) (progress : TaskProgress) (old new : List ℕ) : Type 0 where
   pub mid : List ℕ
   pub runs : processor_state.run ≡ Some task
-  pub home : c.home ≡ processor
-  pub timer : PlansTimer end task c.task_state c.timer old mid
-  pub ends : IsPlanned end (End processor) (phase_end processor_state.since c) mid new
+  pub home : progress.home ≡ processor
+  pub timer : PlansTimer end task progress.task_state progress.timer old mid
+  pub ends : IsPlanned end (End processor) (phase_end processor_state.since progress) mid new
 
 -- the plans of a roster in which the task that runs at a processor has this progress
 abbrev pub ProgressIsPlanned : ℕ → ℕ → TaskProgress → Roster → Roster → Type 0
-ProgressIsPlanned processor task c old new =
+ProgressIsPlanned processor task progress old new =
     (processor_state : ProcessorState) × (slice_get old.by_processor.items processor ≡ Some processor_state) ×
-    PlansProgress old.periods.end processor task processor_state c old.event_queue new.event_queue
+    PlansProgress old.periods.end processor task processor_state progress old.event_queue new.event_queue

@@ -3,7 +3,7 @@ use Rattle.std.specs.Prelude.{◌≡◌, ◌≢◌, ℕ, ◌+◌, ◌-◌, ◌^�
 use Rattle.bq_disc.specs.declared.limits.TheConstants.{PROCESSORS, TASKS}
 use Rattle.bq_workload.specs.declared.processor_state.ProcessorState.{ProcessorState}
 use Rattle.bq_workload.specs.declared.progress.TaskProgress.{TaskProgress}
-use Rattle.bq_workload.specs.declared.roster.Periods.{Periods}
+use Rattle.bq_workload.specs.declared.periods.Periods.{Periods}
 use Rattle.bq_workload.specs.Accounts.{Accounts, IsPhaseDone, LooksAt, TicksAt, accounts_charged, grown, is_same, shrunk}
 use Rattle.bq_workload.specs.Dues.{next_multiple, size_at}
 use Rattle.bq_workload.specs.Next.{TaskRests, runs_at}
@@ -100,11 +100,11 @@ IsStrayWake task a = (TaskRests a task → ⊥) ⊎ (TASKS ≤ task)
 
 -- a task with this progress does not run at a processor, did not run there last, or has run past its phase
 abbrev pub IsStrayProgress : ℕ → ℕ → TaskProgress → Accounts → Type 0
-IsStrayProgress processor task c a = (runs_at a.by_processor processor task ≡ false) ⊎ (c.home ≢ processor) ⊎ (c.due < c.got) ⊎ (PROCESSORS ≤ processor) ⊎ IsStrayTask task a
+IsStrayProgress processor task progress a = (runs_at a.by_processor processor task ≡ false) ⊎ (progress.home ≢ processor) ⊎ (progress.due < progress.got) ⊎ (PROCESSORS ≤ processor) ⊎ IsStrayTask task a
 
 -- no task runs at this processor that has got exactly what its phase takes
 abbrev pub NoneIsDone : ℕ → Accounts → Type 0
-NoneIsDone processor a = (task : ℕ) (c : TaskProgress) → IsPhaseDone a processor task c → ⊥
+NoneIsDone processor a = (task : ℕ) (progress : TaskProgress) → IsPhaseDone a processor task progress → ⊥
 
 -- no phase ends at this processor now
 abbrev pub IsStrayEnd : ℕ → ℕ → Accounts → Type 0

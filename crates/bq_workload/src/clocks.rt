@@ -7,7 +7,8 @@ ghost use Rattle.bq_workload.specs.Plans.{PlansLook, PlansTick};
 ghost use Rattle.bq_workload.specs.Strays.{HasNoNext, IsStrayBeat, IsStrayLook};
 
 use crate::Due;
-use crate::roster::{BrokenInvariant, Roster};
+use crate::broken_invariant::BrokenInvariant;
+use crate::roster::Roster;
 use bq_disc::limits::PROCESSORS;
 
 /// When each of this many processors first looks for a task to pull. A single processor never looks.
@@ -58,7 +59,7 @@ impl Roster {
     ) -> Result<u64, BrokenInvariant>
         ensures next { IfOk result (λ next. next ≡ unwrap_or tick (next_multiple self.old.periods.tick now)) }
         ensures plans { OnOk result (PlansTick self.old.periods processor now tick self.old.event_queue self.new.event_queue) }
-        ensures stray { IfErr result (λ _. (64 ≤ processor) ⊎ HasNoNext self.old.periods.tick now) }
+        ensures stray { IfErr result (λ _. (PROCESSORS ≤ processor) ⊎ HasNoNext self.old.periods.tick now) }
         ensures by_task { self.new.by_task ≡ self.old.by_task }
         ensures by_processor { self.new.by_processor ≡ self.old.by_processor }
         ensures periods { self.new.periods ≡ self.old.periods }
@@ -77,25 +78,25 @@ impl Roster {
         now: u64,
     ) -> Result<(), BrokenInvariant>
         ensures plans { OnOk result (PlansLook self.old.periods processor now look self.old.event_queue self.new.event_queue) }
-        ensures stray { IfErr result (λ _. 64 ≤ processor) }
+        ensures stray { IfErr result (λ _. PROCESSORS ≤ processor) }
         ensures by_task { self.new.by_task ≡ self.old.by_task }
         ensures by_processor { self.new.by_processor ≡ self.old.by_processor }
         ensures periods { self.new.periods ≡ self.old.periods }
     {
         match look {
-            Some(_) => self.plan(Due::Pull(processor), now),
+            Some(_) => self.plan(Due::Look(processor), now),
             None => Ok(()),
         }
     }
 
-    /// Plans the next tick of a processor, and answers its time.
+    /// Plans the next tick of a processor. Returns its time.
     fn plan_tick(&mut self, processor: u8, now: u64) -> Result<u64, BrokenInvariant>
         ensures next { IfOk result (λ next. next ≡ next_multiple self.old.periods.tick now) }
         ensures planned { OnOk result (IsPlanned self.old.periods.end (Due.Tick processor) (next_multiple self.old.periods.tick now) self.old.event_queue self.new.event_queue) }
         ensures by_task { self.new.by_task ≡ self.old.by_task }
         ensures by_processor { self.new.by_processor ≡ self.old.by_processor }
         ensures periods { self.new.periods ≡ self.old.periods }
-        ensures stray { IfErr result (λ _. (64 ≤ processor) ⊎ HasNoNext self.old.periods.tick now) }
+        ensures stray { IfErr result (λ _. (PROCESSORS ≤ processor) ⊎ HasNoNext self.old.periods.tick now) }
     {
         let next = next_after(now, self.periods.tick)?;
         self.plan(Due::Tick(processor), next)?;
@@ -108,7 +109,7 @@ impl Roster {
         ensures due { OnOk result (LooksAt (accounts_of self.old) processor now) }
         ensures source { IfOk result (λ source. IsSource self.old.by_processor.items processor source) }
         ensures accounts { OnOk result (accounts_of self.new ≡ looked processor now self.old.periods.balance (accounts_of self.old)) }
-        ensures planned { OnOk result (IsPlanned self.old.periods.end (Due.Pull processor) (next_multiple self.old.periods.balance now) self.old.event_queue self.new.event_queue) }
+        ensures planned { OnOk result (IsPlanned self.old.periods.end (Due.Look processor) (next_multiple self.old.periods.balance now) self.old.event_queue self.new.event_queue) }
         ensures agrees { OnOk result (StaysAgreed self.old self.new) }
         ensures periods { self.new.periods ≡ self.old.periods }
         ensures stray { IfErr result (λ _. IsStrayLook processor now self.old.periods.balance (accounts_of self.old)) }
@@ -119,7 +120,7 @@ impl Roster {
         }
         let source = self.source(processor);
         let next = next_after(now, self.periods.balance)?;
-        self.plan(Due::Pull(processor), next)?;
+        self.plan(Due::Look(processor), next)?;
         processor_state.look = Some(next);
         self.set_processor_state(processor, processor_state);
         Ok(source)
@@ -137,7 +138,7 @@ impl Roster {
 
     /// The processor with the most tasks, the least number if several have as many. None if no processor has two.
     pub fn largest(&self) -> Option<u8>
-        ensures { HasLargest self.now.by_processor.items 64 result }
+        ensures { HasLargest self.now.by_processor.items PROCESSORS result }
     {
         let mut best: Option<u8> = None;
         'processors: for processor in 0..PROCESSORS {

@@ -2,16 +2,23 @@
 ghost use Rattle.std.specs.Prelude.{◌≡◌, ℕ, ◌+◌, ◌/◌, ◌<◌, ◌≤◌, ◌^◌, length, IfOk, IfSome, IfNone, slice_index};
 ghost use Rattle.bq_workload.specs.Minima.{due_number, at_place, AreNever, ChangesOnly, IsFirstDue, HasMinima, HasOtherMinima};
 
+use crate::due::PLACES;
 use std::alloc::{AllocError, Global};
 use std::marker::Model;
 
-/// The number of leaves of the tree: a power of two that is more than the number of places.
+/// How many leaves the tree has: a power of two that is more than the number of places.
 const LEAVES: usize = 2048;
+
+/// How many numbers the tree is written as: its leaves, and as many before them, of which the first has no use.
+const NODES: usize = 2 * LEAVES;
+
+/// How far the numbers of one instant are from those of the next: one number for each leaf.
+const INSTANT: u64 = LEAVES as u64;
 
 /// The number of what is never due.
 const NEVER: u64 = u64::MAX;
 
-/// The time at which the thing at each of 1,216 places is due, if it is. Contracts see one number for each place: the time and
+/// The time at which the thing at each place is due, if it is. Contracts see one number for each place: the time and
 /// the place together, or `never_due`.
 ///
 /// The numbers are the leaves of a tree, in which each node has the less of the two below it. So the root has the first. The
@@ -23,13 +30,14 @@ pub struct EventQueue {
 
 impl Model for EventQueue {
     ghost use Rattle.std.specs.Prelude.{◌≡◌, List, ℕ, length};
+    ghost use Rattle.bq_workload.specs.declared.event_queue.TheConstants.{NODES};
     ghost use Rattle.bq_workload.specs.Minima.{HasMinima, AreLeavesPlaced, HasSpareLeaves};
 
     ghost Value = { List ℕ };
 
     ghost view = { λ a. a.numbers.items };
 
-    ghost invariant = { λ a. (length a.numbers.items ≡ 4096) × HasMinima a.numbers.items × AreLeavesPlaced a.numbers.items × HasSpareLeaves a.numbers.items };
+    ghost invariant = { λ a. (length a.numbers.items ≡ NODES) × HasMinima a.numbers.items × AreLeavesPlaced a.numbers.items × HasSpareLeaves a.numbers.items };
 }
 
 impl EventQueue {
@@ -38,13 +46,13 @@ impl EventQueue {
         ensures { IfOk result AreNever }
     {
         Ok(EventQueue {
-            numbers: vec![in alloc; NEVER; 2 * LEAVES]?,
+            numbers: vec![in alloc; NEVER; NODES]?,
         })
     }
 
     /// What is at a place is due at this time from now on, or never.
     pub fn set(&mut self, place: u16, time: Option<u64>)
-        requires place { place < 1216 }
+        requires place { place < PLACES }
         requires time { IfSome time (λ t. t < 2 ^ 48) }
         ensures due { at_place self.new place ≡ due_number place time }
         ensures others { ChangesOnly place self.old self.new }
@@ -62,36 +70,36 @@ impl EventQueue {
     pub fn first(&self) -> Option<(u64, u16)>
         ensures none { IfNone result (AreNever self.now) }
         ensures first { IfSome result (λ due. IsFirstDue self.now due.0 due.1) }
-        ensures place { IfSome result (λ due. due.1 < 1216) }
+        ensures place { IfSome result (λ due. due.1 < PLACES) }
     {
         let number = self.numbers[1];
         if number == NEVER {
             return None;
         }
-        Some((number / 2048, (number % 2048) as u16))
+        Some((number / INSTANT, (number % INSTANT) as u16))
     }
 }
 
 /// The number that orders a place in the tree, by its time; `never_due` without one.
 fn number_of(place: u16, time: Option<u64>) -> u64
-    requires place { place < 2048 }
+    requires place { place < LEAVES }
     requires time { IfSome time (λ t. t < 2 ^ 48) }
     ensures { result ≡ due_number place time }
 {
     match time {
         None => NEVER,
-        Some(time) => time * 2048 + u64::from(place),
+        Some(time) => time * INSTANT + u64::from(place),
     }
 }
 
 /// Recomputes the nodes above a leaf that has changed: each gets the less of the two below it.
 fn recompute(numbers: &mut [u64], leaf: usize)
-    requires all { length numbers.old ≡ 4096 }
-    requires low { 2048 ≤ leaf }
-    requires high { leaf < 4096 }
+    requires all { length numbers.old ≡ NODES }
+    requires low { LEAVES ≤ leaf }
+    requires high { leaf < NODES }
     requires others { HasOtherMinima (leaf / 2) numbers.old }
     ensures minima { HasMinima numbers.new }
-    ensures leaves { (k : ℕ) → 2048 ≤ k → slice_index numbers.new k ≡ slice_index numbers.old k }
+    ensures leaves { (k : ℕ) → LEAVES ≤ k → slice_index numbers.new k ≡ slice_index numbers.old k }
 {
     let mut node = leaf;
     'up: while node > 1 {

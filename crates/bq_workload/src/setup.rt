@@ -13,10 +13,10 @@ pub struct Setup {
     pub duration: u64,
     /// The time between two ticks of a processor that runs something, from 1 to 2^48 - 1.
     pub tick: u64,
-    /// The time between two times at which processors pull from the largest, from 1 to 2^48 - 1.
+    /// The time between two looks of a processor for a task to pull, from 1 to 2^48 - 1.
     pub balance: u64,
     /// What each change of processor adds to what is left of a run phase, from 0 to 2^48 - 1.
     pub migration_cost: u64,
-    /// Of the draws.
+    /// The seed of the lengths that are drawn.
     pub seed: u64,
 }

@@ -9,8 +9,9 @@ ghost use Rattle.bq_workload.specs.Plans.{SwitchIsPlanned, TakeoverIsPlanned};
 ghost use Rattle.bq_workload.specs.Strays.{IsStrayCharge, IsStrayEntry, IsStrayGrowth, IsStrayLeave, IsStrayPass, IsStrayProcessor, IsStrayRun, IsStrayStart, IsStraySwitch};
 
 use crate::Due;
+use crate::broken_invariant::BrokenInvariant;
 use crate::progress::TaskProgress;
-use crate::roster::{BrokenInvariant, Roster};
+use crate::roster::Roster;
 
 impl Roster {
     /// From now on this task runs at a processor, or none does.

@@ -1,6 +1,6 @@
 use Rattle.std.proofs.Common.{inl, subst, sym, ◌∙◌}
 use Rattle.std.proofs.lemmas.Result.{on_ok_weaker}
-use Rattle.bq_simulate.specs.Order.{EndsEarly}
+use Rattle.bq_simulate.specs.GoingWell.{EndsEarly}
 use Rattle.bq_simulate.specs.Simulations.{with_seed}
 use Rattle.bq_simulate.proofs.WholeLemmas.{IsNew, followed-of, too-long-of}
 use Rattle.bq_simulate.proofs.OpenWellLemmas.{starts-well}

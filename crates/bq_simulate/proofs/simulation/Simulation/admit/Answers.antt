@@ -5,11 +5,11 @@ use Rattle.bq_workload.specs.declared.workload.TaskKind.{TaskKind}
 use Rattle.bq_workload.specs.Kinds.{tasks_in}
 use Rattle.bq_words.specs.Sizes.{processors_in}
 use Rattle.bq_simulate.specs.Actions.{first_task_of}
-use Rattle.bq_simulate.specs.Chronicles.{Deed}
-use Rattle.bq_simulate.specs.Order.{OpensWell}
-use Rattle.bq_simulate.specs.Steps.{AreAdmitted, AreAllAdmitted, AreJust}
+use Rattle.bq_simulate.specs.Deeds.{Deed}
+use Rattle.bq_simulate.specs.GoingWell.{OpensWell}
+use Rattle.bq_simulate.specs.Steps.{AreAdmitted, AreAllAdmitted, AreJustEvents}
 use Rattle.bq_simulate.proofs.AdmissionLemmas.{AreAllAdmitted-next}
-use Rattle.bq_simulate.proofs.DeedLemmas.{Lived-join, Lived-same, Lived-silent, Lived-weaker, Same-here}
+use Rattle.bq_simulate.proofs.DeedLemmas.{GoesOnBy-join, GoesOnBy-same, GoesOnBy-unreported, GoesOnBy-weaker, OnlyPlansOrCounts-here}
 use Rattle.bq_simulate.proofs.KindLemmas.{first-more}
 use Rattle.bq_simulate.proofs.OpenWellLemmas.{begun-well, streams-there}
 use Rattle.bq_simulate.proofs.WellLemmas.{err-by}
@@ -19,7 +19,7 @@ pub kinds-init : goal.kinds-init
 kinds-init g c =
     let w = c.args.workload.now in
     record {
-      lived = Lived-same g.S.Sink.takes (AreAllAdmitted (processors_in w.machine.size) 0 0 []) refl _ _ _ (Same-here _) w.tasks.items;
+      goes_on = GoesOnBy-same g.S.Sink.takes (AreAllAdmitted (processors_in w.machine.size) 0 0 []) refl _ _ _ (OnlyPlansOrCounts-here _) w.tasks.items;
       tasks = c.requires.tasks;
       streams = c.requires.streams;
       well = λ opens. opens;
@@ -61,18 +61,18 @@ kinds-preserved g c =
     let streams = ap (λ v. length v.items) c.in_ok-begin_kind.ensures.streams ∙ c.kinds.invariant.streams in
     let next = sym (first-more kinds number kind there) in
     record {
-      lived =
-          Lived-join takes kinds before these after more _ _ _ _ _ _ c.kinds.invariant.lived
-          (Lived-join takes kinds (AreJust []) these these
+      goes_on =
+          GoesOnBy-join takes kinds before these after more _ _ _ _ _ _ c.kinds.invariant.goes_on
+          (GoesOnBy-join takes kinds (AreJustEvents []) these these
           (λ xs ys none are. subst (λ (l : List Deed). these (l ++ ys)) (sym none) are) _ _ _ _ _ _
-          (Lived-silent takes kinds (AreJust []) _ _ _ (c.in_ok-begin_kind.ensures.silent kinds c.kinds.invariant.streams))
-          c.in_ok-admit_kind.ensures.lived);
+          (GoesOnBy-unreported takes kinds (AreJustEvents []) _ _ _ (c.in_ok-begin_kind.ensures.goes_on kinds c.kinds.invariant.streams))
+          c.in_ok-admit_kind.ensures.goes_on);
       tasks = c.in_ok-admit_kind.ensures.tasks ∙ ap (λ n. n + kind.count) tasks ∙ next;
       streams = c.in_ok-admit_kind.ensures.streams ∙ ap (λ n. n + kind.count) streams ∙ next;
       well = λ opens.
           let begun =
           begun-well takes w first c.kinds.sink _ c.begin_kind.new.self
-          (c.in_ok-begin_kind.ensures.silent kinds c.kinds.invariant.streams) c.begin_kind.ensures.counts
+          (c.in_ok-begin_kind.ensures.goes_on kinds c.kinds.invariant.streams) c.begin_kind.ensures.counts
           (c.kinds.invariant.well opens) in
           subst (λ (n : ℕ). OpensWell w n c.admit_kind.new.self) next (c.in_ok-admit_kind.ensures.well begun);
       firsts = omega (
@@ -89,16 +89,16 @@ returns-clause-streams g c =
     let late : length kinds ≤ c.kinds.number = omega (arith, ap length c.deref-kind-items.ensures.value, c.kinds-test.false) in
     c.kinds.invariant.streams ∙ ap tasks_in (take_all c.kinds.number kinds late)
 
-pub returns-clause-lived : goal.returns-clause-lived
-returns-clause-lived g c =
+pub returns-clause-goes_on : goal.returns-clause-goes_on
+returns-clause-goes_on g c =
     let w = c.args.workload.now in
     let kinds = w.tasks.items in
     let all = processors_in w.machine.size in
     let number = c.kinds.number in
     let late : length kinds ≤ number = omega (arith, ap length c.deref-kind-items.ensures.value, c.kinds-test.false) in
-    Lived-weaker g.S.Sink.takes kinds (AreAllAdmitted all 0 0 (take number kinds)) (AreAllAdmitted all 0 0 kinds)
+    GoesOnBy-weaker g.S.Sink.takes kinds (AreAllAdmitted all 0 0 (take number kinds)) (AreAllAdmitted all 0 0 kinds)
     (λ xs are. subst (λ (l : List TaskKind). AreAllAdmitted all 0 0 l xs) (take_all number kinds late) are) _ _ _ _
-    c.kinds.invariant.lived
+    c.kinds.invariant.goes_on
 
 pub returns-clause-firsts : goal.returns-clause-firsts
 returns-clause-firsts g c =
@@ -121,7 +121,7 @@ returns-in_err-admit_kind-clause-ends g c = λ opens none.
     let kinds = w.tasks.items in
     let begun =
     begun-well g.S.Sink.takes w (first_task_of kinds c.kinds.number) c.kinds.sink _ c.begin_kind.new.self
-    (c.in_ok-begin_kind.ensures.silent kinds c.kinds.invariant.streams) c.begin_kind.ensures.counts
+    (c.in_ok-begin_kind.ensures.goes_on kinds c.kinds.invariant.streams) c.begin_kind.ensures.counts
     (c.kinds.invariant.well opens) in
     let wants = c.in_err-admit_kind.ensures.ends begun in
     err-by c.from_residual-in_err-admit_kind.result c.from_residual-in_err-admit_kind.ensures.1 (λ e is. is ∙ wants)

@@ -1,14 +1,14 @@
 use Rattle.std.proofs.Common.{◌≡◌, ◌+◌, length, take}
 use Rattle.bq_words.specs.Sizes.{processors_in}
 use Rattle.bq_simulate.specs.Actions.{first_task_of}
-use Rattle.bq_simulate.specs.Order.{OpensWell}
-use Rattle.bq_simulate.specs.Simulations.{Lived}
+use Rattle.bq_simulate.specs.GoingWell.{OpensWell}
+use Rattle.bq_simulate.specs.Simulations.{GoesOnBy}
 use Rattle.bq_simulate.specs.Steps.{AreAllAdmitted}
 use Rattle.bq_simulate.proofs.simulation.Simulation.admit.Given as goal
 
 abbrev pub invariant-kinds : goal.invariant-kinds
 invariant-kinds g l = record {
-  lived : Lived g.S.Sink.takes l.workload.tasks.items
+  goes_on : GoesOnBy g.S.Sink.takes l.workload.tasks.items
       (AreAllAdmitted (processors_in l.workload.machine.size) 0 0 (take l.number l.workload.tasks.items))
       l.initial.sink l.initial.self l.sink l.self;
   tasks : length l.self.roster.by_task.items ≡ first_task_of l.workload.tasks.items l.number;

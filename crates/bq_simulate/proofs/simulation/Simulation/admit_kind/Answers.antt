@@ -7,11 +7,11 @@ use Rattle.bq_workload.specs.Soundness.{IsFirstAllowed, allows_one}
 use Rattle.bq_parts.specs.declared.event.Event.TheVariants.{Admit}
 use Rattle.bq_words.specs.Sizes.{processors_in}
 use Rattle.bq_simulate.specs.Actions.{first_task_of, kind_start}
-use Rattle.bq_simulate.specs.Chronicles.{Deed}
-use Rattle.bq_simulate.specs.Order.{OpensWell}
-use Rattle.bq_simulate.specs.Steps.{AreAdmitted, AreJust, IsAdmission, IsJoin}
+use Rattle.bq_simulate.specs.Deeds.{Deed}
+use Rattle.bq_simulate.specs.GoingWell.{OpensWell}
+use Rattle.bq_simulate.specs.Steps.{AreAdmitted, AreJustEvents, IsAdmission, IsJoin}
 use Rattle.bq_simulate.proofs.AdmissionLemmas.{AreAdmitted-more, admission-of}
-use Rattle.bq_simulate.proofs.DeedLemmas.{Lived-join, Lived-same, Lived-silent, Lived-then, Same-here}
+use Rattle.bq_simulate.proofs.DeedLemmas.{GoesOnBy-join, GoesOnBy-same, GoesOnBy-unreported, GoesOnBy-then, OnlyPlansOrCounts-here}
 use Rattle.bq_simulate.proofs.KindLemmas.{nth-of-kind}
 use Rattle.bq_simulate.proofs.OpenWellLemmas.{few_before, opens-well, tasks-open}
 use Rattle.bq_simulate.proofs.SoundKindLemmas.{admissible_kind}
@@ -22,10 +22,10 @@ pub tasks-init : goal.tasks-init
 tasks-init g c =
     let w = c.args.workload.now in
     record {
-      lived =
-          Lived-same g.S.Sink.takes
+      goes_on =
+          GoesOnBy-same g.S.Sink.takes
           (AreAdmitted (processors_in w.machine.size) c.args.number c.args.kind.now (first_task_of w.tasks.items c.args.number) 0)
-          refl _ _ _ (Same-here _) w.tasks.items;
+          refl _ _ _ (OnlyPlansOrCounts-here _) w.tasks.items;
       tasks = omega arith;
       streams = omega arith;
       firsts = refl;
@@ -58,14 +58,14 @@ tasks-preserved g c =
     let of = nth-of-kind kinds kind _ number count c.requires.kind here c.tasks-test.true in
     let start : kind.start ≡ kind_start kinds number =
     sym (ap (λ (o : Option TaskKind). option_map_or (λ (k : TaskKind). k.start) o 0) c.requires.kind) in
-    let admits = AreJust (Admit task kind.nice kind.mask kind.slice ∷ []) in
+    let admits = AreJustEvents (Admit task kind.nice kind.mask kind.slice ∷ []) in
     let joins = IsJoin number home in
     let one = IsAdmission all number kind task in
     let joined =
-    Lived-join takes kinds admits joins one (λ xs ys admit join. admission-of all number kind task home xs ys mine admit join)
-    _ _ _ _ _ _ (c.in_ok-admit_one.ensures.befell kinds)
-    (Lived-silent takes kinds joins _ _ _ (c.in_ok-join.ensures.silent kinds of start (streams ∙ sym here))) in
-    let begun = Lived-then takes kinds one _ _ _ _ _ joined c.count_task.ensures.same in
+    GoesOnBy-join takes kinds admits joins one (λ xs ys admit join. admission-of all number kind task home xs ys mine admit join)
+    _ _ _ _ _ _ (c.in_ok-admit_one.ensures.goes_on kinds)
+    (GoesOnBy-unreported takes kinds joins _ _ _ (c.in_ok-join.ensures.goes_on kinds of start (streams ∙ sym here))) in
+    let begun = GoesOnBy-then takes kinds one _ _ _ _ _ joined c.count_task.ensures.same in
     let before = AreAdmitted all number kind first count in
     let after = AreAdmitted all number kind first (count + 1) in
     let next : suc count ≡ count + 1 = omega arith in
@@ -74,7 +74,7 @@ tasks-preserved g c =
     subst (λ (n : ℕ). AreAdmitted all number kind first n (xs ++ ys)) next
     (AreAdmitted-more all number kind first count task xs ys (c.in_ok-join.ensures.number ∙ streams) h k) in
     record {
-      lived = Lived-join takes kinds before one after more _ _ _ _ _ _ c.tasks.invariant.lived begun;
+      goes_on = GoesOnBy-join takes kinds before one after more _ _ _ _ _ _ c.tasks.invariant.goes_on begun;
       tasks = ap (λ v. length v.items) c.count_task.ensures.by_task ∙ c.in_ok-join.ensures.tasks ∙ omega (arith, here, c.requires.first);
       streams =
           ap (λ v. length v.items) c.count_task.ensures.same.stays.streams ∙ c.in_ok-join.ensures.streams
@@ -98,7 +98,7 @@ returns-clause-well g c = λ opens.
     let all : count ≡ kind.count = omega (arith, c.tasks-test.false, c.tasks.auto.counter-end) in
     subst (λ (n : ℕ). OpensWell w (first + n) c.tasks.self) all
     (opens-well g.S.Sink.takes _ _ _ w first (first + count) _ _ (tasks-open w c.args.self.now.seed number kind first count)
-    (c.tasks.invariant.counted opens) c.tasks.invariant.lived opens)
+    (c.tasks.invariant.counted opens) c.tasks.invariant.goes_on opens)
 
 -- a kind without a flaw may use a processor
 pub returns-in_err-home-clause-ends : goal.returns-in_err-home-clause-ends
@@ -130,7 +130,7 @@ returns-in_err-admit_one-clause-ends g c = λ opens.
     let numbers = (admissible_kind w number kind opens.sound c.requires.kind).numbers in
     let well =
     opens-well g.S.Sink.takes _ _ _ w first (first + count) _ _ (tasks-open w c.args.self.now.seed number kind first count)
-    here c.tasks.invariant.lived opens in
+    here c.tasks.invariant.goes_on opens in
     let wants =
     c.in_err-admit_one.ensures.ends w home (subst (λ (n : ℕ). OpensWell w n c.tasks.self) (sym here) well)
     (record { few = few; numbers = numbers; first = mine }) in

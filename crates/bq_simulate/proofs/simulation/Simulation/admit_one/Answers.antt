@@ -6,15 +6,15 @@ use Rattle.bq_parts.specs.World.{count_in}
 use Rattle.bq_workload.specs.Accounts.{accounts_of}
 use Rattle.bq_workload.specs.Soundness.{IsFirstAllowed}
 use Rattle.bq_simulate.specs.AgreementLaws.{FailsForMemory}
-use Rattle.bq_simulate.specs.Drives.{Did, IsDriveFault}
-use Rattle.bq_simulate.specs.Steps.{AreJust}
+use Rattle.bq_simulate.specs.Drives.{EventIsDriven, IsDriveFault}
+use Rattle.bq_simulate.specs.Steps.{AreJustEvents}
 use Rattle.bq_simulate.proofs.CallLemmas.{calls_fail_for_memory}
-use Rattle.bq_simulate.proofs.DeedLemmas.{Lived-event}
+use Rattle.bq_simulate.proofs.DeedLemmas.{GoesOnBy-event}
 use Rattle.bq_simulate.proofs.WellLemmas.{err-by}
 use Rattle.bq_simulate.proofs.simulation.Simulation.admit_one.Goals as goal
 
-pub returns-clause-befell : goal.returns-clause-befell
-returns-clause-befell g c =
+pub returns-clause-goes_on : goal.returns-clause-goes_on
+returns-clause-goes_on g c =
     let takes = g.S.Sink.takes in
     let kind = c.args.kind.now in
     let reply = c.in_ok-admit.ensures.does.0 in
@@ -22,9 +22,9 @@ returns-clause-befell g c =
     let fits : FitsSigned w8 kind.nice = search rules in
     let did =
     subst (λ (nice : ℤ).
-    Did takes c.args.sink.now c.args.self.now.driver (Admit c.args.task nice kind.mask kind.slice)
+    EventIsDriven takes c.args.sink.now c.args.self.now.driver (Admit c.args.task nice kind.mask kind.slice)
     reply c.admit.new.sink c.admit.new.self) (to_z-of_z w8 kind.nice fits) c.in_ok-admit.ensures.does.1 in
-    Lived-event takes (AreJust (event ∷ [])) _ _ _ _ event reply (reply, [], refl, refl) tt
+    GoesOnBy-event takes (AreJustEvents (event ∷ [])) _ _ _ _ event reply (reply, [], refl, refl) tt
     (record { agrees = λ h. h; periods = refl; seed = refl; streams = refl; firsts = refl }) did refl
 
 pub returns-in_err-admit-clause-ends : goal.returns-in_err-admit-clause-ends

@@ -1,12 +1,12 @@
 use Rattle.std.proofs.Common.{◌≡◌, ◌+◌, ℕ, List, ◌∷◌, [], ◌++◌, arith, ◌∙◌, sym, subst, refl}
 use Rattle.bq_parts.specs.declared.event.Event.{Event}
 use Rattle.bq_parts.specs.declared.event.Event.TheVariants.{Tick}
-use Rattle.bq_simulate.specs.Chronicles.{Deed}
-use Rattle.bq_simulate.specs.Steps.{AreJust, last_ticks}
-use Rattle.bq_simulate.proofs.DeedLemmas.{Lived-join, Lived-same, Lived-weaker, Same-here}
+use Rattle.bq_simulate.specs.Deeds.{Deed}
+use Rattle.bq_simulate.specs.Steps.{AreJustEvents, last_ticks}
+use Rattle.bq_simulate.proofs.DeedLemmas.{GoesOnBy-join, GoesOnBy-same, GoesOnBy-weaker, OnlyPlansOrCounts-here}
 use Rattle.bq_simulate.proofs.EndWellLemmas.{ticked-well}
 use Rattle.bq_simulate.proofs.ProcessorStateLemmas.{each_more}
-use Rattle.bq_simulate.proofs.StepLemmas.{AreJust-join}
+use Rattle.bq_simulate.proofs.StepLemmas.{AreJustEvents-join}
 use Rattle.bq_simulate.proofs.WellLemmas.{err-by}
 use Rattle.bq_simulate.proofs.simulation.Simulation.finish.Goals as goal
 
@@ -18,29 +18,29 @@ processors-preserved g c =
     let next = Tick count end ∷ [] in
     let after = last_ticks end (count + 1) in
     let events : before ++ next ≡ after = sym (each_more (λ processor. Tick processor end) count) in
-    let join : (xs ys : List Deed) → AreJust before xs → AreJust next ys → AreJust after (xs ++ ys) =
-    λ xs ys h k. subst (λ (l : List Event). AreJust l (xs ++ ys)) events (AreJust-join before next xs ys h k) in
+    let join : (xs ys : List Deed) → AreJustEvents before xs → AreJustEvents next ys → AreJustEvents after (xs ++ ys) =
+    λ xs ys h k. subst (λ (l : List Event). AreJustEvents l (xs ++ ys)) events (AreJustEvents-join before next xs ys h k) in
     record {
-      befell = λ kinds.
-          Lived-join g.S.Sink.takes kinds (AreJust before) (AreJust next) (AreJust after) join _ _ _ _ _ _
-          (c.processors.invariant.befell kinds) (c.in_ok-tick.ensures.befell kinds);
+      goes_on = λ kinds.
+          GoesOnBy-join g.S.Sink.takes kinds (AreJustEvents before) (AreJustEvents next) (AreJustEvents after) join _ _ _ _ _ _
+          (c.processors.invariant.goes_on kinds) (c.in_ok-tick.ensures.goes_on kinds);
     }
 
 pub processors-init : goal.processors-init
-processors-init g c = record { befell = Lived-same g.S.Sink.takes (AreJust []) refl _ _ _ (Same-here _) }
+processors-init g c = record { goes_on = GoesOnBy-same g.S.Sink.takes (AreJustEvents []) refl _ _ _ (OnlyPlansOrCounts-here _) }
 
-pub returns-clause-befell : goal.returns-clause-befell
-returns-clause-befell g c =
+pub returns-clause-goes_on : goal.returns-clause-goes_on
+returns-clause-goes_on g c =
     let all : c.processors.processor ≡ c.args.processors = omega (arith, c.processors-test.false, c.processors.auto.processor-end) in
-    let ticks : ℕ → List Deed → Type 0 = λ n. AreJust (last_ticks c.args.end n) in
+    let ticks : ℕ → List Deed → Type 0 = λ n. AreJustEvents (last_ticks c.args.end n) in
     λ kinds.
-    Lived-weaker g.S.Sink.takes kinds (ticks c.processors.processor) (ticks c.args.processors)
-    (λ xs are. subst (λ (n : ℕ). ticks n xs) all are) _ _ _ _ (c.processors.invariant.befell kinds)
+    GoesOnBy-weaker g.S.Sink.takes kinds (ticks c.processors.processor) (ticks c.args.processors)
+    (λ xs are. subst (λ (n : ℕ). ticks n xs) all are) _ _ _ _ (c.processors.invariant.goes_on kinds)
 
 pub returns-in_err-tick-clause-ends : goal.returns-in_err-tick-clause-ends
 returns-in_err-tick-clause-ends g c = λ w well few.
     let here =
     ticked-well g.S.Sink.takes _ _ w c.args.end c.processors.processor _ _
-    (c.processors.invariant.befell w.tasks.items) well in
+    (c.processors.invariant.goes_on w.tasks.items) well in
     let wants = c.in_err-tick.ensures.ends w here.0 (omega (arith, c.processors-test.true, few, here.1)) in
     err-by c.from_residual.result c.from_residual.ensures.1 (λ e is. is ∙ wants)

@@ -1,16 +1,16 @@
 use Rattle.std.proofs.Common.{◌≡◌, ◌≤◌, inl, inr, refl, sym, subst, ◌∙◌, arith}
 use Rattle.std.proofs.lemmas.Option.{MatchOption-at_none, MatchOption-at_some}
-use Rattle.bq_workload.specs.declared.roster.Periods.{Periods}
+use Rattle.bq_workload.specs.declared.periods.Periods.{Periods}
 use Rattle.bq_workload.specs.Accounts.{accounts_of}
 use Rattle.bq_workload.specs.Next.{IsAgreed, IsNextDue, NothingComes}
 use Rattle.bq_simulate.specs.Simulations.{book_of}
 use Rattle.bq_simulate.specs.Steps.{AreAllMet}
 use Rattle.bq_simulate.proofs.BoundLemmas.{bound-passed, counted-well, none-came}
-use Rattle.bq_simulate.proofs.DeedLemmas.{Lived-same, Same-here}
-use Rattle.bq_simulate.proofs.OrderLemmas.{met-more}
+use Rattle.bq_simulate.proofs.DeedLemmas.{GoesOnBy-same, OnlyPlansOrCounts-here}
+use Rattle.bq_simulate.proofs.BookLemmas.{met-more}
 use Rattle.bq_simulate.proofs.StepLemmas.{AreMet-none}
 use Rattle.bq_simulate.proofs.WellLemmas.{comes-well, err-by, met-well, wants-no-end}
-use Rattle.bq_simulate.proofs.WholeLemmas.{LivedFrom-all, LivedFrom-within}
+use Rattle.bq_simulate.proofs.WholeLemmas.{GoesOnFromBook-all, GoesOnFromBook-within}
 use Rattle.bq_simulate.proofs.simulation.Simulation.go_on.Goals as goal
 use Rattle.bq_simulate.proofs.simulation.Simulation.go_on.Goals.{then-now-last-via-then-now-last, then-now-last-via-else-now-last+then-now-end}
 
@@ -27,21 +27,21 @@ steps-preserved g c =
     MatchOption-at_some (NothingComes here.periods.end (accounts_of here))
     (λ d. IsNextDue here.periods.end (accounts_of here) d.1 d.0) (now, due) c.in-Some.is (c.first.ensures.next agreed) in
     record {
-      lived =
+      goes_on =
           met-more g.S.Sink.takes c.args.workload.now.tasks.items count last now due _ _ _ _ _ _ later next
-          c.steps.invariant.lived c.in_ok-meet.ensures.lived;
+          c.steps.invariant.goes_on c.in_ok-meet.ensures.goes_on;
       within = omega (arith, c.if-now-end.false);
       well = λ begins.
           let w = c.args.workload.now in
           let well = c.steps.invariant.well begins in
           let comes = comes-well w last now due c.steps.self well (next well.agreed) in
-          met-well g.S.Sink.takes _ _ w due now _ _ c.in_ok-meet.ensures.lived comes.2;
+          met-well g.S.Sink.takes _ _ w due now _ _ c.in_ok-meet.ensures.goes_on comes.2;
       counted = λ begins many.
           let w = c.args.workload.now in
           let well = c.steps.invariant.well begins in
           let was = c.steps.invariant.counted begins many in
           let comes = comes-well w last now due c.steps.self well (next well.agreed) in
-          counted-well g.S.Sink.takes _ _ w due count last now _ _ later (next well.agreed) c.in_ok-meet.ensures.lived comes.2 was.0 was.1;
+          counted-well g.S.Sink.takes _ _ w due count last now _ _ later (next well.agreed) c.in_ok-meet.ensures.goes_on comes.2 was.0 was.1;
     }
 
 pub steps-init : goal.steps-init
@@ -49,9 +49,9 @@ steps-init g c =
     let was = c.args.self.now in
     let kinds = c.args.workload.now.tasks.items in
     record {
-      lived = λ drawn had firsts agreed.
-          Lived-same g.S.Sink.takes (AreAllMet kinds was.seed was.roster.periods 0 0 (book_of was drawn))
-          (AreMet-none kinds was.seed was.roster.periods (book_of was drawn)) _ _ _ (Same-here _) kinds drawn had firsts;
+      goes_on = λ drawn had firsts agreed.
+          GoesOnBy-same g.S.Sink.takes (AreAllMet kinds was.seed was.roster.periods 0 0 (book_of was drawn))
+          (AreMet-none kinds was.seed was.roster.periods (book_of was drawn)) _ _ _ (OnlyPlansOrCounts-here _) kinds drawn had firsts;
       within = omega arith;
       well = λ begins. begins;
       counted = λ begins many. (many, none-came c.args.workload.now was.driver (book_of was begins.drawn) begins.sound begins.kept many);
@@ -64,19 +64,19 @@ returns-in_default-clause-none g c =
     MatchOption-at_none (NothingComes here.periods.end (accounts_of here))
     (λ d. IsNextDue here.periods.end (accounts_of here) d.1 d.0) c.in_default.is (c.first.ensures.next agreed)
 
-pub returns-in_default-clause-lived : goal.returns-in_default-clause-lived
-returns-in_default-clause-lived g c =
+pub returns-in_default-clause-goes_on : goal.returns-in_default-clause-goes_on
+returns-in_default-clause-goes_on g c =
     let was = c.args.self.now in
     let few : c.steps.counter ≤ c.args.most = omega (arith, c.steps-test.true) in
-    LivedFrom-within g.S.Sink.takes c.args.workload.now.tasks.items was.seed was.roster.periods c.steps.counter c.args.most
-    c.steps.last c.args.workload.now.machine.duration _ _ _ _ few c.steps.invariant.within c.steps.invariant.lived
+    GoesOnFromBook-within g.S.Sink.takes c.args.workload.now.tasks.items was.seed was.roster.periods c.steps.counter c.args.most
+    c.steps.last c.args.workload.now.machine.duration _ _ _ _ few c.steps.invariant.within c.steps.invariant.goes_on
 
-pub returns-then-has_enough-clause-lived : goal.returns-then-has_enough-clause-lived
-returns-then-has_enough-clause-lived g c =
+pub returns-then-has_enough-clause-goes_on : goal.returns-then-has_enough-clause-goes_on
+returns-then-has_enough-clause-goes_on g c =
     let was = c.args.self.now in
     let few : c.steps.counter ≤ c.args.most = omega (arith, c.steps-test.true) in
-    LivedFrom-within g.S.Sink.takes c.args.workload.now.tasks.items was.seed was.roster.periods c.steps.counter c.args.most
-    c.steps.last c.args.workload.now.machine.duration _ _ _ _ few c.steps.invariant.within c.steps.invariant.lived
+    GoesOnFromBook-within g.S.Sink.takes c.args.workload.now.tasks.items was.seed was.roster.periods c.steps.counter c.args.most
+    c.steps.last c.args.workload.now.machine.duration _ _ _ _ few c.steps.invariant.within c.steps.invariant.goes_on
 
 -- what comes next is neither past nor beyond the end
 pub returns-in_err-meet-clause-ends : goal.returns-in_err-meet-clause-ends
@@ -142,5 +142,5 @@ pub returns-clause-endless : goal.returns-clause-endless
 returns-clause-endless g c = λ begins is.
     let was = c.args.self.now in
     let all : c.steps.counter ≡ c.args.most = omega (arith, c.steps-test.false, c.steps.auto.counter-end) in
-    LivedFrom-all g.S.Sink.takes c.args.workload.now.tasks.items was.seed was.roster.periods c.steps.counter c.args.most
-    c.steps.last c.args.workload.now.machine.duration _ _ _ _ all c.steps.invariant.within c.steps.invariant.lived
+    GoesOnFromBook-all g.S.Sink.takes c.args.workload.now.tasks.items was.seed was.roster.periods c.steps.counter c.args.most
+    c.steps.last c.args.workload.now.machine.duration _ _ _ _ all c.steps.invariant.within c.steps.invariant.goes_on

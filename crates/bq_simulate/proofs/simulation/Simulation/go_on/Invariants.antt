@@ -1,14 +1,14 @@
 use Rattle.std.proofs.Common.{◌≤◌}
 use Rattle.bq_workload.specs.Accounts.{accounts_of}
-use Rattle.bq_simulate.specs.Order.{SimulationGoesWell, HasProcessors}
-use Rattle.bq_simulate.specs.Simulations.{LivedFrom}
+use Rattle.bq_simulate.specs.GoingWell.{SimulationGoesWell, HasProcessors}
+use Rattle.bq_simulate.specs.Simulations.{GoesOnFromBook}
 use Rattle.bq_simulate.specs.Steps.{AreAllMet}
 use Rattle.bq_simulate.proofs.BoundLemmas.{IsCounted}
 use Rattle.bq_simulate.proofs.simulation.Simulation.go_on.Given as goal
 
 abbrev pub invariant-steps : goal.invariant-steps
 invariant-steps g l = record {
-  lived : LivedFrom g.S.Sink.takes l.workload.tasks.items
+  goes_on : GoesOnFromBook g.S.Sink.takes l.workload.tasks.items
       (AreAllMet l.workload.tasks.items l.initial.self.seed l.initial.self.roster.periods l.counter l.last)
       l.initial.sink l.initial.self l.sink l.self;
   within : l.last ≤ l.end;

@@ -5,10 +5,10 @@ use Rattle.bq_parts.specs.declared.event.Event.TheVariants.{Draw}
 use Rattle.bq_parts.specs.declared.reply.Reply.TheVariants.{Drawn}
 use Rattle.bq_verify.specs.Accepted.{Accepted}
 use Rattle.bq_simulate.specs.AgreementLaws.{FailsForMemory}
-use Rattle.bq_simulate.specs.Chronicles.{Deed}
-use Rattle.bq_simulate.specs.Steps.{AreInstalled, AreJust, IsInstalled, installs_of}
+use Rattle.bq_simulate.specs.Deeds.{Deed}
+use Rattle.bq_simulate.specs.Steps.{AreInstalled, AreJustEvents, IsInstalled, installs_of}
 use Rattle.bq_simulate.proofs.CallLemmas.{calls_fail_for_memory}
-use Rattle.bq_simulate.proofs.DeedLemmas.{Lived-event, Lived-join, Lived-same, Lived-weaker, Same-here}
+use Rattle.bq_simulate.proofs.DeedLemmas.{GoesOnBy-event, GoesOnBy-join, GoesOnBy-same, GoesOnBy-weaker, OnlyPlansOrCounts-here}
 use Rattle.bq_simulate.proofs.InstallLemmas.{AreInstalled-next}
 use Rattle.bq_simulate.proofs.NewerLemmas.{drawn-newer}
 use Rattle.bq_simulate.proofs.OpenWellLemmas.{IsDrawn, draw-opens, installed-well, opens-well}
@@ -27,10 +27,10 @@ policies-preserved g c =
     let there : slice_get policies number ≡ Some policy =
     slice_get_read policies _ number policy refl c.policies-test.true c.policy-item.is in
     let drawn =
-    Lived-event takes (IsDrawn generation) _ _ _ _ Draw (Drawn generation) refl tt
+    GoesOnBy-event takes (IsDrawn generation) _ _ _ _ Draw (Drawn generation) refl tt
     (record { agrees = λ h. h; periods = refl; seed = refl; streams = refl; firsts = refl })
     c.in_ok-generation.ensures.does refl in
-    let installs = AreJust (installs_of all generation policy) in
+    let installs = AreJustEvents (installs_of all generation policy) in
     let one = IsInstalled all policy in
     let both : (xs ys : List Deed) → IsDrawn generation xs → installs ys → one (xs ++ ys) =
     λ xs ys draw install. (generation, ys, ap (λ (l : List Deed). l ++ ys) draw, install) in
@@ -39,10 +39,10 @@ policies-preserved g c =
     let more : (xs ys : List Deed) → before xs → one ys → after (xs ++ ys) =
     λ xs ys h k. AreInstalled-next all policies number policy xs ys there h k in
     record {
-      befell = λ kinds.
-          Lived-join takes kinds before one after more _ _ _ _ _ _ (c.policies.invariant.befell kinds)
-          (Lived-join takes kinds (IsDrawn generation) installs one both _ _ _ _ _ _ (drawn kinds)
-          (c.in_ok-install_one.ensures.befell kinds));
+      goes_on = λ kinds.
+          GoesOnBy-join takes kinds before one after more _ _ _ _ _ _ (c.policies.invariant.goes_on kinds)
+          (GoesOnBy-join takes kinds (IsDrawn generation) installs one both _ _ _ _ _ _ (drawn kinds)
+          (c.in_ok-install_one.ensures.goes_on kinds));
       roster = c.in_ok-install_one.ensures.roster ∙ c.policies.invariant.roster;
       streams = c.in_ok-install_one.ensures.streams ∙ c.policies.invariant.streams;
       firsts = c.in_ok-install_one.ensures.firsts ∙ c.policies.invariant.firsts;
@@ -56,7 +56,7 @@ policies-preserved g c =
 
 pub policies-init : goal.policies-init
 policies-init g c = record {
-  befell = Lived-same g.S.Sink.takes (AreInstalled c.args.processors []) refl _ _ _ (Same-here _);
+  goes_on = GoesOnBy-same g.S.Sink.takes (AreInstalled c.args.processors []) refl _ _ _ (OnlyPlansOrCounts-here _);
   roster = refl;
   streams = refl;
   firsts = refl;
@@ -64,16 +64,16 @@ policies-init g c = record {
   generations = λ none. none;
 }
 
-pub returns-clause-befell : goal.returns-clause-befell
-returns-clause-befell g c =
+pub returns-clause-goes_on : goal.returns-clause-goes_on
+returns-clause-goes_on g c =
     let policies : List Accepted = c.args.policies.now in
     let all = c.args.processors in
     let number = c.policies.policy-index in
     let late : length policies ≤ number = c.policies-test.false in
     λ kinds.
-    Lived-weaker g.S.Sink.takes kinds (AreInstalled all (take number policies)) (AreInstalled all policies)
+    GoesOnBy-weaker g.S.Sink.takes kinds (AreInstalled all (take number policies)) (AreInstalled all policies)
     (λ xs are. subst (λ (l : List Accepted). AreInstalled all l xs) (take_all number policies late) are) _ _ _ _
-    (c.policies.invariant.befell kinds)
+    (c.policies.invariant.goes_on kinds)
 
 pub returns-in_err-generation-clause-ends : goal.returns-in_err-generation-clause-ends
 returns-in_err-generation-clause-ends g c = λ w starts all.
@@ -88,10 +88,10 @@ returns-in_err-install_one-clause-ends g c = λ w starts all.
     let number = c.policies.policy-index in
     let early : number < 2 ^ 64 - 1 = omega (arith, c.policies-test.true) in
     let before =
-    installed-well takes _ _ w (take number policies) c.args.processors _ c.policies.self all c.policies.invariant.befell
+    installed-well takes _ _ w (take number policies) c.args.processors _ c.policies.self all c.policies.invariant.goes_on
     c.policies.invariant.counts starts.opens in
     let drawn =
-    Lived-event takes (IsDrawn generation) _ _ _ _ Draw (Drawn generation) refl tt
+    GoesOnBy-event takes (IsDrawn generation) _ _ _ _ Draw (Drawn generation) refl tt
     (record { agrees = λ h. h; periods = refl; seed = refl; streams = refl; firsts = refl })
     c.in_ok-generation.ensures.does refl in
     let well =

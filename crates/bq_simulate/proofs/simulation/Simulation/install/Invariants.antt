@@ -1,12 +1,12 @@
 use Rattle.std.proofs.Common.{◌≡◌, take}
-use Rattle.bq_simulate.specs.Order.{HasGenerations}
-use Rattle.bq_simulate.specs.Simulations.{Befell}
+use Rattle.bq_simulate.specs.GoingWell.{HasGenerations}
+use Rattle.bq_simulate.specs.Simulations.{GoesOnForAnyKinds}
 use Rattle.bq_simulate.specs.Steps.{AreInstalled}
 use Rattle.bq_simulate.proofs.simulation.Simulation.install.Given as goal
 
 abbrev pub invariant-policies : goal.invariant-policies
 invariant-policies g l = record {
-  befell : Befell g.S.Sink.takes (AreInstalled l.processors (take l.policy-index l.policies)) l.initial.sink l.initial.self l.sink l.self;
+  goes_on : GoesOnForAnyKinds g.S.Sink.takes (AreInstalled l.processors (take l.policy-index l.policies)) l.initial.sink l.initial.self l.sink l.self;
   roster : l.self.roster ≡ l.initial.self.roster;
   streams : l.self.streams ≡ l.initial.self.streams;
   firsts : l.self.firsts ≡ l.initial.self.firsts;

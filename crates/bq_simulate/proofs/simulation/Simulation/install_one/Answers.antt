@@ -6,15 +6,15 @@ use Rattle.bq_verify.specs.Accepted.{Accepted}
 use Rattle.bq_parts.specs.World.{count_in}
 use Rattle.bq_workload.specs.Accounts.{accounts_of}
 use Rattle.bq_simulate.specs.AgreementLaws.{FailsForMemory}
-use Rattle.bq_simulate.specs.Chronicles.{Deed}
+use Rattle.bq_simulate.specs.Deeds.{Deed}
 use Rattle.bq_simulate.specs.Drives.{IsDriveFault}
-use Rattle.bq_simulate.specs.Steps.{AreJust, installs_of}
-use Rattle.bq_simulate.proofs.DeedLemmas.{Lived-drove, Lived-join, Lived-same, Lived-weaker, Same-here}
+use Rattle.bq_simulate.specs.Steps.{AreJustEvents, installs_of}
+use Rattle.bq_simulate.proofs.DeedLemmas.{GoesOnBy-drove, GoesOnBy-join, GoesOnBy-same, GoesOnBy-weaker, OnlyPlansOrCounts-here}
 use Rattle.bq_simulate.proofs.InstallLemmas.{installs_more}
 use Rattle.bq_simulate.proofs.NewerLemmas.{installed-newer}
 use Rattle.bq_simulate.proofs.CallLemmas.{calls_fail_for_memory}
 use Rattle.bq_simulate.proofs.OpenWellLemmas.{installs-open, opens-well}
-use Rattle.bq_simulate.proofs.StepLemmas.{AreJust-join}
+use Rattle.bq_simulate.proofs.StepLemmas.{AreJustEvents-join}
 use Rattle.bq_simulate.proofs.WellLemmas.{err-by}
 use Rattle.bq_simulate.proofs.simulation.Simulation.install_one.Goals as goal
 
@@ -29,18 +29,18 @@ processors-preserved g c =
     ap (λ (h : Hook). Install count h generation (Some c.in_ok-copy.copy)) c.hook.ensures
     ∙ ap (λ (p : Accepted). Install count policy.hook generation (Some p)) c.in_ok-copy.ensures.cases in
     let installed =
-    Lived-drove takes (AreJust (event ∷ [])) _ _ _ _ event (λ reply. (reply, [], refl, refl)) tt
+    GoesOnBy-drove takes (AreJustEvents (event ∷ [])) _ _ _ _ event (λ reply. (reply, [], refl, refl)) tt
     (record { agrees = λ h. h; periods = refl; seed = refl; streams = refl; firsts = refl })
     (λ reply a. refl) c.in_ok-install.ensures.does refl in
     let before = installs_of count generation policy in
     let after = installs_of (count + 1) generation policy in
     let events : before ++ event ∷ [] ≡ after = ap (λ (e : Event). before ++ e ∷ []) same ∙ sym (installs_more count generation policy) in
-    let join : (xs ys : List Deed) → AreJust before xs → AreJust (event ∷ []) ys → AreJust after (xs ++ ys) =
-    λ xs ys h k. subst (λ (l : List Event). AreJust l (xs ++ ys)) events (AreJust-join before (event ∷ []) xs ys h k) in
+    let join : (xs ys : List Deed) → AreJustEvents before xs → AreJustEvents (event ∷ []) ys → AreJustEvents after (xs ++ ys) =
+    λ xs ys h k. subst (λ (l : List Event). AreJustEvents l (xs ++ ys)) events (AreJustEvents-join before (event ∷ []) xs ys h k) in
     record {
-      befell = λ kinds.
-          Lived-join takes kinds (AreJust before) (AreJust (event ∷ [])) (AreJust after) join _ _ _ _ _ _
-          (c.processors.invariant.befell kinds) (installed kinds);
+      goes_on = λ kinds.
+          GoesOnBy-join takes kinds (AreJustEvents before) (AreJustEvents (event ∷ [])) (AreJustEvents after) join _ _ _ _ _ _
+          (c.processors.invariant.goes_on kinds) (installed kinds);
       roster = c.processors.invariant.roster;
       streams = c.processors.invariant.streams;
       firsts = c.processors.invariant.firsts;
@@ -53,7 +53,7 @@ processors-preserved g c =
 
 pub processors-init : goal.processors-init
 processors-init g c = record {
-  befell = Lived-same g.S.Sink.takes (AreJust []) refl _ _ _ (Same-here _);
+  goes_on = GoesOnBy-same g.S.Sink.takes (AreJustEvents []) refl _ _ _ (OnlyPlansOrCounts-here _);
   roster = refl;
   streams = refl;
   firsts = refl;
@@ -61,13 +61,13 @@ processors-init g c = record {
   generations = λ all drawn newer. (drawn, newer);
 }
 
-pub returns-clause-befell : goal.returns-clause-befell
-returns-clause-befell g c =
+pub returns-clause-goes_on : goal.returns-clause-goes_on
+returns-clause-goes_on g c =
     let all : c.processors.processor ≡ c.args.processors = omega (arith, c.processors-test.false, c.processors.auto.processor-end) in
-    let installs : ℕ → List Deed → Type 0 = λ n. AreJust (installs_of n c.args.generation c.args.policy.now) in
+    let installs : ℕ → List Deed → Type 0 = λ n. AreJustEvents (installs_of n c.args.generation c.args.policy.now) in
     λ kinds.
-    Lived-weaker g.S.Sink.takes kinds (installs c.processors.processor) (installs c.args.processors)
-    (λ xs are. subst (λ (n : ℕ). installs n xs) all are) _ _ _ _ (c.processors.invariant.befell kinds)
+    GoesOnBy-weaker g.S.Sink.takes kinds (installs c.processors.processor) (installs c.args.processors)
+    (λ xs are. subst (λ (n : ℕ). installs n xs) all are) _ _ _ _ (c.processors.invariant.goes_on kinds)
 
 pub returns-clause-generations : goal.returns-clause-generations
 returns-clause-generations g c = λ count newer. (c.processors.invariant.generations count newer.0 newer.1).0
@@ -81,7 +81,7 @@ returns-in_err-install-clause-ends g c = λ w drawn opens newer all.
     let left = (c.processors.invariant.generations drawn newer.0 newer.1).1 in
     let well =
     opens-well g.S.Sink.takes _ _ _ w 0 0 _ _ (installs-open w c.args.self.now.seed 0 count generation policy)
-    (ap (λ k. k.tasks) c.processors.invariant.counts ∙ opens.counted) (c.processors.invariant.befell w.tasks.items) opens in
+    (ap (λ k. k.tasks) c.processors.invariant.counts ∙ opens.counted) (c.processors.invariant.goes_on w.tasks.items) opens in
     let low : count < count_in here.driver.machine.world = omega (arith, c.processors-test.true, all, well.opening.processors_there) in
     let fails : FailsForMemory here.driver (Install count policy.hook generation (Some policy)) =
     calls_fail_for_memory.installs here.driver (accounts_of here.roster) count generation policy well.opening.agree low

@@ -6,11 +6,11 @@ use Rattle.bq_workload.specs.declared.roster.Roster.{Roster}
 use Rattle.bq_workload.specs.TaskProgress.{fresh_task}
 use Rattle.bq_workload.specs.Next.{StaysAgreed}
 use Rattle.bq_workload.proofs.DueLemmas.{added-agreed}
-use Rattle.bq_simulate.proofs.DeedLemmas.{Silent-joins}
+use Rattle.bq_simulate.proofs.DeedLemmas.{GoesOnUnreported-joins}
 use Rattle.bq_simulate.proofs.simulation.Simulation.join.Goals as goal
 
-pub returns-in-Ok-clause-silent : goal.returns-in-Ok-clause-silent
-returns-in-Ok-clause-silent c =
+pub returns-in-Ok-clause-goes_on : goal.returns-in-Ok-clause-goes_on
+returns-in-Ok-clause-goes_on c =
     let was = c.args.self.now in
     let place : c.args.task ≡ length was.streams.items = grind (arith, c.len.ensures, c.from.ensures, c.if-len-from.false) in
     let stream = c.of_task.ensures ∙ ap (stream_of_task was.seed) place in
@@ -26,7 +26,7 @@ returns-in-Ok-clause-silent c =
     (ap (λ (k : TaskProgress). k.task_state) c.new.ensures) (ap (λ (k : TaskProgress). k.timer) c.new.ensures) added.by_task
     added.by_processor added.event_queue added.periods plan.planned plan.by_task plan.by_processor plan.periods in
     λ kinds of first equal.
-    Silent-joins kinds _ _ c.args.kind c.args.home (agrees equal) (plan.periods ∙ added.periods) refl refl refl
+    GoesOnUnreported-joins kinds _ _ c.args.kind c.args.home (agrees equal) (plan.periods ∙ added.periods) refl refl refl
     (ap (λ l. l.items) plan.by_task ∙ added.by_task
     ∙ ap (λ (k : TaskProgress). was.roster.by_task.items ++ k ∷ []) (c.new.ensures ∙ ap (fresh_task c.args.kind c.args.home) first))
     (ap (λ l. l.items) (plan.by_processor ∙ added.by_processor))

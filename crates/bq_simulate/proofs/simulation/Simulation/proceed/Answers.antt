@@ -2,17 +2,17 @@
 use Rattle.std.proofs.Common.{ℕ, inl, length, ap, subst, sym, ◌∙◌}
 use Rattle.bq_words.specs.Sizes.{processors_in}
 use Rattle.bq_workload.specs.Bounds.{most_steps}
-use Rattle.bq_simulate.specs.Order.{EndsEarly}
-use Rattle.bq_simulate.specs.Simulations.{LivedFrom}
+use Rattle.bq_simulate.specs.GoingWell.{EndsEarly}
+use Rattle.bq_simulate.specs.Simulations.{GoesOnFromBook}
 use Rattle.bq_simulate.specs.Steps.{AreAllAdmitted, AreAllMet, AreInstalled, AreMet, Opens}
-use Rattle.bq_simulate.proofs.DeedLemmas.{Lived-join, Lived-weaker}
+use Rattle.bq_simulate.proofs.DeedLemmas.{GoesOnBy-join, GoesOnBy-weaker}
 use Rattle.bq_simulate.proofs.OpenWellLemmas.{installed-well, opened-well, streams-there}
 use Rattle.bq_simulate.proofs.WellLemmas.{err-by, wants-no-end}
 use Rattle.bq_simulate.proofs.WholeLemmas.{Opens-join, Proceeds-join, ProceedsBy-join}
 use Rattle.bq_simulate.proofs.simulation.Simulation.proceed.Goals as goal
 
-pub returns-clause-lived : goal.returns-clause-lived
-returns-clause-lived g c =
+pub returns-clause-goes_on : goal.returns-clause-goes_on
+returns-clause-goes_on g c =
     let takes = g.S.Sink.takes in
     let w = c.args.workload.now in
     let kinds = w.tasks.items in
@@ -24,17 +24,17 @@ returns-clause-lived g c =
     let installs = AreInstalled all policies in
     let opens = Opens policies all kinds in
     let installed =
-    Lived-weaker takes kinds (AreInstalled c.processors-processors.result policies) installs
+    GoesOnBy-weaker takes kinds (AreInstalled c.processors-processors.result policies) installs
     (λ xs are. subst (λ (n : ℕ). AreInstalled n policies xs) c.processors-processors.ensures are) _ _ _ _
-    (c.in_ok-install.ensures.befell kinds) in
+    (c.in_ok-install.ensures.goes_on kinds) in
     let opened =
-    Lived-join takes kinds installs admits opens (Opens-join policies all kinds) _ _ _ _ _ _
-    installed c.in_ok-admit.ensures.lived in
+    GoesOnBy-join takes kinds installs admits opens (Opens-join policies all kinds) _ _ _ _ _ _
+    installed c.in_ok-admit.ensures.goes_on in
     let was = c.args.self.now in
     let mid = c.admit.new.self in
     let met =
-    subst (λ (n : ℕ). LivedFrom takes kinds (AreMet kinds mid.seed mid.roster.periods n end) c.admit.new.sink mid c.go_on.new.sink ended)
-    c.most_steps.ensures c.in_ok-go_on.ensures.lived in
+    subst (λ (n : ℕ). GoesOnFromBook takes kinds (AreMet kinds mid.seed mid.roster.periods n end) c.admit.new.sink mid c.go_on.new.sink ended)
+    c.most_steps.ensures c.in_ok-go_on.ensures.goes_on in
     Proceeds-join takes policies all kinds (most_steps w) end _ _ _ was mid ended opened met
 
 pub returns-in_err-install-clause-ends : goal.returns-in_err-install-clause-ends
@@ -47,7 +47,7 @@ returns-in_err-admit-clause-ends g c = λ starts.
     let w = c.args.workload.now in
     let one =
     installed-well g.S.Sink.takes _ _ w c.args.policies.now _ _ _ c.processors-processors.ensures
-    c.in_ok-install.ensures.befell c.in_ok-install.ensures.counts starts.opens in
+    c.in_ok-install.ensures.goes_on c.in_ok-install.ensures.counts starts.opens in
     let none = ap (λ v. length v.items) c.in_ok-install.ensures.firsts ∙ starts.none in
     let wants = c.in_err-admit.ensures.ends one none in
     err-by c.from_residual-in_err-admit.result c.from_residual-in_err-admit.ensures.1 (λ e is. inl (is ∙ wants))
@@ -57,7 +57,7 @@ returns-in_err-tasks-clause-ends g c = λ starts.
     let w = c.args.workload.now in
     let one =
     installed-well g.S.Sink.takes _ _ w c.args.policies.now _ _ _ c.processors-processors.ensures
-    c.in_ok-install.ensures.befell c.in_ok-install.ensures.counts starts.opens in
+    c.in_ok-install.ensures.goes_on c.in_ok-install.ensures.counts starts.opens in
     let all = c.in_ok-admit.ensures.well one in
     absurd (c.in_err-tasks.ensures.stray (all.counted ∙ sym (streams-there w _ _ all)))
 
@@ -66,7 +66,7 @@ returns-in_err-go_on-clause-ends g c = λ starts.
     let w = c.args.workload.now in
     let one =
     installed-well g.S.Sink.takes _ _ w c.args.policies.now _ _ _ c.processors-processors.ensures
-    c.in_ok-install.ensures.befell c.in_ok-install.ensures.counts starts.opens in
+    c.in_ok-install.ensures.goes_on c.in_ok-install.ensures.counts starts.opens in
     let none = ap (λ v. length v.items) c.in_ok-install.ensures.firsts ∙ starts.none in
     let all = c.in_ok-admit.ensures.well one in
     let many = all.opening.agree.mirrors.processors.many ∙ all.opening.processors_there in
@@ -78,7 +78,7 @@ returns-clause-well g c = λ starts.
     let w = c.args.workload.now in
     let one =
     installed-well g.S.Sink.takes _ _ w c.args.policies.now _ _ _ c.processors-processors.ensures
-    c.in_ok-install.ensures.befell c.in_ok-install.ensures.counts starts.opens in
+    c.in_ok-install.ensures.goes_on c.in_ok-install.ensures.counts starts.opens in
     let none = ap (λ v. length v.items) c.in_ok-install.ensures.firsts ∙ starts.none in
     c.in_ok-go_on.ensures.well (opened-well w _ (c.in_ok-admit.ensures.firsts none) (c.in_ok-admit.ensures.well one))
 
@@ -93,7 +93,7 @@ returns-in_err-admit-clause-endless g c = λ starts.
     let w = c.args.workload.now in
     let one =
     installed-well g.S.Sink.takes _ _ w c.args.policies.now _ _ _ c.processors-processors.ensures
-    c.in_ok-install.ensures.befell c.in_ok-install.ensures.counts starts.opens in
+    c.in_ok-install.ensures.goes_on c.in_ok-install.ensures.counts starts.opens in
     let none = ap (λ v. length v.items) c.in_ok-install.ensures.firsts ∙ starts.none in
     let wants = c.in_err-admit.ensures.ends one none in
     err-by c.from_residual-in_err-admit.result c.from_residual-in_err-admit.ensures.1
@@ -104,7 +104,7 @@ returns-in_err-tasks-clause-endless g c = λ starts.
     let w = c.args.workload.now in
     let one =
     installed-well g.S.Sink.takes _ _ w c.args.policies.now _ _ _ c.processors-processors.ensures
-    c.in_ok-install.ensures.befell c.in_ok-install.ensures.counts starts.opens in
+    c.in_ok-install.ensures.goes_on c.in_ok-install.ensures.counts starts.opens in
     let all = c.in_ok-admit.ensures.well one in
     absurd (c.in_err-tasks.ensures.stray (all.counted ∙ sym (streams-there w _ _ all)))
 
@@ -122,22 +122,22 @@ returns-in_err-go_on-clause-endless g c = λ starts.
     let installs = AreInstalled all policies in
     let opens = Opens policies all kinds in
     let installed =
-    Lived-weaker takes kinds (AreInstalled c.processors-processors.result policies) installs
+    GoesOnBy-weaker takes kinds (AreInstalled c.processors-processors.result policies) installs
     (λ xs are. subst (λ (n : ℕ). AreInstalled n policies xs) c.processors-processors.ensures are) _ _ _ _
-    (c.in_ok-install.ensures.befell kinds) in
+    (c.in_ok-install.ensures.goes_on kinds) in
     let opened =
-    Lived-join takes kinds installs admits opens (Opens-join policies all kinds) _ _ _ _ _ _
-    installed c.in_ok-admit.ensures.lived in
+    GoesOnBy-join takes kinds installs admits opens (Opens-join policies all kinds) _ _ _ _ _ _
+    installed c.in_ok-admit.ensures.goes_on in
     let was = c.args.self.now in
     let mid = c.admit.new.self in
     let one =
-    installed-well takes _ _ w policies _ _ _ c.processors-processors.ensures c.in_ok-install.ensures.befell
+    installed-well takes _ _ w policies _ _ _ c.processors-processors.ensures c.in_ok-install.ensures.goes_on
     c.in_ok-install.ensures.counts starts.opens in
     let none = ap (λ v. length v.items) c.in_ok-install.ensures.firsts ∙ starts.none in
     let well = opened-well w _ (c.in_ok-admit.ensures.firsts none) (c.in_ok-admit.ensures.well one) in
     err-by c.from_residual-in_err-go_on.result c.from_residual-in_err-go_on.ensures.1 (λ e is ends.
     let met =
     subst
-    (λ (n : ℕ). LivedFrom takes kinds (AreAllMet kinds mid.seed mid.roster.periods n end) c.admit.new.sink mid c.go_on.new.sink ended)
+    (λ (n : ℕ). GoesOnFromBook takes kinds (AreAllMet kinds mid.seed mid.roster.periods n end) c.admit.new.sink mid c.go_on.new.sink ended)
     c.most_steps.ensures (c.in_err-go_on.ensures.endless well (sym is ∙ ends)) in
     ProceedsBy-join takes policies all kinds (most_steps w) end _ _ _ was mid ended opened met)

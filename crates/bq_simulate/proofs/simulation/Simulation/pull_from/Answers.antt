@@ -1,23 +1,23 @@
 use Rattle.std.proofs.Common.{[], ◌∷◌, ℕ, inl, inr, Option, refl, ap, sym, ◌∙◌}
 use Rattle.std.proofs.lemmas.Result.{err_from_is_err_and}
 use Rattle.bq_parts.specs.declared.event.Event.TheVariants.{Pull}
-use Rattle.bq_simulate.specs.Chronicles.{accounts_pulled}
+use Rattle.bq_simulate.specs.Deeds.{accounts_pulled}
 use Rattle.bq_simulate.specs.Drives.{runs_now}
 use Rattle.bq_workload.specs.Accounts.{Accounts, accounts_of, accounts_switched}
-use Rattle.bq_simulate.specs.Steps.{AreJust}
-use Rattle.bq_simulate.proofs.DeedLemmas.{Lived-event}
+use Rattle.bq_simulate.specs.Steps.{AreJustEvents}
+use Rattle.bq_simulate.proofs.DeedLemmas.{GoesOnBy-event}
 use Rattle.bq_simulate.proofs.WellStepLemmas.{pull_fails, pull_passes, pull_switches}
 use Rattle.bq_simulate.proofs.simulation.Simulation.pull_from.Goals as goal
 
-pub returns-clause-befell : goal.returns-clause-befell
-returns-clause-befell g c =
+pub returns-clause-goes_on : goal.returns-clause-goes_on
+returns-clause-goes_on g c =
     let stated = c.in_ok-moved.ensures.does in
     let was = c.args.self.now.roster in
     let event = Pull c.args.processor c.args.from c.args.now in
     let moved : Option ℕ → Accounts = λ o. accounts_pulled c.args.from c.args.processor o (accounts_of was) in
     let runs = ap (λ (r : Option ℕ). accounts_switched c.args.processor r c.args.now was.periods (moved c.in_ok-moved.moved.task)) (sym stated.1) in
     let takes = ap (λ (o : Option ℕ). accounts_switched c.args.processor (runs_now stated.0) c.args.now was.periods (moved o)) (sym stated.2) in
-    Lived-event g.S.Sink.takes (AreJust (event ∷ [])) _ _ _ _ event stated.0 (stated.0, [], refl, refl) tt
+    GoesOnBy-event g.S.Sink.takes (AreJustEvents (event ∷ [])) _ _ _ _ event stated.0 (stated.0, [], refl, refl) tt
     (record {
       agrees = c.in_ok-keep_pull.ensures.agrees;
       periods = c.in_ok-keep_pull.ensures.periods;

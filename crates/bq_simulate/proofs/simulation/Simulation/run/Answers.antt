@@ -1,12 +1,12 @@
 use Rattle.std.proofs.Common.{ℕ, List, inl, inr, subst, sym, ◌∙◌, true≢false, arith}
-use Rattle.bq_workload.specs.declared.roster.Periods.{Periods}
+use Rattle.bq_workload.specs.declared.periods.Periods.{Periods}
 use Rattle.bq_workload.specs.Accounts.{accounts_of}
 use Rattle.bq_workload.specs.Next.{NothingComes}
-use Rattle.bq_simulate.specs.Chronicles.{Deed}
-use Rattle.bq_simulate.specs.Order.{EndsEarly}
+use Rattle.bq_simulate.specs.Deeds.{Deed}
+use Rattle.bq_simulate.specs.GoingWell.{EndsEarly}
 use Rattle.bq_simulate.specs.Simulations.{ProceedsIn}
-use Rattle.bq_simulate.specs.Steps.{AreJust, last_ticks}
-use Rattle.bq_simulate.proofs.DeedLemmas.{Lived-weaker}
+use Rattle.bq_simulate.specs.Steps.{AreJustEvents, last_ticks}
+use Rattle.bq_simulate.proofs.DeedLemmas.{GoesOnBy-weaker}
 use Rattle.bq_simulate.proofs.EndWellLemmas.{ended-well, keep_phases}
 use Rattle.bq_simulate.proofs.OpenWellLemmas.{processors-there}
 use Rattle.bq_simulate.proofs.SoundKindLemmas.{sound_times}
@@ -15,23 +15,23 @@ use Rattle.bq_simulate.proofs.simulation.Simulation.run.Goals as goal
 
 -- where the sink has enough the rest is left
 pub returns-then-has_enough-clause-runs : goal.returns-then-has_enough-clause-runs
-returns-then-has_enough-clause-runs g c = inr (sym c.has_enough.ensures ∙ c.if-has_enough.true, c.in_ok-tasks.ensures.lived)
+returns-then-has_enough-clause-runs g c = inr (sym c.has_enough.ensures ∙ c.if-has_enough.true, c.in_ok-tasks.ensures.goes_on)
 
 pub returns-clause-runs : goal.returns-clause-runs
 returns-clause-runs g c =
     let kinds = c.args.workload.now.tasks.items in
     let end = c.args.workload.now.machine.duration in
     let ended = c.proceed.new.self in
-    let ticks : ℕ → List Deed → Type 0 = λ n. AreJust (last_ticks end n) in
+    let ticks : ℕ → List Deed → Type 0 = λ n. AreJustEvents (last_ticks end n) in
     inl (record {
       sink = c.proceed.new.sink;
       ended = ended;
-      proceeds = c.in_ok-tasks.ensures.lived;
+      proceeds = c.in_ok-tasks.ensures.goes_on;
       none = c.in_ok-tasks.ensures.none (sym c.has_enough.ensures ∙ c.if-has_enough.false);
       over = sym c.is_over.ensures.over ∙ c.if-not-is_over.false;
       ticks =
-          Lived-weaker g.S.Sink.takes kinds _ _ (λ xs are. subst (λ (n : ℕ). ticks n xs) c.processors-processors.ensures are)
-          _ _ _ _ (c.in_ok-finish.ensures.befell kinds);
+          GoesOnBy-weaker g.S.Sink.takes kinds _ _ (λ xs are. subst (λ (n : ℕ). ticks n xs) c.processors-processors.ensures are)
+          _ _ _ _ (c.in_ok-finish.ensures.goes_on kinds);
     })
 
 pub returns-in_err-tasks-clause-ends : goal.returns-in_err-tasks-clause-ends
@@ -61,7 +61,7 @@ returns-in_err-finish-clause-ends g c = λ starts.
     let was = c.args.self.now in
     let there =
     processors-there g.S.Sink.takes (ProceedsIn c.args.policies.now w was.seed was.roster.periods) _ _ w 0 _ _
-    c.in_ok-tasks.ensures.lived starts.opens in
+    c.in_ok-tasks.ensures.goes_on starts.opens in
     let many = gone.well.kept.agrees.mirrors.processors.many in
     let wants =
     c.in_err-finish.ensures.ends w (ended-well w ended none gone)
@@ -83,7 +83,7 @@ returns-in_err-finish-clause-endless g c = λ starts.
     let was = c.args.self.now in
     let there =
     processors-there g.S.Sink.takes (ProceedsIn c.args.policies.now w was.seed was.roster.periods) _ _ w 0 _ _
-    c.in_ok-tasks.ensures.lived starts.opens in
+    c.in_ok-tasks.ensures.goes_on starts.opens in
     let many = gone.well.kept.agrees.mirrors.processors.many in
     let wants =
     c.in_err-finish.ensures.ends w (ended-well w ended none gone)

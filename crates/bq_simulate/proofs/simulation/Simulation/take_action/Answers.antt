@@ -5,7 +5,7 @@ use Rattle.bq_workload.specs.declared.roster.Roster.{Roster}
 use Rattle.bq_workload.specs.Accounts.{IsPhaseDone, accounts_of}
 use Rattle.bq_simulate.specs.Actions.{acted, asked_by}
 use Rattle.bq_simulate.specs.Simulations.{DrawsFor}
-use Rattle.bq_simulate.proofs.DeedLemmas.{Silent-acts}
+use Rattle.bq_simulate.proofs.DeedLemmas.{GoesOnUnreported-acts}
 use Rattle.bq_simulate.proofs.EndLemmas.{has_ended, no_stray_action, no_stray_end, no_stray_length, no_stray_progress}
 use Rattle.bq_simulate.proofs.StreamLemmas.{kept_roster}
 use Rattle.bq_simulate.proofs.simulation.Simulation.take_action.Goals as goal
@@ -23,7 +23,7 @@ returns-clause-acts c =
     let draws = subst P (c.asked_by.ensures ∙ ap asked_by c.in_ok-action.ensures.action) c.in_ok-length.ensures.drawn in
     let does =
     c.in_ok-after.ensures.next ∙ ap (λ (a : Option Action). acted kinds a length c.args.now before) c.in_ok-action.ensures.action in
-    Silent-acts kinds _ _ _ _ c.args.processor task c.args.now length
+    GoesOnUnreported-acts kinds _ _ _ _ c.args.processor task c.args.now length
     c.in_ok-action.action before c.in_ok-after.after c.in_ok-action.ensures.action
     (record { agrees = ended.agrees; periods = ended.periods; seed = refl; streams = refl; firsts = refl }) refl ended.accounts
     ended.done draws does (record { agrees = set.agrees; periods = set.periods; seed = refl; streams = refl; firsts = refl })

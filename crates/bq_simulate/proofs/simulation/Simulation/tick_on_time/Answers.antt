@@ -5,17 +5,17 @@ use Rattle.bq_workload.specs.Accounts.{Accounts, accounts_of}
 use Rattle.bq_workload.specs.declared.due.Due.TheVariants as due
 use Rattle.bq_parts.specs.declared.event.Event.TheVariants.{Tick}
 use Rattle.bq_simulate.specs.declared.simulation.Simulation.{Simulation}
-use Rattle.bq_simulate.specs.Chronicles.{is_busy}
-use Rattle.bq_simulate.specs.Steps.{AreJust, Meet}
+use Rattle.bq_simulate.specs.Deeds.{is_busy}
+use Rattle.bq_simulate.specs.Steps.{AreJustEvents, DeedsMeet}
 use Rattle.bq_simulate.proofs.AccountLemmas.{changed_at-length}
-use Rattle.bq_simulate.proofs.DeedLemmas.{Befell-beats}
+use Rattle.bq_simulate.proofs.DeedLemmas.{GoesOnForAnyKinds-beats}
 use Rattle.bq_simulate.proofs.ComingLemmas.{ticks_now}
 use Rattle.bq_simulate.proofs.ProcessorStateLemmas.{busy_at}
 use Rattle.bq_simulate.proofs.WellMeetLemmas.{beats, ticks_busy, well_beaten}
 use Rattle.bq_simulate.proofs.simulation.Simulation.tick_on_time.Goals as goal
 
-pub returns-clause-befell : goal.returns-clause-befell
-returns-clause-befell g c =
+pub returns-clause-goes_on : goal.returns-clause-goes_on
+returns-clause-goes_on g c =
     let beats = c.in_ok-beat.ensures in
     let here : Simulation = record c.args.self.now { roster = c.beat.new.self } in
     let processor = c.args.processor in
@@ -23,11 +23,11 @@ returns-clause-befell g c =
     let busy : is_busy (accounts_of c.args.self.now.roster) processor ≡ true =
     busy_at processor (accounts_of c.args.self.now.roster) c.in_ok-processor_state.processor_state
     c.in_ok-processor_state.ensures.there ∙ ap (λ (o : Option ℕ). is_some o) c.in-Some.is in
-    let tick = AreJust (Tick processor now ∷ []) in
+    let tick = AreJustEvents (Tick processor now ∷ []) in
     on_ok_weaker c.tick.result (λ h.
-    Befell-beats g.S.Sink.takes tick (Meet (due.Tick processor) now) _ _ c.args.self.now here _ processor now beats.due busy
+    GoesOnForAnyKinds-beats g.S.Sink.takes tick (DeedsMeet (due.Tick processor) now) _ _ c.args.self.now here _ processor now beats.due busy
     (record { agrees = beats.agrees; periods = beats.periods; seed = refl; streams = refl; firsts = refl }) refl
-    beats.accounts (λ deeds are. (deeds, refl, are)) h) c.tick.ensures.befell
+    beats.accounts (λ deeds are. (deeds, refl, are)) h) c.tick.ensures.goes_on
 
 -- a clock that beats goes well
 pub returns-clause-ends : goal.returns-clause-ends

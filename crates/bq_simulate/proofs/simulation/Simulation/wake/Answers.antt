@@ -2,11 +2,11 @@ use Rattle.std.proofs.Common.{ℕ, [], ◌∷◌, Option, refl, ap, sym, ◌∙�
 use Rattle.std.proofs.lemmas.Result.{err_from_is_err_and}
 use Rattle.bq_parts.specs.declared.event.Event.TheVariants.{BeginWake, EndWake, Drain}
 use Rattle.bq_simulate.specs.Drives.{runs_now}
-use Rattle.bq_simulate.proofs.DriveLemmas.{Drove-join, Drove-one, Drove-places}
-use Rattle.bq_workload.specs.declared.roster.Periods.{Periods}
+use Rattle.bq_simulate.proofs.DriveLemmas.{EventsAreDriven-join, EventsAreDriven-one, EventsAreDriven-places}
+use Rattle.bq_workload.specs.declared.periods.Periods.{Periods}
 use Rattle.bq_workload.specs.Accounts.{Accounts, accounts_of, accounts_entered, of_task}
 use Rattle.bq_workload.specs.TaskProgress.{progress_woken}
-use Rattle.bq_simulate.proofs.DeedLemmas.{Lived-wakes}
+use Rattle.bq_simulate.proofs.DeedLemmas.{GoesOnBy-wakes}
 use Rattle.bq_simulate.proofs.WellStepLemmas.{drain_fails, wake_enters, wake_fails, wake_rests}
 use Rattle.bq_simulate.proofs.simulation.Simulation.wake.Goals as goal
 
@@ -14,15 +14,15 @@ pub returns-clause-events : goal.returns-clause-events
 returns-clause-events g c =
     let stated = c.in_ok-entered.ensures.does in (
       c.in_ok-to.to,
-      Drove-join g.S.Sink.takes _ _ _ c.args.self.now.driver c.wake-2.new.self c.drain.new.self
+      EventsAreDriven-join g.S.Sink.takes _ _ _ c.args.self.now.driver c.wake-2.new.self c.drain.new.self
           (BeginWake c.args.from c.args.task ∷ EndWake c.args.from c.args.now ∷ [])
-          (Drain c.in_ok-to.to c.args.now ∷ []) (Drove-places g.S.Sink.takes _ _ _ _ _ _ _ _ c.in_ok-to.ensures.does)
-          (Drove-one g.S.Sink.takes _ _ _ _ (Drain c.in_ok-to.to c.args.now) stated.0 stated.3),
+          (Drain c.in_ok-to.to c.args.now ∷ []) (EventsAreDriven-places g.S.Sink.takes _ _ _ _ _ _ _ _ c.in_ok-to.ensures.does)
+          (EventsAreDriven-one g.S.Sink.takes _ _ _ _ (Drain c.in_ok-to.to c.args.now) stated.0 stated.3),
     )
 
 -- the processor takes in as many as the answer says, and the task has no phase yet
-pub returns-clause-lived : goal.returns-clause-lived
-returns-clause-lived g c =
+pub returns-clause-goes_on : goal.returns-clause-goes_on
+returns-clause-goes_on g c =
     let stated = c.in_ok-entered.ensures.does in
     let to = c.in_ok-to.to in
     let now = c.args.now in
@@ -34,7 +34,7 @@ returns-clause-lived g c =
     let rises = ap (λ (a : Accounts). accounts_entered to entered.count entered.run now was.periods a) c.in_ok-wake.ensures.accounts in
     let runs = ap (λ (r : Option ℕ). accounts_entered to entered.count r now was.periods rest) (sym stated.1) in
     let counts = ap (λ (n : ℕ). accounts_entered to n (runs_now stated.0) now was.periods rest) (sym stated.2) in
-    Lived-wakes g.S.Sink.takes _ _ _ _ _ c.wake-2.new.self c.args.from c.args.task to now stated.0 c.requires
+    GoesOnBy-wakes g.S.Sink.takes _ _ _ _ _ c.wake-2.new.self c.args.from c.args.task to now stated.0 c.requires
     (record {
       agrees = λ h. c.in_ok-enter.ensures.agrees (c.in_ok-wake.ensures.agrees h);
       periods = c.in_ok-enter.ensures.periods ∙ c.in_ok-wake.ensures.periods;

@@ -4,25 +4,25 @@ use Rattle.std.proofs.lemmas.Result.{on_ok_weaker}
 use Rattle.bq_workload.specs.declared.workload.TaskKind.{TaskKind}
 use Rattle.bq_trace.specs.TraceEvents.{TraceEvent}
 use Rattle.bq_simulate.specs.Actions.{first_task_of}
-use Rattle.bq_simulate.specs.Chronicles.{Deed, Misses, Reaches}
-use Rattle.bq_simulate.specs.Simulations.{Befell, GoesByDeeds, Lived}
-use Rattle.bq_simulate.specs.Steps.{AreJust, AreWake, WakesTask}
+use Rattle.bq_simulate.specs.Deeds.{Deed, Misses, Reaches}
+use Rattle.bq_simulate.specs.Simulations.{GoesOnForAnyKinds, GoesByDeeds, GoesOnBy}
+use Rattle.bq_simulate.specs.Steps.{AreJustEvents, AreWake, WakesTask}
 use Rattle.bq_simulate.specs.declared.simulation.Simulation.{Simulation}
 use Rattle.bq_simulate.proofs.AimLemmas.{aim_counted, aim_there, first_kept}
-use Rattle.bq_simulate.proofs.DeedLemmas.{Befell-first, Lived-same, Stays-here}
+use Rattle.bq_simulate.proofs.DeedLemmas.{GoesOnForAnyKinds-first, GoesOnBy-same, Stays-here}
 use Rattle.bq_simulate.proofs.simulation.Simulation.wake_next.Goals as goal
 
 -- the task that is found by the first of its kind is the one at which the wake aims
 aimed-at : {S : Type 0} (takes : S → ℕ → TraceEvent → S → Type 0) (kinds : List TaskKind)
     (kind woken first target processor now : ℕ) (x y : S) (s t : Simulation)
-    → slice_get s.firsts.items kind ≡ Some first → target ≡ first + woken → Befell takes (WakesTask target processor now) x s y t
-    → Lived takes kinds (WakesTask (first_task_of kinds kind + woken) processor now) x s y t
-aimed-at takes kinds kind woken first target processor now x y s t there is befell drawn had firsts =
+    → slice_get s.firsts.items kind ≡ Some first → target ≡ first + woken → GoesOnForAnyKinds takes (WakesTask target processor now) x s y t
+    → GoesOnBy takes kinds (WakesTask (first_task_of kinds kind + woken) processor now) x s y t
+aimed-at takes kinds kind woken first target processor now x y s t there is goes_on drawn had firsts =
     let at : target ≡ first_task_of kinds kind + woken = is ∙ ap (λ n. n + woken) (firsts kind first there) in
-    subst (λ (n : ℕ). GoesByDeeds takes kinds (WakesTask n processor now) x s drawn y t) at (befell kinds drawn had firsts)
+    subst (λ (n : ℕ). GoesByDeeds takes kinds (WakesTask n processor now) x s drawn y t) at (goes_on kinds drawn had firsts)
 
-pub returns-in-Waiting-clause-lived : goal.returns-in-Waiting-clause-lived
-returns-in-Waiting-clause-lived g c =
+pub returns-in-Waiting-clause-goes_on : goal.returns-in-Waiting-clause-goes_on
+returns-in-Waiting-clause-goes_on g c =
     let takes = g.S.Sink.takes in
     let target = c.in_ok-target.target in
     let processor = c.args.processor in
@@ -31,13 +31,13 @@ returns-in-Waiting-clause-lived g c =
     on_ok_weaker c.wake.result (λ h kinds.
     aimed-at takes kinds c.args.kind c.args.woken c.in_ok-first.first target processor now _ _ _ _ c.in_ok-first.ensures.there
     (rw c.in_ok-target.ensures.ok_part at c.checked_add.ensures).1
-    (Befell-first takes (AreWake processor target now) wakes _ _ c.args.self.now
+    (GoesOnForAnyKinds-first takes (AreWake processor target now) wakes _ _ c.args.self.now
     c.args.self.now _ (Reaches target) (Stays-here c.args.self.now)
     (λ kinds drawn. (c.in_ok-progress.progress, c.in_ok-progress.ensures.there, c.in-Waiting.is, (refl, refl, refl)))
-    (λ deeds are. inr (deeds, refl, are)) h)) c.wake.ensures.lived
+    (λ deeds are. inr (deeds, refl, are)) h)) c.wake.ensures.goes_on
 
-pub returns-in_default-task_state-clause-lived : goal.returns-in_default-task_state-clause-lived
-returns-in_default-task_state-clause-lived g c =
+pub returns-in_default-task_state-clause-goes_on : goal.returns-in_default-task_state-clause-goes_on
+returns-in_default-task_state-clause-goes_on g c =
     let takes = g.S.Sink.takes in
     let target = c.in_ok-target.target in
     let processor = c.args.processor in
@@ -45,11 +45,11 @@ returns-in_default-task_state-clause-lived g c =
     λ kinds.
     aimed-at takes kinds c.args.kind c.args.woken c.in_ok-first.first target processor now _ _ _ _ c.in_ok-first.ensures.there
     (rw c.in_ok-target.ensures.ok_part at c.checked_add.ensures).1
-    (Befell-first takes (AreJust []) (WakesTask target processor now) _ _
+    (GoesOnForAnyKinds-first takes (AreJustEvents []) (WakesTask target processor now) _ _
     c.args.self.now c.args.self.now _ (Misses target) (Stays-here c.args.self.now)
     (λ kinds drawn. (c.in_ok-progress.progress, c.in_ok-progress.ensures.there, c.in_default-task_state.not-Waiting, (refl, refl, refl)))
     (λ deeds none. inl (ap (λ (l : List Deed). Misses target ∷ l) none))
-    (Lived-same takes (AreJust []) refl _ _ _ c.miss.ensures))
+    (GoesOnBy-same takes (AreJustEvents []) refl _ _ _ c.miss.ensures))
 
 -- the first task of a kind whose tasks are woken is kept
 pub returns-in_err-first-clause-ends : goal.returns-in_err-first-clause-ends

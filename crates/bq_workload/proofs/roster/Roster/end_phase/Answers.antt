@@ -1,6 +1,6 @@
 use Rattle.std.proofs.Common.{inr, sym, subst}
 use Rattle.std.proofs.lemmas.Result.{IfErr-weaker, IfOk-weaker}
-use Rattle.bq_workload.specs.declared.roster.Periods.{Periods}
+use Rattle.bq_workload.specs.declared.periods.Periods.{Periods}
 use Rattle.bq_workload.specs.declared.roster.Roster.{Roster}
 use Rattle.bq_workload.specs.Accounts.{Accounts, accounts_of}
 use Rattle.bq_workload.specs.Next.{QueueAgrees}

@@ -1,5 +1,5 @@
 use Rattle.std.proofs.Common.{ap, ◌∙◌, sym, subst, List, ℕ}
-use Rattle.bq_workload.specs.declared.roster.Periods.{Periods}
+use Rattle.bq_workload.specs.declared.periods.Periods.{Periods}
 use Rattle.bq_workload.specs.declared.roster.Roster.{Roster}
 use Rattle.bq_workload.specs.Accounts.{accounts_of, of_task}
 use Rattle.bq_workload.specs.TaskProgress.{progress_woken}

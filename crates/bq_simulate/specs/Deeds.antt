@@ -1,4 +1,4 @@
--- What happens in a simulation, one thing after another: events of the trace with their answers, and what tasks do beside them.
+-- The deeds of a simulation: events of the trace with their answers, and what tasks and processors do beside them.
 use Rattle.std.specs.Prelude.{◌≡◌, ◌≢◌, ℕ, suc, Bool, true, false, List, [], ◌∷◌, ◌++◌, Option, Some, None, is_some, length, slice_get, unwrap_or}
 use Rattle.std.specs.Option.{option_map_or}
 use Rattle.bq_workload.specs.declared.action.Action.{Action}
@@ -14,7 +14,7 @@ use Rattle.bq_workload.specs.declared.progress.TaskProgress.{TaskProgress}
 use Rattle.bq_workload.specs.declared.progress.TaskState.{TaskState}
 use Rattle.bq_workload.specs.declared.progress.TaskState.TheVariants.{Asleep, Waiting}
 use Rattle.bq_workload.specs.declared.processor_state.ProcessorState.{ProcessorState}
-use Rattle.bq_workload.specs.declared.roster.Periods.{Periods}
+use Rattle.bq_workload.specs.declared.periods.Periods.{Periods}
 use Rattle.bq_workload.specs.Accounts.{Accounts, IsPhaseDone, LooksAt, TicksAt, beaten, changed_at, accounts_charged, accounts_entered, left_by, looked, of_task, accounts_passed, accounts_switched}
 use Rattle.bq_workload.specs.TaskProgress.{fresh_task, progress_woken}
 use Rattle.bq_workload.specs.Dues.{IsSource}
@@ -72,11 +72,11 @@ accounts_pulled from to task a = option_map_or (λ _. accounts_passed from to a)
 
 -- the accounts after an answer: if another task runs now, the time of the one before is counted; a woken task has no phase yet
 abbrev pub after_event : Periods → Event → Reply → Accounts → Accounts
-after_event periods (BeginWake c task) reply a = of_task progress_woken task a
-after_event periods (Drain c now) reply a = accounts_entered c (count_entered reply) (runs_now reply) now periods a
-after_event periods (Tick c now) reply a = accounts_switched c (runs_now reply) now periods a
-after_event periods (Block c now) reply a = left_by c (runs_now reply) now periods a
-after_event periods (Pull c from now) reply a = accounts_switched c (runs_now reply) now periods (accounts_pulled from c (task_pulled reply) a)
+after_event periods (BeginWake processor task) reply a = of_task progress_woken task a
+after_event periods (Drain processor now) reply a = accounts_entered processor (count_entered reply) (runs_now reply) now periods a
+after_event periods (Tick processor now) reply a = accounts_switched processor (runs_now reply) now periods a
+after_event periods (Block processor now) reply a = left_by processor (runs_now reply) now periods a
+after_event periods (Pull processor from now) reply a = accounts_switched processor (runs_now reply) now periods (accounts_pulled from processor (task_pulled reply) a)
 after_event periods event reply a = a
 
 -- what is kept after an answer: only its accounts change
@@ -103,9 +103,9 @@ drawn_with task drawn (Some asked) = changed_at suc drawn task
 
 -- the task does its next action, once the time that it has run is counted
 abbrev pub after_act : List TaskKind → ℕ → ℕ → ℕ → ℕ → TaskProgress → Book → Book
-after_act kinds seed processor task now c b = record {
-  accounts = of_task (λ _. acted kinds (next_action kinds c) (length_taken seed task b.drawn (asked_by (next_action kinds c))) now c) task (accounts_charged processor now b.accounts);
-  drawn = drawn_with task b.drawn (asked_by (next_action kinds c));
+after_act kinds seed processor task now progress b = record {
+  accounts = of_task (λ _. acted kinds (next_action kinds progress) (length_taken seed task b.drawn (asked_by (next_action kinds progress))) now progress) task (accounts_charged processor now b.accounts);
+  drawn = drawn_with task b.drawn (asked_by (next_action kinds progress));
 }
 
 -- the clock of a processor beats
@@ -121,7 +121,7 @@ abbrev pub after_deed : List TaskKind → ℕ → Periods → Deed → Book → 
 after_deed kinds seed periods (Happens event reply) b = after_answer periods event reply b
 after_deed kinds seed periods (Joins kind home) b = task_added kinds kind home b
 after_deed kinds seed periods (Acts processor task now action aim) b =
-    option_map_or (λ c. after_act kinds seed processor task now c b) (slice_get (accounts_charged processor now b.accounts).by_task task) b
+    option_map_or (λ progress. after_act kinds seed processor task now progress b) (slice_get (accounts_charged processor now b.accounts).by_task task) b
 after_deed kinds seed periods (Rings task now) b = b
 after_deed kinds seed periods (Reaches task) b = b
 after_deed kinds seed periods (Misses task) b = b
@@ -133,31 +133,31 @@ abbrev pub after_deeds : List TaskKind → ℕ → Periods → Book → List Dee
 after_deeds kinds seed periods b [] = b
 after_deeds kinds seed periods b (deed ∷ deeds) = after_deeds kinds seed periods (after_deed kinds seed periods deed b) deeds
 
--- Deeds one after another: what the sink gets of them, and what becomes of the machine and of what is kept. Tasks do what their
--- kinds say. Lengths are drawn from this seed. The periods give the times between ticks and between looks, and what a change of
--- processor costs. A wake comes to the tasks of its kind one after another, by number. A timer that rings is of a task that is
+-- Deeds, one after another, lead from one driver and book to another, and this is what they report. Tasks do what their kinds say.
+-- Lengths are drawn from this seed. The periods give the times between ticks and between looks, and what a change of processor
+-- costs. A wake comes to the tasks of its kind one after another, by number. A timer that rings is of a task that is
 -- asleep until exactly then. A clock beats exactly when it is to, at a processor that runs something. A processor looks exactly
 -- when it is to, and finds the processor with the most tasks.
-abbrev pub Lives : List TaskKind → ℕ → Periods → Driver → Book → List Deed → Reported → Driver → Book → Type 0
-Lives kinds seed periods d b [] reported e f = (reported ≡ []) × (e ≡ d) × (f ≡ b)
-Lives kinds seed periods d b (Happens event reply ∷ deeds) reported e f =
+abbrev pub DeedsLead : List TaskKind → ℕ → Periods → Driver → Book → List Deed → Reported → Driver → Book → Type 0
+DeedsLead kinds seed periods d b [] reported e f = (reported ≡ []) × (e ≡ d) × (f ≡ b)
+DeedsLead kinds seed periods d b (Happens event reply ∷ deeds) reported e f =
     MayCome event b.accounts × (mid : Driver) × (first : Reported) × (more : Reported)
-    × DrivesEvent d event reply first mid × Lives kinds seed periods mid (after_answer periods event reply b) deeds more e f × (reported ≡ first ++ more)
-Lives kinds seed periods d b (Joins kind home ∷ deeds) reported e f =
-    IsTaskOfKind kinds (length b.accounts.by_task) kind × Lives kinds seed periods d (task_added kinds kind home b) deeds reported e f
-Lives kinds seed periods d b (Acts processor task now action aim ∷ deeds) reported e f =
-    (c : TaskProgress) × IsPhaseDone (accounts_charged processor now b.accounts) processor task c × (action ≡ next_action kinds c) × (aim ≡ wake_target kinds c)
-    × Lives kinds seed periods d (after_act kinds seed processor task now c b) deeds reported e f
-Lives kinds seed periods d b (Rings task now ∷ deeds) reported e f =
-    (c : TaskProgress) × (slice_get b.accounts.by_task task ≡ Some c) × (c.task_state ≡ Asleep) × (c.timer ≡ now) × Lives kinds seed periods d b deeds reported e f
-Lives kinds seed periods d b (Reaches task ∷ deeds) reported e f =
-    (c : TaskProgress) × (slice_get b.accounts.by_task task ≡ Some c) × (c.task_state ≡ Waiting) × Lives kinds seed periods d b deeds reported e f
-Lives kinds seed periods d b (Misses task ∷ deeds) reported e f =
-    (c : TaskProgress) × (slice_get b.accounts.by_task task ≡ Some c) × (c.task_state ≢ Waiting) × Lives kinds seed periods d b deeds reported e f
-Lives kinds seed periods d b (Beats processor now ∷ deeds) reported e f =
-    TicksAt b.accounts processor now × (is_busy b.accounts processor ≡ true) × Lives kinds seed periods d (after_beat periods processor now b) deeds reported e f
-Lives kinds seed periods d b (Looks processor now source ∷ deeds) reported e f =
-    LooksAt b.accounts processor now × IsSource b.accounts.by_processor processor source × Lives kinds seed periods d (after_look periods processor now b) deeds reported e f
+    × DrivesEvent d event reply first mid × DeedsLead kinds seed periods mid (after_answer periods event reply b) deeds more e f × (reported ≡ first ++ more)
+DeedsLead kinds seed periods d b (Joins kind home ∷ deeds) reported e f =
+    IsTaskOfKind kinds (length b.accounts.by_task) kind × DeedsLead kinds seed periods d (task_added kinds kind home b) deeds reported e f
+DeedsLead kinds seed periods d b (Acts processor task now action aim ∷ deeds) reported e f =
+    (progress : TaskProgress) × IsPhaseDone (accounts_charged processor now b.accounts) processor task progress × (action ≡ next_action kinds progress) × (aim ≡ wake_target kinds progress)
+    × DeedsLead kinds seed periods d (after_act kinds seed processor task now progress b) deeds reported e f
+DeedsLead kinds seed periods d b (Rings task now ∷ deeds) reported e f =
+    (progress : TaskProgress) × (slice_get b.accounts.by_task task ≡ Some progress) × (progress.task_state ≡ Asleep) × (progress.timer ≡ now) × DeedsLead kinds seed periods d b deeds reported e f
+DeedsLead kinds seed periods d b (Reaches task ∷ deeds) reported e f =
+    (progress : TaskProgress) × (slice_get b.accounts.by_task task ≡ Some progress) × (progress.task_state ≡ Waiting) × DeedsLead kinds seed periods d b deeds reported e f
+DeedsLead kinds seed periods d b (Misses task ∷ deeds) reported e f =
+    (progress : TaskProgress) × (slice_get b.accounts.by_task task ≡ Some progress) × (progress.task_state ≢ Waiting) × DeedsLead kinds seed periods d b deeds reported e f
+DeedsLead kinds seed periods d b (Beats processor now ∷ deeds) reported e f =
+    TicksAt b.accounts processor now × (is_busy b.accounts processor ≡ true) × DeedsLead kinds seed periods d (after_beat periods processor now b) deeds reported e f
+DeedsLead kinds seed periods d b (Looks processor now source ∷ deeds) reported e f =
+    LooksAt b.accounts processor now × IsSource b.accounts.by_processor processor source × DeedsLead kinds seed periods d (after_look periods processor now b) deeds reported e f
 
 -- the events among them
 abbrev pub events_of : List Deed → List Event

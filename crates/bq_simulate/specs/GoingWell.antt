@@ -8,7 +8,7 @@ use Rattle.bq_workload.specs.declared.action.Action.TheVariants.{Run, Wake}
 use Rattle.bq_workload.specs.declared.progress.TaskProgress.{TaskProgress}
 use Rattle.bq_workload.specs.declared.workload.TaskKind.{TaskKind}
 use Rattle.bq_workload.specs.declared.workload.Workload.{Workload}
-use Rattle.bq_workload.specs.declared.roster.Periods.{Periods}
+use Rattle.bq_workload.specs.declared.periods.Periods.{Periods}
 use Rattle.bq_workload.specs.Accounts.{Accounts, accounts_of}
 use Rattle.bq_workload.specs.Bounds.{steps_at_once}
 use Rattle.bq_workload.specs.Kinds.{kind_count}
@@ -21,7 +21,7 @@ use Rattle.bq_simulate.specs.declared.fault.SimulateFault.TheVariants.{Endless, 
 use Rattle.bq_simulate.specs.declared.simulation.Simulation.{Simulation}
 use Rattle.bq_simulate.specs.Actions.{first_task_of}
 use Rattle.bq_simulate.specs.Agreement.{AgreesBut, AgreesWith, IsOnTime, runner_at}
-use Rattle.bq_simulate.specs.Chronicles.{Book, is_busy, accounts_pulled}
+use Rattle.bq_simulate.specs.Deeds.{Book, is_busy, accounts_pulled}
 use Rattle.bq_simulate.specs.Kept.{HasAllFirsts, IsKept, IsNewerFrom, StandAtActions, WereDrawn}
 use Rattle.bq_simulate.specs.Simulations.{HasDrawn, HasFirsts, book_of, periods_of}
 
@@ -64,9 +64,9 @@ pub record FallsAsleep (w : Workload) (now processor : ℕ) (s : Simulation) : T
 -- What must hold for the event that an action calls for. For a wake: the simulation is in a good state, the waker runs, and a
 -- task is left that it has not woken. For a sleep, a wait or the end: the task is falling asleep. For a run: nothing.
 abbrev pub CanFollow : Workload → Option Action → TaskProgress → ℕ → ℕ → Simulation → Type 0
-CanFollow w (Some (Run asked)) c processor now s = Unit {0}
-CanFollow w (Some (Wake kind)) c processor now s = SimulationGoesWell w now s × (is_busy (accounts_of s.roster) processor ≡ true) × (c.woken < kind_count w.tasks.items kind)
-CanFollow w action c processor now s = FallsAsleep w now processor s
+CanFollow w (Some (Run asked)) progress processor now s = Unit {0}
+CanFollow w (Some (Wake kind)) progress processor now s = SimulationGoesWell w now s × (is_busy (accounts_of s.roster) processor ≡ true) × (progress.woken < kind_count w.tasks.items kind)
+CanFollow w action progress processor now s = FallsAsleep w now processor s
 
 -- two processors, both of which a simulation has
 abbrev pub HasBoth : ℕ → ℕ → Simulation → Type 0
@@ -74,7 +74,7 @@ HasBoth processor other s = (processor < length s.roster.by_processor.items) × 
 
 -- a task is of no kind, or its action wakes the tasks of none
 abbrev pub IsStrayAction : List TaskKind → TaskProgress → Option Action → Type 0
-IsStrayAction kinds c action = (slice_get kinds c.kind ≡ None) ⊎ ((number : ℕ) × (action ≡ Some (Wake number)) × (slice_get kinds number ≡ None))
+IsStrayAction kinds progress action = (slice_get kinds progress.kind ≡ None) ⊎ ((number : ℕ) × (action ≡ Some (Wake number)) × (slice_get kinds number ≡ None))
 
 -- what came of a pull is not kept: a task was taken and does not pass, or the switch fails
 abbrev pub IsStrayPull : Periods → ℕ → ℕ → Option ℕ → Option ℕ → ℕ → Accounts → Type 0

@@ -7,14 +7,14 @@ use Rattle.bq_workload.specs.declared.due.Due.TheVariants as due
 use Rattle.bq_workload.specs.Dues.{IsSource}
 use Rattle.bq_parts.specs.declared.event.Event.TheVariants.{Pull}
 use Rattle.bq_simulate.specs.declared.simulation.Simulation.{Simulation}
-use Rattle.bq_simulate.specs.Steps.{AreJust, Meet}
-use Rattle.bq_simulate.proofs.DeedLemmas.{Befell-looks, Lived-same, Same-here}
+use Rattle.bq_simulate.specs.Steps.{AreJustEvents, DeedsMeet}
+use Rattle.bq_simulate.proofs.DeedLemmas.{GoesOnForAnyKinds-looks, GoesOnBy-same, OnlyPlansOrCounts-here}
 use Rattle.bq_simulate.proofs.ComingLemmas.{looks_now, pulls_from}
 use Rattle.bq_simulate.proofs.WellMeetLemmas.{looks, well_looked}
-use Rattle.bq_simulate.proofs.simulation.Simulation.pull.Goals as goal
+use Rattle.bq_simulate.proofs.simulation.Simulation.look.Goals as goal
 
-pub returns-in-Some-clause-befell : goal.returns-in-Some-clause-befell
-returns-in-Some-clause-befell g c =
+pub returns-in-Some-clause-goes_on : goal.returns-in-Some-clause-goes_on
+returns-in-Some-clause-goes_on g c =
     let looks = c.in_ok-source.ensures in
     let was = c.args.self.now in
     let here : Simulation = record was { roster = c.look.new.self } in
@@ -24,23 +24,23 @@ returns-in-Some-clause-befell g c =
     let source = subst (λ (o : Option ℕ). IsSource was.roster.by_processor.items processor o) c.in-Some.is looks.source in
     on_ok_weaker c.pull_from.result
     (λ h.
-    Befell-looks g.S.Sink.takes (AreJust (Pull processor from now ∷ []))
-    (Meet (due.Pull processor) now) _ _ was here _ processor now (Some from) looks.due source
+    GoesOnForAnyKinds-looks g.S.Sink.takes (AreJustEvents (Pull processor from now ∷ []))
+    (DeedsMeet (due.Look processor) now) _ _ was here _ processor now (Some from) looks.due source
     (record { agrees = looks.agrees; periods = looks.periods; seed = refl; streams = refl; firsts = refl }) refl
-    looks.accounts (λ deeds are. (Some from, deeds, refl, are)) h) c.pull_from.ensures.befell
+    looks.accounts (λ deeds are. (Some from, deeds, refl, are)) h) c.pull_from.ensures.goes_on
 
-pub returns-in-None-clause-befell : goal.returns-in-None-clause-befell
-returns-in-None-clause-befell g c =
+pub returns-in-None-clause-goes_on : goal.returns-in-None-clause-goes_on
+returns-in-None-clause-goes_on g c =
     let looks = c.in_ok-source.ensures in
     let was = c.args.self.now in
     let here : Simulation = record was { roster = c.look.new.self } in
     let processor = c.args.processor in
     let now = c.args.now in
     let source = subst (λ (o : Option ℕ). IsSource was.roster.by_processor.items processor o) c.in-None.is looks.source in
-    Befell-looks g.S.Sink.takes (AreJust []) (Meet (due.Pull processor) now) _ _ was here _ processor now None looks.due
+    GoesOnForAnyKinds-looks g.S.Sink.takes (AreJustEvents []) (DeedsMeet (due.Look processor) now) _ _ was here _ processor now None looks.due
     source (record { agrees = looks.agrees; periods = looks.periods; seed = refl; streams = refl; firsts = refl })
     refl looks.accounts (λ deeds are. (None, deeds, refl, are))
-    (Lived-same g.S.Sink.takes (AreJust []) refl _ here here (Same-here here))
+    (GoesOnBy-same g.S.Sink.takes (AreJustEvents []) refl _ here here (OnlyPlansOrCounts-here here))
 
 -- a look goes well
 pub returns-in_err-source-clause-ends : goal.returns-in_err-source-clause-ends
