@@ -47,7 +47,9 @@ impl Svg {
     /// A picture of what is in the window.
     pub fn new(alloc: Global, window: Window, look: Look) -> Svg
         ensures window { result.window ≡ window }
-        ensures none { (result.drawing ≡ nothing_of 0) × (result.roster ≡ []) }
+        ensures look { result.look ≡ look }
+        ensures rule { result.rule ≡ None }
+        ensures none { (result.drawing ≡ nothing_of 0) × (result.roster ≡ []) × (result.stops.entries ≡ []) }
     {
         Svg {
             alloc,
@@ -62,7 +64,7 @@ impl Svg {
 
     /// Sets the rule by which the processors choose, which the picture names.
     pub fn under(&mut self, rule: Rule)
-        ensures { self.new ≡ record self.old { rule = self.new.rule } }
+        ensures { self.new ≡ record self.old { rule = Some rule } }
     {
         self.rule = Some(rule);
     }
