@@ -200,12 +200,12 @@ pub row_there : (w : Window) (s : PictureSetting) (rows : Rows) (number : ℕ) (
 row_there w s rows number row old new there shown is written =
     inl (record { exists = there; shown = shown }, subst (λ r. IsRowWritten s number r old new) is written)
 
--- what stands above, the axis, the rows, and what stands behind them
+-- what stands above, the axis, the lines between rows, and what stands behind them
 pub drawing_whole : (w : Window) (s : PictureSetting) (title : List ℕ) (rule : Option Rule) (held : Held) (written : WrittenRows)
     (height : ℕ) (t0 t1 t2 t3 t4 t5 : List ℕ)
     → AreDrawn w s held written → t0 ≡ heading_text s title rule
-    → t1 ≡ t0 ++ axis_text s (axis_step s.extent) rows_edge written.bottom → t2 ≡ t1 ++ string_bytes written.text
-    → t3 ≡ t2 ++ string_bytes written.links → t4 ≡ t3 ++ string_bytes written.labels
+    → t1 ≡ t0 ++ axis_text s (axis_step s.extent) rows_edge written.bottom → t2 ≡ t1 ++ string_bytes written.links
+    → t3 ≡ t2 ++ string_bytes written.text → t4 ≡ t3 ++ string_bytes written.labels
     → t5 ≡ t4 ++ legend_text s (tasks_shown s.tasks held.tasks) (key_beside held.links written) (legend_top written.bottom)
     → height
     ≡ saturating_sum (legend_top written.bottom) (legend_height (length (tasks_shown s.tasks held.tasks)) (key_beside held.links written))
@@ -217,7 +217,7 @@ drawing_whole w s title rule held written height t0 t1 t2 t3 t4 t5 drawn_so e0 e
     let lines = links_text s are.placed held.links in
     let labels = flat_map (labels_text s) are.placed in
     let legend = legend_of s held are.placed written.bottom in
-    let behind = lines ++ (labels ++ legend) in
+    let behind = drawn ++ (labels ++ legend) in
     let key : key_beside held.links written ≡ legend_key s held.links are.placed
     = ap (λ n. record (key_beside held.links written) { waits_left_out = n }) are.waits
     ∙ ap (λ n. record (legend_key s held.links are.placed) { wakes_left_out = n }) are.wakes in
@@ -228,10 +228,10 @@ drawing_whole w s title rule held written height t0 t1 t2 t3 t4 t5 drawn_so e0 e
       is_high =
           high
           ∙ ap (λ (k : Key). saturating_sum (legend_top written.bottom) (legend_height (length (tasks_shown s.tasks held.tasks)) k)) key;
-      whole = all_added t0 t1 t2 t5 axis drawn behind e1 (e2 ∙ ap (λ t. t1 ++ t) are.text)
-          (all_added t2 t3 t4 t5 lines labels legend (e3 ∙ ap (λ t. t2 ++ t) drawn_so.lines) (e4 ∙ ap (λ t. t3 ++ t) are.labels)
+      whole = all_added t0 t1 t2 t5 axis lines behind e1 (e2 ∙ ap (λ t. t1 ++ t) drawn_so.lines)
+          (all_added t2 t3 t4 t5 drawn labels legend (e3 ∙ ap (λ t. t2 ++ t) are.text) (e4 ∙ ap (λ t. t3 ++ t) are.labels)
           (e5 ∙ ap (λ (k : Key). t4 ++ legend_text s (tasks_shown s.tasks held.tasks) k (legend_top written.bottom)) key))
-          ∙ ap (λ t. t ++ (axis ++ (drawn ++ behind))) e0;
+          ∙ ap (λ t. t ++ (axis ++ (lines ++ behind))) e0;
     }
 
 -- a picture: its head, what is drawn, and its end

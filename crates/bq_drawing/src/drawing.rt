@@ -86,9 +86,9 @@ pub struct Written {
 #[derive(Drop)]
 struct WrittenRows {
     text: String,
-    /// The lines between rows.
+    /// The lines between rows, which are drawn below the rows.
     links: String,
-    /// The names on the runs, which are drawn over the lines between rows.
+    /// The names on the runs, which are drawn over all rows.
     labels: String,
     /// Where the band of each shown processor begins.
     bands: BTreeMap<u8, usize>,
@@ -203,8 +203,8 @@ impl Drawing {
         heading.write(&frame, &mut text)?;
         write_axis(step, &frame, TOP, rows.bottom, &mut text)?;
         let legend = self.legend(&rows, &frame)?;
-        text.push_str(rows.text.as_str())?;
         text.push_str(rows.links.as_str())?;
+        text.push_str(rows.text.as_str())?;
         text.push_str(rows.labels.as_str())?;
         text.push_str(legend.text.as_str())?;
         let height = legend.height;

@@ -52,7 +52,6 @@ fn write_colours(
     write_fill(name, ".page", palette.page, text)?;
     write_fill(name, ".band", palette.band, text)?;
     write_stroke(name, ".grid", palette.grid, text)?;
-    write_stroke(name, ".halo", palette.page, text)?;
     for place in 0..COLOURS {
         write_task(name, place, palette.tasks[place], text)?;
         write_letters(
@@ -98,7 +97,7 @@ fn write_task(
     )
 }
 
-/// Adds the colour of text on tasks of one colour. The text has an edge in that colour, so that no line runs through it.
+/// Adds the colour of text on tasks of one colour. The text has an edge in that colour, for names that are wider than their runs.
 fn write_letters(
     name: PictureName,
     place: usize,
