@@ -251,12 +251,12 @@ pub picture_at_end : (held between last : Svg) (s : Figures) (names : NamedTasks
     → between ≡ record held { drawing = between.drawing } → last ≡ record between { drawing = last.drawing }
     → HoldsRunners held.window s 64 held.drawing between.drawing
     → HoldsWaiting between.window s 1024 between.drawing last.drawing → IsDrawnOver last.window s e
-    → GrowsByPart (IsPicture last.window last.look (drawn_in e last.roster names) last.rule last.drawing) old new
-    → GrowsByPart (IsPictureOf held.window held.look held.rule s names held.roster held.drawing) old new
+    → GrowsByPart (IsPicture last.window last.look (drawn_in e last.admitted names) last.rule last.drawing) old new
+    → GrowsByPart (IsPictureOf held.window held.look held.rule s names held.admitted held.drawing) old new
 picture_at_end held between last s names e old new first second runs waits over added =
     let whole : last ≡ record held { drawing = last.drawing } = second ∙ ap (λ (v : Svg). record v { drawing = last.drawing }) first in
-    let own : GrowsByPart (IsPicture held.window held.look (drawn_in e held.roster names) held.rule last.drawing) old new
-    = subst (λ (v : Svg). GrowsByPart (IsPicture v.window v.look (drawn_in e v.roster names) v.rule last.drawing) old new) whole added in (
+    let own : GrowsByPart (IsPicture held.window held.look (drawn_in e held.admitted names) held.rule last.drawing) old new
+    = subst (λ (v : Svg). GrowsByPart (IsPicture v.window v.look (drawn_in e v.admitted names) v.rule last.drawing) old new) whole added in (
       own.0,
       record {
         running = between.drawing;

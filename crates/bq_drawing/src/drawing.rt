@@ -185,17 +185,17 @@ impl Drawing {
         window: &Window,
         extent: Extent,
         heading: &Heading<'_>,
-        roster: &AdmittedTasks,
+        admitted: &AdmittedTasks,
         names: &Names,
     ) -> Result<Written, AllocError>
-        ensures { IfOk result (λ d. IsDrawing window.now (drawn_in extent roster.now names.now) heading.now.title.now heading.now.rule self.now
+        ensures { IfOk result (λ d. IsDrawing window.now (drawn_in extent admitted.now names.now) heading.now.title.now heading.now.rule self.now
             d.height (string_bytes d.text)) }
     {
         let step = round_step(extent.length(), STEPS).unwrap_or(1);
         let frame = Frame {
             scale: Scale { extent },
             unit: TimeUnit::of_step(step),
-            roster,
+            admitted,
             names,
         };
         let rows = self.write_rows(window, &frame)?;
@@ -214,11 +214,11 @@ impl Drawing {
     /// The legend below the rows, and how high the picture is together with it.
     fn legend(&self, rows: &WrittenRows, frame: &Frame<'_>) -> Result<Written, AllocError>
         ensures text { IfOk result (λ legend. string_bytes legend.text ≡ legend_text (picture_setting frame.now)
-            (tasks_shown frame.now.roster.now self.now.tasks) (key_beside self.now.links rows.now) (legend_top rows.now.bottom)) }
+            (tasks_shown frame.now.admitted.now self.now.tasks) (key_beside self.now.links rows.now) (legend_top rows.now.bottom)) }
         ensures height { IfOk result (λ legend. legend.height ≡ saturating_sum (legend_top rows.now.bottom)
-            (legend_height (length (tasks_shown frame.now.roster.now self.now.tasks)) (key_beside self.now.links rows.now))) }
+            (legend_height (length (tasks_shown frame.now.admitted.now self.now.tasks)) (key_beside self.now.links rows.now))) }
     {
-        let tasks = self.tasks_shown(frame.roster)?;
+        let tasks = self.tasks_shown(frame.admitted)?;
         let key = self.key(rows);
         let first = legend_top(rows.bottom);
         let mut text = String::new(self.alloc);
@@ -228,11 +228,11 @@ impl Drawing {
     }
 
     /// The tasks that appear, in the order in which they were admitted.
-    fn tasks_shown(&self, roster: &AdmittedTasks) -> Result<Vec<u16>, AllocError>
-        ensures { IfOk result (λ tasks. tasks.items ≡ tasks_shown roster.now self.now.tasks) }
+    fn tasks_shown(&self, admitted: &AdmittedTasks) -> Result<Vec<u16>, AllocError>
+        ensures { IfOk result (λ tasks. tasks.items ≡ tasks_shown admitted.now self.now.tasks) }
     {
         let mut tasks = Vec::new(self.alloc);
-        let all = roster.tasks();
+        let all = admitted.tasks();
         for task in all {
             self.push_if_shown(*task, &mut tasks)?;
         }

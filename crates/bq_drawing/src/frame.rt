@@ -15,7 +15,7 @@ use std::alloc::AllocError;
 pub struct Frame<'a> {
     pub scale: Scale,
     pub unit: TimeUnit,
-    pub roster: &'a AdmittedTasks,
+    pub admitted: &'a AdmittedTasks,
     pub names: &'a Names,
 }
 
@@ -23,9 +23,9 @@ impl Frame<'_> {
     /// The number of a task's colour, by its place among all tasks of the trace, whether these are shown or not. The colours go round,
     /// one further each time: if tasks go round a few processors, a row still has tasks of every colour.
     pub fn colour(&self, task: u16) -> usize
-        ensures { result ≡ colour_of self.now.roster.now task }
+        ensures { result ≡ colour_of self.now.admitted.now task }
     {
-        let place = self.roster.place(task).unwrap_or(0);
+        let place = self.admitted.place(task).unwrap_or(0);
         (place % COLOURS + place / COLOURS % COLOURS) % COLOURS
     }
 

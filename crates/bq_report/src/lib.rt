@@ -3,6 +3,7 @@
 //! Builds on bq_schedule for what happened. It reads no trace and writes only to the text that it is given.
 #![tactic(auto)]
 
+pub mod admitted_tasks;
 pub mod amounts;
 pub mod extent;
 pub mod form;
@@ -14,7 +15,6 @@ mod map_row;
 pub mod names;
 pub mod percent;
 pub mod report;
-pub mod roster;
 pub mod rows;
 pub mod steps;
 pub mod summary;
@@ -23,13 +23,13 @@ pub mod timehist;
 pub mod waits;
 pub mod window;
 
+pub use admitted_tasks::AdmittedTasks;
 pub use amounts::{Micros, Millis, MomentText, Unit};
 pub use extent::Extent;
 pub use form::ScheduleForm;
 pub use map::Map;
 pub use names::Names;
 pub use report::Report;
-pub use roster::AdmittedTasks;
 pub use rows::Csv;
 pub use steps::round_step;
 pub use summary::Json;

@@ -16,7 +16,7 @@ use Rattle.bq_report.specs.MapRows.{RunsRow}
 use Rattle.bq_report.specs.Maps.{HoldsLast, IsMap, RowsHold, empty_map_row}
 use Rattle.bq_report.specs.Names.{NamedTasks}
 use Rattle.bq_report.specs.Reports.{GrowsByPart, IsJsonReport, IsReport}
-use Rattle.bq_report.specs.Rosters.{enlisted}
+use Rattle.bq_report.specs.AdmittedTasks.{with_admitted}
 use Rattle.bq_report.specs.Rows.{head_row, optional_slice_row}
 use Rattle.bq_report.specs.Timehist.{AreLastLines, IsShownMigration, IsShownStop, IsShownWake, change_text, head_lines}
 use Rattle.bq_report.specs.Windows.{IsShownPart}
@@ -31,15 +31,15 @@ use Rattle.bq_timeline.specs.declared.shown.Shown.TheVariants as form
 
 -- the map has the same window, width and letters as before
 abbrev pub KeepsLook : Map → Map → Type 0
-KeepsLook old new = (new.window ≡ old.window) × (new.width ≡ old.width) × (new.roster ≡ old.roster)
+KeepsLook old new = (new.window ≡ old.window) × (new.width ≡ old.width) × (new.admitted ≡ old.admitted)
 
 -- A form to which nothing has happened: a map of this width, a picture of this look.
 abbrev pub IsEmptyForm : ℕ → Look → Shown → Type 0
 IsEmptyForm width look (form.Report r) = ((task : ℕ) → latencies_of r.latencies task ≡ []) × (r.missed ≡ 0)
-IsEmptyForm width look (form.Map m) = (m.width ≡ width) × (m.roster ≡ []) × (m.rows.items ≡ [])
+IsEmptyForm width look (form.Map m) = (m.width ≡ width) × (m.admitted ≡ []) × (m.rows.items ≡ [])
 IsEmptyForm width look (form.Json j) = ((task : ℕ) → latencies_of j.latencies task ≡ []) × (j.missed ≡ 0)
 IsEmptyForm width look (form.Svg p) =
-    (p.look ≡ look) × (p.rule ≡ None) × (p.roster ≡ []) × (p.drawing ≡ nothing_of 0) × (p.stops.entries ≡ [])
+    (p.look ≡ look) × (p.rule ≡ None) × (p.admitted ≡ []) × (p.drawing ≡ nothing_of 0) × (p.stops.entries ≡ [])
 IsEmptyForm width look other = Unit {0}
 
 -- A form begins under a rule, with a schedule to which nothing has happened: it and its text, before and after. A picture's title names
@@ -60,8 +60,8 @@ FormOpens rule s old new before after = ⊥
 
 -- A task is admitted. The map and the picture give it the next letter or colour. No other form heeds it.
 abbrev pub FormAdmits : ℕ → Shown → Shown → Type 0
-FormAdmits task (form.Map old) new = new ≡ form.Map (record old { roster = enlisted task old.roster })
-FormAdmits task (form.Svg old) new = new ≡ form.Svg (record old { roster = enlisted task old.roster })
+FormAdmits task (form.Map old) new = new ≡ form.Map (record old { admitted = with_admitted task old.admitted })
+FormAdmits task (form.Svg old) new = new ≡ form.Svg (record old { admitted = with_admitted task old.admitted })
 FormAdmits task old new = new ≡ old
 
 -- The form is given the task of an event that admits one.
@@ -104,11 +104,11 @@ abbrev pub FormEnds : Figures → NamedTasks → Shown → List ℕ → List ℕ
 FormEnds s names (form.Report old) before after = GrowsByPart (IsReport old.window names s old.latencies old.missed) before after
 FormEnds s names (form.Map old) before after =
     (rows : List RunsRow) × HoldsLast old.window s 64 old.rows.items rows
-    × GrowsByPart (IsMap old.window names s old.roster old.width rows) before after
+    × GrowsByPart (IsMap old.window names s old.admitted old.width rows) before after
 FormEnds s names (form.Timehist old) before after = GrowsByPart (AreLastLines old names s 64) before after
 FormEnds s names (form.Csv old) before after = after ≡ before
 FormEnds s names (form.Json old) before after = GrowsByPart (IsJsonReport old.window names s old.latencies old.missed) before after
 FormEnds s names (form.Svg old) before after =
-    GrowsByPart (IsPictureOf old.window old.look old.rule s names old.roster old.drawing) before after
+    GrowsByPart (IsPictureOf old.window old.look old.rule s names old.admitted old.drawing) before after
 FormEnds s names (form.Perfetto old) before after = GrowsByPart (IsPerfettoTail old.window names s old.history) before after
 FormEnds s names (form.Why old) before after = Unit {0}

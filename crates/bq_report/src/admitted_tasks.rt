@@ -1,6 +1,6 @@
 //! The tasks of a trace, in the order in which they are admitted.
 ghost use Rattle.std.specs.Prelude.{◌≡◌, OnOk, OnErr, []};
-ghost use Rattle.bq_report.specs.Rosters.{enlisted, place_in};
+ghost use Rattle.bq_report.specs.AdmittedTasks.{with_admitted, admitted_place};
 
 use std::alloc::{AllocError, Global};
 use std::marker::Model;
@@ -17,11 +17,11 @@ impl Model for AdmittedTasks {
 
     ghost Value = { List ℕ };
 
-    ghost view = { λ r. r.tasks.items };
+    ghost view = { λ a. a.tasks.items };
 }
 
 impl AdmittedTasks {
-    /// A roster without tasks.
+    /// No task is admitted yet.
     pub fn new(alloc: Global) -> AdmittedTasks
         ensures { result ≡ [] }
     {
@@ -32,7 +32,7 @@ impl AdmittedTasks {
 
     /// Gives a task the next place, unless it has one. If memory runs out, nothing changes.
     pub fn admit(&mut self, task: u16) -> Result<(), AllocError>
-        ensures ok { OnOk result (self.new ≡ enlisted task self.old) }
+        ensures ok { OnOk result (self.new ≡ with_admitted task self.old) }
         ensures err { OnErr result (self.new ≡ self.old) }
     {
         if self.place(task).is_none() {
@@ -43,7 +43,7 @@ impl AdmittedTasks {
 
     /// The place of a task, from 0 on. `None` if it is not admitted.
     pub fn place(&self, task: u16) -> Option<usize>
-        ensures { result ≡ place_in self.now task }
+        ensures { result ≡ admitted_place self.now task }
     {
         self.tasks.iter().position(|other| *other == task)
     }
