@@ -19,7 +19,7 @@ use Rattle.bq_report.specs.declared.window.Window.{Window}
 use Rattle.bq_report.specs.Names.{NamedTasks}
 use Rattle.bq_report.specs.Reports.{GrowsByPart}
 use Rattle.bq_report.specs.Windows.{Shows, ShowsProcessor}
-use Rattle.bq_drawing.specs.declared.drawing.WrittenRows.{WrittenRows}
+use Rattle.bq_drawing.specs.declared.written_rows.WrittenRows.{WrittenRows}
 use Rattle.bq_drawing.specs.declared.lanes.Stretch.{Stretch}
 use Rattle.bq_drawing.specs.declared.legend.Key.{Key}
 use Rattle.bq_drawing.specs.declared.links.Link.{Link}

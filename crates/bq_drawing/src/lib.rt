@@ -17,6 +17,8 @@ pub mod links;
 pub mod look;
 pub mod perfetto;
 pub mod picture_name;
+pub mod processor_row;
+mod row_lanes;
 pub mod runs;
 pub mod scale;
 pub mod shapes;
@@ -24,6 +26,7 @@ pub mod sheet;
 pub mod svg;
 pub mod theme;
 pub mod unit;
+mod written_rows;
 
 pub use look::Look;
 pub use perfetto::Perfetto;

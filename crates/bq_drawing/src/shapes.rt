@@ -17,6 +17,9 @@ pub const LANE: usize = 12;
 /// How high a wake is drawn, with the space below it.
 pub const LEVEL: usize = 13;
 
+/// The height between two rows.
+pub const GAP: usize = 24;
+
 /// The shown part of a run, and how the run began.
 #[derive(Clone, Copy)]
 pub struct DrawnRun {

@@ -4,7 +4,7 @@ use Rattle.bq_disc.specs.Counts.{saturating_sum}
 use Rattle.bq_drawing.specs.Shapes.{arrow_of, picture_setting, wake_in}
 use Rattle.bq_drawing.proofs.PictureLemmas.{lanes_end, lanes_next}
 use Rattle.bq_drawing.proofs.PlacedLemmas.{left_all, left_more}
-use Rattle.bq_drawing.proofs.drawing.draw_wakes.Goals as goal
+use Rattle.bq_drawing.proofs.row_lanes.draw_wakes.Goals as goal
 
 pub loop-wake-preserved : goal.loop-wake-preserved
 loop-wake-preserved c =

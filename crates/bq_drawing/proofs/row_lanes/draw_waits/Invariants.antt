@@ -4,7 +4,7 @@ use Rattle.bq_disc.specs.Counts.{saturating_sum}
 use Rattle.bq_drawing.specs.declared.lanes.Stretch.{Stretch}
 use Rattle.bq_drawing.specs.Lanes.{lanes_after, left_out}
 use Rattle.bq_drawing.specs.Shapes.{in_lanes, picture_setting, wait_in, waits_text}
-use Rattle.bq_drawing.proofs.drawing.draw_waits.Given as goal
+use Rattle.bq_drawing.proofs.row_lanes.draw_waits.Given as goal
 
 -- the waits that are left complete the text, their lanes, and how many find none
 abbrev pub invariant-loop-wait : goal.invariant-loop-wait

@@ -5,7 +5,7 @@ use Rattle.bq_drawing.specs.declared.lanes.Stretch.{Stretch}
 use Rattle.bq_drawing.specs.Shapes.{picture_setting, wait_in}
 use Rattle.bq_drawing.proofs.PictureLemmas.{lanes_end, lanes_next}
 use Rattle.bq_drawing.proofs.PlacedLemmas.{lanes_all, lanes_more, left_all, left_more}
-use Rattle.bq_drawing.proofs.drawing.draw_waits.Goals as goal
+use Rattle.bq_drawing.proofs.row_lanes.draw_waits.Goals as goal
 
 pub loop-wait-preserved : goal.loop-wait-preserved
 loop-wait-preserved c =

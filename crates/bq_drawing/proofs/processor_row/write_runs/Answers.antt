@@ -1,7 +1,7 @@
 use Rattle.std.proofs.lemmas.List.{drop_all}
 use Rattle.bq_drawing.specs.Shapes.{drawn_run_text, picture_setting}
 use Rattle.bq_drawing.proofs.PictureLemmas.{shapes_end, shapes_next}
-use Rattle.bq_drawing.proofs.drawing.write_runs.Goals as goal
+use Rattle.bq_drawing.proofs.processor_row.write_runs.Goals as goal
 
 pub loop-run-preserved : goal.loop-run-preserved
 loop-run-preserved c =

@@ -7,7 +7,7 @@ use Rattle.bq_drawing.specs.Lanes.{lanes_after, left_out}
 use Rattle.bq_drawing.specs.Rows.{ArePutInOrder, DrawingRow}
 use Rattle.bq_drawing.specs.Shapes.{arrow_of, drawn_run_text, picture_setting, waits_text, wakes_text}
 use Rattle.bq_drawing.proofs.PictureLemmas.{row_written}
-use Rattle.bq_drawing.proofs.drawing.ProcessorRow.write.Goals as goal
+use Rattle.bq_drawing.proofs.processor_row.ProcessorRow.write.Goals as goal
 
 pub returns : goal.returns
 returns c =
