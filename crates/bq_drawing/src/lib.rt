@@ -22,7 +22,7 @@ mod row_lanes;
 pub mod runs;
 pub mod scale;
 pub mod shapes;
-pub mod sheet;
+pub mod styles;
 pub mod svg;
 pub mod theme;
 pub mod unit;

@@ -19,7 +19,7 @@ use crate::look::Look;
 use crate::picture_name::PictureName;
 use crate::runs::{ended_run, run_on};
 use crate::scale::PAGE;
-use crate::sheet::{write_hatches, write_styles};
+use crate::styles::{write_hatches, write_styles};
 use crate::theme::Theme;
 use bq_disc::limits::{PROCESSORS, TASKS};
 use bq_report::{AdmittedTasks, Extent, Names, ScheduleForm, Window};
