@@ -10,6 +10,12 @@ use crate::unit::{Amount, TimeUnit};
 use bq_report::{AdmittedTasks, Names};
 use std::alloc::AllocError;
 
+/// How wide a character of a name is, in hundredths of a unit. The room on both sides of the name is as wide.
+const CHARACTER: u64 = 1000;
+
+/// How many characters the number of a task has that has no name: those of `task 1023`.
+const UNNAMED: u64 = 9;
+
 /// What the shapes of a picture share: where a moment is, the unit of times, and the colours and the names of tasks.
 #[derive(Clone, Copy)]
 pub struct Frame<'a> {
@@ -52,17 +58,17 @@ impl Frame<'_> {
         ensures { result ≡ label_width self.now.names.now task }
     {
         self.name_length(task)
-            .saturating_mul(1000)
-            .saturating_add(1000)
+            .saturating_mul(CHARACTER)
+            .saturating_add(CHARACTER)
     }
 
-    /// How many characters the name of a task has. 9 if it has no name: then its number is shown.
+    /// How many characters the name of a task has, or its number if it has no name.
     fn name_length(&self, task: u16) -> u64
         ensures { result ≡ name_length self.now.names.now task }
     {
         match self.names.of(task) {
             Some(name) => letters(name),
-            None => 9,
+            None => UNNAMED,
         }
     }
 }

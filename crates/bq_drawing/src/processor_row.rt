@@ -16,6 +16,9 @@ use bq_schedule::Wake;
 use std::alloc::{AllocError, Global};
 use std::marker::Model;
 
+/// The height above the wakes of a row.
+const ABOVE: usize = 4;
+
 /// What is drawn of a processor, in the order in which it came.
 #[derive(Drop)]
 pub struct ProcessorRow {
@@ -131,7 +134,7 @@ fn band_top(bottom: usize, levels: usize) -> usize
 {
     bottom
         .saturating_add(levels.saturating_mul(LEVEL))
-        .saturating_add(4)
+        .saturating_add(ABOVE)
 }
 
 /// Where a row ends whose band begins at `top` and has this many lanes of waits below it.

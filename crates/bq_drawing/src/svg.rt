@@ -202,7 +202,7 @@ impl Svg {
 
     /// Holds the shown parts of the runs that still go on.
     fn hold_runners(&mut self, schedule: &Schedule) -> Result<(), AllocError>
-        ensures runs { OnOk result (HoldsRunners self.old.window schedule.now 64 self.old.drawing self.new.drawing) }
+        ensures runs { OnOk result (HoldsRunners self.old.window schedule.now PROCESSORS self.old.drawing self.new.drawing) }
         ensures same { self.new ≡ record self.old { drawing = self.new.drawing } }
     {
         for number in 0..PROCESSORS {

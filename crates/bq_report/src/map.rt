@@ -62,7 +62,7 @@ impl Map {
 
     /// Holds the last run of each processor, which may still go on when the schedule ends.
     fn hold_last(&mut self, schedule: &Schedule) -> Result<(), AllocError>
-        ensures rows { OnOk result (HoldsLast self.old.window schedule.now 64 self.old.rows.items self.new.rows.items) }
+        ensures rows { OnOk result (HoldsLast self.old.window schedule.now PROCESSORS self.old.rows.items self.new.rows.items) }
         ensures same { (self.new.window ≡ self.old.window) × (self.new.width ≡ self.old.width) × (self.new.admitted ≡ self.old.admitted) }
     {
         for number in 0..PROCESSORS {
@@ -234,7 +234,7 @@ impl ScheduleForm for Map {
         names: &Names,
         text: &mut String,
     ) -> Result<(), AllocError>
-        ensures { OnOk result ((rows : List RunsRow) × HoldsLast self.old.window schedule.now 64 self.old.rows.items rows
+        ensures { OnOk result ((rows : List RunsRow) × HoldsLast self.old.window schedule.now PROCESSORS self.old.rows.items rows
             × GrowsByPart (IsMap self.old.window names.now schedule.now self.old.admitted self.old.width rows) (string_bytes text.old) (string_bytes text.new)) }
     {
         self.hold_last(schedule)?;

@@ -102,7 +102,7 @@ fn write_processors(
     schedule: &Schedule,
     text: &mut String,
 ) -> Result<(), AllocError>
-    ensures { OnOk result (GrowsByPart (AreElements (IsProcessorObject window.now schedule.now) 64) (string_bytes text.old) (string_bytes text.new)) }
+    ensures { OnOk result (GrowsByPart (AreElements (IsProcessorObject window.now schedule.now) PROCESSORS) (string_bytes text.old) (string_bytes text.new)) }
 {
     let observed = schedule.observed_time();
     let mut is_first = true;

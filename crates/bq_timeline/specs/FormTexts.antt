@@ -1,7 +1,7 @@
 -- What each form adds to its text when it begins, at each change, and when it ends. Nothing is said of `why`, which is written from the
 -- machine and not from changes.
 use Rattle.std.specs.Prelude.{◌≡◌, ℕ, List, [], ◌++◌, length, replicate, Option, Some, None}
-use Rattle.bq_disc.specs.declared.limits.TheConstants.{TASKS}
+use Rattle.bq_disc.specs.declared.limits.TheConstants.{PROCESSORS, TASKS}
 use Rattle.bq_parts.specs.declared.event.Event.{Event}
 use Rattle.bq_parts.specs.declared.event.Event.TheVariants.{Admit}
 use Rattle.bq_schedule.specs.declared.change.Change.{Change}
@@ -103,9 +103,9 @@ pub record FormAnswers (event : Event) (change : Change) (s : Figures) (names : 
 abbrev pub FormEnds : Figures → NamedTasks → Shown → List ℕ → List ℕ → Type 0
 FormEnds s names (form.Report old) before after = GrowsByPart (IsReport old.window names s old.latencies old.missed) before after
 FormEnds s names (form.Map old) before after =
-    (rows : List RunsRow) × HoldsLast old.window s 64 old.rows.items rows
+    (rows : List RunsRow) × HoldsLast old.window s PROCESSORS old.rows.items rows
     × GrowsByPart (IsMap old.window names s old.admitted old.width rows) before after
-FormEnds s names (form.Timehist old) before after = GrowsByPart (AreLastLines old names s 64) before after
+FormEnds s names (form.Timehist old) before after = GrowsByPart (AreLastLines old names s PROCESSORS) before after
 FormEnds s names (form.Csv old) before after = after ≡ before
 FormEnds s names (form.Json old) before after = GrowsByPart (IsJsonReport old.window names s old.latencies old.missed) before after
 FormEnds s names (form.Svg old) before after =
