@@ -2,7 +2,7 @@ use Rattle.std.proofs.Common.{◌≤◌}
 use Rattle.std.specs.Prelude.{string_bytes}
 use Rattle.bq_report.specs.Reports.{IsProcessorObject}
 use Rattle.bq_report.proofs.ReportLemmas.{ElementsBelow}
-use Rattle.bq_report.proofs.summary.write_processors.Given as goal
+use Rattle.bq_report.proofs.json_report.write_processors.Given as goal
 
 -- the elements of the processors before this one
 abbrev pub invariant-loop-number : goal.invariant-loop-number

@@ -1,6 +1,6 @@
 use Rattle.std.proofs.lemmas.Result.{on_ok_weaker}
 use Rattle.bq_report.proofs.ReportLemmas.{json_added}
-use Rattle.bq_report.proofs.summary.JsonScheduleForm.end.Goals as goal
+use Rattle.bq_report.proofs.json_report.JsonScheduleForm.end.Goals as goal
 
 pub returns : goal.returns
 returns c =

@@ -3,7 +3,7 @@ use Rattle.std.specs.Prelude.{string_bytes}
 use Rattle.bq_schedule.specs.WakeLatencies.{latencies_of}
 use Rattle.bq_report.specs.Reports.{IsTaskObject}
 use Rattle.bq_report.proofs.ReportLemmas.{ElementsBelow}
-use Rattle.bq_report.proofs.summary.write_tasks.Given as goal
+use Rattle.bq_report.proofs.json_report.write_tasks.Given as goal
 
 -- the elements of the tasks before this one; those behind have the latencies that they had
 abbrev pub invariant-loop-task : goal.invariant-loop-task

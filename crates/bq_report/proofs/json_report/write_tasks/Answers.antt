@@ -2,8 +2,8 @@ use Rattle.std.proofs.Common.{◌≡◌, ◌∙◌, ap, arith, refl, string_byte
 use Rattle.bq_schedule.specs.WakeLatencies.{latencies_of}
 use Rattle.bq_report.specs.Reports.{IsTaskObject}
 use Rattle.bq_report.proofs.ReportLemmas.{are_percentiles, elements_all, elements_at, elements_more, elements_none, elements_same, others_kept, part_missing, task_there, test_fails}
-use Rattle.bq_report.proofs.summary.write_tasks.Goals as goal
-use Rattle.bq_report.proofs.summary.write_tasks.Goals.{then-has_task+in_ok-write_task, else-has_task}
+use Rattle.bq_report.proofs.json_report.write_tasks.Goals as goal
+use Rattle.bq_report.proofs.json_report.write_tasks.Goals.{then-has_task+in_ok-write_task, else-has_task}
 
 pub loop-task-init : goal.loop-task-init
 loop-task-init c = record { within = omega arith; elements = elements_none _ _; rest = λ other h. refl }

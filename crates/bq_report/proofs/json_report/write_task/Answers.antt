@@ -3,7 +3,7 @@ use Rattle.std.proofs.lemmas.Result.{on_ok_weaker}
 use Rattle.serde_json.specs.View.{view}
 use Rattle.bq_report.specs.Objects.{task_object}
 use Rattle.bq_report.proofs.ReportLemmas.{element_of, no_float_in_task}
-use Rattle.bq_report.proofs.summary.write_task.Goals as goal
+use Rattle.bq_report.proofs.json_report.write_task.Goals as goal
 
 pub returns : goal.returns
 returns c =

@@ -1,7 +1,7 @@
 use Rattle.std.proofs.Common.{◌∙◌, arith}
 use Rattle.std.proofs.lemmas.Result.{on_ok_weaker}
 use Rattle.bq_report.proofs.RowLemmas.{adds_row}
-use Rattle.bq_report.proofs.rows.Csv.write_slice.Goals as goal
+use Rattle.bq_report.proofs.csv_rows.Csv.write_slice.Goals as goal
 
 pub returns : goal.returns
 returns c =

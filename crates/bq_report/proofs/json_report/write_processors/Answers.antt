@@ -1,8 +1,8 @@
 use Rattle.std.proofs.Common.{◌≡◌, ap, arith, string_bytes}
 use Rattle.bq_report.specs.Reports.{IsProcessorObject}
 use Rattle.bq_report.proofs.ReportLemmas.{elements_all, elements_at, elements_more, elements_none, elements_same, part_missing, processor_there, test_fails}
-use Rattle.bq_report.proofs.summary.write_processors.Goals as goal
-use Rattle.bq_report.proofs.summary.write_processors.Goals.{then-has_processor+in_ok-write_processor, else-has_processor}
+use Rattle.bq_report.proofs.json_report.write_processors.Goals as goal
+use Rattle.bq_report.proofs.json_report.write_processors.Goals.{then-has_processor+in_ok-write_processor, else-has_processor}
 
 pub loop-number-init : goal.loop-number-init
 loop-number-init c = record { within = omega arith; elements = elements_none _ _ }
