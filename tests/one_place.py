@@ -123,7 +123,7 @@ ALLOWED = {
     'which helpers are of counters: bq_interp/src/counters.rt': 'asked at each call of a run, of the number alone, by a function that stands in its loop',
     'the word of a key of marks: bq_explain/src/measure.rt': 'what the limit of maps is called, as its option --max-maps is',
     'the word of a hook: bq_drawing/src/perfetto.rt': 'the category of a mark in a Perfetto file: the event, not the hook',
-    'the word of a hook: bq_report/src/summary.rt': 'keys of a form in JSON, which stay what they are whatever traces call a hook',
+    'the word of a hook: bq_report/src/json_report.rt': 'keys of a form in JSON, which stay what they are whatever traces call a hook',
     'the word of a hook: bq_report/src/tables.rt': 'the column of a report, which stays what it is whatever traces call a hook',
     'the word of a hook: bq_cli/src/tables.rt': 'names of options in a table, which only literals can be; the words of `simulate` are read by `Hook::word`, and the contract holds the two together',
     'the word of a hook: bq_lines/src/keyword.rt': 'the keyword `pull` of a trace, an event, whose word only happens to be that of a hook too',

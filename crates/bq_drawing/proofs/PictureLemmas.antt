@@ -19,7 +19,7 @@ use Rattle.bq_report.specs.declared.window.Window.{Window}
 use Rattle.bq_report.specs.Names.{NamedTasks}
 use Rattle.bq_report.specs.Reports.{GrowsByPart}
 use Rattle.bq_report.specs.Windows.{Shows, ShowsProcessor}
-use Rattle.bq_drawing.specs.declared.drawing.WrittenRows.{WrittenRows}
+use Rattle.bq_drawing.specs.declared.written_rows.WrittenRows.{WrittenRows}
 use Rattle.bq_drawing.specs.declared.lanes.Stretch.{Stretch}
 use Rattle.bq_drawing.specs.declared.legend.Key.{Key}
 use Rattle.bq_drawing.specs.declared.links.Link.{Link}
@@ -200,12 +200,12 @@ pub row_there : (w : Window) (s : PictureSetting) (rows : Rows) (number : ℕ) (
 row_there w s rows number row old new there shown is written =
     inl (record { exists = there; shown = shown }, subst (λ r. IsRowWritten s number r old new) is written)
 
--- what stands above, the axis, the rows, and what stands behind them
+-- what stands above, the axis, the lines between rows, and what stands behind them
 pub drawing_whole : (w : Window) (s : PictureSetting) (title : List ℕ) (rule : Option Rule) (held : Held) (written : WrittenRows)
     (height : ℕ) (t0 t1 t2 t3 t4 t5 : List ℕ)
     → AreDrawn w s held written → t0 ≡ heading_text s title rule
-    → t1 ≡ t0 ++ axis_text s (axis_step s.extent) rows_edge written.bottom → t2 ≡ t1 ++ string_bytes written.text
-    → t3 ≡ t2 ++ string_bytes written.links → t4 ≡ t3 ++ string_bytes written.labels
+    → t1 ≡ t0 ++ axis_text s (axis_step s.extent) rows_edge written.bottom → t2 ≡ t1 ++ string_bytes written.links
+    → t3 ≡ t2 ++ string_bytes written.text → t4 ≡ t3 ++ string_bytes written.labels
     → t5 ≡ t4 ++ legend_text s (tasks_shown s.tasks held.tasks) (key_beside held.links written) (legend_top written.bottom)
     → height
     ≡ saturating_sum (legend_top written.bottom) (legend_height (length (tasks_shown s.tasks held.tasks)) (key_beside held.links written))
@@ -217,7 +217,7 @@ drawing_whole w s title rule held written height t0 t1 t2 t3 t4 t5 drawn_so e0 e
     let lines = links_text s are.placed held.links in
     let labels = flat_map (labels_text s) are.placed in
     let legend = legend_of s held are.placed written.bottom in
-    let behind = lines ++ (labels ++ legend) in
+    let behind = drawn ++ (labels ++ legend) in
     let key : key_beside held.links written ≡ legend_key s held.links are.placed
     = ap (λ n. record (key_beside held.links written) { waits_left_out = n }) are.waits
     ∙ ap (λ n. record (legend_key s held.links are.placed) { wakes_left_out = n }) are.wakes in
@@ -228,10 +228,10 @@ drawing_whole w s title rule held written height t0 t1 t2 t3 t4 t5 drawn_so e0 e
       is_high =
           high
           ∙ ap (λ (k : Key). saturating_sum (legend_top written.bottom) (legend_height (length (tasks_shown s.tasks held.tasks)) k)) key;
-      whole = all_added t0 t1 t2 t5 axis drawn behind e1 (e2 ∙ ap (λ t. t1 ++ t) are.text)
-          (all_added t2 t3 t4 t5 lines labels legend (e3 ∙ ap (λ t. t2 ++ t) drawn_so.lines) (e4 ∙ ap (λ t. t3 ++ t) are.labels)
+      whole = all_added t0 t1 t2 t5 axis lines behind e1 (e2 ∙ ap (λ t. t1 ++ t) drawn_so.lines)
+          (all_added t2 t3 t4 t5 drawn labels legend (e3 ∙ ap (λ t. t2 ++ t) are.text) (e4 ∙ ap (λ t. t3 ++ t) are.labels)
           (e5 ∙ ap (λ (k : Key). t4 ++ legend_text s (tasks_shown s.tasks held.tasks) k (legend_top written.bottom)) key))
-          ∙ ap (λ t. t ++ (axis ++ (drawn ++ behind))) e0;
+          ∙ ap (λ t. t ++ (axis ++ (lines ++ behind))) e0;
     }
 
 -- a picture: its head, what is drawn, and its end
@@ -251,12 +251,12 @@ pub picture_at_end : (held between last : Svg) (s : Figures) (names : NamedTasks
     → between ≡ record held { drawing = between.drawing } → last ≡ record between { drawing = last.drawing }
     → HoldsRunners held.window s 64 held.drawing between.drawing
     → HoldsWaiting between.window s 1024 between.drawing last.drawing → IsDrawnOver last.window s e
-    → GrowsByPart (IsPicture last.window last.look (drawn_in e last.roster names) last.rule last.drawing) old new
-    → GrowsByPart (IsPictureOf held.window held.look held.rule s names held.roster held.drawing) old new
+    → GrowsByPart (IsPicture last.window last.look (drawn_in e last.admitted names) last.rule last.drawing) old new
+    → GrowsByPart (IsPictureOf held.window held.look held.rule s names held.admitted held.drawing) old new
 picture_at_end held between last s names e old new first second runs waits over added =
     let whole : last ≡ record held { drawing = last.drawing } = second ∙ ap (λ (v : Svg). record v { drawing = last.drawing }) first in
-    let own : GrowsByPart (IsPicture held.window held.look (drawn_in e held.roster names) held.rule last.drawing) old new
-    = subst (λ (v : Svg). GrowsByPart (IsPicture v.window v.look (drawn_in e v.roster names) v.rule last.drawing) old new) whole added in (
+    let own : GrowsByPart (IsPicture held.window held.look (drawn_in e held.admitted names) held.rule last.drawing) old new
+    = subst (λ (v : Svg). GrowsByPart (IsPicture v.window v.look (drawn_in e v.admitted names) v.rule last.drawing) old new) whole added in (
       own.0,
       record {
         running = between.drawing;

@@ -14,7 +14,7 @@ use Rattle.std.specs.Ordering.{nat_cmp}
 use Rattle.std.specs.Prelude.{◌==◌, find, flat_map}
 use Rattle.bq_disc.specs.Counts.{saturating_sum}
 use Rattle.bq_report.specs.declared.window.Window.{Window}
-use Rattle.bq_drawing.specs.declared.drawing.WrittenRows.{WrittenRows}
+use Rattle.bq_drawing.specs.declared.written_rows.WrittenRows.{WrittenRows}
 use Rattle.bq_drawing.specs.declared.lanes.Stretch.{Stretch}
 use Rattle.bq_drawing.specs.declared.links.Link.{Link}
 use Rattle.bq_drawing.specs.declared.links.LinkKind.{LinkKind}

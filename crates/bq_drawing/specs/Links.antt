@@ -39,10 +39,6 @@ abbrev pub way_text : ℕ → ℕ → ℕ → ℕ → List ℕ → List ℕ
 way_text left begin right end rest =
     hundredths left ++ (codes " " ++ (decimal begin ++ (codes "L" ++ (hundredths right ++ (codes " " ++ (decimal end ++ rest))))))
 
--- the wider line in the colour of the page, below the line
-abbrev pub halo_text : ℕ → ℕ → ℕ → ℕ → List ℕ
-halo_text left begin right end = codes "<g><path class=\"halo\" stroke-width=\"5\" d=\"M" ++ way_text left begin right end (codes "\"/>")
-
 -- the head of an arrow that ends at this place, pointing down or up
 abbrev pub head_text : ℕ → ℕ → ℕ → Bool → List ℕ
 head_text colour place end true =
@@ -56,13 +52,13 @@ dot_text colour place height =
     codes "<circle class=\"c" ++ (decimal colour ++ (codes " run\" cx=\"" ++ (hundredths place ++ (codes "\" cy=\"" ++ (decimal height
     ++ codes "\" r=\"4.5\"/>")))))
 
--- the line and its end: an arrow for a pull, and dashes with a dot for a migration
+-- the beginning of a group, the line, and its end: an arrow for a pull, and dashes with a dot for a migration
 abbrev pub link_text : LinkKind → ℕ → ℕ → ℕ → ℕ → ℕ → Bool → List ℕ
 link_text Pull colour left begin right end is_down =
-    (codes "<path class=\"c" ++ (decimal colour ++ (codes " link\" d=\"M" ++ way_text left begin right end (codes "\"/>"))))
+    (codes "<g><path class=\"c" ++ (decimal colour ++ (codes " link\" d=\"M" ++ way_text left begin right end (codes "\"/>"))))
     ++ head_text colour right end is_down
 link_text Migration colour left begin right end is_down =
-    (codes "<path class=\"c" ++ (decimal colour ++ (codes " link dashed\" d=\"M" ++ way_text left begin right end (codes "\"/>"))))
+    (codes "<g><path class=\"c" ++ (decimal colour ++ (codes " link dashed\" d=\"M" ++ way_text left begin right end (codes "\"/>"))))
     ++ dot_text colour right end
 
 -- what the line means
@@ -88,8 +84,7 @@ link_between s link from to =
     let begin = enters_at link (leaves_at from to) (link_end from to) s.extent.from in
     let right = moment_place s.extent link.to.at in
     let end = link_end from to in
-    (halo_text left begin right end ++ link_text link.kind (colour_of s.tasks link.task) left begin right end (nat_lt from to))
-    ++ link_title s link
+    link_text link.kind (colour_of s.tasks link.task) left begin right end (nat_lt from to) ++ link_title s link
 
 -- a line between two bands, as `link_between` draws it, if both bands are drawn
 abbrev pub link_if : PictureSetting → Link → Option ℕ → Option ℕ → List ℕ

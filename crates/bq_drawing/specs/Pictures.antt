@@ -19,7 +19,7 @@ use Rattle.bq_drawing.specs.Rows.{ArePlaced, PlacedRow, labels_text, drawing_row
 use Rattle.bq_drawing.specs.Shapes.{PictureSetting, drawn_in}
 use Rattle.bq_drawing.specs.Titles.{axis_step}
 
--- all that is drawn: the heading, the axis, the rows, the lines between them, the names on their runs, and the legend
+-- all that is drawn: the heading, the axis, the lines between rows, the rows over them, the names on their runs, and the legend
 pub record IsDrawing (w : Window) (s : PictureSetting) (title : List ℕ) (rule : Option Rule) (held : Held) (height : ℕ) (text : List ℕ) : Type 0 where
   pub placed : List PlacedRow
   pub edge : ℕ
@@ -27,8 +27,8 @@ pub record IsDrawing (w : Window) (s : PictureSetting) (title : List ℕ) (rule 
   pub is_high : height ≡ picture_height s held placed edge
   pub whole : text ≡ heading_text s title rule
       ++ (axis_text s (axis_step s.extent) rows_edge edge
-      ++ (flat_map (drawing_row_text s) placed
       ++ (links_text s placed held.links
+      ++ (flat_map (drawing_row_text s) placed
       ++ (flat_map (labels_text s) placed ++ legend_of s held placed edge))))
 
 -- the head of a picture in which this is drawn: its root, with its name and its size, its title, and the styles of a theme. Nothing is

@@ -5,7 +5,7 @@ use Rattle.std.specs.Option.{option_map}
 use Rattle.bq_disc.specs.Counts.{saturating_sum}
 use Rattle.bq_report.specs.declared.extent.Extent.{Extent}
 use Rattle.bq_report.specs.Names.{NamedTasks, name_of}
-use Rattle.bq_report.specs.Rosters.{place_in}
+use Rattle.bq_report.specs.AdmittedTasks.{admitted_place}
 use Rattle.bq_drawing.specs.declared.colours.TheConstants.{COLOURS}
 use Rattle.bq_drawing.specs.declared.frame.Frame.{Frame}
 use Rattle.bq_drawing.specs.declared.lanes.Stretch.{Stretch}
@@ -29,7 +29,7 @@ drawn_in e tasks names = record { extent = e; unit = unit_of_step (axis_step e);
 
 -- the setting that a frame gives
 abbrev pub picture_setting : Frame → PictureSetting
-picture_setting f = record { extent = f.scale.extent; unit = f.unit; tasks = f.roster.now; names = f.names.now }
+picture_setting f = record { extent = f.scale.extent; unit = f.unit; tasks = f.admitted.now; names = f.names.now }
 
 -- the number of the colour at a place: the colours go round, one further each time
 abbrev pub colour_at : ℕ → ℕ
@@ -37,7 +37,7 @@ colour_at place = (place % COLOURS + place / COLOURS % COLOURS) % COLOURS
 
 -- the number of a task's colour, by its place among all tasks of the trace
 abbrev pub colour_of : List ℕ → ℕ → ℕ
-colour_of tasks task = colour_at (unwrap_or (place_in tasks task) 0)
+colour_of tasks task = colour_at (unwrap_or (admitted_place tasks task) 0)
 
 -- the whole name of a task, or its number if it has none
 abbrev pub whole_name : PictureSetting → ℕ → List ℕ

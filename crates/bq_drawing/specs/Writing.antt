@@ -5,7 +5,7 @@ use Rattle.std.specs.Ordering.{nat_cmp}
 use Rattle.bq_disc.specs.declared.limits.TheConstants.{PROCESSORS}
 use Rattle.bq_disc.specs.Counts.{saturating_sum}
 use Rattle.bq_report.specs.declared.window.Window.{Window}
-use Rattle.bq_drawing.specs.declared.drawing.WrittenRows.{WrittenRows}
+use Rattle.bq_drawing.specs.declared.written_rows.WrittenRows.{WrittenRows}
 use Rattle.bq_drawing.specs.declared.legend.Key.{Key}
 use Rattle.bq_drawing.specs.declared.links.Link.{Link}
 use Rattle.bq_drawing.specs.declared.links.LinkKind.TheVariants.{Migration, Pull}

@@ -10,6 +10,12 @@ use std::alloc::AllocError;
 /// How high the axis is below the rows, with its numbers and its name.
 pub const AXIS: usize = 48;
 
+/// How far the numbers are below the rows.
+const NUMBERS: usize = 20;
+
+/// How far the name of the axis is below the rows.
+const NAME: usize = 42;
+
 /// How many lines the axis has at most.
 const MOST: u8 = 12;
 
@@ -27,7 +33,7 @@ pub fn write_axis(
         let at = line_at(step, number, &frame.scale);
         write_mark(at, frame, top, bottom, text)?;
     }
-    write_axis_name(frame.unit.name(), bottom.saturating_add(42), text)
+    write_axis_name(frame.unit.name(), bottom.saturating_add(NAME), text)
 }
 
 /// The moment of a line: `number` steps after the first line.
@@ -60,7 +66,7 @@ fn write_mark(
     let place = frame.scale.place(at);
     let count = at / frame.unit.length();
     write_grid_line(place, top, bottom, text)?;
-    write_grid_count(place, bottom.saturating_add(20), count, text)
+    write_grid_count(place, bottom.saturating_add(NUMBERS), count, text)
 }
 
 /// Adds a line of the axis.

@@ -1,31 +1,27 @@
-//! What is drawn, and where.
-ghost use Rattle.std.specs.Prelude.{◌≡◌, ◌+◌, ◌*◌, ◌++◌, [], ◌∷◌, IfOk, OnOk, Some, flat_map, length, string_bytes};
-ghost use Rattle.bq_disc.specs.Counts.{saturating_sum};
+//! What a picture holds, and the whole of it as text.
+ghost use Rattle.std.specs.Prelude.{◌≡◌, ◌++◌, ◌∷◌, IfOk, OnOk, Some, flat_map, length, string_bytes};
 ghost use Rattle.std.specs.BTreeMap.{get};
 ghost use Rattle.std.specs.Ordering.{nat_cmp};
-ghost use Rattle.bq_drawing.specs.Holdings.{nothing_of, row_with_run, row_with_wait, row_with_wake, waking, with_link, held_with_run, with_stretch, with_wake};
+ghost use Rattle.bq_disc.specs.Counts.{saturating_sum};
+ghost use Rattle.bq_drawing.specs.Holdings.{nothing_of, with_link, held_with_run, with_stretch, with_wake};
 ghost use Rattle.bq_drawing.specs.Keys.{has_line, legend_top, tasks_shown};
 ghost use Rattle.bq_drawing.specs.Legends.{legend_height, legend_text};
 ghost use Rattle.bq_drawing.specs.Links.{link_line};
-ghost use Rattle.bq_drawing.specs.Lanes.{lanes_after, left_out, without_lane};
 ghost use Rattle.bq_drawing.specs.Pictures.{IsDrawing};
-ghost use Rattle.bq_drawing.specs.Places.{band_height, lane_height, level_height, row_gap};
-ghost use Rattle.bq_drawing.specs.Rows.{ArePutInOrder, empty_drawing_row};
-ghost use Rattle.bq_drawing.specs.Shapes.{arrow_of, drawn_in, label_text, drawn_run_text, picture_setting, shape_in, wait_in, waits_text, wake_in, wakes_text};
-ghost use Rattle.bq_drawing.specs.Writing.{AreDrawn, IsRowWritten, IsRowWrittenIf, key_beside};
+ghost use Rattle.bq_drawing.specs.Shapes.{drawn_in, picture_setting};
+ghost use Rattle.bq_drawing.specs.Writing.{AreDrawn, IsRowWrittenIf, key_beside};
 
 use crate::axis::{AXIS, write_axis};
 use crate::frame::Frame;
 use crate::heading::Heading;
-use crate::lanes::{Lanes, Stretch};
+use crate::lanes::Stretch;
 use crate::legend::{Key, legend_height, write_legend};
 use crate::links::{Link, LinkKind};
+use crate::processor_row::ProcessorRow;
 use crate::scale::Scale;
-use crate::shapes::{
-    BAND, DrawnRun, LANE, LEVEL, wait_height, wake_height, write_label, write_row_name, write_run,
-    write_wait, write_wake,
-};
+use crate::shapes::{DrawnRun, GAP};
 use crate::unit::TimeUnit;
+use crate::written_rows::WrittenRows;
 use bq_disc::limits::PROCESSORS;
 use bq_report::{AdmittedTasks, Extent, Names, Window, round_step};
 use bq_schedule::{Slice, Start, Wake};
@@ -36,27 +32,8 @@ use std::marker::Model;
 /// The height above the first row.
 const TOP: usize = 84;
 
-/// The height between two rows.
-const GAP: usize = 24;
-
 /// How many steps of time an axis has at most.
 const STEPS: u16 = 10;
-
-/// What is drawn of a processor, in the order in which it came.
-#[derive(Drop)]
-pub struct ProcessorRow {
-    runs: Vec<DrawnRun>,
-    waits: Vec<Stretch>,
-    wakes: Vec<Stretch>,
-}
-
-impl Model for ProcessorRow {
-    ghost use Rattle.bq_drawing.specs.Rows.{DrawingRow};
-
-    ghost Value = { DrawingRow };
-
-    ghost view = { λ r. record { runs = r.runs.items; waits = r.waits.items; wakes = r.wakes.items } };
-}
 
 /// What is drawn. Contracts see what is held: the row of each processor, the lines between rows, and the tasks that appear.
 #[derive(Drop)]
@@ -80,32 +57,6 @@ impl Model for Drawing {
 pub struct Written {
     pub text: String,
     pub height: usize,
-}
-
-/// The rows that are written so far.
-#[derive(Drop)]
-struct WrittenRows {
-    text: String,
-    /// The lines between rows.
-    links: String,
-    /// The names on the runs, which are drawn over the lines between rows.
-    labels: String,
-    /// Where the band of each shown processor begins.
-    bands: BTreeMap<u8, usize>,
-    /// Where the last row ends.
-    bottom: usize,
-    waits_left_out: usize,
-    wakes_left_out: usize,
-}
-
-/// The waits or the wakes of a row, as they are drawn.
-#[derive(Drop)]
-struct Shapes {
-    text: String,
-    /// How many lanes they take.
-    lanes: usize,
-    /// How many of them found no lane.
-    left_out: usize,
 }
 
 impl Drawing {
@@ -185,17 +136,17 @@ impl Drawing {
         window: &Window,
         extent: Extent,
         heading: &Heading<'_>,
-        roster: &AdmittedTasks,
+        admitted: &AdmittedTasks,
         names: &Names,
     ) -> Result<Written, AllocError>
-        ensures { IfOk result (λ d. IsDrawing window.now (drawn_in extent roster.now names.now) heading.now.title.now heading.now.rule self.now
+        ensures { IfOk result (λ d. IsDrawing window.now (drawn_in extent admitted.now names.now) heading.now.title.now heading.now.rule self.now
             d.height (string_bytes d.text)) }
     {
         let step = round_step(extent.length(), STEPS).unwrap_or(1);
         let frame = Frame {
             scale: Scale { extent },
             unit: TimeUnit::of_step(step),
-            roster,
+            admitted,
             names,
         };
         let rows = self.write_rows(window, &frame)?;
@@ -203,8 +154,8 @@ impl Drawing {
         heading.write(&frame, &mut text)?;
         write_axis(step, &frame, TOP, rows.bottom, &mut text)?;
         let legend = self.legend(&rows, &frame)?;
-        text.push_str(rows.text.as_str())?;
         text.push_str(rows.links.as_str())?;
+        text.push_str(rows.text.as_str())?;
         text.push_str(rows.labels.as_str())?;
         text.push_str(legend.text.as_str())?;
         let height = legend.height;
@@ -214,11 +165,11 @@ impl Drawing {
     /// The legend below the rows, and how high the picture is together with it.
     fn legend(&self, rows: &WrittenRows, frame: &Frame<'_>) -> Result<Written, AllocError>
         ensures text { IfOk result (λ legend. string_bytes legend.text ≡ legend_text (picture_setting frame.now)
-            (tasks_shown frame.now.roster.now self.now.tasks) (key_beside self.now.links rows.now) (legend_top rows.now.bottom)) }
+            (tasks_shown frame.now.admitted.now self.now.tasks) (key_beside self.now.links rows.now) (legend_top rows.now.bottom)) }
         ensures height { IfOk result (λ legend. legend.height ≡ saturating_sum (legend_top rows.now.bottom)
-            (legend_height (length (tasks_shown frame.now.roster.now self.now.tasks)) (key_beside self.now.links rows.now))) }
+            (legend_height (length (tasks_shown frame.now.admitted.now self.now.tasks)) (key_beside self.now.links rows.now))) }
     {
-        let tasks = self.tasks_shown(frame.roster)?;
+        let tasks = self.tasks_shown(frame.admitted)?;
         let key = self.key(rows);
         let first = legend_top(rows.bottom);
         let mut text = String::new(self.alloc);
@@ -228,11 +179,11 @@ impl Drawing {
     }
 
     /// The tasks that appear, in the order in which they were admitted.
-    fn tasks_shown(&self, roster: &AdmittedTasks) -> Result<Vec<u16>, AllocError>
-        ensures { IfOk result (λ tasks. tasks.items ≡ tasks_shown roster.now self.now.tasks) }
+    fn tasks_shown(&self, admitted: &AdmittedTasks) -> Result<Vec<u16>, AllocError>
+        ensures { IfOk result (λ tasks. tasks.items ≡ tasks_shown admitted.now self.now.tasks) }
     {
         let mut tasks = Vec::new(self.alloc);
-        let all = roster.tasks();
+        let all = admitted.tasks();
         for task in all {
             self.push_if_shown(*task, &mut tasks)?;
         }
@@ -308,9 +259,7 @@ impl Drawing {
         };
         row.write(self.alloc, number, frame, rows)
     }
-}
 
-impl Drawing {
     /// Draws all lines of this kind between rows.
     fn write_links(
         &self,
@@ -329,274 +278,9 @@ impl Drawing {
     }
 }
 
-impl WrittenRows {
-    /// Draws a line between two rows, if the line is of this kind and both rows are shown.
-    fn write_link(
-        &mut self,
-        kind: LinkKind,
-        link: &Link,
-        frame: &Frame<'_>,
-    ) -> Result<(), AllocError>
-        ensures text { OnOk result (string_bytes self.new.links
-            ≡ string_bytes self.old.links ++ link_line kind (picture_setting frame.now) (get nat_cmp self.old.bands) link.now) }
-        ensures same { self.new ≡ record self.old { links = self.new.links } }
-    {
-        if !link.kind.is(kind) {
-            return Ok(());
-        }
-        let from = self.bands.get(&link.from.processor).copied();
-        let to = self.bands.get(&link.to.processor).copied();
-        match (from, to) {
-            (Some(from), Some(to)) => link.write(from, to, frame, &mut self.links),
-            _ => Ok(()),
-        }
-    }
-}
-
-impl ProcessorRow {
-    /// A row with nothing in it.
-    fn new(alloc: Global) -> ProcessorRow
-        ensures { result ≡ empty_drawing_row }
-    {
-        ProcessorRow {
-            runs: Vec::new(alloc),
-            waits: Vec::new(alloc),
-            wakes: Vec::new(alloc),
-        }
-    }
-
-    fn push_run(&mut self, run: DrawnRun) -> Result<(), AllocError>
-        ensures { OnOk result (self.new ≡ row_with_run run self.old) }
-    {
-        self.runs.push(run)?;
-        Ok(())
-    }
-
-    fn push_wait(&mut self, wait: Stretch) -> Result<(), AllocError>
-        ensures { OnOk result (self.new ≡ row_with_wait wait self.old) }
-    {
-        self.waits.push(wait)?;
-        Ok(())
-    }
-
-    fn push_wake(&mut self, wake: &Wake) -> Result<(), AllocError>
-        ensures { OnOk result (self.new ≡ row_with_wake (waking wake.now) self.old) }
-    {
-        self.wakes.push(Stretch {
-            from: wake.at,
-            to: wake.at,
-            task: wake.task,
-        })?;
-        Ok(())
-    }
-
-    /// Adds the names on the runs.
-    fn write_labels(
-        &self,
-        top: usize,
-        frame: &Frame<'_>,
-        labels: &mut String,
-    ) -> Result<(), AllocError>
-        ensures { OnOk result (string_bytes labels.new ≡ string_bytes labels.old ++ flat_map (label_text (picture_setting frame.now) top) self.now.runs) }
-    {
-        for run in self.runs.iter() {
-            write_label(run, top, frame, labels)?;
-        }
-        Ok(())
-    }
-
-    /// Draws the row below the rows that are written.
-    fn write(
-        &self,
-        alloc: Global,
-        number: u8,
-        frame: &Frame<'_>,
-        rows: &mut WrittenRows,
-    ) -> Result<(), AllocError>
-        ensures { OnOk result (IsRowWritten (picture_setting frame.now) number self.now rows.old rows.new) }
-    {
-        let waits = in_order(alloc, self.waits.as_slice())?;
-        let wakes = in_order(alloc, self.wakes.as_slice())?;
-        let levels = levels(alloc, wakes.as_slice(), frame)?;
-        let top = band_top(rows.bottom, levels);
-        rows.bands.insert(number, top)?;
-        write_row_name(number, top, &mut rows.text)?;
-        write_runs(alloc, self.runs.as_slice(), top, frame, &mut rows.text)?;
-        self.write_labels(top, frame, &mut rows.labels)?;
-        let below = draw_waits(alloc, waits.as_slice(), top, frame)?;
-        let above = draw_wakes(alloc, wakes.as_slice(), top, frame)?;
-        rows.text.push_str(below.text.as_str())?;
-        rows.text.push_str(above.text.as_str())?;
-        rows.waits_left_out = rows.waits_left_out.saturating_add(below.left_out);
-        rows.wakes_left_out = rows.wakes_left_out.saturating_add(above.left_out);
-        rows.bottom = row_end(top, below.lanes);
-        Ok(())
-    }
-}
-
-/// The waits or the wakes of a row in the order in which they begin.
-fn in_order(alloc: Global, given: &[Stretch]) -> Result<Vec<Stretch>, AllocError>
-    ensures { IfOk result (λ sorted. ArePutInOrder given.now sorted.items) }
-{
-    let mut sorted = Vec::from_slice(alloc, given)?;
-    sorted.sort_unstable();
-    Ok(sorted)
-}
-
-/// Where the band of a row begins that is below this height and has this many levels of wakes above it.
-fn band_top(bottom: usize, levels: usize) -> usize
-    ensures { result ≡ saturating_sum bottom (levels * level_height + 4) }
-{
-    bottom
-        .saturating_add(levels.saturating_mul(LEVEL))
-        .saturating_add(4)
-}
-
-/// Where a row ends whose band begins at `top` and has this many lanes of waits below it.
-fn row_end(top: usize, lanes: usize) -> usize
-    ensures { result ≡ saturating_sum top (band_height + (lanes * lane_height + row_gap)) }
-{
-    top.saturating_add(BAND)
-        .saturating_add(lanes.saturating_mul(LANE))
-        .saturating_add(GAP)
-}
-
 /// Where the legend begins, below rows that end at this height.
 fn legend_top(bottom: usize) -> usize
     ensures { result ≡ legend_top bottom }
 {
     bottom.saturating_add(AXIS).saturating_add(GAP)
-}
-
-/// How many levels the wakes need, so that no two arrows overlap.
-fn levels(alloc: Global, wakes: &[Stretch], frame: &Frame<'_>) -> Result<usize, AllocError>
-    ensures { IfOk result (λ levels. levels ≡ length (lanes_after (arrow_of frame.now.scale.extent) [] wakes.now)) }
-{
-    let mut levels = Lanes::new(alloc);
-    for wake in wakes {
-        let _ = levels.take(&drawn_wake(wake, frame))?;
-    }
-    Ok(levels.count())
-}
-
-/// Draws the runs.
-fn write_runs(
-    alloc: Global,
-    runs: &[DrawnRun],
-    top: usize,
-    frame: &Frame<'_>,
-    text: &mut String,
-) -> Result<(), AllocError>
-    ensures { OnOk result (string_bytes text.new ≡ string_bytes text.old ++ flat_map (drawn_run_text (picture_setting frame.now) top) runs.now) }
-{
-    for run in runs {
-        write_run(alloc, run, top, frame, text)?;
-    }
-    Ok(())
-}
-
-/// Draws the waits below the runs, in lanes.
-fn draw_waits(
-    alloc: Global,
-    waits: &[Stretch],
-    top: usize,
-    frame: &Frame<'_>,
-) -> Result<Shapes, AllocError>
-    ensures text { IfOk result (λ drawn. string_bytes drawn.text ≡ waits_text (picture_setting frame.now) top waits.now) }
-    ensures lanes { IfOk result (λ drawn. drawn.lanes ≡ length (lanes_after (λ wait. wait) [] waits.now)) }
-    ensures left_out { IfOk result (λ drawn. drawn.left_out ≡ saturating_sum 0 (left_out (λ wait. wait) [] waits.now)) }
-{
-    let mut lanes = Lanes::new(alloc);
-    let mut text = String::new(alloc);
-    let mut left_out = 0usize;
-    for wait in waits {
-        let lane = lanes.take(wait)?;
-        write_wait_in(lane, wait, top, frame, &mut text)?;
-        left_out = left_out.saturating_add(without_lane(lane));
-    }
-    let lanes = lanes.count();
-    Ok(Shapes {
-        text,
-        lanes,
-        left_out,
-    })
-}
-
-/// Draws the wakes above the runs. Wakes that would overlap are drawn one above another.
-fn draw_wakes(
-    alloc: Global,
-    wakes: &[Stretch],
-    top: usize,
-    frame: &Frame<'_>,
-) -> Result<Shapes, AllocError>
-    ensures text { IfOk result (λ drawn. string_bytes drawn.text ≡ wakes_text (picture_setting frame.now) top wakes.now) }
-    ensures left_out { IfOk result (λ drawn. drawn.left_out ≡ saturating_sum 0 (left_out (arrow_of frame.now.scale.extent) [] wakes.now)) }
-{
-    let mut lanes = Lanes::new(alloc);
-    let mut text = String::new(alloc);
-    let mut left_out = 0usize;
-    for wake in wakes {
-        let level = lanes.take(&drawn_wake(wake, frame))?;
-        write_wake_in(level, wake, top, frame, &mut text)?;
-        left_out = left_out.saturating_add(without_lane(level));
-    }
-    let lanes = lanes.count();
-    Ok(Shapes {
-        text,
-        lanes,
-        left_out,
-    })
-}
-
-/// 1 if a stretch found no lane, otherwise 0.
-fn without_lane(lane: Option<usize>) -> usize
-    ensures { result ≡ without_lane lane }
-{
-    match lane {
-        Some(_) => 0,
-        None => 1,
-    }
-}
-
-/// Draws a wait in its lane, if it found one.
-fn write_wait_in(
-    lane: Option<usize>,
-    wait: &Stretch,
-    top: usize,
-    frame: &Frame<'_>,
-    text: &mut String,
-) -> Result<(), AllocError>
-    ensures { OnOk result (string_bytes text.new ≡ string_bytes text.old ++ shape_in (wait_in (picture_setting frame.now) top) lane wait.now) }
-{
-    match lane {
-        Some(lane) => write_wait(wait, wait_height(top, lane), frame, text),
-        None => Ok(()),
-    }
-}
-
-/// Draws a wake at its level, if it found one.
-fn write_wake_in(
-    level: Option<usize>,
-    wake: &Stretch,
-    top: usize,
-    frame: &Frame<'_>,
-    text: &mut String,
-) -> Result<(), AllocError>
-    ensures { OnOk result (string_bytes text.new ≡ string_bytes text.old ++ shape_in (wake_in (picture_setting frame.now) top) level wake.now) }
-{
-    match level {
-        Some(level) => write_wake(wake, wake_height(top, level), frame, text),
-        None => Ok(()),
-    }
-}
-
-/// A wake, made as long as its arrow is wide.
-fn drawn_wake(wake: &Stretch, frame: &Frame<'_>) -> Stretch
-    ensures { result ≡ arrow_of frame.now.scale.extent wake.now }
-{
-    Stretch {
-        from: wake.from,
-        to: wake.from.saturating_add(frame.scale.arrow()),
-        task: wake.task,
-    }
 }

@@ -10,12 +10,18 @@ use crate::unit::{Amount, TimeUnit};
 use bq_report::{AdmittedTasks, Names};
 use std::alloc::AllocError;
 
+/// How wide a character of a name is, in hundredths of a unit. The room on both sides of the name is as wide.
+const CHARACTER: u64 = 1000;
+
+/// How many characters the number of a task has that has no name: those of `task 1023`.
+const UNNAMED: u64 = 9;
+
 /// What the shapes of a picture share: where a moment is, the unit of times, and the colours and the names of tasks.
 #[derive(Clone, Copy)]
 pub struct Frame<'a> {
     pub scale: Scale,
     pub unit: TimeUnit,
-    pub roster: &'a AdmittedTasks,
+    pub admitted: &'a AdmittedTasks,
     pub names: &'a Names,
 }
 
@@ -23,9 +29,9 @@ impl Frame<'_> {
     /// The number of a task's colour, by its place among all tasks of the trace, whether these are shown or not. The colours go round,
     /// one further each time: if tasks go round a few processors, a row still has tasks of every colour.
     pub fn colour(&self, task: u16) -> usize
-        ensures { result ≡ colour_of self.now.roster.now task }
+        ensures { result ≡ colour_of self.now.admitted.now task }
     {
-        let place = self.roster.place(task).unwrap_or(0);
+        let place = self.admitted.place(task).unwrap_or(0);
         (place % COLOURS + place / COLOURS % COLOURS) % COLOURS
     }
 
@@ -52,17 +58,17 @@ impl Frame<'_> {
         ensures { result ≡ label_width self.now.names.now task }
     {
         self.name_length(task)
-            .saturating_mul(1000)
-            .saturating_add(1000)
+            .saturating_mul(CHARACTER)
+            .saturating_add(CHARACTER)
     }
 
-    /// How many characters the name of a task has. 9 if it has no name: then its number is shown.
+    /// How many characters the name of a task has, or its number if it has no name.
     fn name_length(&self, task: u16) -> u64
         ensures { result ≡ name_length self.now.names.now task }
     {
         match self.names.of(task) {
             Some(name) => letters(name),
-            None => 9,
+            None => UNNAMED,
         }
     }
 }

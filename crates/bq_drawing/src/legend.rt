@@ -92,7 +92,9 @@ fn write_entry(
 ) -> Result<(), AllocError>
     ensures { OnOk result (string_bytes text.new ≡ string_bytes text.old ++ entry_text (picture_setting frame.now) first place task) }
 {
-    let left = (place % ABREAST).saturating_mul(COLUMN).saturating_add(72);
+    let left = (place % ABREAST)
+        .saturating_mul(COLUMN)
+        .saturating_add(LEFT as usize);
     let top = (place / ABREAST).saturating_mul(LINE).saturating_add(first);
     write_swatch(frame.colour(task), left, top, text)?;
     write_short_name(task, frame, text)

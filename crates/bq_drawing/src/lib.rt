@@ -17,13 +17,16 @@ pub mod links;
 pub mod look;
 pub mod perfetto;
 pub mod picture_name;
+pub mod processor_row;
+mod row_lanes;
 pub mod runs;
 pub mod scale;
 pub mod shapes;
-pub mod sheet;
+pub mod styles;
 pub mod svg;
 pub mod theme;
 pub mod unit;
+mod written_rows;
 
 pub use look::Look;
 pub use perfetto::Perfetto;

@@ -1,7 +1,7 @@
 //! The lines between rows: pulls and migrations.
 ghost use Rattle.std.specs.Prelude.{◌≡◌, ◌++◌, OnOk, string_bytes};
 ghost use Rattle.bq_drawing.specs.declared.links.LinkKind.TheVariants.{Migration, Pull};
-ghost use Rattle.bq_drawing.specs.Links.{act_text, dot_text, link_end, enters_at, halo_text, head_text, height_left, leaves_at, link_text, link_between, link_title, name_head, same_kind};
+ghost use Rattle.bq_drawing.specs.Links.{act_text, dot_text, link_end, enters_at, head_text, height_left, leaves_at, link_text, link_between, link_title, name_head, same_kind};
 ghost use Rattle.bq_drawing.specs.Shapes.{picture_setting};
 
 use crate::frame::Frame;
@@ -78,7 +78,6 @@ impl Link {
             is_down: top_from < top_to,
         };
         let colour = frame.colour(self.task);
-        write_halo(&line, text)?;
         write_line(self.kind, colour, &line, text)?;
         self.write_title(frame, text)
     }
@@ -160,25 +159,7 @@ fn write_act(kind: LinkKind, from: u8, to: u8, text: &mut String) -> Result<(), 
     }
 }
 
-/// Adds a wider line in the colour of the page, which is drawn below the line.
-fn write_halo(line: &Line, text: &mut String) -> Result<(), AllocError>
-    ensures { OnOk result (string_bytes text.new
-        ≡ string_bytes text.old ++ halo_text line.now.left.0 line.now.begin line.now.right.0 line.now.end) }
-{
-    let Line {
-        left,
-        begin,
-        right,
-        end,
-        ..
-    } = *line;
-    write!(
-        text,
-        "<g><path class=\"halo\" stroke-width=\"5\" d=\"M{left} {begin}L{right} {end}\"/>"
-    )
-}
-
-/// Adds a line in a colour, and its end.
+/// Adds the beginning of a group, a line in a colour, and its end.
 fn write_line(
     kind: LinkKind,
     colour: usize,
@@ -194,7 +175,7 @@ fn write_line(
     }
 }
 
-/// Adds an arrow.
+/// Adds the beginning of a group, and an arrow.
 fn write_arrow_line(colour: usize, line: &Line, text: &mut String) -> Result<(), AllocError>
     ensures { OnOk result (string_bytes text.new
         ≡ string_bytes text.old ++ link_text Pull colour line.now.left.0 line.now.begin line.now.right.0 line.now.end line.now.is_down) }
@@ -208,12 +189,12 @@ fn write_arrow_line(colour: usize, line: &Line, text: &mut String) -> Result<(),
     } = *line;
     write!(
         text,
-        "<path class=\"c{colour} link\" d=\"M{left} {begin}L{right} {end}\"/>"
+        "<g><path class=\"c{colour} link\" d=\"M{left} {begin}L{right} {end}\"/>"
     )?;
     write_head(colour, right, end, is_down, text)
 }
 
-/// Adds a dashed line to a dot.
+/// Adds the beginning of a group, and a dashed line to a dot.
 fn write_dashed_line(colour: usize, line: &Line, text: &mut String) -> Result<(), AllocError>
     ensures { OnOk result (string_bytes text.new
         ≡ string_bytes text.old ++ link_text Migration colour line.now.left.0 line.now.begin line.now.right.0 line.now.end line.now.is_down) }
@@ -227,7 +208,7 @@ fn write_dashed_line(colour: usize, line: &Line, text: &mut String) -> Result<()
     } = *line;
     write!(
         text,
-        "<path class=\"c{colour} link dashed\" d=\"M{left} {begin}L{right} {end}\"/>"
+        "<g><path class=\"c{colour} link dashed\" d=\"M{left} {begin}L{right} {end}\"/>"
     )?;
     write_dot(colour, right, end, text)
 }

@@ -31,8 +31,14 @@ const ARROW: u64 = 9;
 /// How far the stretch of time is from the left edge.
 pub const LEFT: u64 = 72;
 
+/// How far the stretch of time is from the right edge.
+const RIGHT: u64 = 24;
+
 /// How wide the picture is.
-pub const PAGE: u64 = LEFT + WIDTH + 24;
+pub const PAGE: u64 = LEFT + WIDTH + RIGHT;
+
+/// The least width that can be seen, in hundredths.
+const LEAST: u64 = 40;
 
 /// A stretch of time, drawn over `WIDTH`.
 #[derive(Clone, Copy)]
@@ -57,7 +63,7 @@ impl Scale {
     {
         let Hundredths(begin) = self.place(from);
         let Hundredths(end) = self.place(to);
-        Hundredths(end.saturating_sub(begin).max(40))
+        Hundredths(end.saturating_sub(begin).max(LEAST))
     }
 
     /// The time that the arrow of a wake covers, in nanoseconds.

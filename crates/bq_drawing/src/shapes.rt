@@ -17,6 +17,12 @@ pub const LANE: usize = 12;
 /// How high a wake is drawn, with the space below it.
 pub const LEVEL: usize = 13;
 
+/// How far the line of a name is below the upper edge of a band.
+const NAME: usize = 24;
+
+/// The height between two rows.
+pub const GAP: usize = 24;
+
 /// The shown part of a run, and how the run began.
 #[derive(Clone, Copy)]
 pub struct DrawnRun {
@@ -48,7 +54,7 @@ impl DrawnRun {
 pub fn write_row_name(number: u8, top: usize, text: &mut String) -> Result<(), AllocError>
     ensures { OnOk result (string_bytes text.new ≡ string_bytes text.old ++ (band_text top ++ row_name number top)) }
 {
-    let line = top.saturating_add(24);
+    let line = top.saturating_add(NAME);
     write!(
         text,
         "<rect class=\"band\" x=\"{LEFT}\" y=\"{top}\" width=\"{WIDTH}\" height=\"{BAND}\"/>\n"
@@ -176,7 +182,7 @@ fn write_label_start(
 ) -> Result<(), AllocError>
     ensures { OnOk result (string_bytes text.new ≡ string_bytes text.old ++ label_start (picture_setting frame.now) task middle.0 top) }
 {
-    let line = top.saturating_add(24);
+    let line = top.saturating_add(NAME);
     let colour = frame.colour(task);
     write!(
         text,

@@ -3,7 +3,7 @@ ghost use Rattle.std.specs.Prelude.{◌≡◌, ◌++◌, [], length, IfOk, OnOk,
 ghost use Rattle.bq_schedule.specs.Figures.{task_in_figures};
 ghost use Rattle.bq_schedule.specs.Slices.{is_this};
 ghost use Rattle.bq_report.specs.Reports.{GrowsByPart};
-ghost use Rattle.bq_report.specs.Rosters.{enlisted};
+ghost use Rattle.bq_report.specs.AdmittedTasks.{with_admitted};
 ghost use Rattle.bq_drawing.specs.Frames.{picture_name_text, root_text, root_title};
 ghost use Rattle.bq_drawing.specs.Holdings.{HoldsChange, HoldsLink, HoldsPull, HoldsRun, HoldsRunners, HoldsStart, HoldsWait, HoldsWaiting, HoldsWake, migration_begin, migration_link, nothing_of, pulled_link, wait_at, wait_before, wait_ended, with_stop};
 ghost use Rattle.bq_drawing.specs.Pictures.{IsDrawnOver, IsHead, IsPicture, IsPictureOf};
@@ -19,7 +19,7 @@ use crate::look::Look;
 use crate::picture_name::PictureName;
 use crate::runs::{ended_run, run_on};
 use crate::scale::PAGE;
-use crate::sheet::{write_hatches, write_styles};
+use crate::styles::{write_hatches, write_styles};
 use crate::theme::Theme;
 use bq_disc::limits::{PROCESSORS, TASKS};
 use bq_report::{AdmittedTasks, Extent, Names, ScheduleForm, Window};
@@ -37,7 +37,7 @@ pub struct Svg {
     window: Window,
     look: Look,
     rule: Option<Rule>,
-    roster: AdmittedTasks,
+    admitted: AdmittedTasks,
     drawing: Drawing,
     /// When each task last stopped running.
     stops: BTreeMap<u16, u64>,
@@ -47,14 +47,16 @@ impl Svg {
     /// A picture of what is in the window.
     pub fn new(alloc: Global, window: Window, look: Look) -> Svg
         ensures window { result.window ≡ window }
-        ensures none { (result.drawing ≡ nothing_of 0) × (result.roster ≡ []) }
+        ensures look { result.look ≡ look }
+        ensures rule { result.rule ≡ None }
+        ensures none { (result.drawing ≡ nothing_of 0) × (result.admitted ≡ []) × (result.stops.entries ≡ []) }
     {
         Svg {
             alloc,
             window,
             look,
             rule: None,
-            roster: AdmittedTasks::new(alloc),
+            admitted: AdmittedTasks::new(alloc),
             drawing: Drawing::new(alloc),
             stops: BTreeMap::new(alloc),
         }
@@ -62,7 +64,7 @@ impl Svg {
 
     /// Sets the rule by which the processors choose, which the picture names.
     pub fn under(&mut self, rule: Rule)
-        ensures { self.new ≡ record self.old { rule = self.new.rule } }
+        ensures { self.new ≡ record self.old { rule = Some rule } }
     {
         self.rule = Some(rule);
     }
@@ -200,7 +202,7 @@ impl Svg {
 
     /// Holds the shown parts of the runs that still go on.
     fn hold_runners(&mut self, schedule: &Schedule) -> Result<(), AllocError>
-        ensures runs { OnOk result (HoldsRunners self.old.window schedule.now 64 self.old.drawing self.new.drawing) }
+        ensures runs { OnOk result (HoldsRunners self.old.window schedule.now PROCESSORS self.old.drawing self.new.drawing) }
         ensures same { self.new ≡ record self.old { drawing = self.new.drawing } }
     {
         for number in 0..PROCESSORS {
@@ -223,7 +225,7 @@ impl Svg {
 
     /// Adds the picture of what is held.
     fn write(&self, extent: Extent, names: &Names, text: &mut String) -> Result<(), AllocError>
-        ensures { OnOk result (GrowsByPart (IsPicture self.now.window self.now.look (drawn_in extent self.now.roster names.now) self.now.rule self.now.drawing)
+        ensures { OnOk result (GrowsByPart (IsPicture self.now.window self.now.look (drawn_in extent self.now.admitted names.now) self.now.rule self.now.drawing)
             (string_bytes text.old) (string_bytes text.new)) }
     {
         let heading = Heading {
@@ -232,7 +234,7 @@ impl Svg {
         };
         let drawn = self
             .drawing
-            .write(&self.window, extent, &heading, &self.roster, names)?;
+            .write(&self.window, extent, &heading, &self.admitted, names)?;
         let head = head_of(self.alloc, &self.look, &drawn)?;
         text.push_str(head.as_str())?;
         text.push_str(drawn.text.as_str())?;
@@ -395,9 +397,9 @@ impl ScheduleForm for Svg {
     }
 
     fn admit(&mut self, task: u16) -> Result<(), AllocError>
-        ensures { OnOk result (self.new ≡ record self.old { roster = enlisted task self.old.roster }) }
+        ensures { OnOk result (self.new ≡ record self.old { admitted = with_admitted task self.old.admitted }) }
     {
-        self.roster.admit(task)
+        self.admitted.admit(task)
     }
 
     fn take(
@@ -424,7 +426,7 @@ impl ScheduleForm for Svg {
         names: &Names,
         text: &mut String,
     ) -> Result<(), AllocError>
-        ensures picture { OnOk result (GrowsByPart (IsPictureOf self.old.window self.old.look self.old.rule schedule.now names.now self.old.roster self.old.drawing)
+        ensures picture { OnOk result (GrowsByPart (IsPictureOf self.old.window self.old.look self.old.rule schedule.now names.now self.old.admitted self.old.drawing)
             (string_bytes text.old) (string_bytes text.new)) }
     {
         self.hold_runners(schedule)?;

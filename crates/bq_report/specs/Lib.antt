@@ -1,3 +1,4 @@
+pub mod AdmittedTasks
 pub mod Amounts
 pub mod Columns
 pub mod Extents
@@ -8,7 +9,6 @@ pub mod Maps
 pub mod Names
 pub mod Objects
 pub mod Reports
-pub mod Rosters
 pub mod Rows
 pub mod Steps
 pub mod Timehist

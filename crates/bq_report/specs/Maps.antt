@@ -19,7 +19,7 @@ use Rattle.bq_report.specs.Longest.{IsLongest, task_time_between, time_of_all}
 use Rattle.bq_report.specs.MapRows.{RunsRow}
 use Rattle.bq_report.specs.Names.{NamedTasks, name_of}
 use Rattle.bq_report.specs.Reports.{AreParts, IsPartIf}
-use Rattle.bq_report.specs.Rosters.{place_in}
+use Rattle.bq_report.specs.AdmittedTasks.{admitted_place}
 use Rattle.bq_report.specs.Steps.{covers, round_steps}
 use Rattle.bq_report.specs.Windows.{ShowsProcessor, ShowsTask, part_in_window}
 
@@ -148,7 +148,7 @@ letter_if (Some place) = letter_at place
 
 -- the sign of a column: the letter of the task, `-` or `.`
 abbrev pub column_sign : List ℕ → Column → ℕ
-column_sign tasks (Task task) = letter_if (place_in tasks task)
+column_sign tasks (Task task) = letter_if (admitted_place tasks task)
 column_sign tasks Hidden = 45
 column_sign tasks Idle = 46
 

@@ -4,35 +4,6 @@ ghost use Rattle.bq_report.specs.Amounts.{three_decimals, thousandths, millis_te
 
 use std::fmt;
 
-/// The three decimals of a number of thousandths.
-#[derive(Clone, Copy)]
-pub(crate) struct Decimals(pub(crate) u64);
-
-impl fmt::Display for Decimals {
-    ghost output = { λ n. Some (three_decimals n.0) };
-
-    fn fmt<W: fmt::Write>(&self, f: &mut fmt::Formatter<W>) -> fmt::Result {
-        let tenths = self.0 / 100 % 10;
-        let hundredths = self.0 / 10 % 10;
-        let last = self.0 % 10;
-        write!(f, "{tenths}{hundredths}{last}")
-    }
-}
-
-/// A number of thousandths, with three decimals.
-#[derive(Clone, Copy)]
-struct Thousandths(u64);
-
-impl fmt::Display for Thousandths {
-    ghost output = { λ n. Some (thousandths n.0) };
-
-    fn fmt<W: fmt::Write>(&self, f: &mut fmt::Formatter<W>) -> fmt::Result {
-        let whole = self.0 / 1000;
-        let decimals = Decimals(self.0);
-        write!(f, "{whole}.{decimals}")
-    }
-}
-
 /// Nanoseconds, as milliseconds with three decimals. A part of a microsecond is cut off.
 ///
 /// 1,234,567 ns are `1.234`.
@@ -106,5 +77,34 @@ impl fmt::Display for MomentText {
                 write!(f, "{time} ms")
             }
         }
+    }
+}
+
+/// The three decimals of a number of thousandths.
+#[derive(Clone, Copy)]
+pub(crate) struct Decimals(pub(crate) u64);
+
+impl fmt::Display for Decimals {
+    ghost output = { λ n. Some (three_decimals n.0) };
+
+    fn fmt<W: fmt::Write>(&self, f: &mut fmt::Formatter<W>) -> fmt::Result {
+        let tenths = self.0 / 100 % 10;
+        let hundredths = self.0 / 10 % 10;
+        let last = self.0 % 10;
+        write!(f, "{tenths}{hundredths}{last}")
+    }
+}
+
+/// A number of thousandths, with three decimals.
+#[derive(Clone, Copy)]
+struct Thousandths(u64);
+
+impl fmt::Display for Thousandths {
+    ghost output = { λ n. Some (thousandths n.0) };
+
+    fn fmt<W: fmt::Write>(&self, f: &mut fmt::Formatter<W>) -> fmt::Result {
+        let whole = self.0 / 1000;
+        let decimals = Decimals(self.0);
+        write!(f, "{whole}.{decimals}")
     }
 }

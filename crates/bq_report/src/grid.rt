@@ -53,7 +53,7 @@ impl Grid {
 
     /// Adds the marks of the ruler before the last, each as wide as the columns to the next.
     fn write_marks(&self, alloc: Global, last: u64, text: &mut String) -> Result<(), AllocError>
-        requires { last * 20 < 2 ^ 64 }
+        requires { last * TICK < 2 ^ 64 }
         ensures { OnOk result (string_bytes text.new ≡ string_bytes text.old ++ ruler_marks_text self.now last) }
     {
         for number in 0..last {
@@ -66,8 +66,8 @@ impl Grid {
 
     /// The moment at a mark of the ruler.
     fn mark(&self, number: u64) -> MomentText
-        requires { number * 20 < 2 ^ 64 }
-        ensures { result ≡ record { time = moment_at self.now (number * 20); unit = unit_for self.now.step } }
+        requires { number * TICK < 2 ^ 64 }
+        ensures { result ≡ record { time = moment_at self.now (number * TICK); unit = unit_for self.now.step } }
     {
         MomentText {
             time: self.moment(number * TICK),

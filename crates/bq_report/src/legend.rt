@@ -7,15 +7,15 @@ ghost use Rattle.bq_report.specs.Legends.{Notes, NotesMore};
 ghost use Rattle.bq_report.specs.Maps.{IsColumnNote, IsHiddenNote, IsLegend, IsLegendLine, IsLineOfTask, RunsIn, behind_task, column_sign, letter_at, letter_if, lettered_task};
 ghost use Rattle.bq_report.specs.Names.{name_of};
 ghost use Rattle.bq_report.specs.Reports.{GrowsByPart, AreParts, IsPartIf};
-ghost use Rattle.bq_report.specs.Rosters.{place_in};
+ghost use Rattle.bq_report.specs.AdmittedTasks.{admitted_place};
 
+use crate::admitted_tasks::AdmittedTasks;
 use crate::amounts::{MomentText, Unit};
 use crate::extent::Extent;
 use crate::grid::Grid;
 use crate::longest::time_between;
 use crate::map_row::Column;
 use crate::names::Names;
-use crate::roster::AdmittedTasks;
 use bq_schedule::Slice;
 use std::alloc::{AllocError, Global};
 use std::collections::BTreeSet;
@@ -107,13 +107,13 @@ impl Legend {
     /// Adds the legend of a map whose rows are noted.
     pub(crate) fn write(
         &self,
-        roster: &AdmittedTasks,
+        admitted: &AdmittedTasks,
         grid: &Grid,
         names: &Names,
         text: &mut String,
     ) -> Result<(), AllocError>
         ensures { OnOk result ((runs : List Slice) → (columns : List Column) → Notes grid.now.extent runs columns self.now
-            → GrowsByPart (IsLegend names.now roster.now grid.now runs columns) (string_bytes text.old) (string_bytes text.new)) }
+            → GrowsByPart (IsLegend names.now admitted.now grid.now runs columns) (string_bytes text.old) (string_bytes text.new)) }
     {
         let unit = Unit::for_step(grid.step);
         let length = MomentText {
@@ -123,7 +123,7 @@ impl Legend {
         write!(text, "\na column is {length}; {IDLE} is idle")?;
         self.write_hidden(text)?;
         text.push_str("\n")?;
-        self.write_lines(roster.tasks(), names, text)
+        self.write_lines(admitted.tasks(), names, text)
     }
 
     /// Adds what the sign of hidden tasks means, if a column has that sign.
@@ -214,25 +214,25 @@ fn write_name(name: Option<&str>, text: &mut String) -> Result<(), AllocError>
 
 /// Adds the signs of columns: a task's letter, or the sign of hidden tasks or of an idle processor.
 pub(crate) fn write_signs(
-    roster: &AdmittedTasks,
+    admitted: &AdmittedTasks,
     columns: &[Column],
     text: &mut String,
 ) -> Result<(), AllocError>
-    ensures { OnOk result (string_bytes text.new ≡ string_bytes text.old ++ map (column_sign roster.now) columns.now) }
+    ensures { OnOk result (string_bytes text.new ≡ string_bytes text.old ++ map (column_sign admitted.now) columns.now) }
 {
     for column in columns {
-        text.push(sign(roster, *column))?;
+        text.push(sign(admitted, *column))?;
     }
     Ok(())
 }
 
 /// The sign of a column.
-fn sign(roster: &AdmittedTasks, column: Column) -> char
-    ensures sign { result ≡ column_sign roster.now column }
+fn sign(admitted: &AdmittedTasks, column: Column) -> char
+    ensures sign { result ≡ column_sign admitted.now column }
     ensures ascii { result < 128 }
 {
     match column {
-        Column::Task(task) => letter_if(roster.place(task)),
+        Column::Task(task) => letter_if(admitted.place(task)),
         Column::Hidden => HIDDEN,
         Column::Idle => IDLE,
     }

@@ -4,15 +4,15 @@ ghost use Rattle.bq_report.specs.Legends.{DrawsRows};
 ghost use Rattle.bq_report.specs.MapRows.{RunsRow};
 ghost use Rattle.bq_report.specs.Maps.{DrawnRow, RowsHold, HoldsLast, HoldsPart, IsDrawn, IsDrawnBy, IsDrawnRow, IsHeldPart, IsMap, all_columns, columns_in, empty_map_row, map_row_text, rows_text, step_over};
 ghost use Rattle.bq_report.specs.Reports.{GrowsByPart, AreParts};
-ghost use Rattle.bq_report.specs.Rosters.{enlisted};
+ghost use Rattle.bq_report.specs.AdmittedTasks.{with_admitted};
 
+use crate::admitted_tasks::AdmittedTasks;
 use crate::extent::Extent;
 use crate::form::ScheduleForm;
 use crate::grid::Grid;
 use crate::legend::{Legend, write_signs};
 use crate::map_row::{Column, MapRow};
 use crate::names::Names;
-use crate::roster::AdmittedTasks;
 use crate::steps::round_step;
 use crate::window::Window;
 use bq_disc::limits::PROCESSORS;
@@ -29,7 +29,7 @@ pub struct Map {
     alloc: Global,
     window: Window,
     width: usize,
-    roster: AdmittedTasks,
+    admitted: AdmittedTasks,
     rows: Vec<MapRow>,
 }
 
@@ -37,13 +37,13 @@ impl Map {
     /// A map of the window, this many columns wide.
     pub fn new(alloc: Global, window: Window, width: usize) -> Map
         ensures given { (result.window ≡ window) × (result.width ≡ width) }
-        ensures empty { (result.roster ≡ []) × (result.rows.items ≡ []) }
+        ensures empty { (result.admitted ≡ []) × (result.rows.items ≡ []) }
     {
         Map {
             alloc,
             window,
             width,
-            roster: AdmittedTasks::new(alloc),
+            admitted: AdmittedTasks::new(alloc),
             rows: Vec::new(alloc),
         }
     }
@@ -52,7 +52,7 @@ impl Map {
     fn hold(&mut self, run: Option<Slice>) -> Result<(), AllocError>
         ensures ok { OnOk result (RowsHold self.old.window run self.old.rows.items self.new.rows.items) }
         ensures err { OnErr result (self.new.rows.items ≡ self.old.rows.items) }
-        ensures same { (self.new.window ≡ self.old.window) × (self.new.width ≡ self.old.width) × (self.new.roster ≡ self.old.roster) }
+        ensures same { (self.new.window ≡ self.old.window) × (self.new.width ≡ self.old.width) × (self.new.admitted ≡ self.old.admitted) }
     {
         match held_part(self.alloc, &self.window, run) {
             Some(run) => hold_part(&self.window, run, &mut self.rows),
@@ -62,8 +62,8 @@ impl Map {
 
     /// Holds the last run of each processor, which may still go on when the schedule ends.
     fn hold_last(&mut self, schedule: &Schedule) -> Result<(), AllocError>
-        ensures rows { OnOk result (HoldsLast self.old.window schedule.now 64 self.old.rows.items self.new.rows.items) }
-        ensures same { (self.new.window ≡ self.old.window) × (self.new.width ≡ self.old.width) × (self.new.roster ≡ self.old.roster) }
+        ensures rows { OnOk result (HoldsLast self.old.window schedule.now PROCESSORS self.old.rows.items self.new.rows.items) }
+        ensures same { (self.new.window ≡ self.old.window) × (self.new.width ≡ self.old.width) × (self.new.admitted ≡ self.old.admitted) }
     {
         for number in 0..PROCESSORS {
             self.hold(schedule.processor(number).run)?;
@@ -79,7 +79,7 @@ impl Map {
         text: &mut String,
     ) -> Result<(), AllocError>
         ensures { OnOk result (GrowsByPart
-            (IsDrawnBy self.old.window names.now self.old.roster self.old.rows.items extent.now (step_over extent.now self.old.width))
+            (IsDrawnBy self.old.window names.now self.old.admitted self.old.rows.items extent.now (step_over extent.now self.old.width))
             (string_bytes text.old) (string_bytes text.new)) }
     {
         match round_step(extent.length(), columns_in(self.width)) {
@@ -95,7 +95,7 @@ impl Map {
         names: &Names,
         text: &mut String,
     ) -> Result<(), AllocError>
-        ensures { OnOk result (GrowsByPart (IsDrawn self.old.window names.now self.old.roster self.old.rows.items grid.now)
+        ensures { OnOk result (GrowsByPart (IsDrawn self.old.window names.now self.old.admitted self.old.rows.items grid.now)
             (string_bytes text.old) (string_bytes text.new)) }
     {
         grid.write_ruler(self.alloc, text)?;
@@ -104,12 +104,12 @@ impl Map {
             self.alloc,
             &self.window,
             &mut self.rows,
-            &self.roster,
+            &self.admitted,
             grid,
             &mut legend,
             text,
         )?;
-        legend.write(&self.roster, grid, names, text)
+        legend.write(&self.admitted, grid, names, text)
     }
 }
 
@@ -158,12 +158,12 @@ fn write_rows(
     alloc: Global,
     window: &Window,
     rows: &mut Vec<MapRow>,
-    roster: &AdmittedTasks,
+    admitted: &AdmittedTasks,
     grid: &Grid,
     legend: &mut Legend,
     text: &mut String,
 ) -> Result<(), AllocError>
-    ensures { OnOk result (DrawsRows window.now rows.old.items roster.now grid.now (length rows.old.items)
+    ensures { OnOk result (DrawsRows window.now rows.old.items admitted.now grid.now (length rows.old.items)
         legend.old legend.new (string_bytes text.old) (string_bytes text.new)) }
 {
     for number in 0..rows.len() {
@@ -171,7 +171,7 @@ fn write_rows(
             let row = &mut rows[number];
             legend.note_runs(row.shown(), &grid.extent)?;
             let columns = row.columns(alloc, grid)?;
-            write_row(roster, number, columns.as_slice(), text)?;
+            write_row(admitted, number, columns.as_slice(), text)?;
             legend.note_columns(columns.as_slice())?;
         }
     }
@@ -180,15 +180,15 @@ fn write_rows(
 
 /// Adds the line of a row with these columns.
 fn write_row(
-    roster: &AdmittedTasks,
+    admitted: &AdmittedTasks,
     number: usize,
     columns: &[Column],
     text: &mut String,
 ) -> Result<(), AllocError>
-    ensures { OnOk result (string_bytes text.new ≡ string_bytes text.old ++ map_row_text roster.now number columns.now) }
+    ensures { OnOk result (string_bytes text.new ≡ string_bytes text.old ++ map_row_text admitted.now number columns.now) }
 {
     write!(text, "cpu {number:<4}")?;
-    write_signs(roster, columns, text)?;
+    write_signs(admitted, columns, text)?;
     text.push_str("\n")
 }
 
@@ -201,16 +201,16 @@ impl ScheduleForm for Map {
     ) -> Result<(), AllocError>
         ensures rows { OnOk result (self.new.rows.items ≡ self.old.rows.items ++ replicate (length schedule.now.processors) empty_map_row) }
         ensures none { string_bytes text.new ≡ string_bytes text.old }
-        ensures same { (self.new.window ≡ self.old.window) × (self.new.width ≡ self.old.width) × (self.new.roster ≡ self.old.roster) }
+        ensures same { (self.new.window ≡ self.old.window) × (self.new.width ≡ self.old.width) × (self.new.admitted ≡ self.old.admitted) }
     {
         add_rows(self.alloc, schedule.processors(), &mut self.rows)
     }
 
     fn admit(&mut self, task: u16) -> Result<(), AllocError>
-        ensures ok { OnOk result (self.new ≡ record self.old { roster = enlisted task self.old.roster }) }
+        ensures ok { OnOk result (self.new ≡ record self.old { admitted = with_admitted task self.old.admitted }) }
         ensures err { OnErr result (self.new ≡ self.old) }
     {
-        self.roster.admit(task)
+        self.admitted.admit(task)
     }
 
     fn take(
@@ -223,7 +223,7 @@ impl ScheduleForm for Map {
         ensures ok { OnOk result (RowsHold self.old.window change.now.run self.old.rows.items self.new.rows.items) }
         ensures err { OnErr result (self.new.rows.items ≡ self.old.rows.items) }
         ensures none { string_bytes text.new ≡ string_bytes text.old }
-        ensures same { (self.new.window ≡ self.old.window) × (self.new.width ≡ self.old.width) × (self.new.roster ≡ self.old.roster) }
+        ensures same { (self.new.window ≡ self.old.window) × (self.new.width ≡ self.old.width) × (self.new.admitted ≡ self.old.admitted) }
     {
         self.hold(change.run)
     }
@@ -234,8 +234,8 @@ impl ScheduleForm for Map {
         names: &Names,
         text: &mut String,
     ) -> Result<(), AllocError>
-        ensures { OnOk result ((rows : List RunsRow) × HoldsLast self.old.window schedule.now 64 self.old.rows.items rows
-            × GrowsByPart (IsMap self.old.window names.now schedule.now self.old.roster self.old.width rows) (string_bytes text.old) (string_bytes text.new)) }
+        ensures { OnOk result ((rows : List RunsRow) × HoldsLast self.old.window schedule.now PROCESSORS self.old.rows.items rows
+            × GrowsByPart (IsMap self.old.window names.now schedule.now self.old.admitted self.old.width rows) (string_bytes text.old) (string_bytes text.new)) }
     {
         self.hold_last(schedule)?;
         match Extent::of(schedule, &self.window) {

@@ -136,7 +136,7 @@ fn write_processors(
     schedule: &Schedule,
     text: &mut String,
 ) -> Result<(), AllocError>
-    ensures { OnOk result (GrowsByPart (IsTable processor_head (IsProcessorLine window.now schedule.now) 64)
+    ensures { OnOk result (GrowsByPart (IsTable processor_head (IsProcessorLine window.now schedule.now) PROCESSORS)
         (string_bytes text.old) (string_bytes text.new)) }
 {
     text.push_str(PROCESSOR_HEAD)?;

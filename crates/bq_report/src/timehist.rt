@@ -193,7 +193,7 @@ fn write_runners(
     names: &Names,
     text: &mut String,
 ) -> Result<(), AllocError>
-    ensures { OnOk result ((lines : List ℕ) × AreLastLines window.now names.now schedule.now 64 lines
+    ensures { OnOk result ((lines : List ℕ) × AreLastLines window.now names.now schedule.now PROCESSORS lines
         × (string_bytes text.new ≡ string_bytes text.old ++ lines)) }
 {
     for number in 0..PROCESSORS {
@@ -323,7 +323,7 @@ impl ScheduleForm for Timehist {
         names: &Names,
         text: &mut String,
     ) -> Result<(), AllocError>
-        ensures lines { OnOk result ((lines : List ℕ) × AreLastLines self.old names.now schedule.now 64 lines
+        ensures lines { OnOk result ((lines : List ℕ) × AreLastLines self.old names.now schedule.now PROCESSORS lines
             × (string_bytes text.new ≡ string_bytes text.old ++ lines)) }
         ensures same { self.new ≡ self.old }
     {

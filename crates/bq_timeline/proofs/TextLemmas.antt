@@ -24,17 +24,17 @@ grows_behind : (Is : List ℕ → Type 0) (p before after : List ℕ) → GrowsB
 grows_behind Is p before after h = (h.0, h.1, ap (λ t. p ++ t) h.2 ∙ sym (append_assoc p before h.0))
 
 -- a form begins behind another text as it does without it
-opens_behind : (p : List ℕ) (s : Figures) (old new : Shown) (before after : List ℕ)
-    → FormOpens s old new before after → FormOpens s old new (p ++ before) (p ++ after)
-opens_behind p s (form.Report old) (form.Report new) before after h = (h.0, ap (λ t. p ++ t) h.1)
-opens_behind p s (form.Map old) (form.Map new) before after h = (h.0, h.1, ap (λ t. p ++ t) h.2)
-opens_behind p s (form.Timehist old) (form.Timehist new) before after h = (h.0, ap (λ t. p ++ t) h.1 ∙ sym (append_assoc p before _))
-opens_behind p s (form.Csv old) (form.Csv new) before after h = (h.0, ap (λ t. p ++ t) h.1 ∙ sym (append_assoc p before _))
-opens_behind p s (form.Json old) (form.Json new) before after h = (h.0, ap (λ t. p ++ t) h.1)
-opens_behind p s (form.Svg old) (form.Svg new) before after h = (h.0, ap (λ t. p ++ t) h.1)
-opens_behind p s (form.Perfetto old) (form.Perfetto new) before after h = (h.0, grows_behind _ p before after h.1)
-opens_behind p s (form.Why old) (form.Why new) before after h = tt
-opens_behind p s old new before after h = absurd h
+opens_behind : (p : List ℕ) (rule : Rule) (s : Figures) (old new : Shown) (before after : List ℕ)
+    → FormOpens rule s old new before after → FormOpens rule s old new (p ++ before) (p ++ after)
+opens_behind p rule s (form.Report old) (form.Report new) before after h = (h.0, ap (λ t. p ++ t) h.1)
+opens_behind p rule s (form.Map old) (form.Map new) before after h = (h.0, h.1, ap (λ t. p ++ t) h.2)
+opens_behind p rule s (form.Timehist old) (form.Timehist new) before after h = (h.0, ap (λ t. p ++ t) h.1 ∙ sym (append_assoc p before _))
+opens_behind p rule s (form.Csv old) (form.Csv new) before after h = (h.0, ap (λ t. p ++ t) h.1 ∙ sym (append_assoc p before _))
+opens_behind p rule s (form.Json old) (form.Json new) before after h = (h.0, ap (λ t. p ++ t) h.1)
+opens_behind p rule s (form.Svg old) (form.Svg new) before after h = (h.0, ap (λ t. p ++ t) h.1)
+opens_behind p rule s (form.Perfetto old) (form.Perfetto new) before after h = (h.0, grows_behind _ p before after h.1)
+opens_behind p rule s (form.Why old) (form.Why new) before after h = tt
+opens_behind p rule s old new before after h = absurd h
 
 -- a form takes a change behind another text as it does without it
 takes_behind : (p : List ℕ) (change : Change) (s : Figures) (names : NamedTasks) (old new : Shown) (before after : List ℕ)
@@ -62,7 +62,7 @@ begins_behind p (Some s) (Some rule) (Some asked) old new before after h =
         is_asked = made.is_asked;
         is_empty = made.is_empty;
         form = made.form;
-        opens = opens_behind p s made.fresh made.form before after made.opens;
+        opens = opens_behind p rule s made.fresh made.form before after made.opens;
         shown = made.shown;
         table = made.table;
         rest = made.rest;

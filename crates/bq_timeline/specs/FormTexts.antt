@@ -1,7 +1,7 @@
 -- What each form adds to its text when it begins, at each change, and when it ends. Nothing is said of `why`, which is written from the
 -- machine and not from changes.
-use Rattle.std.specs.Prelude.{◌≡◌, ℕ, List, [], ◌++◌, length, replicate, Option}
-use Rattle.bq_disc.specs.declared.limits.TheConstants.{TASKS}
+use Rattle.std.specs.Prelude.{◌≡◌, ℕ, List, [], ◌++◌, length, replicate, Option, Some, None}
+use Rattle.bq_disc.specs.declared.limits.TheConstants.{PROCESSORS, TASKS}
 use Rattle.bq_parts.specs.declared.event.Event.{Event}
 use Rattle.bq_parts.specs.declared.event.Event.TheVariants.{Admit}
 use Rattle.bq_schedule.specs.declared.change.Change.{Change}
@@ -16,10 +16,12 @@ use Rattle.bq_report.specs.MapRows.{RunsRow}
 use Rattle.bq_report.specs.Maps.{HoldsLast, IsMap, RowsHold, empty_map_row}
 use Rattle.bq_report.specs.Names.{NamedTasks}
 use Rattle.bq_report.specs.Reports.{GrowsByPart, IsJsonReport, IsReport}
-use Rattle.bq_report.specs.Rosters.{enlisted}
+use Rattle.bq_report.specs.AdmittedTasks.{with_admitted}
 use Rattle.bq_report.specs.Rows.{head_row, optional_slice_row}
 use Rattle.bq_report.specs.Timehist.{AreLastLines, IsShownMigration, IsShownStop, IsShownWake, change_text, head_lines}
 use Rattle.bq_report.specs.Windows.{IsShownPart}
+use Rattle.bq_words.specs.declared.rule.Rule.{Rule}
+use Rattle.bq_drawing.specs.declared.look.Look.{Look}
 use Rattle.bq_drawing.specs.Histories.{empty_past}
 use Rattle.bq_drawing.specs.Holdings.{HoldsChange, nothing_of}
 use Rattle.bq_drawing.specs.Perfetto.{IsPerfettoHead, IsPerfettoOf, IsPerfettoTail}
@@ -29,35 +31,37 @@ use Rattle.bq_timeline.specs.declared.shown.Shown.TheVariants as form
 
 -- the map has the same window, width and letters as before
 abbrev pub KeepsLook : Map → Map → Type 0
-KeepsLook old new = (new.window ≡ old.window) × (new.width ≡ old.width) × (new.roster ≡ old.roster)
+KeepsLook old new = (new.window ≡ old.window) × (new.width ≡ old.width) × (new.admitted ≡ old.admitted)
 
--- A form to which nothing has happened; a map of this width.
-abbrev pub IsEmptyForm : ℕ → Shown → Type 0
-IsEmptyForm width (form.Report r) = ((task : ℕ) → latencies_of r.latencies task ≡ []) × (r.missed ≡ 0)
-IsEmptyForm width (form.Map m) = (m.width ≡ width) × (m.roster ≡ []) × (m.rows.items ≡ [])
-IsEmptyForm width (form.Json j) = ((task : ℕ) → latencies_of j.latencies task ≡ []) × (j.missed ≡ 0)
-IsEmptyForm width (form.Svg p) = (p.roster ≡ []) × (p.drawing ≡ nothing_of 0)
-IsEmptyForm width other = Unit {0}
+-- A form to which nothing has happened: a map of this width, a picture of this look.
+abbrev pub IsEmptyForm : ℕ → Look → Shown → Type 0
+IsEmptyForm width look (form.Report r) = ((task : ℕ) → latencies_of r.latencies task ≡ []) × (r.missed ≡ 0)
+IsEmptyForm width look (form.Map m) = (m.width ≡ width) × (m.admitted ≡ []) × (m.rows.items ≡ [])
+IsEmptyForm width look (form.Json j) = ((task : ℕ) → latencies_of j.latencies task ≡ []) × (j.missed ≡ 0)
+IsEmptyForm width look (form.Svg p) =
+    (p.look ≡ look) × (p.rule ≡ None) × (p.admitted ≡ []) × (p.drawing ≡ nothing_of 0) × (p.stops.entries ≡ [])
+IsEmptyForm width look other = Unit {0}
 
--- A form begins, with a schedule to which nothing has happened: it and its text, before and after.
-abbrev pub FormOpens : Figures → Shown → Shown → List ℕ → List ℕ → Type 0
-FormOpens s (form.Report old) (form.Report new) before after = (new ≡ old) × (after ≡ before)
-FormOpens s (form.Map old) (form.Map new) before after =
+-- A form begins under a rule, with a schedule to which nothing has happened: it and its text, before and after. A picture's title names
+-- the rule.
+abbrev pub FormOpens : Rule → Figures → Shown → Shown → List ℕ → List ℕ → Type 0
+FormOpens rule s (form.Report old) (form.Report new) before after = (new ≡ old) × (after ≡ before)
+FormOpens rule s (form.Map old) (form.Map new) before after =
     (new.rows.items ≡ old.rows.items ++ replicate (length s.processors) empty_map_row) × KeepsLook old new × (after ≡ before)
-FormOpens s (form.Timehist old) (form.Timehist new) before after = (new ≡ old) × (after ≡ before ++ head_lines)
-FormOpens s (form.Csv old) (form.Csv new) before after = (new ≡ old) × (after ≡ before ++ head_row)
-FormOpens s (form.Json old) (form.Json new) before after = (new ≡ old) × (after ≡ before)
-FormOpens s (form.Svg old) (form.Svg new) before after =
-    (new ≡ record old { rule = new.rule; drawing = nothing_of (length s.processors) }) × (after ≡ before)
-FormOpens s (form.Perfetto old) (form.Perfetto new) before after =
+FormOpens rule s (form.Timehist old) (form.Timehist new) before after = (new ≡ old) × (after ≡ before ++ head_lines)
+FormOpens rule s (form.Csv old) (form.Csv new) before after = (new ≡ old) × (after ≡ before ++ head_row)
+FormOpens rule s (form.Json old) (form.Json new) before after = (new ≡ old) × (after ≡ before)
+FormOpens rule s (form.Svg old) (form.Svg new) before after =
+    (new ≡ record old { rule = Some rule; drawing = nothing_of (length s.processors) }) × (after ≡ before)
+FormOpens rule s (form.Perfetto old) (form.Perfetto new) before after =
     (new ≡ record old { history = empty_past (length s.processors) TASKS }) × GrowsByPart (IsPerfettoHead (length s.processors)) before after
-FormOpens s (form.Why old) (form.Why new) before after = Unit {0}
-FormOpens s old new before after = ⊥
+FormOpens rule s (form.Why old) (form.Why new) before after = Unit {0}
+FormOpens rule s old new before after = ⊥
 
 -- A task is admitted. The map and the picture give it the next letter or colour. No other form heeds it.
 abbrev pub FormAdmits : ℕ → Shown → Shown → Type 0
-FormAdmits task (form.Map old) new = new ≡ form.Map (record old { roster = enlisted task old.roster })
-FormAdmits task (form.Svg old) new = new ≡ form.Svg (record old { roster = enlisted task old.roster })
+FormAdmits task (form.Map old) new = new ≡ form.Map (record old { admitted = with_admitted task old.admitted })
+FormAdmits task (form.Svg old) new = new ≡ form.Svg (record old { admitted = with_admitted task old.admitted })
 FormAdmits task old new = new ≡ old
 
 -- The form is given the task of an event that admits one.
@@ -99,12 +103,12 @@ pub record FormAnswers (event : Event) (change : Change) (s : Figures) (names : 
 abbrev pub FormEnds : Figures → NamedTasks → Shown → List ℕ → List ℕ → Type 0
 FormEnds s names (form.Report old) before after = GrowsByPart (IsReport old.window names s old.latencies old.missed) before after
 FormEnds s names (form.Map old) before after =
-    (rows : List RunsRow) × HoldsLast old.window s 64 old.rows.items rows
-    × GrowsByPart (IsMap old.window names s old.roster old.width rows) before after
-FormEnds s names (form.Timehist old) before after = GrowsByPart (AreLastLines old names s 64) before after
+    (rows : List RunsRow) × HoldsLast old.window s PROCESSORS old.rows.items rows
+    × GrowsByPart (IsMap old.window names s old.admitted old.width rows) before after
+FormEnds s names (form.Timehist old) before after = GrowsByPart (AreLastLines old names s PROCESSORS) before after
 FormEnds s names (form.Csv old) before after = after ≡ before
 FormEnds s names (form.Json old) before after = GrowsByPart (IsJsonReport old.window names s old.latencies old.missed) before after
 FormEnds s names (form.Svg old) before after =
-    GrowsByPart (IsPictureOf old.window old.look old.rule s names old.roster old.drawing) before after
+    GrowsByPart (IsPictureOf old.window old.look old.rule s names old.admitted old.drawing) before after
 FormEnds s names (form.Perfetto old) before after = GrowsByPart (IsPerfettoTail old.window names s old.history) before after
 FormEnds s names (form.Why old) before after = Unit {0}

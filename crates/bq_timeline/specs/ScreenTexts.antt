@@ -34,20 +34,20 @@ abbrev pub HasTable : Shown → Option BoundsTable → Type 0
 HasTable (form.Report report) near = IsSome near
 HasTable other near = near ≡ None
 
--- The form that the settings ask for appears, and what it adds when it begins stands behind the text.
-pub record FormAppears (s : Figures) (asked : Settings) (old new : ScreenState) (before after : List ℕ) : Type 0 where
+-- The form that the settings ask for appears, and what it adds when it begins under a rule stands behind the text.
+pub record FormAppears (rule : Rule) (s : Figures) (asked : Settings) (old new : ScreenState) (before after : List ℕ) : Type 0 where
   pub fresh : Shown
   pub is_asked : IsAskedFor asked old.names fresh
-  pub is_empty : IsEmptyForm asked.width fresh
+  pub is_empty : IsEmptyForm asked.width asked.look fresh
   pub form : Shown
-  pub opens : FormOpens s fresh form before after
+  pub opens : FormOpens rule s fresh form before after
   pub shown : new.shown ≡ Some form
   pub table : HasTable fresh new.near
   pub rest : (new.names ≡ old.names) × (new.rule ≡ old.rule)
 
 -- the form begins if there is a schedule and a rule, and its settings are still there
 abbrev pub BeginsText : Option Figures → Option Rule → Option Settings → ScreenState → ScreenState → List ℕ → List ℕ → Type 0
-BeginsText (Some s) (Some rule) (Some asked) old new before after = FormAppears s asked old new before after × (new.asked ≡ None)
+BeginsText (Some s) (Some rule) (Some asked) old new before after = FormAppears rule s asked old new before after × (new.asked ≡ None)
 BeginsText s rule asked old new before after = (new ≡ old) × (after ≡ before)
 
 -- the form begins if it can; otherwise nothing changes

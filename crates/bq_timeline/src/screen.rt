@@ -118,7 +118,7 @@ impl Screen {
         schedule: &Schedule,
     ) -> Result<(), AllocError>
         ensures form { OnOk result (BeginsForm settings self.old self.new) }
-        ensures text { OnOk result (FormAppears schedule.now settings (state_of self.old) (state_of self.new) (string_bytes self.old.text) (string_bytes self.new.text)) }
+        ensures text { OnOk result (FormAppears rule schedule.now settings (state_of self.old) (state_of self.new) (string_bytes self.old.text) (string_bytes self.new.text)) }
         ensures asked { self.new.asked ≡ self.old.asked }
     {
         let asked = settings.names.as_slice();
@@ -151,7 +151,7 @@ impl Screen {
     /// The form that is asked for. Its window also has the tasks that are asked for by name.
     fn form_of(&mut self, alloc: Global, settings: Settings) -> Result<Shown, AllocError>
         ensures form { IfOk result (IsAskedFor settings self.old.names) }
-        ensures empty { IfOk result (IsEmptyForm settings.width) }
+        ensures empty { IfOk result (IsEmptyForm settings.width settings.look) }
         ensures tasks { OnOk result (self.new.tasks.items ≡ settings.window.tasks.items ++ tasks_for self.old.names settings.names.items) }
         ensures rest { self.new ≡ record self.old { tasks = self.new.tasks } }
     {

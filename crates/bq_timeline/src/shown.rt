@@ -31,7 +31,7 @@ impl Shown {
     /// The form of this name, for what the window shows.
     pub fn of(alloc: Global, form: FormName, window: Window, width: usize, look: Look) -> Shown
         ensures shows { ShowsForm form window result }
-        ensures empty { IsEmptyForm width result }
+        ensures empty { IsEmptyForm width look result }
     {
         match form {
             FormName::Report => Shown::Report(Report::new(alloc, window)),
@@ -54,7 +54,7 @@ impl Shown {
         text: &mut String,
     ) -> Result<(), AllocError>
         ensures stays { StaysShown self.old self.new }
-        ensures opens { OnOk result (FormOpens schedule.now self.old self.new (string_bytes text.old) (string_bytes text.new)) }
+        ensures opens { OnOk result (FormOpens rule schedule.now self.old self.new (string_bytes text.old) (string_bytes text.new)) }
     {
         match self {
             Shown::Report(form) => form.begin(schedule, names, text),

@@ -13,7 +13,7 @@ loop-number-init c = record {
   within = omega arith;
   rest = λ p h. refl;
   draws =
-      draws_none c.args.window.now c.args.rows.now.items c.args.roster.now c.args.grid.now c.args.legend.now
+      draws_none c.args.window.now c.args.rows.now.items c.args.admitted.now c.args.grid.now c.args.legend.now
       (string_bytes c.args.text.now);
 }
 
@@ -35,9 +35,9 @@ loop-number-preserved c =
             within = omega (arith, there);
             rest = behind.1;
             draws =
-                draws_at c.args.window.now c.args.rows.now.items c.args.roster.now c.args.grid.now (c.loop-number.number + 1)
+                draws_at c.args.window.now c.args.rows.now.items c.args.admitted.now c.args.grid.now (c.loop-number.number + 1)
                 _ w.note_columns.new.self c.if-shows_row.legend _ _ _ w.legend-is (ap string_bytes w.text-is)
-                (draws_more c.args.window.now c.args.rows.now.items c.args.roster.now c.args.grid.now c.loop-number.number
+                (draws_more c.args.window.now c.args.rows.now.items c.args.admitted.now c.args.grid.now c.loop-number.number
                 _ _ _ _ _ _ _ w.index_mut-row.result.now w.shown.result.now w.in_ok-columns.columns.items w.as_slice.result.now
                 w.as_slice-then-shows_row.result.now c.loop-number.invariant.draws (c.shows_row.ensures.0 w.if-shows_row.true)
                 row w.shown.ensures w.in_ok-columns.ensures w.as_slice.ensures.value w.as_slice-then-shows_row.ensures.value
@@ -48,9 +48,9 @@ loop-number-preserved c =
         within = omega (arith, there);
         rest = λ p h. ap (λ rows. map_row_of rows.items p) w.rows-is ∙ c.loop-number.invariant.rest p (omega (arith, h));
         draws =
-            draws_at c.args.window.now c.args.rows.now.items c.args.roster.now c.args.grid.now (c.loop-number.number + 1) _
+            draws_at c.args.window.now c.args.rows.now.items c.args.admitted.now c.args.grid.now (c.loop-number.number + 1) _
             c.loop-number.legend c.if-shows_row.legend _ _ _ w.legend-is (ap string_bytes w.text-is)
-            (draws_same c.args.window.now c.args.rows.now.items c.args.roster.now c.args.grid.now c.loop-number.number _ _ _ _
+            (draws_same c.args.window.now c.args.rows.now.items c.args.admitted.now c.args.grid.now c.loop-number.number _ _ _ _
             c.loop-number.invariant.draws (test_fails _ _ c.shows_row.ensures w.if-shows_row.false));
       }
     ]

@@ -10,6 +10,6 @@ invariant-loop-number l = record {
   count : length l.rows.items ≡ length l.initial.rows.items;
   within : l.number ≤ length l.initial.rows.items;
   rest : (p : ℕ) → l.number ≤ p → map_row_of l.rows.items p ≡ map_row_of l.initial.rows.items p;
-  draws : DrawsRows l.window l.initial.rows.items l.roster l.grid l.number l.initial.legend l.legend (string_bytes l.initial.text)
+  draws : DrawsRows l.window l.initial.rows.items l.admitted l.grid l.number l.initial.legend l.legend (string_bytes l.initial.text)
       (string_bytes l.text);
 }

@@ -15,7 +15,7 @@ use Rattle.bq_drawing.proofs.drawing.Drawing.write.Goals as goal
 
 pub returns : goal.returns
 returns c =
-    let setting = drawn_in c.args.extent c.args.roster.now c.args.names.now in
+    let setting = drawn_in c.args.extent c.args.admitted.now c.args.names.now in
     let step : c.unwrap_or-step.result ≡ axis_step c.args.extent
     = c.unwrap_or-step.ensures ∙ ap (λ (o : Option ℕ). unwrap_or o 1)
     (c.round_step.ensures ∙ ap (λ n. find (λ (step : ℕ). covers n 10 step) round_steps) c.length.ensures) in

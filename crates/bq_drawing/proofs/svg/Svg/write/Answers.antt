@@ -9,7 +9,7 @@ use Rattle.bq_drawing.proofs.svg.Svg.write.Goals as goal
 pub returns : goal.returns
 returns c =
     let v = c.args.self.now in
-    let s = drawn_in c.args.extent v.roster c.args.names.now in
+    let s = drawn_in c.args.extent v.admitted c.args.names.now in
     let drawn = c.in_ok-drawn.drawn in
     let is : IsDrawing v.window s (title_of v.look) v.rule v.drawing drawn.height (string_bytes drawn.text) =
     subst (λ (t : List ℕ). IsDrawing v.window s t v.rule v.drawing drawn.height (string_bytes drawn.text))

@@ -9,7 +9,7 @@ loop-number-init c = record {
   rows = last_none c.args.self.now.window c.args.schedule.now c.args.self.now.rows.items;
   window = refl;
   width = refl;
-  roster = refl;
+  admitted = refl;
 }
 
 pub loop-number-preserved : goal.loop-number-preserved
@@ -22,5 +22,5 @@ loop-number-preserved c = record {
       c.loop-number.invariant.window c.in_ok-hold.ensures.ok);
   window = c.hold.ensures.same.0 ∙ c.loop-number.invariant.window;
   width = c.hold.ensures.same.1 ∙ c.loop-number.invariant.width;
-  roster = c.hold.ensures.same.2 ∙ c.loop-number.invariant.roster;
+  admitted = c.hold.ensures.same.2 ∙ c.loop-number.invariant.admitted;
 }

@@ -9,5 +9,5 @@ invariant-loop-number l = record {
   rows : HoldsLast l.initial.self.window l.schedule l.number l.initial.self.rows.items l.self.rows.items;
   window : l.self.window ≡ l.initial.self.window;
   width : l.self.width ≡ l.initial.self.width;
-  roster : l.self.roster ≡ l.initial.self.roster;
+  admitted : l.self.admitted ≡ l.initial.self.admitted;
 }

@@ -1,0 +1,141 @@
+//! The waits and the wakes of a row, each in its lane.
+ghost use Rattle.std.specs.Prelude.{◌≡◌, ◌++◌, [], IfOk, OnOk, length, string_bytes};
+ghost use Rattle.bq_disc.specs.Counts.{saturating_sum};
+ghost use Rattle.bq_drawing.specs.Lanes.{lanes_after, left_out, without_lane};
+ghost use Rattle.bq_drawing.specs.Shapes.{arrow_of, picture_setting, shape_in, wait_in, waits_text, wake_in, wakes_text};
+
+use crate::frame::Frame;
+use crate::lanes::{Lanes, Stretch};
+use crate::shapes::{wait_height, wake_height, write_wait, write_wake};
+use std::alloc::{AllocError, Global};
+
+/// The waits or the wakes of a row, as they are drawn.
+#[derive(Drop)]
+pub(crate) struct LaneShapes {
+    pub(crate) text: String,
+    /// How many lanes they take.
+    pub(crate) lanes: usize,
+    /// How many of them found no lane.
+    pub(crate) left_out: usize,
+}
+
+/// How many levels the wakes need, so that no two arrows overlap.
+pub(crate) fn levels(
+    alloc: Global,
+    wakes: &[Stretch],
+    frame: &Frame<'_>,
+) -> Result<usize, AllocError>
+    ensures { IfOk result (λ levels. levels ≡ length (lanes_after (arrow_of frame.now.scale.extent) [] wakes.now)) }
+{
+    let mut levels = Lanes::new(alloc);
+    for wake in wakes {
+        let _ = levels.take(&drawn_wake(wake, frame))?;
+    }
+    Ok(levels.count())
+}
+
+/// Draws the waits below the runs, in lanes.
+pub(crate) fn draw_waits(
+    alloc: Global,
+    waits: &[Stretch],
+    top: usize,
+    frame: &Frame<'_>,
+) -> Result<LaneShapes, AllocError>
+    ensures text { IfOk result (λ drawn. string_bytes drawn.text ≡ waits_text (picture_setting frame.now) top waits.now) }
+    ensures lanes { IfOk result (λ drawn. drawn.lanes ≡ length (lanes_after (λ wait. wait) [] waits.now)) }
+    ensures left_out { IfOk result (λ drawn. drawn.left_out ≡ saturating_sum 0 (left_out (λ wait. wait) [] waits.now)) }
+{
+    let mut lanes = Lanes::new(alloc);
+    let mut text = String::new(alloc);
+    let mut left_out = 0usize;
+    for wait in waits {
+        let lane = lanes.take(wait)?;
+        write_wait_in(lane, wait, top, frame, &mut text)?;
+        left_out = left_out.saturating_add(without_lane(lane));
+    }
+    let lanes = lanes.count();
+    Ok(LaneShapes {
+        text,
+        lanes,
+        left_out,
+    })
+}
+
+/// Draws the wakes above the runs. Wakes that would overlap are drawn one above another.
+pub(crate) fn draw_wakes(
+    alloc: Global,
+    wakes: &[Stretch],
+    top: usize,
+    frame: &Frame<'_>,
+) -> Result<LaneShapes, AllocError>
+    ensures text { IfOk result (λ drawn. string_bytes drawn.text ≡ wakes_text (picture_setting frame.now) top wakes.now) }
+    ensures left_out { IfOk result (λ drawn. drawn.left_out ≡ saturating_sum 0 (left_out (arrow_of frame.now.scale.extent) [] wakes.now)) }
+{
+    let mut lanes = Lanes::new(alloc);
+    let mut text = String::new(alloc);
+    let mut left_out = 0usize;
+    for wake in wakes {
+        let level = lanes.take(&drawn_wake(wake, frame))?;
+        write_wake_in(level, wake, top, frame, &mut text)?;
+        left_out = left_out.saturating_add(without_lane(level));
+    }
+    let lanes = lanes.count();
+    Ok(LaneShapes {
+        text,
+        lanes,
+        left_out,
+    })
+}
+
+/// 1 if a stretch found no lane, otherwise 0.
+fn without_lane(lane: Option<usize>) -> usize
+    ensures { result ≡ without_lane lane }
+{
+    match lane {
+        Some(_) => 0,
+        None => 1,
+    }
+}
+
+/// Draws a wait in its lane, if it found one.
+fn write_wait_in(
+    lane: Option<usize>,
+    wait: &Stretch,
+    top: usize,
+    frame: &Frame<'_>,
+    text: &mut String,
+) -> Result<(), AllocError>
+    ensures { OnOk result (string_bytes text.new ≡ string_bytes text.old ++ shape_in (wait_in (picture_setting frame.now) top) lane wait.now) }
+{
+    match lane {
+        Some(lane) => write_wait(wait, wait_height(top, lane), frame, text),
+        None => Ok(()),
+    }
+}
+
+/// Draws a wake at its level, if it found one.
+fn write_wake_in(
+    level: Option<usize>,
+    wake: &Stretch,
+    top: usize,
+    frame: &Frame<'_>,
+    text: &mut String,
+) -> Result<(), AllocError>
+    ensures { OnOk result (string_bytes text.new ≡ string_bytes text.old ++ shape_in (wake_in (picture_setting frame.now) top) level wake.now) }
+{
+    match level {
+        Some(level) => write_wake(wake, wake_height(top, level), frame, text),
+        None => Ok(()),
+    }
+}
+
+/// A wake, made as long as its arrow is wide.
+fn drawn_wake(wake: &Stretch, frame: &Frame<'_>) -> Stretch
+    ensures { result ≡ arrow_of frame.now.scale.extent wake.now }
+{
+    Stretch {
+        from: wake.from,
+        to: wake.from.saturating_add(frame.scale.arrow()),
+        task: wake.task,
+    }
+}
