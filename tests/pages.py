@@ -52,6 +52,8 @@ STATUSES = [
         "a read or a write failed, a file can't be opened, or a limit is passed: 16 MiB of a file that is read whole, --max-bytes, 2^32 reads of an input, "
         "or --max-events; standard error has the reason",
     ),
+    ("127", "not from the program: the script ./bqsim can't unpack or build it, or the system can't load it, as under a small ulimit -v"),
+    ("139", "not from the program: the system ends it before it starts, as under an even smaller ulimit -v"),
 ]
 
 
