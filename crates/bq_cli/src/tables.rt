@@ -198,7 +198,7 @@ static SCHEDULE_COMMANDS: [CommandText<'static>; 2] = [
         examples: examples![
             "bqsim simulate workloads/desktop.toml",
             "bqsim simulate --discipline eevdf --as map --to 100ms workloads/desktop.toml",
-            "bqsim simulate --seeds 10 --preempt policies/heavier_first.s --against none workloads/desktop.toml"
+            "bqsim simulate --seeds 10 --preempt policies/heavier_first.s --against none examples/lab/editor.toml"
         ],
     },
     CommandText {
