@@ -26,7 +26,7 @@ NAMED = [
     (DESKTOP, "player,compiler-1", "1,3"),
     (DESKTOP, "compiler-0,0-1", "0-2"),
     ([*DESKTOP, "--seeds", "2"], "editor,compiler-5", "0,7"),
-    ([*DESKTOP, "--against", "none"], "3,player", "1,3"),
+    ([*DESKTOP, "--seeds", "2", "--against", "none"], "3,player", "1,3"),
     (FOUR, "editor", "3"),
     (FOUR, "player,1,index", "1-2,4"),
 ]
