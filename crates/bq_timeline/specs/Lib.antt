@@ -2,6 +2,7 @@ pub mod Beginning
 pub mod Called
 pub mod Comments
 pub mod FormTexts
+pub mod Meant
 pub mod Notes
 pub mod ScreenTexts
 pub mod Settings

@@ -8,6 +8,7 @@ pub mod bounds_table;
 pub mod called;
 mod foreign;
 pub mod form_names;
+mod meant;
 pub mod numbers;
 pub mod refused;
 pub mod screen;
