@@ -8,5 +8,6 @@ pub mod ScreenTexts
 pub mod Settings
 pub mod Shown
 pub mod Timelines
+pub mod Times
 pub mod TraceTexts
 pub mod Watching

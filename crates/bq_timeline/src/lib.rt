@@ -15,6 +15,7 @@ pub mod screen;
 pub mod settings;
 pub mod showing;
 pub mod shown;
+mod times;
 pub mod viewer;
 
 pub use refused::{RefusedWord, word_after};
