@@ -14,14 +14,14 @@ _bqsim() {
             par) words="--rule --processors --ticks --help" files=no ;;
             replay) words="--max-bytes --help" files=yes ;;
             run) words="--hook --maps --format --max-bytes --ctx --set --map --time --processor --counter --trace --repeat --help" files=yes ;;
-            simulate) words="--discipline --processors --duration --seed --seeds --max-bytes --max-events --place --preempt --pull --against --as --from --to --cpus --tasks --width --theme --title --help" files=yes ;;
-            timeline) words="--as --max-bytes --from --to --cpus --tasks --width --theme --title --help" files=yes ;;
+            simulate) words="--help --discipline --processors --duration --seed --place --preempt --pull --seeds --against --as --from --to --cpus --tasks --width --theme --title --max-bytes --max-events" files=yes ;;
+            timeline) words="--max-bytes --help --as --from --to --cpus --tasks --width --theme --title" files=yes ;;
             help) words="asm check dis import par replay run simulate timeline" ;;
         esac
         # what follows an option is its value
         case "$command ${COMP_WORDS[before]}" in
             *" --hook") words="place preempt pull" files=no ;;
-            *" --maps"|*" --max-bytes"|*" --max-steps"|*" --helpers"|*" --hooks"|*" --max-maps"|*" --max-map-bytes"|*" --max-counters"|*" --ticks"|*" --ctx"|*" --set"|*" --map"|*" --time"|*" --processor"|*" --counter"|*" --repeat"|*" --duration"|*" --seed"|*" --seeds"|*" --max-events"|*" --from"|*" --to"|*" --cpus"|*" --tasks"|*" --width"|*" --title") words="" files=no ;;
+            *" --maps"|*" --max-bytes"|*" --max-steps"|*" --helpers"|*" --hooks"|*" --max-maps"|*" --max-map-bytes"|*" --max-counters"|*" --ticks"|*" --ctx"|*" --set"|*" --map"|*" --time"|*" --processor"|*" --counter"|*" --repeat"|*" --duration"|*" --seed"|*" --seeds"|*" --from"|*" --to"|*" --cpus"|*" --tasks"|*" --width"|*" --title"|*" --max-events") words="" files=no ;;
             *" --format") words="1 2" files=no ;;
             *" --image") words="" files=yes ;;
             *" --rule"|*" --discipline") words="cfs eevdf" files=no ;;

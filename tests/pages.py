@@ -52,6 +52,8 @@ STATUSES = [
         "a read or a write failed, a file can't be opened, or a limit is passed: 16 MiB of a file that is read whole, --max-bytes, 2^32 reads of an input, "
         "or --max-events; standard error has the reason",
     ),
+    ("127", "not from the program: the script ./bqsim can't unpack or build it, or the system can't load it, as under a small ulimit -v"),
+    ("139", "not from the program: the system ends it before it starts, as under an even smaller ulimit -v"),
 ]
 
 
@@ -59,7 +61,7 @@ class Help:
     """A help text in its parts: what it is about, its usage, and under each heading pairs of words and what they do."""
 
     def __init__(self, text):
-        head, *parts = re.split(r"^(\w+):(?=$| )", text.strip(), flags=re.M)
+        head, *parts = re.split(r"^(Usage|\w[\w ]*(?=:$)):", text.strip(), flags=re.M)
         self.about = " ".join(head.split())
         named = dict(zip(parts[::2], parts[1::2]))
         self.usage = " ".join(named.pop("Usage", "").split())
@@ -68,12 +70,16 @@ class Help:
     def examples(self):
         return [words for words, _ in self.lists.get("Examples", [])]
 
+    def entries(self):
+        """The headings of arguments and options, with what stands below each."""
+        return [(heading, entries) for heading, entries in self.lists.items() if heading not in ("Commands", "Examples")]
+
     def options(self):
-        return [word for words, _ in self.lists.get("Options", []) for word in re.findall(r"--[a-z-]+", words)]
+        return [word for _, entries in self.entries() for words, _ in entries for word in re.findall(r"--[a-z-]+", words)]
 
     def values(self):
         """Each option that takes a value, what the help calls the value, and the words of which it is one, if the help lists them."""
-        for words, what in self.lists.get("Options", []):
+        for words, what in (entry for _, entries in self.entries() for entry in entries):
             if found := re.search(r"(--[a-z-]+) <(\w+)>", words):
                 yield *found.groups(), choices(what)
 
@@ -131,8 +137,10 @@ def page(program, commands):
     lines += [".SH COMMANDS", ".SS bqsim help", "Prints the list of the commands, or the help of one", ".PP", "bqsim help [COMMAND]"]
     for name, told in commands.items():
         lines += [f".SS bqsim {roff(name)}", roff(told.about), ".PP", roff(told.usage)]
-        for heading in ("Arguments", "Options"):
-            for words, what in told.lists.get(heading, []):
+        for heading, entries in told.entries():
+            if heading not in ("Arguments", "Options"):
+                lines += [".PP", f"{roff(heading)}:"]
+            for words, what in entries:
                 lines += [".TP", f".B {roff(words)}", roff(what)]
         lines += [".PP", "Examples:", ".RS", ".nf", *map(roff, told.examples()), ".fi", ".RE"]
     lines += [".SH EXIT STATUS"]

@@ -26,23 +26,23 @@ NAMED = [
     (DESKTOP, "player,compiler-1", "1,3"),
     (DESKTOP, "compiler-0,0-1", "0-2"),
     ([*DESKTOP, "--seeds", "2"], "editor,compiler-5", "0,7"),
-    ([*DESKTOP, "--against", "none"], "3,player", "1,3"),
+    ([*DESKTOP, "--seeds", "2", "--against", "none"], "3,player", "1,3"),
     (FOUR, "editor", "3"),
     (FOUR, "player,1,index", "1-2,4"),
 ]
 
 # Words, tasks by their names, what standard error has, and numbers that show the same.
 ABSENT = [
-    (DESKTOP, "editr", "--tasks: no task is called editr\n", "900"),
-    (DESKTOP, "player,editr", "--tasks: no task is called editr\n", "1"),
+    (DESKTOP, "editr", "--tasks: no task is called editr; did you mean editor?\n", "900"),
+    (DESKTOP, "player,editr", "--tasks: no task is called editr; did you mean editor?\n", "1"),
     (DESKTOP, "8-9", "--tasks: there is no task with such a number\n", "900"),
     (
         [*DESKTOP, "--seeds", "2"],
         "editr",
-        "--tasks: no task is called editr\n--tasks: the workload has none of these tasks; how many it has: 8\n",
+        "--tasks: no task is called editr; did you mean editor?\n--tasks: the workload has none of these tasks; how many it has: 8\n",
         "900",
     ),
-    (FOUR, "Editor,-1", "--tasks: no task is called Editor\n--tasks: no task is called -1\n", "900"),
+    (FOUR, "Editor,-1", "--tasks: no task is called Editor; did you mean editor?\n--tasks: no task is called -1\n", "900"),
     (FOUR, "2,e\x1bd", "--tasks: no task is called e?d\n", "2"),
 ]
 

@@ -40,18 +40,22 @@ part_rules = option_rule (codes "from") ∷ option_rule (codes "to") ∷ option_
 -- the words of `simulate` on a workload: its file, and what replaces its machine and its seed
 abbrev pub workload_rules : List Rule
 workload_rules =
-    word_rule (codes "file") ∷ option_rule (codes "discipline") ∷ option_rule (codes "processors") ∷ option_rule (codes "duration") ∷ option_rule (codes "seed")
-    ∷ option_rule (codes "seeds") ∷ []
+    word_rule (codes "file") ∷ option_rule (codes "discipline") ∷ option_rule (codes "processors") ∷ option_rule (codes "duration") ∷ option_rule (codes "seed") ∷ []
 
--- the policies of a simulation, those that it is compared with, and its form
+-- the policies of a simulation, its seeds, the policies that it is compared with, and its form
 abbrev pub simulate_rules : List Rule
 simulate_rules =
-    option_rule (codes "place") ∷ option_rule (codes "preempt") ∷ option_rule (codes "pull") ∷ often_rule (codes "against") ∷ option_rule (codes "as") ∷ []
+    option_rule (codes "place") ∷ option_rule (codes "preempt") ∷ option_rule (codes "pull") ∷ option_rule (codes "seeds") ∷ often_rule (codes "against")
+    ∷ option_rule (codes "as") ∷ []
+
+-- how much a simulation reads, and how long it is
+abbrev pub limit_rules : List Rule
+limit_rules = option_rule (codes "max-bytes") ∷ option_rule (codes "max-events") ∷ []
 
 -- the commands that show schedules
 abbrev pub schedule_commands : List Shape
 schedule_commands =
-    command (codes "simulate") (workload_rules ++ (option_rule (codes "max-bytes") ∷ option_rule (codes "max-events") ∷ simulate_rules) ++ part_rules)
+    command (codes "simulate") (workload_rules ++ (simulate_rules ++ (part_rules ++ limit_rules)))
     ∷ command (codes "timeline") (word_rule (codes "file") ∷ option_rule (codes "as") ∷ option_rule (codes "max-bytes") ∷ part_rules) ∷ []
 
 -- the commands that try policies

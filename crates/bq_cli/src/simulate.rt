@@ -255,6 +255,10 @@ fn report_stopped(rt: &HostRuntime, fault: &RunFault, failure: Option<Error>) ->
     }
 }
 
+/// What is said of a comparison with one seed.
+const ONE_SEED: &str =
+    "--against: the differences of one seed may be chance; --seeds 10 shows how much they vary";
+
 /// Shows the figures of several runs, each of at most that many events.
 fn show_figures<T: Threads + Sync>(
     rt: &HostRuntime,
@@ -273,6 +277,9 @@ fn show_figures<T: Threads + Sync>(
             let notes = Lines(notes.as_str());
             let _ = eprint!(rt; "{notes}");
             report_absent(rt, workload, &asked);
+            if asked.seeds == 1 && others.is_some() {
+                let _ = rt.eprintln(ONE_SEED);
+            }
             Ok(written(rt, text.as_str(), ExitCode::SUCCESS))
         }
         Err(SeedsFault::OutOfMemory) => Err(report_out_of_memory(rt)),

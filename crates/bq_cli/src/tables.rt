@@ -19,16 +19,29 @@ use std::alloc::{AllocError, Global};
 /// The version of the program, which `--version` writes.
 pub const VERSION: &str = "0.2.0";
 
-/// A table of options: of each its name, how it is given, and what its help page says.
+/// A table of options: of each its name, how it is given, and what its help page says. The heading under which the page shows
+/// them comes first, if they have one.
 macro_rules! options {
     ($(($name:literal, $given:expr, $help:expr)),*) => {
         &[$(OptionText {
             name: $name,
             given: $given,
             help: $help,
+            heading: None,
+        }),*]
+    };
+    ($heading:expr; $(($name:literal, $given:expr, $help:expr)),*) => {
+        &[$(OptionText {
+            name: $name,
+            given: $given,
+            help: $help,
+            heading: Some($heading),
         }),*]
     };
 }
+
+/// The heading of the options for the part of a schedule that is shown, and for how it is shown.
+const SHOWN: &str = "What is shown";
 
 /// The end of a help page: examples, a line each. They run in the folder of the repository.
 macro_rules! examples {
@@ -60,9 +73,12 @@ const CHECK_FILES: &[OptionText] = options! {
     ("file", Several("FILE"), "The policies, each an image, its hex, or assembler text with ;@ lines that describe it; standard input as -, or with options alone. With neither a file nor an option, check reads the hex of an image and writes its hook and budget")
 };
 
+/// What help says of a limit on files that are read whole.
+const MAX_BYTES: &str = "Refuses files of more than N bytes; the default is 16777216";
+
 /// How much is read of a file that is read whole.
 const READING_OPTIONS: &[OptionText] = options! {
-    ("max-bytes", Once("N"), "Refuses files of more than N bytes; the default is 16777216")
+    ("max-bytes", Once("N"), MAX_BYTES)
 };
 
 /// How much is read of a trace.
@@ -70,8 +86,10 @@ const TRACE_READING_OPTIONS: &[OptionText] = options! {
     ("max-bytes", Once("N"), "Stops at a trace of more than N bytes; there is no limit without it")
 };
 
-/// How long a run is.
+/// How much `simulate` reads, and how long its runs are.
 const LIMIT_OPTIONS: &[OptionText] = options! {
+    "Limits";
+    ("max-bytes", Once("N"), MAX_BYTES),
     ("max-events", Once("N"), "Cuts off a run that has more than N events; there is no limit without it")
 };
 
@@ -131,19 +149,20 @@ const PAR_OPTIONS: &[OptionText] = options! {
     ("ticks", Needed("TICKS"), with_ticks!("How often each processor ticks: ", " (the history keeps each tick)"))
 };
 
-/// The trace of `replay`.
-const REPLAY_OPTIONS: &[OptionText] = options! {
+/// The trace of `replay` and `timeline`.
+const TRACE_FILE: &[OptionText] = options! {
     ("file", Alone("FILE"), "The trace; standard input without it, or as -")
 };
 
-/// The trace of `timeline`, and its form.
-const TIMELINE_OPTIONS: &[OptionText] = options! {
-    ("file", Alone("FILE"), "The trace; standard input without it, or as -"),
+/// The form of `timeline`.
+const TIMELINE_FORM: &[OptionText] = options! {
+    SHOWN;
     ("as", Once("FORM"), with_forms!("report (the default), "))
 };
 
 /// The part of a schedule that is shown.
 const PART_OPTIONS: &[OptionText] = options! {
+    SHOWN;
     ("from", Once("TIME"), "Shows only what happens from this time on, a number with its unit, as 1500us, 1.5ms or 2s; refused with report and json, whose figures are those of the whole"),
     ("to", Once("TIME"), "Shows only what happens up to this time, a number with its unit; refused with report and json, whose figures are those of the whole"),
     ("cpus", Once("LIST"), "Shows only these processors, as in 0-3,8"),
@@ -153,14 +172,18 @@ const PART_OPTIONS: &[OptionText] = options! {
     ("title", Once("TEXT"), "The title above an svg")
 };
 
-/// The workload of `simulate`, its machine and its seeds.
-const WORKLOAD_OPTIONS: &[OptionText] = options! {
-    ("file", Alone("FILE"), "The workload; standard input without it, or as -"),
+/// The workload of `simulate`.
+const WORKLOAD_FILE: &[OptionText] = options! {
+    ("file", Alone("FILE"), "The workload; standard input without it, or as -")
+};
+
+/// What replaces parts of a workload's own machine, and its seed.
+const MACHINE_OPTIONS: &[OptionText] = options! {
+    "Machine";
     ("discipline", Once("RULE"), with_rules!("How processors choose, in place of the workload's own: ")),
     ("processors", Once("P"), with_sizes!("How many processors, in place of the workload's own: ")),
     ("duration", Once("TIME"), "How long it runs, in place of the workload's own, as 1500us, 1.5ms or 2s"),
-    ("seed", Once("N"), "The seed of drawn lengths, in place of the workload's own"),
-    ("seeds", Once("N"), "Runs the workload with N seeds, from its own on, and shows means and deviations")
+    ("seed", Once("N"), "The seed of drawn lengths, in place of the workload's own")
 };
 
 /// What help says of the policy at a hook, after what the hook decides.
@@ -174,12 +197,24 @@ macro_rules! hook_help {
     };
 }
 
-/// The policies of `simulate`, and its form.
-const SIMULATE_OPTIONS: &[OptionText] = options! {
+/// The policies of `simulate`.
+const HOOK_OPTIONS: &[OptionText] = options! {
+    "Policies";
     ("place", Once("POLICY"), hook_help!("where a woken task goes")),
     ("preempt", Once("POLICY"), hook_help!("whether the running task gives way")),
-    ("pull", Once("POLICY"), hook_help!("which task another processor pulls")),
-    ("against", Often("POLICY"), "Runs the same seeds again with this policy instead, or with none, and shows both side by side; give it once for each policy"),
+    ("pull", Once("POLICY"), hook_help!("which task another processor pulls"))
+};
+
+/// The seeds of `simulate`, and the policies that its own are compared with.
+const COMPARING_OPTIONS: &[OptionText] = options! {
+    "Several runs";
+    ("seeds", Once("N"), "Runs the workload with N seeds, from its own on, and shows means and deviations"),
+    ("against", Often("POLICY"), "Runs the same seeds again with this policy instead, or with none, and shows both side by side; give it once for each policy")
+};
+
+/// The form of `simulate`.
+const SIMULATE_FORM: &[OptionText] = options! {
+    SHOWN;
     ("as", Once("FORM"), with_forms!("report (the default), trace, "))
 };
 
@@ -189,22 +224,29 @@ static SCHEDULE_COMMANDS: [CommandText<'static>; 2] = [
         name: "simulate",
         about: "Runs a workload and shows its schedule, or writes it as a trace",
         options: &[
-            WORKLOAD_OPTIONS,
-            READING_OPTIONS,
-            LIMIT_OPTIONS,
-            SIMULATE_OPTIONS,
+            WORKLOAD_FILE,
+            MACHINE_OPTIONS,
+            HOOK_OPTIONS,
+            COMPARING_OPTIONS,
+            SIMULATE_FORM,
             PART_OPTIONS,
+            LIMIT_OPTIONS,
         ],
         examples: examples![
             "bqsim simulate workloads/desktop.toml",
             "bqsim simulate --discipline eevdf --as map --to 100ms workloads/desktop.toml",
-            "bqsim simulate --seeds 10 --preempt policies/heavier_first.s --against none workloads/desktop.toml"
+            "bqsim simulate --seeds 10 --preempt policies/heavier_first.s --against none examples/lab/editor.toml"
         ],
     },
     CommandText {
         name: "timeline",
         about: "Shows the schedule of a trace",
-        options: &[TIMELINE_OPTIONS, TRACE_READING_OPTIONS, PART_OPTIONS],
+        options: &[
+            TRACE_FILE,
+            TIMELINE_FORM,
+            TRACE_READING_OPTIONS,
+            PART_OPTIONS,
+        ],
         examples: examples![
             "bqsim timeline examples/four_tasks_cfs.trace",
             "bqsim timeline --as map --width 60 examples/four_tasks_eevdf.trace",
@@ -247,7 +289,7 @@ static OTHER_COMMANDS: [CommandText<'static>; 5] = [
     CommandText {
         name: "replay",
         about: "Reads a trace and writes the reply to each line",
-        options: &[REPLAY_OPTIONS, TRACE_READING_OPTIONS],
+        options: &[TRACE_FILE, TRACE_READING_OPTIONS],
         examples: examples![
             "bqsim replay examples/four_tasks_cfs.trace",
             "bqsim simulate --as trace workloads/desktop.toml | bqsim replay"

@@ -32,6 +32,8 @@ pub struct OptionText {
     pub name: &'static str,
     pub given: Given,
     pub help: &'static str,
+    /// The heading under which its help page shows it, if it has one.
+    pub heading: Option<&'static str>,
 }
 
 /// A command, with what its help page says of it.
@@ -51,6 +53,7 @@ fn option<'a>(alloc: Global, text: &OptionText) -> Arg<'a>
     ensures local { result.global ≡ false }
 {
     let option = Arg::new(alloc, text.name).help(text.help);
+    let option = below(text.heading, option);
     match &text.given {
         Given::Alone(value) => option.value_name(value),
         Given::Several(value) => option.value_name(value).action(ArgAction::Append),
@@ -61,6 +64,16 @@ fn option<'a>(alloc: Global, text: &OptionText) -> Arg<'a>
             .value_name(value)
             .action(ArgAction::Append),
         Given::Flag => option.long(text.name).action(ArgAction::SetTrue),
+    }
+}
+
+/// An option that its help page shows below this heading, if there is one.
+fn below<'a>(heading: Option<&'static str>, option: Arg<'a>) -> Arg<'a>
+    ensures { result ≡ record option.entry { help_heading = result.help_heading } }
+{
+    match heading {
+        Some(heading) => option.help_heading(heading),
+        None => option,
     }
 }
 

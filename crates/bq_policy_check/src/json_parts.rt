@@ -5,7 +5,7 @@ ghost use Rattle.serde_json.specs.View.{members_view};
 ghost use Rattle.bq_policy_check.specs.Showing.{of_accepted, of_limit, refusal_fields, of_verdict, put_all};
 
 use bq_bpf::MapShape;
-use bq_console::{NO_TEXT, Name};
+use bq_console::NO_TEXT;
 use bq_explain::{
     ExplainedRefusal, Finding, Made, Place, Summary, Verdict, advice_text, need_words,
 };
@@ -262,14 +262,25 @@ fn known_or_null(
 /// The name of the file, or null of standard input. Bytes that are no UTF-8 text are escaped, as `\xff`.
 pub(crate) fn file_value(alloc: Global, name: Option<&str>) -> Result<Value, AllocError> {
     match name {
-        Some(name) if name.contains(NO_TEXT) => {
-            let name = Name(name);
-            let shown = format!(in alloc; "{name}")?;
+        Some(name) => {
+            let shown = with_bytes(alloc, name)?;
             Value::try_from_str(alloc, shown.as_str())
         }
-        Some(name) => Value::try_from_str(alloc, name),
         None => Ok(Value::Null),
     }
+}
+
+/// The name with `\x` where it has `NO_TEXT`, which two hex digits follow. JSON has its own way to write control characters.
+fn with_bytes(alloc: Global, name: &str) -> Result<String, AllocError> {
+    let mut shown = String::new(alloc);
+    for letter in name.chars() {
+        if letter == NO_TEXT {
+            shown.push_str("\\x")?;
+        } else {
+            shown.push(letter)?;
+        }
+    }
+    Ok(shown)
 }
 
 /// A list of lines.

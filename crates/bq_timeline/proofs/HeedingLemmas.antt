@@ -10,7 +10,9 @@ use Rattle.bq_timeline.specs.declared.settings.Words.{Words}
 pub unheeded : (w : Words) (form : FormName) (why : SettingsFault) → form_asked w ≡ Some form → IsUnheeded form w why → IsNoSettings w why
 unheeded w form fault.Form asked h = absurd h
 unheeded w form fault.From asked h = absurd h
+unheeded w form fault.FromTooGreat asked h = absurd h
 unheeded w form fault.To asked h = absurd h
+unheeded w form fault.ToTooGreat asked h = absurd h
 unheeded w form fault.Backwards asked h = absurd h
 unheeded w form fault.Processors asked h = absurd h
 unheeded w form fault.Tasks asked h = absurd h

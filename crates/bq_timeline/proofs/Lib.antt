@@ -1,5 +1,6 @@
 pub mod CalledLemmas
 pub mod HeedingLemmas
+pub mod MeantLemmas
 pub mod NameLemmas
 pub mod NoteLemmas
 pub mod ShownLemmas

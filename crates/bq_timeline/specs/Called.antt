@@ -6,6 +6,7 @@ use Rattle.std.specs.Str.{bytes_eq, chars}
 use Rattle.std.proofs.Math.Utf8.{encodes}
 use Rattle.bq_disc.specs.declared.limits.TheConstants.{TASKS}
 use Rattle.bq_report.specs.Names.{NamedTasks, name_of}
+use Rattle.bq_timeline.specs.Meant.{name_meant}
 
 -- there is another name, and it equals this one
 abbrev pub is_named : List ℕ → Option (List ℕ) → Bool
@@ -43,9 +44,18 @@ quoted_name name = encodes (map shown_letter (take 40 (chars name)))
 abbrev pub lacking_note : List ℕ → List ℕ
 lacking_note name = codes "--tasks: no task is called " ++ (quoted_name name ++ codes "\n")
 
+-- the note that no task has this name, but one has a name that is near
+abbrev pub near_note : List ℕ → List ℕ → List ℕ
+near_note name near = codes "--tasks: no task is called " ++ (quoted_name name ++ (codes "; did you mean " ++ (quoted_name near ++ codes "?\n")))
+
+-- the note that no task has this name, with the name that was perhaps meant, if there is one
+abbrev pub meant_note : List ℕ → Option (List ℕ) → List ℕ
+meant_note name None = lacking_note name
+meant_note name (Some near) = near_note name near
+
 -- the note on a name, if no task has it
 abbrev pub uncalled_note : NamedTasks → List ℕ → List ℕ
-uncalled_note named name = if nat_lt 0 (length (tasks_called named name)) then [] else lacking_note name
+uncalled_note named name = if nat_lt 0 (length (tasks_called named name)) then [] else meant_note name (name_meant named name)
 
 -- the notes on the names that no task has
 abbrev pub uncalled_notes : NamedTasks → List (String Global) → List ℕ

@@ -2,10 +2,12 @@ pub mod Beginning
 pub mod Called
 pub mod Comments
 pub mod FormTexts
+pub mod Meant
 pub mod Notes
 pub mod ScreenTexts
 pub mod Settings
 pub mod Shown
 pub mod Timelines
+pub mod Times
 pub mod TraceTexts
 pub mod Watching

@@ -10,6 +10,7 @@ use Rattle.bq_words.specs.ProcessorSets.{is_comma, is_dash, processors_of}
 use Rattle.bq_drawing.specs.Themes.{theme_of}
 use Rattle.bq_drawing.specs.declared.theme.Theme.{Theme}
 use Rattle.bq_drawing.specs.declared.theme.Theme.TheVariants.{Light}
+use Rattle.bq_timeline.specs.Times.{is_too_great}
 use Rattle.bq_timeline.specs.declared.form_names.FormName.{FormName}
 use Rattle.bq_timeline.specs.declared.form_names.FormName.TheVariants.{Report, Map, Timehist, Why, Csv, Json, Svg, Perfetto}
 use Rattle.bq_timeline.specs.declared.numbers.TheConstants.{GREATEST_WIDTH, LEAST_WIDTH}
@@ -116,6 +117,11 @@ width_asked w = asked_or 80 width_in_word w.width
 abbrev pub theme_asked : Words → Option Theme
 theme_asked w = asked_or Light theme_of w.theme
 
+-- there is a word, and it is a time, but too great
+abbrev pub is_great : Option (String Global) → Bool
+is_great None = false
+is_great (Some word) = is_too_great (string_bytes word)
+
 -- the text of a word, if there is one
 abbrev pub optional_word_text : Option (String Global) → Option (List ℕ)
 optional_word_text word = option_map (λ (t : String Global). string_bytes t) word
@@ -180,12 +186,14 @@ IsUnheeded form w other = ⊥
 abbrev pub IsUnused : Words → SettingsFault → Type 0
 IsUnused w why = (form : FormName) × (form_asked w ≡ Some form) × IsUnheeded form w why
 
--- the word that the fault names is not of its kind, or the first moment is after the last, or the form does not heed an option; memory may
+-- the word that the fault names is not of its kind, or is a time that is too great, or the first moment is after the last, or the form does not heed an option; memory may
 -- run out whatever the words are
 abbrev pub IsNoSettings : Words → SettingsFault → Type 0
 IsNoSettings w fault.Form = form_asked w ≡ None
-IsNoSettings w fault.From = from_asked w ≡ None
-IsNoSettings w fault.To = to_asked w ≡ None
+IsNoSettings w fault.From = (from_asked w ≡ None) × (is_great w.from ≡ false)
+IsNoSettings w fault.FromTooGreat = (from_asked w ≡ None) × (is_great w.from ≡ true)
+IsNoSettings w fault.To = (to_asked w ≡ None) × (is_great w.to ≡ false)
+IsNoSettings w fault.ToTooGreat = (to_asked w ≡ None) × (is_great w.to ≡ true)
 IsNoSettings w fault.Backwards = RunBackwards w
 IsNoSettings w fault.Processors = processors_asked w ≡ None
 IsNoSettings w fault.Tasks = tasks_asked w ≡ None
@@ -198,7 +206,9 @@ IsNoSettings w unused = IsUnused w unused
 abbrev pub settings_word_refused : Words → SettingsFault → Option (String Global)
 settings_word_refused w fault.Form = w.form
 settings_word_refused w fault.From = w.from
+settings_word_refused w fault.FromTooGreat = w.from
 settings_word_refused w fault.To = w.to
+settings_word_refused w fault.ToTooGreat = w.to
 settings_word_refused w fault.Processors = w.cpus
 settings_word_refused w fault.Tasks = w.tasks
 settings_word_refused w fault.Width = w.width
@@ -209,7 +219,9 @@ settings_word_refused w other = None
 abbrev pub settings_option_refused : SettingsFault → List ℕ
 settings_option_refused fault.Form = codes "as"
 settings_option_refused fault.From = codes "from"
+settings_option_refused fault.FromTooGreat = codes "from"
 settings_option_refused fault.To = codes "to"
+settings_option_refused fault.ToTooGreat = codes "to"
 settings_option_refused fault.Processors = codes "cpus"
 settings_option_refused fault.Tasks = codes "tasks"
 settings_option_refused fault.Width = codes "width"

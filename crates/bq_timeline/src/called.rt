@@ -1,8 +1,9 @@
 //! The tasks that are asked for by name.
 ghost use Rattle.std.specs.Prelude.{◌≡◌, ◌++◌, IfOk, OnOk, option_map, string_bytes};
 ghost use Rattle.bq_report.specs.Names.{name_of};
-ghost use Rattle.bq_timeline.specs.Called.{is_named, lacking_note, quoted_name, shown_letter, tasks_called, tasks_for, uncalled_note, uncalled_notes};
+ghost use Rattle.bq_timeline.specs.Called.{is_named, lacking_note, meant_note, near_note, quoted_name, shown_letter, tasks_called, tasks_for, uncalled_note, uncalled_notes};
 
+use crate::meant::name_meant;
 use bq_disc::limits::TASKS;
 use bq_report::Names;
 use std::alloc::{AllocError, Global};
@@ -55,7 +56,23 @@ fn note_name(alloc: Global, notes: &mut String, name: &str, names: &Names) -> Re
     if !called.is_empty() {
         return Ok(());
     }
-    note_lacking(alloc, notes, name)
+    let near = name_meant(alloc, name, names)?;
+    note_meant(alloc, notes, name, near)
+}
+
+/// Notes that no task has this name, with the name that was perhaps meant, if there is one.
+fn note_meant(
+    alloc: Global,
+    notes: &mut String,
+    name: &str,
+    near: Option<&str>,
+) -> Result<(), AllocError>
+    ensures { OnOk result (string_bytes notes.new ≡ string_bytes notes.old ++ meant_note name.now (option_map (λ n. n.now) near.entry)) }
+{
+    match near {
+        Some(near) => note_near(alloc, notes, name, near),
+        None => note_lacking(alloc, notes, name),
+    }
 }
 
 /// Notes that no task has this name.
@@ -64,6 +81,18 @@ fn note_lacking(alloc: Global, notes: &mut String, name: &str) -> Result<(), All
 {
     let name = quoted(alloc, name)?;
     write!(notes, "--tasks: no task is called {name}\n")
+}
+
+/// Notes that no task has this name, but one has a name that is near.
+fn note_near(alloc: Global, notes: &mut String, name: &str, near: &str) -> Result<(), AllocError>
+    ensures { OnOk result (string_bytes notes.new ≡ string_bytes notes.old ++ near_note name.now near.now) }
+{
+    let name = quoted(alloc, name)?;
+    let near = quoted(alloc, near)?;
+    write!(
+        notes,
+        "--tasks: no task is called {name}; did you mean {near}?\n"
+    )
 }
 
 /// How many characters of a name a message quotes.

@@ -8,12 +8,14 @@ pub mod bounds_table;
 pub mod called;
 mod foreign;
 pub mod form_names;
+mod meant;
 pub mod numbers;
 pub mod refused;
 pub mod screen;
 pub mod settings;
 pub mod showing;
 pub mod shown;
+mod times;
 pub mod viewer;
 
 pub use refused::{RefusedWord, word_after};

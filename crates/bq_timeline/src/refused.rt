@@ -26,8 +26,10 @@ impl SettingsFault {
     {
         match self {
             SettingsFault::Form => word_after("as", &words.form, with_forms!("report, ")),
-            SettingsFault::From => word_after("from", &words.from, ""),
-            SettingsFault::To => word_after("to", &words.to, ""),
+            SettingsFault::From | SettingsFault::FromTooGreat => {
+                word_after("from", &words.from, "")
+            }
+            SettingsFault::To | SettingsFault::ToTooGreat => word_after("to", &words.to, ""),
             SettingsFault::Processors => word_after("cpus", &words.cpus, ""),
             SettingsFault::Tasks => word_after("tasks", &words.tasks, ""),
             SettingsFault::Width => word_after("width", &words.width, ""),

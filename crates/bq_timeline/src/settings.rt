@@ -1,13 +1,14 @@
 //! What a timeline is to show, by the words of its options.
-ghost use Rattle.std.specs.Prelude.{◌≡◌, IfErr, IfOk, OnOk, map, string_bytes};
+ghost use Rattle.std.specs.Prelude.{◌≡◌, IfErr, IfOk, OnOk, Some, map, string_bytes};
 ghost use Rattle.bq_words.specs.Durations.{duration_of};
 ghost use Rattle.bq_words.specs.ProcessorSets.{processors_of};
 ghost use Rattle.bq_drawing.specs.Themes.{theme_of};
-ghost use Rattle.bq_timeline.specs.Settings.{AsksForSettings, HeedsAll, IsNoSettings, IsUnheeded, asked_or, form_named, is_heeded, names_given, optional_word_text, width_in_word};
+ghost use Rattle.bq_timeline.specs.Settings.{AsksForSettings, HeedsAll, IsNoSettings, IsUnheeded, asked_or, form_named, from_asked, is_great, is_heeded, names_given, optional_word_text, to_asked, width_in_word};
 ghost use Rattle.bq_timeline.specs.declared.settings.SettingsFault.TheVariants.{OutOfMemory};
 
 use crate::form_names::FormName;
 use crate::numbers::{GREATEST_WIDTH, LEAST_WIDTH};
+use crate::times::is_too_great;
 use crate::{numbers, with_forms, with_stretches};
 use bq_disc::limits::LAST_PROCESSOR;
 use bq_drawing::{Look, Theme, with_themes};
@@ -61,6 +62,12 @@ const FORMS: &str = with_forms!("a form is report, ");
 /// What a word for a moment must be.
 const TIME: &str = with_units!("a time is a number and ", ", as 1500us, 1.5ms or 2s");
 
+/// The greatest time, in nanoseconds.
+const GREATEST_TIME: u64 = u64::MAX;
+
+/// What is said of a time that is too great, up to the greatest.
+const TOO_GREAT: &str = "the time is too great; the greatest is ";
+
 /// What a word for tasks must be.
 const TASKS: &str = with_tasks!(
     "tasks are numbers from ",
@@ -82,9 +89,15 @@ pub enum SettingsFault {
     /// The word of `--from` is no time.
     #[error("{words}", words = TIME)]
     From,
+    /// The word of `--from` is a time that is too great.
+    #[error("{words}{greatest}ns", words = TOO_GREAT, greatest = GREATEST_TIME)]
+    FromTooGreat,
     /// The word of `--to` is no time.
     #[error("{words}", words = TIME)]
     To,
+    /// The word of `--to` is a time that is too great.
+    #[error("{words}{greatest}ns", words = TOO_GREAT, greatest = GREATEST_TIME)]
+    ToTooGreat,
     /// The first moment is after the last.
     #[error("--from is after --to: nothing lies between them")]
     Backwards,
@@ -150,8 +163,8 @@ impl Settings {
     {
         let mut window = Window::whole(alloc);
         let form = form_or(&words.form, FormName::Report).ok_or(SettingsFault::Form)?;
-        window.from = time_or(&words.from, window.from).ok_or(SettingsFault::From)?;
-        window.to = time_or(&words.to, window.to).ok_or(SettingsFault::To)?;
+        window.from = first_moment(words)?;
+        window.to = last_moment(words)?;
         if window.to < window.from {
             return Err(SettingsFault::Backwards);
         }
@@ -216,6 +229,40 @@ fn form_or(word: &Option<String>, default: FormName) -> Option<FormName>
     match word {
         Some(word) => FormName::of_word(word.as_str()),
         None => Some(default),
+    }
+}
+
+/// The first moment, 0 if none is named.
+fn first_moment(words: &Words) -> Result<u64, SettingsFault>
+    ensures asked { IfOk result (λ from. from_asked words.now ≡ Some from) }
+    ensures refused { IfErr result (IsNoSettings words.now) }
+{
+    match time_or(&words.from, 0) {
+        Some(from) => Ok(from),
+        None if is_great(&words.from) => Err(SettingsFault::FromTooGreat),
+        None => Err(SettingsFault::From),
+    }
+}
+
+/// The last moment, no end if none is named.
+fn last_moment(words: &Words) -> Result<u64, SettingsFault>
+    ensures asked { IfOk result (λ to. to_asked words.now ≡ Some to) }
+    ensures refused { IfErr result (IsNoSettings words.now) }
+{
+    match time_or(&words.to, u64::MAX) {
+        Some(to) => Ok(to),
+        None if is_great(&words.to) => Err(SettingsFault::ToTooGreat),
+        None => Err(SettingsFault::To),
+    }
+}
+
+/// Whether there is a word, and it is a time that is too great.
+fn is_great(word: &Option<String>) -> bool
+    ensures { result ≡ is_great word.now }
+{
+    match word {
+        Some(word) => is_too_great(word.as_bytes()),
+        None => false,
     }
 }
 
