@@ -20,9 +20,9 @@ use Rattle.bq_report.specs.Names.{NamedTasks}
 use Rattle.bq_report.specs.Reports.{GrowsByPart}
 use Rattle.bq_report.specs.Windows.{Shows, ShowsProcessor}
 use Rattle.bq_drawing.specs.declared.written_rows.WrittenRows.{WrittenRows}
-use Rattle.bq_drawing.specs.declared.lanes.Stretch.{Stretch}
+use Rattle.bq_drawing.specs.declared.lanes.TaskInterval.{TaskInterval}
 use Rattle.bq_drawing.specs.declared.legend.Key.{Key}
-use Rattle.bq_drawing.specs.declared.links.Link.{Link}
+use Rattle.bq_drawing.specs.declared.links.RowLink.{RowLink}
 use Rattle.bq_drawing.specs.declared.links.LinkKind.{LinkKind}
 use Rattle.bq_drawing.specs.declared.look.Look.{Look}
 use Rattle.bq_drawing.specs.declared.svg.Svg.{Svg}
@@ -81,13 +81,13 @@ all_added : (old t1 t2 t3 a b c : List ℕ) → t1 ≡ old ++ a → t2 ≡ t1 ++
 all_added old t1 t2 t3 a b c e1 e2 e3 = both_added old t1 t3 a (b ++ c) e1 (both_added t1 t2 t3 b c e2 e3)
 
 -- a row: its band and its name, then its runs, its waits and its wakes, and the names upon the runs
-pub row_written : (s : PictureSetting) (number : ℕ) (row : DrawingRow) (waits wakes : List Stretch) (levels lanes top below above : ℕ)
+pub row_written : (s : PictureSetting) (number : ℕ) (row : DrawingRow) (waits wakes : List TaskInterval) (levels lanes top below above : ℕ)
     (old new : WrittenRows) (t1 t2 t3 : List ℕ)
     → ArePutInOrder row.waits waits → ArePutInOrder row.wakes wakes
     → levels ≡ length (lanes_after (arrow_of s.extent) [] wakes) → top ≡ saturating_sum old.bottom (levels * level_height + 4)
-    → lanes ≡ length (lanes_after (λ (wait : Stretch). wait) [] waits)
+    → lanes ≡ length (lanes_after (λ (wait : TaskInterval). wait) [] waits)
     → new.bottom ≡ saturating_sum top (band_height + (lanes * lane_height + row_gap))
-    → below ≡ saturating_sum 0 (left_out (λ (wait : Stretch). wait) [] waits)
+    → below ≡ saturating_sum 0 (left_out (λ (wait : TaskInterval). wait) [] waits)
     → new.waits_left_out ≡ saturating_sum old.waits_left_out below
     → above ≡ saturating_sum 0 (left_out (arrow_of s.extent) [] wakes)
     → new.wakes_left_out ≡ saturating_sum old.wakes_left_out above
@@ -120,7 +120,7 @@ row_written s number row waits wakes levels lanes top below above old new t1 t2 
       bottom = ends ∙ ap (λ n. saturating_sum top (band_height + (n * lane_height + row_gap))) wide;
       waits =
           less ∙ ap (λ n. saturating_sum old.waits_left_out n) few
-          ∙ counted_anew old.waits_left_out (left_out (λ (wait : Stretch). wait) [] waits);
+          ∙ counted_anew old.waits_left_out (left_out (λ (wait : TaskInterval). wait) [] waits);
       wakes =
           fewer ∙ ap (λ n. saturating_sum old.wakes_left_out n) some
           ∙ counted_anew old.wakes_left_out (left_out (arrow_of s.extent) [] wakes);
@@ -144,7 +144,7 @@ pub shapes_end : {A : Type 0} (draw : A → List ℕ) (items : List A) (i : ℕ)
 shapes_end {A} draw items i whole now none is = sym (append-nil now) ∙ sym (ap (λ (l : List A). now ++ flat_map draw l) none) ∙ is
 
 -- one more line between rows
-pub line_written : (kind : LinkKind) (s : PictureSetting) (links : List Link) (i : ℕ) (d : Link)
+pub line_written : (kind : LinkKind) (s : PictureSetting) (links : List RowLink) (i : ℕ) (d : RowLink)
     (old now next : WrittenRows) (whole : List ℕ)
     → i < length links → now ≡ record old { links = now.links }
     → string_bytes next.links ≡ string_bytes now.links ++ link_line kind s (get nat_cmp now.bands) (get_or links i d)
@@ -157,8 +157,8 @@ line_written kind s links i d old now next whole there same e is =
     (ap (λ (r : WrittenRows). r.bands) same)) is
 
 -- one more of some shapes in lanes
-pub lanes_next : (room : Stretch → Stretch) (draw : ℕ → Stretch → List ℕ) (lanes after : List ℕ) (items : List Stretch)
-    (i : ℕ) (d place : Stretch) (lane : Option ℕ) (whole now next : List ℕ)
+pub lanes_next : (room : TaskInterval → TaskInterval) (draw : ℕ → TaskInterval → List ℕ) (lanes after : List ℕ) (items : List TaskInterval)
+    (i : ℕ) (d place : TaskInterval) (lane : Option ℕ) (whole now next : List ℕ)
     → i < length items → place ≡ room (get_or items i d) → lane ≡ lane_of place lanes → after ≡ lanes_taken lane place.to lanes
     → next ≡ now ++ shape_in draw lane (get_or items i d) → now ++ in_lanes room draw lanes (drop i items) ≡ whole
     → next ++ in_lanes room draw after (drop (i + 1) items) ≡ whole
@@ -167,22 +167,22 @@ lanes_next room draw lanes after items i d place lane whole now next there needs
     let here = get_or items i d in
     let later = drop (i + 1) items in
     let shape = shape_in draw (lane_of (room here) lanes) here in
-    let own : lane ≡ lane_of (room here) lanes = takes ∙ ap (λ (p : Stretch). lane_of p lanes) needs in
-    let kept : after ≡ lanes_taken lane (room here).to lanes = keeps ∙ ap (λ (p : Stretch). lanes_taken lane p.to lanes) needs in
+    let own : lane ≡ lane_of (room here) lanes = takes ∙ ap (λ (p : TaskInterval). lane_of p lanes) needs in
+    let kept : after ≡ lanes_taken lane (room here).to lanes = keeps ∙ ap (λ (p : TaskInterval). lanes_taken lane p.to lanes) needs in
     let added : next ≡ now ++ shape = e ∙ ap (λ (l : Option ℕ). now ++ shape_in draw l here) own in
     let left : after ≡ lanes_taken (lane_of (room here) lanes) (room here).to lanes =
     kept ∙ ap (λ (l : Option ℕ). lanes_taken l (room here).to lanes) own in
     ap (λ t. t ++ in_lanes room draw after later) added ∙ append_assoc now shape (in_lanes room draw after later)
     ∙ ap (λ (l : List ℕ). now ++ (shape ++ in_lanes room draw l later)) left
-    ∙ sym (at_drop_more (λ (l : List Stretch). now ++ in_lanes room draw lanes l) items i d there) ∙ is
+    ∙ sym (at_drop_more (λ (l : List TaskInterval). now ++ in_lanes room draw lanes l) items i d there) ∙ is
 
 -- all of them
-pub lanes_end : (room : Stretch → Stretch) (draw : ℕ → Stretch → List ℕ) (lanes : List ℕ) (items : List Stretch) (i : ℕ)
+pub lanes_end : (room : TaskInterval → TaskInterval) (draw : ℕ → TaskInterval → List ℕ) (lanes : List ℕ) (items : List TaskInterval) (i : ℕ)
     (whole now : List ℕ)
     → drop i items ≡ [] → now ++ in_lanes room draw lanes (drop i items) ≡ whole → now ≡ whole
 unfolding in_lanes
 lanes_end room draw lanes items i whole now none is =
-    sym (append-nil now) ∙ sym (ap (λ (l : List Stretch). now ++ in_lanes room draw lanes l) none) ∙ is
+    sym (append-nil now) ∙ sym (ap (λ (l : List TaskInterval). now ++ in_lanes room draw lanes l) none) ∙ is
 
 -- one more character as XML writes it
 pub letters_more : (old now next yielded : List ℕ) (letter : ℕ) → now ≡ old ++ flat_map xml_letter yielded → next ≡ now ++ xml_letter letter

@@ -15,8 +15,8 @@ use Rattle.std.specs.Prelude.{◌==◌, find, flat_map}
 use Rattle.bq_disc.specs.Counts.{saturating_sum}
 use Rattle.bq_report.specs.declared.window.Window.{Window}
 use Rattle.bq_drawing.specs.declared.written_rows.WrittenRows.{WrittenRows}
-use Rattle.bq_drawing.specs.declared.lanes.Stretch.{Stretch}
-use Rattle.bq_drawing.specs.declared.links.Link.{Link}
+use Rattle.bq_drawing.specs.declared.lanes.TaskInterval.{TaskInterval}
+use Rattle.bq_drawing.specs.declared.links.RowLink.{RowLink}
 use Rattle.bq_drawing.specs.declared.links.LinkKind.{LinkKind}
 use Rattle.bq_drawing.specs.declared.links.LinkKind.TheVariants.{Migration, Pull}
 use Rattle.bq_drawing.specs.Holdings.{Held}
@@ -30,55 +30,55 @@ use Rattle.bq_drawing.specs.Writing.{AreDrawn, AreWritten, IsRowWritten, IsRowWr
 -- ---- lanes
 
 -- the lanes when one more has taken its own
-pub lanes_more : (room : Stretch → Stretch) (lanes after : List ℕ) (items : List Stretch) (i : ℕ)
-    (d place : Stretch) (lane : Option ℕ) (whole : List ℕ)
+pub lanes_more : (room : TaskInterval → TaskInterval) (lanes after : List ℕ) (items : List TaskInterval) (i : ℕ)
+    (d place : TaskInterval) (lane : Option ℕ) (whole : List ℕ)
     → i < length items → place ≡ room (get_or items i d) → lane ≡ lane_of place lanes → after ≡ lanes_taken lane place.to lanes
     → lanes_after room lanes (drop i items) ≡ whole
     → lanes_after room after (drop (i + 1) items) ≡ whole
 unfolding lanes_after
 lanes_more room lanes after items i d place lane whole there needs takes keeps is =
     let here = get_or items i d in
-    let own : lane ≡ lane_of (room here) lanes = takes ∙ ap (λ (p : Stretch). lane_of p lanes) needs in
+    let own : lane ≡ lane_of (room here) lanes = takes ∙ ap (λ (p : TaskInterval). lane_of p lanes) needs in
     let left : after ≡ lanes_taken (lane_of (room here) lanes) (room here).to lanes
-    = keeps ∙ ap (λ (p : Stretch). lanes_taken lane p.to lanes) needs ∙ ap (λ (l : Option ℕ). lanes_taken l (room here).to lanes) own in
+    = keeps ∙ ap (λ (p : TaskInterval). lanes_taken lane p.to lanes) needs ∙ ap (λ (l : Option ℕ). lanes_taken l (room here).to lanes) own in
     ap (λ (l : List ℕ). lanes_after room l (drop (i + 1) items)) left
-    ∙ sym (at_drop_more (λ (l : List Stretch). lanes_after room lanes l) items i d there) ∙ is
+    ∙ sym (at_drop_more (λ (l : List TaskInterval). lanes_after room lanes l) items i d there) ∙ is
 
 -- all of them
-pub lanes_all : (room : Stretch → Stretch) (lanes : List ℕ) (items : List Stretch) (i : ℕ) (whole : List ℕ) → drop i items ≡ []
+pub lanes_all : (room : TaskInterval → TaskInterval) (lanes : List ℕ) (items : List TaskInterval) (i : ℕ) (whole : List ℕ) → drop i items ≡ []
     → lanes_after room lanes (drop i items) ≡ whole → length lanes ≡ length whole
 unfolding lanes_after
 lanes_all room lanes items i whole none is =
-    ap (λ (l : List ℕ). length l) (sym (ap (λ (l : List Stretch). lanes_after room lanes l) none) ∙ is)
+    ap (λ (l : List ℕ). length l) (sym (ap (λ (l : List TaskInterval). lanes_after room lanes l) none) ∙ is)
 
 further : (n a b : ℕ) → saturating_sum (saturating_sum n a) b ≡ saturating_sum n (a + b)
 further n a b = omega arith
 
 -- one more that may find none
-pub left_more : (room : Stretch → Stretch) (lanes after : List ℕ) (items : List Stretch) (i : ℕ)
-    (d place : Stretch) (lane : Option ℕ) (whole now next : ℕ)
+pub left_more : (room : TaskInterval → TaskInterval) (lanes after : List ℕ) (items : List TaskInterval) (i : ℕ)
+    (d place : TaskInterval) (lane : Option ℕ) (whole now next : ℕ)
     → i < length items → place ≡ room (get_or items i d) → lane ≡ lane_of place lanes → after ≡ lanes_taken lane place.to lanes
     → next ≡ saturating_sum now (without_lane lane) → saturating_sum now (left_out room lanes (drop i items)) ≡ whole
     → saturating_sum next (left_out room after (drop (i + 1) items)) ≡ whole
 unfolding left_out
 left_more room lanes after items i d place lane whole now next there needs takes keeps e is =
     let here = get_or items i d in
-    let own : lane ≡ lane_of (room here) lanes = takes ∙ ap (λ (p : Stretch). lane_of p lanes) needs in
+    let own : lane ≡ lane_of (room here) lanes = takes ∙ ap (λ (p : TaskInterval). lane_of p lanes) needs in
     let left : after ≡ lanes_taken (lane_of (room here) lanes) (room here).to lanes
-    = keeps ∙ ap (λ (p : Stretch). lanes_taken lane p.to lanes) needs ∙ ap (λ (l : Option ℕ). lanes_taken l (room here).to lanes) own in
+    = keeps ∙ ap (λ (p : TaskInterval). lanes_taken lane p.to lanes) needs ∙ ap (λ (l : Option ℕ). lanes_taken l (room here).to lanes) own in
     let later = drop (i + 1) items in
     ap (λ n. saturating_sum n (left_out room after later)) (e ∙ ap (λ (l : Option ℕ). saturating_sum now (without_lane l)) own)
     ∙ further now (without_lane (lane_of (room here) lanes)) (left_out room after later)
     ∙ ap (λ (l : List ℕ). saturating_sum now (without_lane (lane_of (room here) lanes) + left_out room l later)) left
-    ∙ sym (at_drop_more (λ (l : List Stretch). saturating_sum now (left_out room lanes l)) items i d there) ∙ is
+    ∙ sym (at_drop_more (λ (l : List TaskInterval). saturating_sum now (left_out room lanes l)) items i d there) ∙ is
 
 -- all of them
-pub left_all : (room : Stretch → Stretch) (lanes : List ℕ) (items : List Stretch) (i whole now : ℕ) → drop i items ≡ [] → now < 2 ^ 64
+pub left_all : (room : TaskInterval → TaskInterval) (lanes : List ℕ) (items : List TaskInterval) (i whole now : ℕ) → drop i items ≡ [] → now < 2 ^ 64
     → saturating_sum now (left_out room lanes (drop i items)) ≡ whole → now ≡ whole
 unfolding left_out
 left_all room lanes items i whole now none small is =
     let same : saturating_sum now 0 ≡ now = omega (arith, small) in
-    sym same ∙ sym (ap (λ (l : List Stretch). saturating_sum now (left_out room lanes l)) none) ∙ is
+    sym same ∙ sym (ap (λ (l : List TaskInterval). saturating_sum now (left_out room lanes l)) none) ∙ is
 
 -- ---- rows
 
@@ -185,7 +185,7 @@ rows_next w s rows number old new before way =
       bands = bands_next before.placed next number old.bands new.bands is.is_placed.of_processor
           (none_yet w s rows number before.placed old.bottom number before.are_placed (omega arith)) is.bands.0 before.bands;
       waits =
-          more_left (λ (p : PlacedRow). left_out (λ (wait : Stretch). wait) [] p.row.waits) before.placed next _ _
+          more_left (λ (p : PlacedRow). left_out (λ (wait : TaskInterval). wait) [] p.row.waits) before.placed next _ _
           before.waits is.waits;
       wakes = more_left (λ (p : PlacedRow). left_out (arrow_of s.extent) [] p.row.wakes) before.placed next _ _ before.wakes is.wakes;
     }) (λ (none : ¬ (HasRow w rows number) × (new ≡ old)).
@@ -208,12 +208,12 @@ lines_stay w s rows number old new way = ⊎_elim
     way
 
 line_same : (kind : LinkKind) (s : PictureSetting) (f g : ℕ → Option ℕ)
-    → ((q : ℕ) → f q ≡ g q) → (link : Link) → link_line kind s f link ≡ link_line kind s g link
+    → ((q : ℕ) → f q ≡ g q) → (link : RowLink) → link_line kind s f link ≡ link_line kind s g link
 line_same kind s f g same link =
     ap (λ (o : Option ℕ). cond (same_kind link.kind kind) (link_if s link o (f link.to.processor)) []) (same link.from.processor)
     ∙ ap (λ (o : Option ℕ). cond (same_kind link.kind kind) (link_if s link (g link.from.processor) o) []) (same link.to.processor)
 
-lines_same : (kind : LinkKind) (s : PictureSetting) (f g : ℕ → Option ℕ) → ((q : ℕ) → f q ≡ g q) → (links : List Link)
+lines_same : (kind : LinkKind) (s : PictureSetting) (f g : ℕ → Option ℕ) → ((q : ℕ) → f q ≡ g q) → (links : List RowLink)
     → flat_map (link_line kind s f) links ≡ flat_map (link_line kind s g) links
 lines_same kind s f g same [] = refl
 lines_same kind s f g same (link ∷ later) =

@@ -1,7 +1,7 @@
 -- What the events of a trace need to know of the events before them.
 use Rattle.std.specs.Prelude.{ℕ, ◌+◌, ◌-◌, ◌^◌, min, Bool, List, replicate, slice_get, slice_index_or, slice_set, Option, Some, None, unwrap_or, if◌then◌else◌}
 use Rattle.bq_schedule.specs.declared.slice.Slice.{Slice}
-use Rattle.bq_drawing.specs.declared.history.Arrows.{Arrows}
+use Rattle.bq_drawing.specs.declared.past_events.Arrows.{Arrows}
 
 -- for each processor the arrows that end at the beginning of its current run, and how many tasks were runnable when the count was last
 -- written; for each task the arrow of its wake, if it has not run since, and the shown part of its last run that ended; and how many

@@ -16,8 +16,8 @@ use Rattle.bq_schedule.specs.Running.{has_migrated, running_task}
 use Rattle.bq_schedule.specs.Slices.{is_this}
 use Rattle.bq_report.specs.declared.window.Window.{Window}
 use Rattle.bq_report.specs.Windows.{IsShownPart, Shows, ShowsProcessor}
-use Rattle.bq_drawing.specs.declared.lanes.Stretch.{Stretch}
-use Rattle.bq_drawing.specs.declared.links.Link.{Link}
+use Rattle.bq_drawing.specs.declared.lanes.TaskInterval.{TaskInterval}
+use Rattle.bq_drawing.specs.declared.links.RowLink.{RowLink}
 use Rattle.bq_drawing.specs.declared.links.LinkKind.TheVariants.{Migration, Pull}
 use Rattle.bq_drawing.specs.declared.shapes.DrawnRun.{DrawnRun}
 use Rattle.bq_drawing.specs.Rows.{DrawingRow, Rows, empty_drawing_row, drawing_row_of}
@@ -26,7 +26,7 @@ use Rattle.bq_drawing.specs.Runs.{run_ended_by, run_on}
 -- what is held: a row for each processor, the lines between rows, and the tasks of which something is drawn
 pub record Held : Type 0 where
   pub rows : Rows
-  pub links : List Link
+  pub links : List RowLink
   pub tasks : List ℕ
 
 -- nothing is held, with this many processors
@@ -42,11 +42,11 @@ abbrev pub row_with_run : DrawnRun → DrawingRow → DrawingRow
 row_with_run run row = record row { runs = row.runs ++ run ∷ [] }
 
 -- a row with one more wait
-abbrev pub row_with_wait : Stretch → DrawingRow → DrawingRow
+abbrev pub row_with_wait : TaskInterval → DrawingRow → DrawingRow
 row_with_wait wait row = record row { waits = row.waits ++ wait ∷ [] }
 
 -- a row with one more wake
-abbrev pub row_with_wake : Stretch → DrawingRow → DrawingRow
+abbrev pub row_with_wake : TaskInterval → DrawingRow → DrawingRow
 row_with_wake wake row = record row { wakes = row.wakes ++ wake ∷ [] }
 
 -- a sorted list of tasks, with this one in it
@@ -65,7 +65,7 @@ held_with_run (Some start) None held = held
 held_with_run (Some start) (Some part) held = with_more part.processor part.task (row_with_run (drawn_run start part)) held
 
 -- what is held, with a wait added to the row of a processor
-abbrev pub with_stretch : ℕ → Stretch → Held → Held
+abbrev pub with_stretch : ℕ → TaskInterval → Held → Held
 with_stretch processor wait held = with_more processor wait.task (row_with_wait wait) held
 
 -- what is held, with the part of a wait added to its processor's row, if a part of it is shown
@@ -74,7 +74,7 @@ with_wait None held = held
 with_wait (Some part) held = with_stretch part.processor (record { from = part.from; to = part.to; task = part.task }) held
 
 -- a wake as a stretch of no length
-abbrev pub waking : Wake → Stretch
+abbrev pub waking : Wake → TaskInterval
 waking k = record { from = k.at; to = k.at; task = k.task }
 
 -- what is held, with a wake added to the row of the processor where its task was placed, if there is one
@@ -83,7 +83,7 @@ with_wake None held = held
 with_wake (Some k) held = with_more k.to k.task (row_with_wake (waking k)) held
 
 -- what is held, with a line between two rows added
-abbrev pub with_link : Link → Held → Held
+abbrev pub with_link : RowLink → Held → Held
 with_link link held = record held { links = held.links ++ link ∷ []; tasks = tasks_with link.task held.tasks }
 
 -- the shown part of a run is added, if there is one
@@ -112,17 +112,17 @@ abbrev pub wait_ended : PulledTask → Slice
 wait_ended pull = record { processor = pull.from; task = pull.task; from = pull.at - pull.waited; to = pull.at }
 
 -- a line is shown if it ends in the window, and both of its processors are shown
-pub record ShowsLink (w : Window) (link : Link) : Type 0 where
+pub record ShowsLink (w : Window) (link : RowLink) : Type 0 where
   pub ends : Shows w link.to.processor link.task link.to.at
   pub begins : ShowsProcessor w link.from.processor
 
 -- a line between two rows is added, if there is one and it is shown
-abbrev pub HoldsLink : Window → Option Link → Held → Held → Type 0
+abbrev pub HoldsLink : Window → Option RowLink → Held → Held → Type 0
 HoldsLink w None old new = new ≡ old
 HoldsLink w (Some link) old new = (ShowsLink w link × (new ≡ with_link link old)) ⊎ (¬ (ShowsLink w link) × (new ≡ old))
 
 -- the line of a pull
-abbrev pub pulled_link : PulledTask → Link
+abbrev pub pulled_link : PulledTask → RowLink
 pulled_link pull = record {
   kind = Pull;
   task = pull.task;
@@ -144,7 +144,7 @@ abbrev pub migration_begin : Stops → Start → ℕ
 migration_begin stops start = unwrap_or (lookup (is_at (nat_cmp start.task)) stops) start.at
 
 -- the line to a run with this start, from another processor
-abbrev pub link_from : Stops → Start → ℕ → Link
+abbrev pub link_from : Stops → Start → ℕ → RowLink
 link_from stops start before = record {
   kind = Migration;
   task = start.task;
@@ -153,11 +153,11 @@ link_from stops start before = record {
 }
 
 -- the line of a migration, if the task ran on another processor before
-abbrev pub migration_of : Stops → Start → Option Link
+abbrev pub migration_of : Stops → Start → Option RowLink
 migration_of stops start = if has_migrated start then option_map (link_from stops start) start.before else None
 
 -- the line of a migration, if there is a start and its task ran on another processor before
-abbrev pub migration_link : Stops → Option Start → Option Link
+abbrev pub migration_link : Stops → Option Start → Option RowLink
 migration_link stops None = None
 migration_link stops (Some start) = migration_of stops start
 

@@ -5,7 +5,7 @@ use Rattle.std.specs.List.{filter, list_any}
 use Rattle.std.specs.Ordering.{nat_cmp}
 use Rattle.bq_disc.specs.Counts.{saturating_sum}
 use Rattle.bq_drawing.specs.declared.legend.Key.{Key}
-use Rattle.bq_drawing.specs.declared.links.Link.{Link}
+use Rattle.bq_drawing.specs.declared.links.RowLink.{RowLink}
 use Rattle.bq_drawing.specs.declared.links.LinkKind.{LinkKind}
 use Rattle.bq_drawing.specs.declared.links.LinkKind.TheVariants.{Migration, Pull}
 use Rattle.bq_drawing.specs.Holdings.{Held}
@@ -20,11 +20,11 @@ abbrev pub tasks_shown : List ℕ → List ℕ → List ℕ
 tasks_shown tasks drawn = filter (λ task. list_any (is_at (nat_cmp task)) drawn) tasks
 
 -- whether there is a line of this kind
-abbrev pub has_line : LinkKind → List Link → Bool
-has_line kind links = list_any (λ (link : Link). same_kind link.kind kind) links
+abbrev pub has_line : LinkKind → List RowLink → Bool
+has_line kind links = list_any (λ (link : RowLink). same_kind link.kind kind) links
 
 -- what the legend explains besides the tasks
-abbrev pub legend_key : PictureSetting → List Link → List PlacedRow → Key
+abbrev pub legend_key : PictureSetting → List RowLink → List PlacedRow → Key
 legend_key s links placed = record {
   has_pulls = has_line Pull links;
   has_migrations = has_line Migration links;

@@ -1,6 +1,6 @@
 -- Stretches of time, side by side in lanes. A lane is given by the moment from which it is free.
 use Rattle.std.specs.Prelude.{ℕ, ◌+◌, List, [], ◌∷◌, ◌++◌, Option, Some, None, length, position, nat_le, nat_lt, slice_set, if◌then◌else◌}
-use Rattle.bq_drawing.specs.declared.lanes.Stretch.{Stretch}
+use Rattle.bq_drawing.specs.declared.lanes.TaskInterval.{TaskInterval}
 
 -- the first lane that is free at a moment
 abbrev pub first_free : ℕ → List ℕ → Option ℕ
@@ -16,7 +16,7 @@ or_one_more lanes (Some lane) = Some lane
 or_one_more lanes None = if nat_lt (length lanes) most_lanes then Some (length lanes) else None
 
 -- the lane that a stretch takes: the first that is free when it begins, or a new one
-abbrev pub lane_of : Stretch → List ℕ → Option ℕ
+abbrev pub lane_of : TaskInterval → List ℕ → Option ℕ
 lane_of stretch lanes = or_one_more lanes (first_free stretch.from lanes)
 
 -- the lanes after one of them, or a new one, is taken up to this moment
@@ -25,7 +25,7 @@ lanes_taken None to lanes = lanes
 lanes_taken (Some lane) to lanes = if nat_lt lane (length lanes) then slice_set lanes lane to else lanes ++ (to ∷ [])
 
 -- the lanes after stretches have taken theirs, one after another; `room` says how much room a stretch needs
-unfoldable pub lanes_after : (Stretch → Stretch) → List ℕ → List Stretch → List ℕ
+unfoldable pub lanes_after : (TaskInterval → TaskInterval) → List ℕ → List TaskInterval → List ℕ
 lanes_after room lanes [] = lanes
 lanes_after room lanes (stretch ∷ later) = lanes_after room (lanes_taken (lane_of (room stretch) lanes) (room stretch).to lanes) later
 
@@ -35,7 +35,7 @@ without_lane None = 1
 without_lane (Some lane) = 0
 
 -- how many of these stretches find no lane
-unfoldable pub left_out : (Stretch → Stretch) → List ℕ → List Stretch → ℕ
+unfoldable pub left_out : (TaskInterval → TaskInterval) → List ℕ → List TaskInterval → ℕ
 left_out room lanes [] = 0
 left_out room lanes (stretch ∷ later) =
     without_lane (lane_of (room stretch) lanes) + left_out room (lanes_taken (lane_of (room stretch) lanes) (room stretch).to lanes) later

@@ -3,7 +3,7 @@ use Rattle.std.specs.Prelude.{ℕ, ◌-◌, ◌*◌, ◌/◌, ◌^◌, Bool, tru
 use Rattle.std.specs.Fmt.{decimal}
 use Rattle.std.specs.Int.{abs_diff}
 use Rattle.bq_disc.specs.Counts.{saturating_sum}
-use Rattle.bq_drawing.specs.declared.links.Link.{Link}
+use Rattle.bq_drawing.specs.declared.links.RowLink.{RowLink}
 use Rattle.bq_drawing.specs.declared.links.LinkKind.{LinkKind}
 use Rattle.bq_drawing.specs.declared.links.LinkKind.TheVariants.{Migration, Pull}
 use Rattle.bq_drawing.specs.Places.{band_height, hundredths, moment_place}
@@ -22,11 +22,11 @@ abbrev pub link_end : ℕ → ℕ → ℕ
 link_end from to = if nat_lt from to then to else saturating_sum to band_height
 
 -- how much of the height between a line's ends is left from a moment on: the same part as of its time
-abbrev pub height_left : Link → ℕ → ℕ → ℕ → ℕ
+abbrev pub height_left : RowLink → ℕ → ℕ → ℕ → ℕ
 height_left link begin end first = min (abs_diff begin end * (link.to.at - first)) (2 ^ 64 - 1) / max (link.to.at - link.from.at) 1
 
 -- the height at which a line enters a picture that begins at a moment; a line that begins later enters where it begins
-abbrev pub enters_at : Link → ℕ → ℕ → ℕ → ℕ
+abbrev pub enters_at : RowLink → ℕ → ℕ → ℕ → ℕ
 enters_at link begin end first =
     if nat_le first link.from.at then begin
     else if nat_lt begin end then end - height_left link begin end first
@@ -71,14 +71,14 @@ abbrev pub name_head : PictureSetting → ℕ → List ℕ
 name_head s task = codes "<title>" ++ whole_name s task
 
 -- a line's tooltip: the name of its task, what happened, and when
-abbrev pub link_title : PictureSetting → Link → List ℕ
+abbrev pub link_title : PictureSetting → RowLink → List ℕ
 link_title s link =
     name_head s link.task
     ++ (act_text link.kind link.from.processor link.to.processor
     ++ (codes " at " ++ (amount_text s.unit link.to.at ++ (codes " " ++ (unit_name s.unit ++ codes "</title></g>\n")))))
 
 -- a line between bands whose upper edges are at `from` and `to`
-abbrev pub link_between : PictureSetting → Link → ℕ → ℕ → List ℕ
+abbrev pub link_between : PictureSetting → RowLink → ℕ → ℕ → List ℕ
 link_between s link from to =
     let left = moment_place s.extent link.from.at in
     let begin = enters_at link (leaves_at from to) (link_end from to) s.extent.from in
@@ -87,7 +87,7 @@ link_between s link from to =
     link_text link.kind (colour_of s.tasks link.task) left begin right end (nat_lt from to) ++ link_title s link
 
 -- a line between two bands, as `link_between` draws it, if both bands are drawn
-abbrev pub link_if : PictureSetting → Link → Option ℕ → Option ℕ → List ℕ
+abbrev pub link_if : PictureSetting → RowLink → Option ℕ → Option ℕ → List ℕ
 link_if s link None to = []
 link_if s link (Some from) None = []
 link_if s link (Some from) (Some to) = link_between s link from to
@@ -100,10 +100,10 @@ same_kind Migration Pull = false
 same_kind Migration Migration = true
 
 -- a line, if it is of this kind; `tops` gives the height at which a processor's band begins
-abbrev pub link_line : LinkKind → PictureSetting → (ℕ → Option ℕ) → Link → List ℕ
+abbrev pub link_line : LinkKind → PictureSetting → (ℕ → Option ℕ) → RowLink → List ℕ
 link_line kind s tops link = if same_kind link.kind kind then link_if s link (tops link.from.processor) (tops link.to.processor) else []
 
 -- all lines between these rows: the migrations, and then the pulls
-abbrev pub links_text : PictureSetting → List PlacedRow → List Link → List ℕ
+abbrev pub links_text : PictureSetting → List PlacedRow → List RowLink → List ℕ
 links_text s placed links =
     flat_map (link_line Migration s (top_at placed)) links ++ flat_map (link_line Pull s (top_at placed)) links

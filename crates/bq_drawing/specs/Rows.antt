@@ -7,7 +7,7 @@ use Rattle.std.specs.declared.cmp.Ordering.{Ordering}
 use Rattle.bq_disc.specs.Counts.{saturating_sum}
 use Rattle.bq_report.specs.declared.window.Window.{Window}
 use Rattle.bq_report.specs.Windows.{ShowsProcessor}
-use Rattle.bq_drawing.specs.declared.lanes.Stretch.{Stretch}
+use Rattle.bq_drawing.specs.declared.lanes.TaskInterval.{TaskInterval}
 use Rattle.bq_drawing.specs.declared.shapes.DrawnRun.{DrawnRun}
 use Rattle.bq_drawing.specs.Lanes.{lanes_after, left_out}
 use Rattle.bq_drawing.specs.Places.{band_height, lane_height, level_height, row_gap, rows_edge}
@@ -16,8 +16,8 @@ use Rattle.bq_drawing.specs.Shapes.{PictureSetting, arrow_of, label_text, shapes
 -- what is drawn of a processor: its runs, its waits and its wakes, each in the order in which they came
 pub record DrawingRow : Type 0 where
   pub runs : List DrawnRun
-  pub waits : List Stretch
-  pub wakes : List Stretch
+  pub waits : List TaskInterval
+  pub wakes : List TaskInterval
 
 -- a row with nothing in it
 abbrev pub empty_drawing_row : DrawingRow
@@ -32,11 +32,11 @@ abbrev pub drawing_row_of : Rows → ℕ → DrawingRow
 drawing_row_of rows processor = slice_index_or rows processor empty_drawing_row
 
 -- the order of stretches: by when they begin, then by when they end, then by their tasks
-abbrev pub stretch_cmp : Stretch → Stretch → Ordering
+abbrev pub stretch_cmp : TaskInterval → TaskInterval → Ordering
 stretch_cmp a b = ordering_then (nat_cmp a.from b.from) (ordering_then (nat_cmp a.to b.to) (nat_cmp a.task b.task))
 
 -- `sorted` has the stretches of `given`, in the order in which they begin
-pub record ArePutInOrder (given sorted : List Stretch) : Type 0 where
+pub record ArePutInOrder (given sorted : List TaskInterval) : Type 0 where
   pub same : IsPermutation given sorted
   pub order : IsSorted stretch_cmp sorted
 
@@ -52,7 +52,7 @@ pub record PlacedRow : Type 0 where
   pub row : DrawingRow
 
 -- where the band of a row begins, below this height: the levels that its wakes need, and 4 more
-abbrev pub band_top : PictureSetting → ℕ → List Stretch → ℕ
+abbrev pub band_top : PictureSetting → ℕ → List TaskInterval → ℕ
 band_top s edge wakes = saturating_sum edge (length (lanes_after (arrow_of s.extent) [] wakes) * level_height + 4)
 
 -- where a row ends: below the band, the lanes of its waits, and a gap

@@ -8,7 +8,7 @@ use Rattle.bq_report.specs.Names.{NamedTasks, name_of}
 use Rattle.bq_report.specs.AdmittedTasks.{admitted_place}
 use Rattle.bq_drawing.specs.declared.colours.TheConstants.{COLOURS}
 use Rattle.bq_drawing.specs.declared.frame.Frame.{Frame}
-use Rattle.bq_drawing.specs.declared.lanes.Stretch.{Stretch}
+use Rattle.bq_drawing.specs.declared.lanes.TaskInterval.{TaskInterval}
 use Rattle.bq_drawing.specs.declared.shapes.DrawnRun.{DrawnRun}
 use Rattle.bq_drawing.specs.declared.unit.TimeUnit.{TimeUnit}
 use Rattle.bq_drawing.specs.Lanes.{lane_of, lanes_taken}
@@ -94,13 +94,13 @@ drawn_run_text s top run = rectangle_text s top run ++ (run_title s run ++ codes
 -- ---- waits and wakes, in lanes
 
 -- a shape in its lane, or nothing if it found none
-abbrev pub shape_in : (ℕ → Stretch → List ℕ) → Option ℕ → Stretch → List ℕ
+abbrev pub shape_in : (ℕ → TaskInterval → List ℕ) → Option ℕ → TaskInterval → List ℕ
 shape_in draw None stretch = []
 shape_in draw (Some lane) stretch = draw lane stretch
 
 -- shapes, one after another, each in the lane that it takes; `room` says how much room a shape needs, and a lane is given by the moment
 -- from which it is free
-unfoldable pub in_lanes : (Stretch → Stretch) → (ℕ → Stretch → List ℕ) → List ℕ → List Stretch → List ℕ
+unfoldable pub in_lanes : (TaskInterval → TaskInterval) → (ℕ → TaskInterval → List ℕ) → List ℕ → List TaskInterval → List ℕ
 in_lanes room draw lanes [] = []
 in_lanes room draw lanes (stretch ∷ later) =
     shape_in draw (lane_of (room stretch) lanes) stretch
@@ -111,20 +111,20 @@ abbrev pub wait_height : ℕ → ℕ → ℕ
 wait_height top lane = saturating_sum (lane * lane_height) (band_height + (top + 3))
 
 -- the hatched rectangle of a wait, up to the name in its tooltip
-abbrev pub hatched_text : PictureSetting → ℕ → Stretch → List ℕ
+abbrev pub hatched_text : PictureSetting → ℕ → TaskInterval → List ℕ
 hatched_text s height wait =
     codes "<rect class=\"wait w" ++ (decimal (colour_of s.tasks wait.task) ++ (codes "\" x=\"" ++ (hundredths (moment_place s.extent wait.from)
     ++ (codes "\" y=\"" ++ (decimal height ++ (codes "\" width=\"" ++ (hundredths (drawn_width s.extent wait.from wait.to)
     ++ codes "\" height=\"8\"><title>")))))))
 
 -- when a wait begins and ends
-abbrev pub wait_times : PictureSetting → Stretch → List ℕ
+abbrev pub wait_times : PictureSetting → TaskInterval → List ℕ
 wait_times s wait =
     codes " waits " ++ (amount_text s.unit wait.from ++ (codes " to " ++ (amount_text s.unit wait.to ++ (codes " " ++ (unit_name s.unit
     ++ codes "</title></rect>\n")))))
 
 -- a wait at this height, with the name of its task and when it is
-abbrev pub wait_text : PictureSetting → ℕ → Stretch → List ℕ
+abbrev pub wait_text : PictureSetting → ℕ → TaskInterval → List ℕ
 wait_text s height wait = hatched_text s height wait ++ (whole_name s wait.task ++ wait_times s wait)
 
 -- the height at which the arrow of a wake at this level ends, above the band whose upper edge is at `top`
@@ -132,42 +132,42 @@ abbrev pub wake_height : ℕ → ℕ → ℕ
 wake_height top level = top - level * level_height
 
 -- the arrow of a wake, up to the name in its tooltip
-abbrev pub arrow_text : PictureSetting → ℕ → Stretch → List ℕ
+abbrev pub arrow_text : PictureSetting → ℕ → TaskInterval → List ℕ
 arrow_text s end wake =
     codes "<path class=\"arrow c" ++ (decimal (colour_of s.tasks wake.task) ++ (codes "\" d=\"M" ++ (hundredths (moment_place s.extent wake.from)
     ++ (codes " " ++ (decimal (end - 12) ++ codes "v11l-4 -6h8l-4 6\"><title>")))))
 
 -- when a wake happens
-abbrev pub wake_time : PictureSetting → Stretch → List ℕ
+abbrev pub wake_time : PictureSetting → TaskInterval → List ℕ
 wake_time s wake = codes " is woken at " ++ (amount_text s.unit wake.from ++ (codes " " ++ (unit_name s.unit ++ codes "</title></path>\n")))
 
 -- a wake whose arrow ends at this height, with the name of its task and when it happens
-abbrev pub drawn_wake_text : PictureSetting → ℕ → Stretch → List ℕ
+abbrev pub drawn_wake_text : PictureSetting → ℕ → TaskInterval → List ℕ
 drawn_wake_text s end wake = arrow_text s end wake ++ (whole_name s wake.task ++ wake_time s wake)
 
 -- a wake, made as long as its arrow is wide
-abbrev pub arrow_of : Extent → Stretch → Stretch
+abbrev pub arrow_of : Extent → TaskInterval → TaskInterval
 arrow_of e wake = record wake { to = saturating_sum wake.from (arrow_time e) }
 
 -- a wait in its lane, below the band whose upper edge is at `top`
-abbrev pub wait_in : PictureSetting → ℕ → ℕ → Stretch → List ℕ
+abbrev pub wait_in : PictureSetting → ℕ → ℕ → TaskInterval → List ℕ
 wait_in s top lane wait = wait_text s (wait_height top lane) wait
 
 -- a wake at its level, above the band whose upper edge is at `top`
-abbrev pub wake_in : PictureSetting → ℕ → ℕ → Stretch → List ℕ
+abbrev pub wake_in : PictureSetting → ℕ → ℕ → TaskInterval → List ℕ
 wake_in s top level wake = drawn_wake_text s (wake_height top level) wake
 
 -- the waits of a row, one after another; each needs room for as long as it lasts
-abbrev pub waits_text : PictureSetting → ℕ → List Stretch → List ℕ
+abbrev pub waits_text : PictureSetting → ℕ → List TaskInterval → List ℕ
 waits_text s top waits = in_lanes (λ wait. wait) (wait_in s top) [] waits
 
 -- the wakes of a row, one after another; each needs room for its arrow
-abbrev pub wakes_text : PictureSetting → ℕ → List Stretch → List ℕ
+abbrev pub wakes_text : PictureSetting → ℕ → List TaskInterval → List ℕ
 wakes_text s top wakes = in_lanes (arrow_of s.extent) (wake_in s top) [] wakes
 
 -- what is drawn in the row of a processor whose band has its upper edge at `top`: the band and the name, then the runs, the waits and the
 -- wakes, each in order
-abbrev pub shapes_text : PictureSetting → ℕ → ℕ → List DrawnRun → List Stretch → List Stretch → List ℕ
+abbrev pub shapes_text : PictureSetting → ℕ → ℕ → List DrawnRun → List TaskInterval → List TaskInterval → List ℕ
 shapes_text s number top runs waits wakes =
     band_text top ++ (row_name number top ++ (flat_map (drawn_run_text s top) runs ++ (waits_text s top waits ++ wakes_text s top wakes)))
 

@@ -7,7 +7,7 @@ use Rattle.bq_disc.specs.Counts.{saturating_sum}
 use Rattle.bq_report.specs.declared.window.Window.{Window}
 use Rattle.bq_drawing.specs.declared.written_rows.WrittenRows.{WrittenRows}
 use Rattle.bq_drawing.specs.declared.legend.Key.{Key}
-use Rattle.bq_drawing.specs.declared.links.Link.{Link}
+use Rattle.bq_drawing.specs.declared.links.RowLink.{RowLink}
 use Rattle.bq_drawing.specs.declared.links.LinkKind.TheVariants.{Migration, Pull}
 use Rattle.bq_drawing.specs.Holdings.{Held}
 use Rattle.bq_drawing.specs.Keys.{has_line}
@@ -44,7 +44,7 @@ pub record AreWritten (w : Window) (s : PictureSetting) (rows : Rows) (number : 
   pub wakes : written.wakes_left_out ≡ saturating_sum 0 (wakes_left_out s placed)
 
 -- what the legend explains besides the tasks, by the lines and the rows that are written
-abbrev pub key_beside : List Link → WrittenRows → Key
+abbrev pub key_beside : List RowLink → WrittenRows → Key
 key_beside links written = record {
   has_pulls = has_line Pull links;
   has_migrations = has_line Migration links;

@@ -14,9 +14,9 @@ ghost use Rattle.bq_drawing.specs.Writing.{AreDrawn, IsRowWrittenIf, key_beside}
 use crate::axis::{AXIS, write_axis};
 use crate::frame::Frame;
 use crate::heading::Heading;
-use crate::lanes::Stretch;
+use crate::lanes::TaskInterval;
 use crate::legend::{Key, legend_height, write_legend};
-use crate::links::{Link, LinkKind};
+use crate::links::{LinkKind, RowLink};
 use crate::processor_row::ProcessorRow;
 use crate::scale::Scale;
 use crate::shapes::{DrawnRun, GAP};
@@ -40,7 +40,7 @@ const STEPS: u16 = 10;
 pub struct Drawing {
     alloc: Global,
     rows: Vec<ProcessorRow>,
-    links: Vec<Link>,
+    links: Vec<RowLink>,
     tasks: BTreeSet<u16>,
 }
 
@@ -100,7 +100,7 @@ impl Drawing {
     }
 
     /// Adds a wait at a processor.
-    pub fn push_wait(&mut self, processor: u8, wait: Stretch) -> Result<(), AllocError>
+    pub fn push_wait(&mut self, processor: u8, wait: TaskInterval) -> Result<(), AllocError>
         ensures { OnOk result (self.new ≡ with_stretch processor wait self.old) }
     {
         self.tasks.insert(wait.task)?;
@@ -122,7 +122,7 @@ impl Drawing {
     }
 
     /// Adds a pull or a migration.
-    pub fn push_link(&mut self, link: Link) -> Result<(), AllocError>
+    pub fn push_link(&mut self, link: RowLink) -> Result<(), AllocError>
         ensures { OnOk result (self.new ≡ with_link link self.old) }
     {
         self.tasks.insert(link.task)?;

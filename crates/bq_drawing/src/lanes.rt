@@ -10,7 +10,7 @@ pub const LANES: usize = 16;
 
 /// A stretch of time of a task at a processor.
 #[derive(Clone, Copy, PartialEq, Eq, PartialOrd, Ord)]
-pub struct Stretch {
+pub struct TaskInterval {
     pub from: u64,
     pub to: u64,
     pub task: u16,
@@ -49,7 +49,7 @@ impl Lanes {
 
     /// The first lane that is free when a stretch begins. The stretch takes it. If no lane is free it takes a new one, and `None` if all
     /// are taken. Stretches must come in the order in which they begin.
-    pub fn take(&mut self, stretch: &Stretch) -> Result<Option<usize>, AllocError>
+    pub fn take(&mut self, stretch: &TaskInterval) -> Result<Option<usize>, AllocError>
         ensures lane { IfOk result (λ lane. lane ≡ lane_of stretch.now self.old) }
         ensures taken { IfOk result (λ lane. self.new ≡ lanes_taken lane stretch.now.to self.old) }
     {

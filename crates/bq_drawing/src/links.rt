@@ -27,7 +27,7 @@ pub struct Spot {
 
 /// A line from one row to another.
 #[derive(Clone, Copy)]
-pub struct Link {
+pub struct RowLink {
     pub kind: LinkKind,
     pub task: u16,
     pub from: Spot,
@@ -57,7 +57,7 @@ impl LinkKind {
     }
 }
 
-impl Link {
+impl RowLink {
     /// Draws the line between two bands that begin at these heights.
     pub fn write(
         &self,

@@ -17,7 +17,7 @@ use crate::events::{
     EVENTS, task_args, write_beginning, write_counter, write_end, write_mark, write_overruled,
     write_run_event, write_tracks,
 };
-use crate::history::{Arrows, History};
+use crate::past_events::{Arrows, PastEvents};
 use crate::runs::{ended_run, run_on};
 use bq_disc::limits::PROCESSORS;
 use bq_report::{Names, ScheduleForm, Window};
@@ -41,7 +41,7 @@ use std::alloc::{AllocError, Global};
 pub struct Perfetto {
     alloc: Global,
     window: Window,
-    history: History,
+    history: PastEvents,
 }
 
 /// The parts of a change that are shown.
@@ -64,7 +64,7 @@ impl Perfetto {
         Perfetto {
             alloc,
             window,
-            history: History::new(alloc),
+            history: PastEvents::new(alloc),
         }
     }
 
@@ -478,7 +478,7 @@ impl ScheduleForm for Perfetto {
         ensures history { OnOk result (self.new ≡ record self.old { history = empty_past (length schedule.now.processors) TASKS }) }
         ensures window { self.new.window ≡ self.old.window }
     {
-        self.history = History::of(self.alloc, schedule.processors())?;
+        self.history = PastEvents::of(self.alloc, schedule.processors())?;
         write_head(self.alloc, schedule.processors(), text)
     }
 

@@ -8,7 +8,7 @@ ghost use Rattle.bq_drawing.specs.Shapes.{drawn_run_text, label_text, picture_se
 ghost use Rattle.bq_drawing.specs.Writing.{IsRowWritten};
 
 use crate::frame::Frame;
-use crate::lanes::Stretch;
+use crate::lanes::TaskInterval;
 use crate::row_lanes::{draw_waits, draw_wakes, levels};
 use crate::shapes::{BAND, DrawnRun, GAP, LANE, LEVEL, write_label, write_row_name, write_run};
 use crate::written_rows::WrittenRows;
@@ -23,8 +23,8 @@ const ABOVE: usize = 4;
 #[derive(Drop)]
 pub struct ProcessorRow {
     runs: Vec<DrawnRun>,
-    waits: Vec<Stretch>,
-    wakes: Vec<Stretch>,
+    waits: Vec<TaskInterval>,
+    wakes: Vec<TaskInterval>,
 }
 
 impl Model for ProcessorRow {
@@ -56,7 +56,7 @@ impl ProcessorRow {
     }
 
     /// Adds a wait.
-    pub(crate) fn push_wait(&mut self, wait: Stretch) -> Result<(), AllocError>
+    pub(crate) fn push_wait(&mut self, wait: TaskInterval) -> Result<(), AllocError>
         ensures { OnOk result (self.new ≡ row_with_wait wait self.old) }
     {
         self.waits.push(wait)?;
@@ -67,7 +67,7 @@ impl ProcessorRow {
     pub(crate) fn push_wake(&mut self, wake: &Wake) -> Result<(), AllocError>
         ensures { OnOk result (self.new ≡ row_with_wake (waking wake.now) self.old) }
     {
-        self.wakes.push(Stretch {
+        self.wakes.push(TaskInterval {
             from: wake.at,
             to: wake.at,
             task: wake.task,
@@ -120,7 +120,7 @@ impl ProcessorRow {
 }
 
 /// The waits or the wakes of a row in the order in which they begin.
-fn in_order(alloc: Global, given: &[Stretch]) -> Result<Vec<Stretch>, AllocError>
+fn in_order(alloc: Global, given: &[TaskInterval]) -> Result<Vec<TaskInterval>, AllocError>
     ensures { IfOk result (λ sorted. ArePutInOrder given.now sorted.items) }
 {
     let mut sorted = Vec::from_slice(alloc, given)?;

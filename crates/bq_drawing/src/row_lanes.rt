@@ -5,7 +5,7 @@ ghost use Rattle.bq_drawing.specs.Lanes.{lanes_after, left_out, without_lane};
 ghost use Rattle.bq_drawing.specs.Shapes.{arrow_of, picture_setting, shape_in, wait_in, waits_text, wake_in, wakes_text};
 
 use crate::frame::Frame;
-use crate::lanes::{Lanes, Stretch};
+use crate::lanes::{Lanes, TaskInterval};
 use crate::shapes::{wait_height, wake_height, write_wait, write_wake};
 use std::alloc::{AllocError, Global};
 
@@ -22,7 +22,7 @@ pub(crate) struct LaneShapes {
 /// How many levels the wakes need, so that no two arrows overlap.
 pub(crate) fn levels(
     alloc: Global,
-    wakes: &[Stretch],
+    wakes: &[TaskInterval],
     frame: &Frame<'_>,
 ) -> Result<usize, AllocError>
     ensures { IfOk result (λ levels. levels ≡ length (lanes_after (arrow_of frame.now.scale.extent) [] wakes.now)) }
@@ -37,7 +37,7 @@ pub(crate) fn levels(
 /// Draws the waits below the runs, in lanes.
 pub(crate) fn draw_waits(
     alloc: Global,
-    waits: &[Stretch],
+    waits: &[TaskInterval],
     top: usize,
     frame: &Frame<'_>,
 ) -> Result<LaneShapes, AllocError>
@@ -64,7 +64,7 @@ pub(crate) fn draw_waits(
 /// Draws the wakes above the runs. Wakes that would overlap are drawn one above another.
 pub(crate) fn draw_wakes(
     alloc: Global,
-    wakes: &[Stretch],
+    wakes: &[TaskInterval],
     top: usize,
     frame: &Frame<'_>,
 ) -> Result<LaneShapes, AllocError>
@@ -100,7 +100,7 @@ fn without_lane(lane: Option<usize>) -> usize
 /// Draws a wait in its lane, if it found one.
 fn write_wait_in(
     lane: Option<usize>,
-    wait: &Stretch,
+    wait: &TaskInterval,
     top: usize,
     frame: &Frame<'_>,
     text: &mut String,
@@ -116,7 +116,7 @@ fn write_wait_in(
 /// Draws a wake at its level, if it found one.
 fn write_wake_in(
     level: Option<usize>,
-    wake: &Stretch,
+    wake: &TaskInterval,
     top: usize,
     frame: &Frame<'_>,
     text: &mut String,
@@ -130,10 +130,10 @@ fn write_wake_in(
 }
 
 /// A wake, made as long as its arrow is wide.
-fn drawn_wake(wake: &Stretch, frame: &Frame<'_>) -> Stretch
+fn drawn_wake(wake: &TaskInterval, frame: &Frame<'_>) -> TaskInterval
     ensures { result ≡ arrow_of frame.now.scale.extent wake.now }
 {
-    Stretch {
+    TaskInterval {
         from: wake.from,
         to: wake.from.saturating_add(frame.scale.arrow()),
         task: wake.task,

@@ -3,7 +3,7 @@ ghost use Rattle.std.specs.Prelude.{◌≡◌, ◌++◌, IfOk, OnOk, codes, stri
 ghost use Rattle.bq_drawing.specs.Shapes.{arrow_text, band_text, hatched_text, label_start, label_text, latency_text, name_upon, number_within, number_width, rectangle_text, row_name, drawn_run_text, run_times, run_title, run_waits, picture_setting, wait_height, wait_text, wait_times, wake_height, drawn_wake_text, wake_time};
 
 use crate::frame::Frame;
-use crate::lanes::Stretch;
+use crate::lanes::TaskInterval;
 use crate::scale::{Hundredths, LEFT, WIDTH};
 use bq_schedule::{Slice, Start};
 use std::alloc::{AllocError, Global};
@@ -254,7 +254,7 @@ pub fn wait_height(top: usize, lane: usize) -> usize
 
 /// Adds a wait, hatched.
 pub fn write_wait(
-    wait: &Stretch,
+    wait: &TaskInterval,
     height: usize,
     frame: &Frame<'_>,
     text: &mut String,
@@ -268,7 +268,7 @@ pub fn write_wait(
 
 /// Adds the hatched rectangle of a wait, up to the name in its tooltip.
 fn write_hatched(
-    wait: &Stretch,
+    wait: &TaskInterval,
     height: usize,
     frame: &Frame<'_>,
     text: &mut String,
@@ -285,7 +285,11 @@ fn write_hatched(
 }
 
 /// Adds when a wait begins and ends.
-fn write_wait_times(wait: &Stretch, frame: &Frame<'_>, text: &mut String) -> Result<(), AllocError>
+fn write_wait_times(
+    wait: &TaskInterval,
+    frame: &Frame<'_>,
+    text: &mut String,
+) -> Result<(), AllocError>
     ensures { OnOk result (string_bytes text.new ≡ string_bytes text.old ++ wait_times (picture_setting frame.now) wait.now) }
 {
     let from = frame.amount(wait.from);
@@ -303,7 +307,7 @@ pub fn wake_height(top: usize, level: usize) -> usize
 
 /// Adds a wake, as an arrow that ends at this height.
 pub fn write_wake(
-    wake: &Stretch,
+    wake: &TaskInterval,
     end: usize,
     frame: &Frame<'_>,
     text: &mut String,
@@ -317,7 +321,7 @@ pub fn write_wake(
 
 /// Adds the arrow of a wake, up to the name in its tooltip.
 fn write_arrow(
-    wake: &Stretch,
+    wake: &TaskInterval,
     end: usize,
     frame: &Frame<'_>,
     text: &mut String,
@@ -334,7 +338,11 @@ fn write_arrow(
 }
 
 /// Adds when a wake happens.
-fn write_wake_time(wake: &Stretch, frame: &Frame<'_>, text: &mut String) -> Result<(), AllocError>
+fn write_wake_time(
+    wake: &TaskInterval,
+    frame: &Frame<'_>,
+    text: &mut String,
+) -> Result<(), AllocError>
     ensures { OnOk result (string_bytes text.new ≡ string_bytes text.old ++ wake_time (picture_setting frame.now) wake.now) }
 {
     let at = frame.amount(wake.from);

@@ -13,8 +13,8 @@ ghost use Rattle.bq_drawing.specs.Shapes.{drawn_in};
 use crate::drawing::{Drawing, Written};
 use crate::escaped::write_escaped;
 use crate::heading::Heading;
-use crate::lanes::Stretch;
-use crate::links::{Link, LinkKind, Spot};
+use crate::lanes::TaskInterval;
+use crate::links::{LinkKind, RowLink, Spot};
 use crate::look::Look;
 use crate::picture_name::PictureName;
 use crate::runs::{ended_run, run_on};
@@ -89,7 +89,7 @@ impl Svg {
         match self.window.shown_part(wait) {
             Some(part) => self.drawing.push_wait(
                 part.processor,
-                Stretch {
+                TaskInterval {
                     from: part.from,
                     to: part.to,
                     task: part.task,
@@ -131,7 +131,7 @@ impl Svg {
     }
 
     /// The line to a run, if its task ran on another processor before.
-    fn migration_link(&self, start: Option<Start>) -> Option<Link>
+    fn migration_link(&self, start: Option<Start>) -> Option<RowLink>
         ensures { result ≡ migration_link self.now.stops.entries start }
     {
         let start = start?;
@@ -139,7 +139,7 @@ impl Svg {
             return None;
         }
         let before = start.before?;
-        Some(Link {
+        Some(RowLink {
             kind: LinkKind::Migration,
             task: start.task,
             from: Spot {
@@ -170,7 +170,7 @@ impl Svg {
     }
 
     /// Holds a pull or a migration, if it is shown: it ends in the window, and both of its processors are shown.
-    fn hold_link(&mut self, link: Option<Link>) -> Result<(), AllocError>
+    fn hold_link(&mut self, link: Option<RowLink>) -> Result<(), AllocError>
         ensures link { OnOk result (HoldsLink self.old.window link self.old.drawing self.new.drawing) }
         ensures same { self.new ≡ record self.old { drawing = self.new.drawing } }
     {
@@ -335,11 +335,11 @@ fn wait_ended(pull: Option<PulledTask>) -> Option<Slice>
 }
 
 /// The line of a pull.
-fn pulled_link(pull: Option<PulledTask>) -> Option<Link>
+fn pulled_link(pull: Option<PulledTask>) -> Option<RowLink>
     ensures { result ≡ option_map pulled_link pull }
 {
     let pull = pull?;
-    Some(Link {
+    Some(RowLink {
         kind: LinkKind::Pull,
         task: pull.task,
         from: Spot {

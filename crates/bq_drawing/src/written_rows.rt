@@ -6,7 +6,7 @@ ghost use Rattle.bq_drawing.specs.Links.{link_line};
 ghost use Rattle.bq_drawing.specs.Shapes.{picture_setting};
 
 use crate::frame::Frame;
-use crate::links::{Link, LinkKind};
+use crate::links::{LinkKind, RowLink};
 use std::alloc::AllocError;
 use std::collections::BTreeMap;
 
@@ -31,7 +31,7 @@ impl WrittenRows {
     pub(crate) fn write_link(
         &mut self,
         kind: LinkKind,
-        link: &Link,
+        link: &RowLink,
         frame: &Frame<'_>,
     ) -> Result<(), AllocError>
         ensures text { OnOk result (string_bytes self.new.links

@@ -9,6 +9,7 @@ pub mod called;
 mod foreign;
 pub mod form_names;
 mod meant;
+mod notes;
 pub mod numbers;
 pub mod refused;
 pub mod screen;

@@ -1,22 +1,19 @@
 //! What is written of a trace: the form, and the notes, which go to standard error.
 ghost use Rattle.std.specs.Prelude.{◌≡◌, ◌++◌, ℕ, [], IfOk, OnOk, None, Some, string_bytes};
-ghost use Rattle.std.specs.List.{list_any};
 ghost use Rattle.bq_report.specs.Names.{Learns, name_of};
 ghost use Rattle.bq_timeline.specs.Called.{tasks_for};
 ghost use Rattle.bq_timeline.specs.Beginning.{FormBegins, BeginsForm};
-ghost use Rattle.bq_timeline.specs.Notes.{ChangesOnlyNotes, absent_notes, is_number, lacks_processors, lacks_tasks, last_notes, past_note, processors_note, reaches, tasks_note, trouble_note, unmade_note, waiting_note, waiting_notes};
-ghost use Rattle.bq_schedule.specs.Figures.{task_in_figures};
+ghost use Rattle.bq_timeline.specs.Notes.{ChangesOnlyNotes, absent_notes, last_notes};
 ghost use Rattle.bq_timeline.specs.FormTexts.{FormAnswers, IsEmptyForm};
 ghost use Rattle.bq_timeline.specs.ScreenTexts.{FormAppears, FormEndsIf, HasTable, IfShown, KeepsTable, ScreenAnswers, ScreenBegins, ScreenComes, ScreenEnds, StandsBehind, state_of};
 ghost use Rattle.bq_timeline.specs.Shown.{IsAskedFor};
 
 use crate::bounds_table::BoundsTable;
-use crate::called::{NO_TASK, add_called, note_uncalled};
+use crate::called::{add_called, note_uncalled};
 use crate::foreign::foreign_text;
+use crate::notes::{note_absent, note_troubles, note_unmade, note_waiting};
 use crate::settings::Settings;
 use crate::shown::Shown;
-use bq_disc::limits::{PROCESSORS, TASKS};
-use bq_lines::with_first_line;
 use bq_load::{FaultInWords, LoadFault};
 use bq_parts::{Event, Refusal, Reply};
 use bq_report::Names;
@@ -265,13 +262,13 @@ impl Screen {
         ensures { ChangesOnlyNotes self.old self.new }
     {
         match reading {
-            Some(reading) if reading.is_back => self.goes_back(number, &reading),
+            Some(reading) if reading.is_back => self.note_goes_back(number, &reading),
             _ => Ok(()),
         }
     }
 
     /// The clock of a processor was read, and had gone back.
-    fn goes_back(&mut self, number: u64, reading: &ClockReading) -> Result<(), AllocError>
+    fn note_goes_back(&mut self, number: u64, reading: &ClockReading) -> Result<(), AllocError>
         ensures { ChangesOnlyNotes self.old self.new }
     {
         let processor = reading.processor;
@@ -283,14 +280,14 @@ impl Screen {
     }
 
     /// The word of an image is not hex.
-    pub fn unspelled(&mut self, number: u64) -> Result<(), AllocError>
+    pub fn note_bad_hex(&mut self, number: u64) -> Result<(), AllocError>
         ensures { ChangesOnlyNotes self.old self.new }
     {
         write!(self.notes, "line {number}: the image is no hex\n")
     }
 
     /// An image does not load.
-    pub fn unloaded(&mut self, number: u64, fault: LoadFault) -> Result<(), AllocError>
+    pub fn note_not_loaded(&mut self, number: u64, fault: LoadFault) -> Result<(), AllocError>
         ensures { ChangesOnlyNotes self.old self.new }
     {
         let why = FaultInWords(fault);
@@ -301,7 +298,7 @@ impl Screen {
     }
 
     /// A processor is asked for that the machine does not have.
-    pub fn not_there(&mut self, number: u64, processor: u8) -> Result<(), AllocError>
+    pub fn note_no_processor(&mut self, number: u64, processor: u8) -> Result<(), AllocError>
         ensures { ChangesOnlyNotes self.old self.new }
     {
         let because = RefusalText(Refusal::NoProcessor);
@@ -309,7 +306,7 @@ impl Screen {
     }
 
     /// A line is bad. If it should have made the machine, the rest of the trace is not read.
-    pub fn bad(
+    pub fn note_bad_line(
         &mut self,
         alloc: Global,
         number: u64,
@@ -388,144 +385,4 @@ impl Screen {
         note_unmade(&mut self.notes, troubles)?;
         note_troubles(&mut self.notes, troubles)
     }
-}
-
-/// Notes if none of the named tasks, or none of the named processors, exists, and if the trace ends before what is asked for.
-fn note_absent(
-    notes: &mut String,
-    schedule: &Schedule,
-    tasks: &[u16],
-    part: Part,
-) -> Result<(), AllocError>
-    ensures { OnOk result (string_bytes notes.new ≡ string_bytes notes.old ++ absent_notes (Some schedule.now) tasks.now part) }
-{
-    note_tasks(notes, schedule, tasks)?;
-    note_processors(notes, schedule.processors(), part.processors)?;
-    note_past(notes, schedule, part.from)
-}
-
-/// Notes if no clock of the trace reaches the moment from which on it is to be shown.
-fn note_past(notes: &mut String, schedule: &Schedule, from: u64) -> Result<(), AllocError>
-    ensures { OnOk result (string_bytes notes.new ≡ string_bytes notes.old ++ past_note schedule.now from) }
-{
-    if reaches(schedule, from) {
-        return Ok(());
-    }
-    notes.push_str("--from: the trace ends before that time\n")
-}
-
-/// Whether the clock of a processor reaches a moment.
-#[tactic(auto, using(crate::proofs::NoteLemmas::reaches_none, crate::proofs::NoteLemmas::reaches_more))]
-fn reaches(schedule: &Schedule, from: u64) -> bool
-    ensures { result ≡ reaches schedule.now from PROCESSORS }
-{
-    let mut is_reached = false;
-    for number in 0..PROCESSORS {
-        is_reached = is_reached || from <= schedule.processor(number).last;
-    }
-    is_reached
-}
-
-/// Notes if tasks are asked for by number and none of those that are asked for exists.
-fn note_tasks(notes: &mut String, schedule: &Schedule, tasks: &[u16]) -> Result<(), AllocError>
-    ensures { OnOk result (string_bytes notes.new ≡ string_bytes notes.old ++ tasks_note schedule.now tasks.now) }
-{
-    if !lacks_tasks(schedule, tasks) {
-        return Ok(());
-    }
-    notes.push_str("--tasks: there is no task with such a number\n")
-}
-
-/// Whether tasks are asked for by number, and none of those that are asked for was admitted.
-fn lacks_tasks(schedule: &Schedule, tasks: &[u16]) -> bool
-    ensures { result ≡ lacks_tasks schedule.now tasks.now }
-{
-    has_number(tasks) && !admits_any(schedule, tasks)
-}
-
-/// Whether a task is asked for by number. Names have notes of their own.
-fn has_number(tasks: &[u16]) -> bool
-    ensures { result ≡ list_any is_number tasks.now }
-{
-    tasks.iter().any(|id| *id < NO_TASK)
-}
-
-/// Whether one of some tasks was ever admitted.
-fn admits_any(schedule: &Schedule, tasks: &[u16]) -> bool
-    ensures { result ≡ list_any (λ id. (task_in_figures schedule.now id).is_admitted) tasks.now }
-{
-    tasks.iter().any(|id| is_admitted(schedule, *id))
-}
-
-/// Whether a task was ever admitted.
-fn is_admitted(schedule: &Schedule, id: u16) -> bool
-    ensures { result ≡ (task_in_figures schedule.now id).is_admitted }
-{
-    schedule.task(id).is_admitted
-}
-
-/// Notes if none of the processors that the bits name is one of this many.
-fn note_processors(notes: &mut String, count: usize, processors: u64) -> Result<(), AllocError>
-    ensures { OnOk result (string_bytes notes.new ≡ string_bytes notes.old ++ processors_note count processors) }
-{
-    if !lacks_processors(count, processors) {
-        return Ok(());
-    }
-    write!(
-        notes,
-        "--cpus: the machine has none of these processors; how many it has: {count}\n"
-    )
-}
-
-/// Whether none of the processors that the bits name is one of this many.
-fn lacks_processors(count: usize, processors: u64) -> bool
-    ensures { result ≡ lacks_processors count processors }
-{
-    count < usize::from(PROCESSORS) && processors % (1u64 << count) == 0
-}
-
-/// Notes that no line made a machine, if no line was bad or refused.
-fn note_unmade(notes: &mut String, troubles: u64) -> Result<(), AllocError>
-    ensures { OnOk result (string_bytes notes.new ≡ string_bytes notes.old ++ unmade_note troubles) }
-{
-    if troubles != 0 {
-        return Ok(());
-    }
-    notes.push_str(with_first_line!(
-        "the trace makes no machine, so there is nothing to show: ",
-        "\n"
-    ))
-}
-
-/// Notes each task that was placed on a processor that was never drained after.
-fn note_waiting(notes: &mut String, schedule: &Schedule) -> Result<(), AllocError>
-    ensures { OnOk result (string_bytes notes.new ≡ string_bytes notes.old ++ waiting_notes schedule.now TASKS) }
-{
-    for task in 0..TASKS {
-        note_task(notes, task, schedule.undrained(task))?;
-    }
-    Ok(())
-}
-
-/// Notes a task that was placed on a processor that was never drained after, if there is such a processor.
-fn note_task(notes: &mut String, task: u16, processor: Option<u8>) -> Result<(), AllocError>
-    ensures { OnOk result (string_bytes notes.new ≡ string_bytes notes.old ++ waiting_note task processor) }
-{
-    match processor {
-        Some(processor) => write!(
-            notes,
-            "task {task} was placed on processor {processor}, which was never drained after\n"
-        ),
-        None => Ok(()),
-    }
-}
-
-/// Notes how many lines were bad or refused, if any were.
-fn note_troubles(notes: &mut String, troubles: u64) -> Result<(), AllocError>
-    ensures { OnOk result (string_bytes notes.new ≡ string_bytes notes.old ++ trouble_note troubles) }
-{
-    if troubles == 0 {
-        return Ok(());
-    }
-    write!(notes, "lines bad or refused: {troubles}\n")
 }

@@ -164,24 +164,24 @@ impl Sink for Viewer {
             } => self.answered(number, event, answer, machine),
             TraceEvent::NotHex => {
                 self.begin_trouble()?;
-                self.screen.unspelled(number)
+                self.screen.note_bad_hex(number)
             }
             TraceEvent::NotLoaded { fault } => {
                 self.begin_trouble()?;
-                self.screen.unloaded(number, *fault)
+                self.screen.note_not_loaded(number, *fault)
             }
             TraceEvent::ProcessorAsked { processor, machine } => {
                 if machine.seen(*processor).is_some() {
                     return self.begin();
                 }
                 self.begin_trouble()?;
-                self.screen.not_there(number, *processor)
+                self.screen.note_no_processor(number, *processor)
             }
             TraceEvent::CounterRead { .. } => Ok(()),
             TraceEvent::Bad { line } => {
                 self.begin_trouble()?;
                 self.screen
-                    .bad(self.alloc, number, *line, self.schedule.is_some())
+                    .note_bad_line(self.alloc, number, *line, self.schedule.is_some())
             }
         }
     }

@@ -1,7 +1,7 @@
 use Rattle.std.proofs.Common.{◌∙◌, ap, refl, arith}
 use Rattle.std.proofs.lemmas.List.{drop_all}
 use Rattle.bq_disc.specs.Counts.{saturating_sum}
-use Rattle.bq_drawing.specs.declared.lanes.Stretch.{Stretch}
+use Rattle.bq_drawing.specs.declared.lanes.TaskInterval.{TaskInterval}
 use Rattle.bq_drawing.specs.Shapes.{picture_setting, wait_in}
 use Rattle.bq_drawing.proofs.PictureLemmas.{lanes_end, lanes_next}
 use Rattle.bq_drawing.proofs.PlacedLemmas.{lanes_all, lanes_more, left_all, left_more}
@@ -9,7 +9,7 @@ use Rattle.bq_drawing.proofs.row_lanes.draw_waits.Goals as goal
 
 pub loop-wait-preserved : goal.loop-wait-preserved
 loop-wait-preserved c =
-    let room = (λ (wait : Stretch). wait) in
+    let room = (λ (wait : TaskInterval). wait) in
     record {
       text =
           lanes_next room (wait_in (picture_setting c.args.frame.now) c.args.top) c.loop-wait.lanes _ c.args.waits.now
@@ -27,16 +27,16 @@ loop-wait-preserved c =
 
 pub returns-clause-text : goal.returns-clause-text
 returns-clause-text c =
-    lanes_end (λ (wait : Stretch). wait) (wait_in (picture_setting c.args.frame.now) c.args.top) c.loop-wait.lanes
+    lanes_end (λ (wait : TaskInterval). wait) (wait_in (picture_setting c.args.frame.now) c.args.top) c.loop-wait.lanes
     c.args.waits.now c.loop-wait.wait-index _ _ (drop_all c.loop-wait.wait-index c.args.waits.now c.loop-wait-test.false)
     c.loop-wait.invariant.text
 
 pub returns-clause-lanes : goal.returns-clause-lanes
 returns-clause-lanes c =
-    c.count-lanes.ensures ∙ lanes_all (λ (wait : Stretch). wait) c.loop-wait.lanes c.args.waits.now c.loop-wait.wait-index _
+    c.count-lanes.ensures ∙ lanes_all (λ (wait : TaskInterval). wait) c.loop-wait.lanes c.args.waits.now c.loop-wait.wait-index _
     (drop_all c.loop-wait.wait-index c.args.waits.now c.loop-wait-test.false) c.loop-wait.invariant.lanes
 
 pub returns-clause-left_out : goal.returns-clause-left_out
 returns-clause-left_out c =
-    left_all (λ (wait : Stretch). wait) c.loop-wait.lanes c.args.waits.now c.loop-wait.wait-index _ c.loop-wait.left_out
+    left_all (λ (wait : TaskInterval). wait) c.loop-wait.lanes c.args.waits.now c.loop-wait.wait-index _ c.loop-wait.left_out
     (drop_all c.loop-wait.wait-index c.args.waits.now c.loop-wait-test.false) c.loop-wait.invariant.fits c.loop-wait.invariant.left_out

@@ -4,7 +4,7 @@ use Rattle.std.specs.BTreeMap.{get}
 use Rattle.std.specs.Ordering.{nat_cmp}
 use Rattle.std.specs.Prelude.{flat_map}
 use Rattle.bq_drawing.specs.declared.written_rows.WrittenRows.{WrittenRows}
-use Rattle.bq_drawing.specs.declared.links.Link.{Link}
+use Rattle.bq_drawing.specs.declared.links.RowLink.{RowLink}
 use Rattle.bq_drawing.specs.Links.{link_line}
 use Rattle.bq_drawing.specs.Shapes.{picture_setting}
 use Rattle.bq_drawing.proofs.PictureLemmas.{line_written, shapes_end}
@@ -22,10 +22,10 @@ loop-link-preserved c =
     let are : items ≡ links = search rules in
     record {
       text =
-          subst (λ (l : List Link). next ++ flat_map draw (drop (i + 1) l) ≡ whole) are
+          subst (λ (l : List RowLink). next ++ flat_map draw (drop (i + 1) l) ≡ whole) are
           (line_written c.args.kind s items i _ c.args.rows.now c.loop-link.rows c.write_link.new.self whole
           c.loop-link-test.true c.loop-link.invariant.same c.in_ok-write_link.ensures.text
-          (subst (λ (l : List Link). string_bytes c.loop-link.rows.links ++ flat_map draw (drop i l) ≡ whole)
+          (subst (λ (l : List RowLink). string_bytes c.loop-link.rows.links ++ flat_map draw (drop i l) ≡ whole)
           (sym are) c.loop-link.invariant.text));
       same =
           c.write_link.ensures.same
@@ -37,5 +37,5 @@ returns-clause-text c =
     let links = c.args.self.now.links in
     let are : c.deref-link-items.result.now ≡ links = search rules in
     shapes_end (link_line c.args.kind (picture_setting c.args.frame.now) (get nat_cmp c.args.rows.now.bands)) links c.loop-link.link-index _ _
-    (drop_all c.loop-link.link-index links (subst (λ (l : List Link). length l ≤ c.loop-link.link-index) are c.loop-link-test.false))
+    (drop_all c.loop-link.link-index links (subst (λ (l : List RowLink). length l ≤ c.loop-link.link-index) are c.loop-link-test.false))
     c.loop-link.invariant.text

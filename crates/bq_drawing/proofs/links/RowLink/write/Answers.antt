@@ -4,7 +4,7 @@ use Rattle.bq_drawing.specs.Links.{link_end, enters_at, leaves_at, link_text, li
 use Rattle.bq_drawing.specs.Places.{moment_place}
 use Rattle.bq_drawing.specs.Shapes.{colour_of, picture_setting}
 use Rattle.bq_drawing.proofs.PictureLemmas.{both_added}
-use Rattle.bq_drawing.proofs.links.Link.write.Goals as goal
+use Rattle.bq_drawing.proofs.links.RowLink.write.Goals as goal
 
 pub returns : goal.returns
 returns c =

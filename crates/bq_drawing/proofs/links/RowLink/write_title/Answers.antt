@@ -6,7 +6,7 @@ use Rattle.bq_drawing.specs.Links.{act_text, name_head}
 use Rattle.bq_drawing.specs.Shapes.{picture_setting}
 use Rattle.bq_drawing.specs.Titles.{amount_text, unit_name}
 use Rattle.bq_drawing.proofs.PictureLemmas.{both_added, last_added}
-use Rattle.bq_drawing.proofs.links.Link.write_title.Goals as goal
+use Rattle.bq_drawing.proofs.links.RowLink.write_title.Goals as goal
 
 pub returns : goal.returns
 returns c =

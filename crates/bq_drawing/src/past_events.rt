@@ -22,7 +22,7 @@ const NO_ARROWS: Arrows = Arrows {
 
 /// What the events of a trace need to know of the events before them.
 #[derive(Drop)]
-pub struct History {
+pub struct PastEvents {
     /// For each processor, the arrows that end at the beginning of its current run.
     ends: Vec<Arrows>,
     /// For each processor, how many tasks were runnable when the count was last written.
@@ -35,7 +35,7 @@ pub struct History {
     arrows: u64,
 }
 
-impl Model for History {
+impl Model for PastEvents {
     ghost use Rattle.bq_drawing.specs.Histories.{Past};
 
     ghost Value = { Past };
@@ -43,12 +43,12 @@ impl Model for History {
     ghost view = { λ h. record { ends = h.ends.items; counts = h.counts.items; woken = h.woken.items; runs = h.runs.items; arrows = h.arrows } };
 }
 
-impl History {
+impl PastEvents {
     /// A history of nothing, without processors and tasks.
-    pub fn new(alloc: Global) -> History
+    pub fn new(alloc: Global) -> PastEvents
         ensures { result ≡ empty_past 0 0 }
     {
-        History {
+        PastEvents {
             ends: Vec::new(alloc),
             counts: Vec::new(alloc),
             woken: Vec::new(alloc),
@@ -58,7 +58,7 @@ impl History {
     }
 
     /// A history of nothing, with this many processors and with every task.
-    pub fn of(alloc: Global, processors: usize) -> Result<History, AllocError>
+    pub fn of(alloc: Global, processors: usize) -> Result<PastEvents, AllocError>
         ensures { IfOk result (λ h. h ≡ empty_past processors TASKS) }
     {
         let mut ends = Vec::with_capacity(alloc, processors)?;
@@ -73,7 +73,7 @@ impl History {
             woken.push(None)?;
             runs.push(None)?;
         }
-        Ok(History {
+        Ok(PastEvents {
             ends,
             counts,
             woken,

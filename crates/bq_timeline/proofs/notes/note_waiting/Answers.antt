@@ -2,7 +2,7 @@ use Rattle.std.proofs.Common.{ℕ, ◌++◌, Option, ap, ◌∙◌}
 use Rattle.std.specs.Prelude.{string_bytes}
 use Rattle.bq_timeline.specs.Notes.{waiting_note}
 use Rattle.bq_timeline.proofs.NoteLemmas.{waiting_notes-none, waiting_notes-more}
-use Rattle.bq_timeline.proofs.screen.note_waiting.Goals as goal
+use Rattle.bq_timeline.proofs.notes.note_waiting.Goals as goal
 
 pub loop-task-init : goal.loop-task-init
 loop-task-init c = waiting_notes-none c.args.schedule.now _

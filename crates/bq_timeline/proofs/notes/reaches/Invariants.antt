@@ -1,6 +1,6 @@
 use Rattle.std.proofs.Common.{◌≡◌}
 use Rattle.bq_timeline.specs.Notes.{reaches}
-use Rattle.bq_timeline.proofs.screen.reaches.Given as goal
+use Rattle.bq_timeline.proofs.notes.reaches.Given as goal
 
 -- what the clocks of the processors before this one reach
 abbrev pub invariant-loop-number : goal.invariant-loop-number
