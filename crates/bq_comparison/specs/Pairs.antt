@@ -14,10 +14,11 @@ use Rattle.bq_comparison.specs.declared.runs.RunFigures.{RunFigures}
 abbrev pub size_of_difference : Pair → ℕ
 size_of_difference pair = abs_diff pair.ours pair.theirs
 
--- the sums of our numbers, and of theirs
+-- the sum of our numbers
 abbrev pub our_sum : List Pair → ℕ
 our_sum pairs = sum_by (λ p. p.ours) pairs
 
+-- the sum of their numbers
 abbrev pub their_sum : List Pair → ℕ
 their_sum pairs = sum_by (λ p. p.theirs) pairs
 

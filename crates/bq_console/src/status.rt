@@ -7,7 +7,7 @@ use bq_streams::StreamFault;
 /// The exit status if an input is bad, or what it says is refused.
 pub const BAD_INPUT: u8 = 1;
 
-/// The exit status of words that ask for nothing.
+/// The exit status if the words after the program's name are wrong.
 pub const BAD_WORDS: u8 = 2;
 
 /// The exit status if memory runs out.

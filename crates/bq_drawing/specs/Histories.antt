@@ -17,7 +17,7 @@ pub record Past : Type 0 where
 abbrev pub no_arrows : Arrows
 no_arrows = record { wake = None; migration = None }
 
--- a history of nothing, with this many processors and tasks
+-- no past events yet, with this many processors and tasks
 abbrev pub empty_past : ℕ → ℕ → Past
 empty_past processors tasks = record {
   ends = replicate processors no_arrows;

@@ -44,7 +44,7 @@ impl Model for PastEvents {
 }
 
 impl PastEvents {
-    /// A history of nothing, without processors and tasks.
+    /// No past events, of no processors and no tasks.
     pub fn new(alloc: Global) -> PastEvents
         ensures { result ≡ empty_past 0 0 }
     {
@@ -57,7 +57,7 @@ impl PastEvents {
         }
     }
 
-    /// A history of nothing, with this many processors and with every task.
+    /// No past events yet, with this many processors and every task.
     pub fn of(alloc: Global, processors: usize) -> Result<PastEvents, AllocError>
         ensures { IfOk result (λ h. h ≡ empty_past processors TASKS) }
     {

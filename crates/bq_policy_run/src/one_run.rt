@@ -12,8 +12,6 @@ use bq_interp::{Ran, Snapshot, Stack, run, run_traced};
 use bq_verify::Verified;
 use std::alloc::AllocError;
 
-/// What a run answered and took.
-
 /// Whether the context has the length of the program's hook and version, and the maps have its shapes.
 fn fits(verified: &Verified, inputs: &Inputs) -> bool
     ensures { IsTrue result ↔ FitsProgram verified.now inputs.now }
