@@ -75,7 +75,7 @@ one_by_case processor mark (Some t) h = refl
 -- a task that may move is there to be taken
 taken_one : (processor id : ℕ) (s : Running) → is_movable_to processor id s.queue ≡ true
     → length (option_to_list (taken_from s (Some id))) ≡ 1
-taken_one processor id s h = one_by_case processor s.kept (find_task id s.queue) h
+taken_one processor id s h = one_by_case processor s.mark (find_task id s.queue) h
 
 -- a permitted choice is in the queue
 chosen_there : (d : Discipline) (processor from now id : ℕ) (p o : Processor) (settled : SettledChoice)
