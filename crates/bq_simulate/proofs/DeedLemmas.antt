@@ -28,7 +28,7 @@ use Rattle.bq_simulate.specs.Steps.{AreJustEvents, AreWake, FollowsAction, IsAct
 use Rattle.bq_simulate.proofs.KindLemmas.{firsts-pushed}
 use Rattle.bq_simulate.proofs.StreamLemmas.{gives_if_asked, opened-streams}
 
--- some deeds, and then others, lead as both together do
+-- some, and then others
 pub DeedsLead-append : (kinds : List TaskKind) (seed : ℕ) (periods : Periods) (d m e : Driver) (a b c : Book)
     (xs ys : List Deed) (reported more : Reported)
     → DeedsLead kinds seed periods d a xs reported m b → DeedsLead kinds seed periods m b ys more e c

@@ -35,7 +35,7 @@ EventsAreDriven-one takes old new d e x reply gets = record {
   holds = (reply, e, gets.reported, [], gets.holds, (refl, refl), sym (append-nil gets.reported));
 }
 
--- some events, and then others, are driven as both together are
+-- some, and then others
 pub EventsAreDriven-join : {S : Type 0} (takes : S → ℕ → TraceEvent → S → Type 0) (a b c : S) (d m e : Driver) (xs ys : List Event)
     → EventsAreDriven takes a d xs b m → EventsAreDriven takes b m ys c e → EventsAreDriven takes a d (xs ++ ys) c e
 EventsAreDriven-join takes a b c d m e xs ys first second = record {
