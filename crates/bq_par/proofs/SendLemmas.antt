@@ -3,10 +3,10 @@ use denote.RattleType.{RattleType}
 use denote.Param.Send.{IsSend, sendable}
 use Rattle.std.proofs.Crossing.{crosses}
 use Rattle.bq_disc.proofs.node.Node.TheLaws.TheKnot as knot
-use Rattle.bq_disc.specs.contracts.ruled.RuledQueue as Ruled
+use Rattle.bq_disc.specs.contracts.ruled_queue.RuledQueue as Ruled
 use Rattle.bq_disc.proofs.ruled_queue.RuledQueue.TheSendSync as sent
-use Rattle.bq_tree.specs.contracts.index.Tree as Tree
-use Rattle.bq_tree.specs.contracts.index.TreeTimeline.TheImpl as timeline
+use Rattle.bq_tree.specs.contracts.tree.Tree as Tree
+use Rattle.bq_tree.specs.contracts.tree.TreeTaskOrder.TheImpl as timeline
 use Rattle.bq_tree.specs.contracts.summary.NoSums as NoSums
 use Rattle.bq_tree.specs.contracts.summary.NoSumsSummary.TheImpl as no_sums
 use Rattle.bq_tree.specs.contracts.summary.Sums as Sums

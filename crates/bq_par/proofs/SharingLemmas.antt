@@ -31,7 +31,7 @@ use Rattle.bq_recording.proofs.SendLemmas.{room_send}
 use Rattle.bq_parts.proofs.SendLemmas.{cpu_send}
 use Rattle.bq_shared.proofs.SendLemmas.{numbered_send, inbox_send, lobby_send, record_send, kept_send}
 use Rattle.bq_recording.specs.contracts.recorder.Recorder as Recorder
-use Rattle.bq_machine.specs.contracts.locks.Machine as Machine
+use Rattle.bq_machine.specs.contracts.machine.Machine as Machine
 use Rattle.bq_machine.specs.declared.clock.Clock as Clock
 
 mutex_sync : (T : RattleType) → IsSend T → IsSync (Mutex.the_row T)

@@ -4,10 +4,10 @@ ghost use Rattle.bq_why.specs.Words.{choice_place};
 
 use crate::asked::Asked;
 use crate::choice_text::{RunChoice, write_choice};
-use crate::event_text::InWords;
+use crate::event_text::EventText;
 use crate::move_text::{write_place, write_pull, write_sight};
 use crate::pull_sight::{PullSight, sight_of};
-use crate::texts::Who;
+use crate::texts::TaskText;
 use bq_hooks::{By, Hook};
 use bq_parts::{Event, Reply};
 use bq_report::{Millis, Names, Window};
