@@ -2,12 +2,17 @@
 
 use crate::judging::{BYTE_OF_CONTEXT, OUT, follows};
 
+static TEXTS: [(&str, &str); 4] = [
+    (REGISTERS, BYTE_OF_CONTEXT),
+    (ANSWERS, OUT),
+    (SLOTS, BYTE_OF_CONTEXT),
+    (FOUND_ANSWERS, OUT),
+];
+
+/// What a test shows of a word holds for its copies, and for nothing else.
 #[test]
 fn copies(rt: HostRuntime) {
-    follows(&rt, rt.alloc(), REGISTERS, BYTE_OF_CONTEXT);
-    follows(&rt, rt.alloc(), ANSWERS, OUT);
-    follows(&rt, rt.alloc(), SLOTS, BYTE_OF_CONTEXT);
-    follows(&rt, rt.alloc(), FOUND_ANSWERS, OUT);
+    follows(&rt, rt.alloc(), &TEXTS);
 }
 
 /// Copies of registers.
@@ -160,7 +165,7 @@ mov64 r2, r3
 mov32 r3, r3
 jgt64 r3, 55, out";
 
-/// That were found, and are tested once more.
+/// That were found, and are tested again.
 const FOUND_ANSWERS: &str = "\
 10
 ; the answer was found, and is tested once more: as a copy, and itself

@@ -1,6 +1,7 @@
 // Hostile images: each byte of a worked image is set to each value. What is accepted of them takes at most its budget, on
 // contexts of zeros and of ff. That it does so on every context is proved; the test is of the code as it is built.
 
+use crate::asserting::is_true;
 use crate::images::COUNTING;
 use bq_bpf::{Env, Plain};
 use bq_hooks::context_length;
@@ -40,13 +41,9 @@ fn is_within(rt: &impl Abort, steps: u32, budget: u32, at: usize) {
 
 /// On contexts of zeros and of ff, the program keeps within its budget.
 fn within_budget(rt: &impl Abort, alloc: Global, verified: &Verified, at: usize) {
-    for byte in [0x00, 0xff] {
-        is_within(
-            rt,
-            run_on(rt, alloc, verified, byte).steps,
-            verified.budget(),
-            at,
-        );
+    for byte in &[0x00, 0xff] {
+        let ran = run_on(rt, alloc, verified, *byte);
+        is_within(rt, ran.steps, verified.budget(), at);
     }
 }
 
@@ -73,6 +70,7 @@ fn accepted_values(rt: &impl Abort, alloc: Global, image: &mut [u8; 136], at: us
     accepted
 }
 
+/// No image that has one other byte makes a run exceed its budget.
 #[test]
 fn each_byte_of_an_image_may_be_any(rt: HostRuntime) {
     let mut accepted = 0u32;
@@ -81,5 +79,5 @@ fn each_byte_of_an_image_may_be_any(rt: HostRuntime) {
         accepted = accepted.saturating_add(accepted_values(&rt, rt.alloc(), &mut image, at));
     }
     // each byte as it was is accepted, at least
-    assert!(rt; accepted >= 136);
+    is_true(&rt, accepted >= 136);
 }

@@ -1,7 +1,7 @@
 // Images by their bytes: what is loaded, with its budget, and what is refused, with slot and cause.
-// The images and their answers are worked by hand from the format and the rules of the verifier.
+// The images and their answers are worked on paper from the format and the rules of the verifier.
 
-use crate::asserting::{are_bytes, is_number, is_true};
+use crate::asserting::{are_bytes, is_number, is_true, is_true_in_row};
 use bq_hooks::{Hook, Version};
 use bq_insn::fault::DecodeCause;
 use bq_load::{Image, LoadFault, load, read_image, write_image};
@@ -64,40 +64,42 @@ pub fn budget(alloc: Global, bytes: &[u8]) -> Result<u32, LoadFault> {
     Ok(verified.budget())
 }
 
-/// What is answered to an image: a budget, or a fault; of a program, one of its code, of its graph or of its states at a slot.
-#[derive(Clone, Copy)]
-enum Answer {
-    Budget(u32),
-    Fault(LoadFault),
-    Decode(usize, DecodeCause),
-    Graph(usize, GraphCause),
-    State(usize, Obligation),
+/// What is answered to an image: the budget of its program, or a fault.
+type Answer = Result<u32, LoadFault>;
+
+/// The code of an instruction is no instruction.
+macro_rules! decode {
+    ($slot:expr, $cause:ident) => {
+        Err(LoadFault::Decode {
+            slot: $slot,
+            cause: DecodeCause::$cause,
+        })
+    };
 }
 
-fn refused(slot: usize, cause: Cause) -> Result<u32, LoadFault> {
-    Err(LoadFault::Refused { slot, cause })
+/// The program is refused for its graph.
+macro_rules! graph {
+    ($slot:expr, $cause:ident) => {
+        Err(LoadFault::Refused {
+            slot: $slot,
+            cause: Cause::Graph(GraphCause::$cause),
+        })
+    };
 }
 
-/// The answer as loading gives it.
-fn result(answer: Answer) -> Result<u32, LoadFault> {
-    match answer {
-        Answer::Budget(budget) => Ok(budget),
-        Answer::Fault(fault) => Err(fault),
-        Answer::Decode(slot, cause) => Err(LoadFault::Decode { slot, cause }),
-        Answer::Graph(slot, cause) => refused(slot, Cause::Graph(cause)),
-        Answer::State(slot, obligation) => refused(slot, Cause::State(obligation)),
-    }
+/// The program is refused for what an instruction needs of the state before it.
+macro_rules! state {
+    ($slot:expr, $need:ident) => {
+        Err(LoadFault::Refused {
+            slot: $slot,
+            cause: Cause::State(Obligation::$need),
+        })
+    };
 }
 
 /// The image has that answer; the row says where it stands among its like.
-fn loads(rt: &impl Abort, alloc: Global, image: &[u8], answer: Answer, row: (usize, u8)) {
-    assert_eq!(rt;
-        budget(alloc, image),
-        result(answer),
-        "image {} {}",
-        row.0,
-        row.1
-    );
+fn loads(rt: &impl Abort, alloc: Global, image: &[u8], answer: Answer, row: usize) {
+    is_true_in_row(rt, budget(alloc, image) == answer, row);
 }
 
 /// A place in an image, a byte that is put there, and the answer then.
@@ -110,7 +112,7 @@ fn is_changed(rt: &impl Abort, alloc: Global, image: &[u8], change: &Change) {
     if let Some(place) = changed.get_mut(at) {
         *place = byte;
     }
-    loads(rt, alloc, changed.as_slice(), answer, (at, byte));
+    loads(rt, alloc, changed.as_slice(), answer, at);
 }
 
 /// The image with each of these bytes changed has its answer.
@@ -158,104 +160,121 @@ pub fn bytes_of(alloc: Global, moves: &Moves<'_>) -> Result<Vec<u8>, AllocError>
 /// Such an image has its answer.
 fn moves_load(rt: &impl Abort, alloc: Global, moves: &Moves<'_>, answer: Answer, row: usize) {
     let image = bytes_of(alloc, moves).expect(rt, "memory");
-    loads(rt, alloc, image.as_slice(), answer, (row, 0));
+    loads(rt, alloc, image.as_slice(), answer, row);
+}
+
+/// Each such image has its answer.
+fn all_load(rt: &impl Abort, alloc: Global, rows: &[(Moves<'_>, Answer)]) {
+    for (row, (moves, answer)) in rows.iter().enumerate() {
+        moves_load(rt, alloc, moves, *answer, row);
+    }
 }
 
 static IMAGES: [(&[u8], Answer); 6] = [
-    (&ZERO, Answer::Budget(2)),
-    (&COUNTING, Answer::Budget(12)),
-    (&ADDING, Answer::Budget(5)),
-    (&ZERO_CUT, Answer::Fault(LoadFault::Cut)),
-    (&[], Answer::Fault(LoadFault::Cut)),
-    (&ZERO_AND_MORE, Answer::Fault(LoadFault::Rest)),
+    (&ZERO, Ok(2)),
+    (&COUNTING, Ok(12)),
+    (&ADDING, Ok(5)),
+    (&ZERO_CUT, Err(LoadFault::Cut)),
+    (&[], Err(LoadFault::Cut)),
+    (&ZERO_AND_MORE, Err(LoadFault::Rest)),
 ];
 
 /// A counter that is out of range.
-static CHANGES_OF_ADDING: [Change; 1] = [(16, 64, Answer::State(2, Obligation::Argument))];
+static CHANGES_OF_ADDING: [Change; 1] = [(16, 64, state!(2, Argument))];
 
+/// Each whole image has its answer.
+fn images_load(rt: &impl Abort, alloc: Global) {
+    for (number, (image, answer)) in IMAGES.iter().enumerate() {
+        loads(rt, alloc, image, *answer, number);
+    }
+}
+
+/// Images load with their budgets, or are refused for their ends, or for what the program does.
 #[test]
 fn images_load_or_are_refused(rt: HostRuntime) {
-    for (number, (image, answer)) in IMAGES.iter().enumerate() {
-        loads(&rt, rt.alloc(), image, *answer, (number, 0));
-    }
+    images_load(&rt, rt.alloc());
     are_changed(&rt, rt.alloc(), &ADDING, &CHANGES_OF_ADDING);
 }
 
 static CHANGES_OF_A_HEADER: [Change; 14] = [
-    (0, 0, Answer::Fault(LoadFault::Magic)),
-    (4, 0, Answer::Fault(LoadFault::Version)),
-    (4, 2, Answer::Budget(2)),
-    (4, 3, Answer::Fault(LoadFault::Version)),
-    (5, 0, Answer::Budget(2)),
-    (5, 2, Answer::Budget(2)),
-    (5, 3, Answer::Fault(LoadFault::Hook)),
-    (6, 9, Answer::Fault(LoadFault::Shape)),
-    (7, 1, Answer::Fault(LoadFault::Shape)),
+    (0, 0, Err(LoadFault::Magic)),
+    (4, 0, Err(LoadFault::Version)),
+    (4, 2, Ok(2)),
+    (4, 3, Err(LoadFault::Version)),
+    (5, 0, Ok(2)),
+    (5, 2, Ok(2)),
+    (5, 3, Err(LoadFault::Hook)),
+    (6, 9, Err(LoadFault::Shape)),
+    (7, 1, Err(LoadFault::Shape)),
     // a map of 2 bytes and no entries, read from the number of slots
-    (6, 1, Answer::Fault(LoadFault::Shape)),
-    (8, 1, Answer::Fault(LoadFault::Rest)),
-    (8, 3, Answer::Fault(LoadFault::Cut)),
-    (24, 1, Answer::Decode(1, DecodeCause::Field)),
-    (20, 0, Answer::Decode(1, DecodeCause::Opcode)),
+    (6, 1, Err(LoadFault::Shape)),
+    (8, 1, Err(LoadFault::Rest)),
+    (8, 3, Err(LoadFault::Cut)),
+    (24, 1, decode!(1, Field)),
+    (20, 0, decode!(1, Opcode)),
 ];
 
+/// Each field of the header has its own fault.
 #[test]
 fn changes_of_a_header_are_refused(rt: HostRuntime) {
     are_changed(&rt, rt.alloc(), &ZERO, &CHANGES_OF_A_HEADER);
 }
 
 static CHANGES_OF_A_PROGRAM: [Change; 9] = [
-    (28, 0x01, Answer::State(1, Obligation::Argument)),
-    (52, 0xf8, Answer::State(5, Obligation::Argument)),
-    (66, 0x01, Answer::Graph(9, GraphCause::Unreached)),
-    (90, 0x01, Answer::State(9, Obligation::Access)),
-    (97, 0x3a, Answer::Graph(10, GraphCause::Frame)),
-    (121, 0xa0, Answer::State(14, Obligation::Answer)),
+    (28, 0x01, state!(1, Argument)),
+    (52, 0xf8, state!(5, Argument)),
+    (66, 0x01, graph!(9, Unreached)),
+    (90, 0x01, state!(9, Access)),
+    (97, 0x3a, graph!(10, Frame)),
+    (121, 0xa0, state!(14, Answer)),
     // the shape of the map: 12 bytes, no entries, 257 entries
-    (8, 12, Answer::Fault(LoadFault::Shape)),
-    (10, 0, Answer::Fault(LoadFault::Shape)),
-    (11, 1, Answer::Fault(LoadFault::Shape)),
+    (8, 12, Err(LoadFault::Shape)),
+    (10, 0, Err(LoadFault::Shape)),
+    (11, 1, Err(LoadFault::Shape)),
 ];
 
+/// An image that ends at any byte before its last is cut.
+fn each_beginning_is_cut(rt: &impl Abort, alloc: Global) {
+    for end in 0..136 {
+        loads(rt, alloc, &COUNTING[..end], Err(LoadFault::Cut), end);
+    }
+}
+
+/// A program that is cut, or has one other byte, is refused with the slot and the cause.
 #[test]
 fn changes_of_a_program_are_refused(rt: HostRuntime) {
-    for end in 0..136 {
-        let cut = &COUNTING[..end];
-        loads(
-            &rt,
-            rt.alloc(),
-            cut,
-            Answer::Fault(LoadFault::Cut),
-            (end, 0),
-        );
-    }
+    each_beginning_is_cut(&rt, rt.alloc());
     are_changed(&rt, rt.alloc(), &COUNTING, &CHANGES_OF_A_PROGRAM);
 }
 
 const EXIT: [u8; 8] = [0x95, 0, 0, 0, 0, 0, 0, 0];
 
-/// Slots that the header tells, moves that there are, what stands behind them, and the answer.
-static LENGTHS: [(u16, u16, &[u8], Answer); 6] = [
-    (0, 0, &[], Answer::Decode(0, DecodeCause::Length)),
-    (5000, 0, &[], Answer::Fault(LoadFault::Cut)),
-    (5000, 5000, &[], Answer::Decode(0, DecodeCause::Length)),
-    (5000, 5000, &[0], Answer::Fault(LoadFault::Rest)),
-    (4096, 4095, &EXIT, Answer::Budget(4096)),
-    (4097, 4096, &EXIT, Answer::Decode(0, DecodeCause::Length)),
-];
-
-#[test]
-fn lengths_are_judged_after_the_end(rt: HostRuntime) {
-    for (row, (slots, count, rest, answer)) in LENGTHS.iter().enumerate() {
-        let moves = Moves {
+/// An image for the hook preempt: slots that the header tells, moves that there are, and what stands behind them.
+macro_rules! moves {
+    ($slots:expr, $count:expr, $rest:expr) => {
+        Moves {
             version: 1,
             hook: 1,
-            slots: *slots,
-            count: *count,
-            rest: *rest,
-        };
-        moves_load(&rt, rt.alloc(), &moves, *answer, row);
-    }
+            slots: $slots,
+            count: $count,
+            rest: $rest,
+        }
+    };
+}
+
+static LENGTHS: [(Moves<'static>, Answer); 6] = [
+    (moves!(0, 0, &[]), decode!(0, Length)),
+    (moves!(5000, 0, &[]), Err(LoadFault::Cut)),
+    (moves!(5000, 5000, &[]), decode!(0, Length)),
+    (moves!(5000, 5000, &[0]), Err(LoadFault::Rest)),
+    (moves!(4096, 4095, &EXIT), Ok(4096)),
+    (moves!(4097, 4096, &EXIT), decode!(0, Length)),
+];
+
+/// A program's length is judged once the image has ended where its header says.
+#[test]
+fn lengths_are_judged_after_the_end(rt: HostRuntime) {
+    all_load(&rt, rt.alloc(), &LENGTHS);
 }
 
 /// jeq64 r0, 0, +1; add64 r0, 1.
@@ -264,7 +283,7 @@ const BRANCH: [u8; 16] = [
     0x07, 0, 0, 0, 1, 0, 0, 0,
 ];
 
-/// So many branches, and an exit behind them.
+/// That number of branches, and an exit behind them.
 fn branches(alloc: Global, times: u32) -> Result<Vec<u8>, AllocError> {
     let mut all = Vec::new(alloc);
     for _ in 0..times {
@@ -274,52 +293,66 @@ fn branches(alloc: Global, times: u32) -> Result<Vec<u8>, AllocError> {
     Ok(all)
 }
 
+/// mov64 r0, 0; 2,047 times a branch; exit.
+fn many_branches_load(rt: &impl Abort, alloc: Global) {
+    let rest = branches(alloc, 2047).expect(rt, "memory");
+    let moves = moves!(4096, 1, rest.as_slice());
+    moves_load(rt, alloc, &moves, Ok(4096), 0);
+}
+
+/// A program of many paths takes no more time than one of as many slots.
 #[test]
 fn each_slot_is_visited_once(rt: HostRuntime) {
-    // mov64 r0, 0; 2,047 times a branch; exit
-    let rest = branches(rt.alloc(), 2047).expect(&rt, "memory");
-    let moves = Moves {
-        version: 1,
-        hook: 1,
-        slots: 4096,
-        count: 1,
-        rest: rest.as_slice(),
-    };
-    moves_load(&rt, rt.alloc(), &moves, Answer::Budget(4096), 0);
+    many_branches_load(&rt, rt.alloc());
 }
 
-/// ldxw r0, [r1+offset]; exit.
-fn context_load(offset: u16) -> [u8; 16] {
-    let [low, high] = offset.to_le_bytes();
-    [0x61, 0x10, low, high, 0, 0, 0, 0, 0x95, 0, 0, 0, 0, 0, 0, 0]
-}
-
-/// Versions, hooks, offsets into the context, and the answer to a load there.
-static OFFSETS: [(u8, u8, u16, Answer); 9] = [
-    (1, 0, 100, Answer::Budget(2)),
-    (1, 0, 104, Answer::State(0, Obligation::Access)),
-    (2, 0, 104, Answer::Budget(2)),
-    (2, 0, 292, Answer::Budget(2)),
-    (2, 0, 293, Answer::State(0, Obligation::Access)),
-    (2, 1, 52, Answer::Budget(2)),
-    (2, 1, 53, Answer::State(0, Obligation::Access)),
-    (2, 2, 156, Answer::Budget(2)),
-    (2, 2, 157, Answer::State(0, Obligation::Access)),
-];
-
-#[test]
-fn the_version_states_how_long_the_context_is(rt: HostRuntime) {
-    for (row, (version, hook, offset, answer)) in OFFSETS.iter().enumerate() {
-        let rest = context_load(*offset);
-        let moves = Moves {
-            version: *version,
-            hook: *hook,
+/// An image of a version and a hook: ldxw r0, [r1+offset]; exit.
+macro_rules! context_load {
+    ($version:expr, $hook:expr, $offset:expr) => {
+        Moves {
+            version: $version,
+            hook: $hook,
             slots: 2,
             count: 0,
-            rest: &rest,
-        };
-        moves_load(&rt, rt.alloc(), &moves, *answer, row);
-    }
+            rest: &[
+                0x61,
+                0x10,
+                ($offset % 256) as u8,
+                ($offset / 256) as u8,
+                0,
+                0,
+                0,
+                0,
+                0x95,
+                0,
+                0,
+                0,
+                0,
+                0,
+                0,
+                0,
+            ],
+        }
+    };
+}
+
+/// The contexts of the hooks place, preempt and pull have 296, 56 and 160 bytes in version 2, and that of place has 104 in version 1.
+static OFFSETS: [(Moves<'static>, Answer); 9] = [
+    (context_load!(1, 0, 100), Ok(2)),
+    (context_load!(1, 0, 104), state!(0, Access)),
+    (context_load!(2, 0, 104), Ok(2)),
+    (context_load!(2, 0, 292), Ok(2)),
+    (context_load!(2, 0, 293), state!(0, Access)),
+    (context_load!(2, 1, 52), Ok(2)),
+    (context_load!(2, 1, 53), state!(0, Access)),
+    (context_load!(2, 2, 156), Ok(2)),
+    (context_load!(2, 2, 157), state!(0, Access)),
+];
+
+/// Up to its last byte a context may be loaded, and no further.
+#[test]
+fn the_version_states_how_long_the_context_is(rt: HostRuntime) {
+    all_load(&rt, rt.alloc(), &OFFSETS);
 }
 
 /// The image is that of the counting program: for the hook preempt, in the first version, with one map of one entry of 8 bytes.
@@ -353,6 +386,7 @@ fn is_written(rt: &impl Abort, alloc: Global, image: &Image) {
     are_bytes(rt, out.get(1..).expect(rt, "no image"), &COUNTING);
 }
 
+/// An image is read into its parts, and these are written to the same bytes.
 #[test]
 fn an_image_is_read_and_written(rt: HostRuntime) {
     let image = read_image(rt.alloc(), &COUNTING).expect(&rt, "an image");

@@ -30,7 +30,7 @@ pub fn preempt(shapes: &[MapShape]) -> Terms<'_> {
     }
 }
 
-/// A map of so many entries of that size.
+/// A map with that number of entries of that size.
 pub fn shape(rt: &impl Abort, value_size: u16, entries: u16) -> MapShape
     ensures size { result.value_size ≡ value_size }
     ensures entries { result.entries ≡ entries }
@@ -119,19 +119,17 @@ mov64 r0, 0
 exit
 ";
 
-/// The way out alone.
+/// Only the way out.
 pub const OUT: &str = "out:
 mov64 r0, 0
 exit
 ";
 
-/// Each program, of such a beginning and that end, has its answer beside a map of one entry of 16 bytes and a map of two.
-pub fn follows(rt: &impl Abort, alloc: Global, trials: &str, end: &str) {
-    expect(
-        rt,
-        alloc,
-        &[shape(rt, 16, 1), shape(rt, 16, 2)],
-        trials,
-        end,
-    );
+/// The programs of each text, with the end that stands beside it, have their answers beside a map of one entry of 16 bytes and a map of
+/// two.
+pub fn follows(rt: &impl Abort, alloc: Global, texts: &[(&str, &str)]) {
+    let shapes = [shape(rt, 16, 1), shape(rt, 16, 2)];
+    for (trials, end) in texts {
+        expect(rt, alloc, &shapes, trials, end);
+    }
 }

@@ -1,4 +1,4 @@
-//! Tests alone, of the verifier and what stands round it: ranges, maps, what is said of a program, programs that it has to follow
+//! Only tests, of the verifier and what stands round it: ranges, maps, what is said of a program, programs that it has to follow
 //! closely, each beside one that it must refuse; images, read, loaded or refused; and what programs answer. The library itself
 //! is empty.
 #![tactic(auto)]

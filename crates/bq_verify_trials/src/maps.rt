@@ -18,6 +18,7 @@ static LIMITS: [(u16, u16, bool); 7] = [
     (256, 256, true),
 ];
 
+/// A value has 8 to 256 bytes, a multiple of 8, and a map 1 to 256 entries.
 #[test]
 fn limits(rt: HostRuntime) {
     for (value_size, entries, there) in &LIMITS {
@@ -33,6 +34,7 @@ fn are_two(rt: &impl Abort, maps: &Maps) {
     is_true(rt, !maps.lookup(1, 0));
 }
 
+/// What is written into an entry is read back, and the other entry stays as it was.
 #[test]
 fn entries(rt: HostRuntime) {
     let mut maps = Maps::new(rt.alloc(), &[shape(&rt, 8, 2)]).expect(&rt, "memory");
@@ -51,8 +53,10 @@ fn entries(rt: HostRuntime) {
     );
 }
 
+/// The numbers of the helpers, by docs/BPF.md.
 static HELPERS: [i32; 6] = [1, 2, 5, 8, 100, 101];
 
+/// There is no other helper.
 #[test]
 fn helpers(rt: HostRuntime) {
     for number in 0..200 {
@@ -63,6 +67,7 @@ fn helpers(rt: HostRuntime) {
     }
 }
 
+/// An add answers the value before it, and sums are taken modulo 2^64.
 #[test]
 fn counters(rt: HostRuntime) {
     let mut board = Plain::new();

@@ -2,10 +2,12 @@
 
 use crate::judging::{BYTE_OF_CONTEXT, follows};
 
+static TEXTS: [(&str, &str); 2] = [(PARTS, BYTE_OF_CONTEXT), (WRITTEN_PARTS, BYTE_OF_CONTEXT)];
+
+/// A number that is stored is known until something else is written there.
 #[test]
 fn parts(rt: HostRuntime) {
-    follows(&rt, rt.alloc(), PARTS, BYTE_OF_CONTEXT);
-    follows(&rt, rt.alloc(), WRITTEN_PARTS, BYTE_OF_CONTEXT);
+    follows(&rt, rt.alloc(), &TEXTS);
 }
 
 /// Numbers that are loaded once they are stored.

@@ -1,5 +1,6 @@
 // Worked intervals: sums, products, shifts, and what branches leave.
 
+use crate::asserting::is_true_in_row;
 use bq_insn::Condition::{
     AnyBit, Equal, Greater, GreaterEqual, Less, LessEqual, NotEqual, SignedGreater,
     SignedGreaterEqual, SignedLess,
@@ -32,7 +33,7 @@ fn ends(range: Option<Range>) -> Option<Ends> {
 
 /// A row of a table has that range, or none.
 fn is_range(rt: &impl Abort, found: Option<Range>, expected: Option<Ends>, row: usize) {
-    assert_eq!(rt; ends(found), expected, "row {row}");
+    is_true_in_row(rt, ends(found) == expected, row);
 }
 
 /// The last word, which is -1 with signs.
@@ -78,6 +79,7 @@ fn are_results(rt: &impl Abort, width: Width, rows: &[Row]) {
     }
 }
 
+/// Operations on ranges leave the ranges of the rows.
 #[test]
 fn results(rt: HostRuntime) {
     are_results(&rt, W64, &RESULTS);
@@ -97,6 +99,7 @@ static SINGLE_WORDS: [(Width, Operation, u64, u64, u64); 8] = [
     (W32, Arsh, 0x8000_0000, 33, 0xc000_0000),
 ];
 
+/// Of single words an operation leaves the one word that the RFC says.
 #[test]
 fn single_words(rt: HostRuntime) {
     for (number, (width, op, a, b, result)) in SINGLE_WORDS.iter().enumerate() {
@@ -184,6 +187,7 @@ fn are_left(rt: &impl Abort, width: Width, rows: &[Branch]) {
     }
 }
 
+/// Tests leave what the rows say of the first range, taken and not taken.
 #[test]
 fn branches(rt: HostRuntime) {
     are_left(&rt, W64, &BRANCHES);
@@ -228,6 +232,7 @@ fn moved(by: &Move, range: Range) -> Range {
     }
 }
 
+/// Extensions, byte orders and negation leave the ranges of the rows.
 #[test]
 fn moves(rt: HostRuntime) {
     for (number, (by, before, after)) in MOVES.iter().enumerate() {

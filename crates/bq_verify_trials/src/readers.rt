@@ -1,6 +1,6 @@
-// Images in pieces: what a reader answers to each of them, and in the end; want of memory is answered, and changes nothing.
-ghost use Rattle.std.specs.Prelude.{◌≤◌};
+// Images in pieces: what a reader answers to each of them, and in the end; when memory runs out, that is answered, and nothing changes.
 
+use crate::asserting::{is_number, is_true};
 use crate::images::{COUNTING, Moves, ZERO, ZERO_CUT, budget, bytes_of};
 use bq_insn::fault::DecodeCause;
 use bq_load::{ImageReader, LoadFault, read_image};
@@ -15,15 +15,13 @@ fn budget_of(reader: ImageReader) -> Result<u32, LoadFault> {
 
 /// The reader answers so to the piece.
 fn answers(rt: &impl Abort, reader: &mut ImageReader, piece: &[u8], answer: Result<(), LoadFault>) {
-    assert_eq!(rt; reader.feed(piece), answer);
+    is_true(rt, reader.feed(piece) == answer);
 }
 
-/// A reader that took the image in pieces of that size.
-fn fed(rt: &impl Abort, alloc: Global, image: &[u8], size: usize) -> ImageReader
-    requires { 1 ≤ size }
-{
+/// A reader that took the image in pieces of that size, which is not 0.
+fn fed(rt: &impl Abort, alloc: Global, image: &[u8], size: usize) -> ImageReader {
     let mut reader = ImageReader::new(alloc);
-    for piece in image.chunks(size) {
+    for piece in image.chunks(size.max(1)) {
         answers(rt, &mut reader, piece, Ok(()));
     }
     reader
@@ -31,21 +29,24 @@ fn fed(rt: &impl Abort, alloc: Global, image: &[u8], size: usize) -> ImageReader
 
 /// What a reader answers in the end.
 fn ends(rt: &impl Abort, answer: Result<u32, LoadFault>, expected: Result<u32, LoadFault>) {
-    assert_eq!(rt; answer, expected);
+    is_true(rt, answer == expected);
 }
 
+/// Sizes of pieces, from one byte to the whole image.
+static SIZES: [usize; 6] = [1, 3, 7, 16, 40, 136];
+
+/// An image that comes in pieces of any size is loaded as the whole is.
 #[test]
 fn pieces_are_one_image(rt: HostRuntime) {
-    for size in [1, 3, 7, 16, 40, 136] {
-        let reader = fed(&rt, rt.alloc(), &COUNTING, size);
+    for size in &SIZES {
+        let reader = fed(&rt, rt.alloc(), &COUNTING, *size);
         ends(&rt, budget_of(reader), Ok(12));
     }
 }
 
 /// Reading ends by that fault.
 fn ends_by(rt: &impl Abort, reader: ImageReader, fault: LoadFault) {
-    let answer = reader.finish().err();
-    assert_eq!(rt; answer, Some(fault));
+    is_true(rt, reader.finish().err() == Some(fault));
 }
 
 /// Pieces, and what a reader answers to each.
@@ -85,6 +86,7 @@ static ENDS: [(Pieces, LoadFault); 4] = [
     (&[], LoadFault::Cut),
 ];
 
+/// A fault is answered to the piece that has its byte, and to each piece behind it.
 #[test]
 fn faults_come_with_the_byte_that_makes_them(rt: HostRuntime) {
     for (pieces, fault) in &ENDS {
@@ -92,6 +94,7 @@ fn faults_come_with_the_byte_that_makes_them(rt: HostRuntime) {
     }
 }
 
+/// A byte behind the image is answered, and the load is refused for it.
 #[test]
 fn a_load_past_the_end_is_refused(rt: HostRuntime) {
     let mut past = ImageReader::new(rt.alloc());
@@ -100,6 +103,7 @@ fn a_load_past_the_end_is_refused(rt: HostRuntime) {
     ends(&rt, budget_of(past), Err(LoadFault::Rest));
 }
 
+/// The bytes of a program that is too long are read to the end before it is refused.
 #[test]
 fn a_program_that_is_too_long_is_counted(rt: HostRuntime) {
     let moves = Moves {
@@ -119,20 +123,20 @@ fn is_too_long(rt: &impl Abort, alloc: Global, image: &[u8]) {
         slot: 0,
         cause: DecodeCause::Length,
     };
-    for size in [1000, 4096, 40012] {
-        ends_by(rt, fed(rt, alloc, image, size), fault);
+    for size in &[1000, 4096, 40012] {
+        ends_by(rt, fed(rt, alloc, image, *size), fault);
     }
     let mut reader = ImageReader::new(alloc);
     answers(rt, &mut reader, image, Ok(()));
     answers(rt, &mut reader, &[0], Err(LoadFault::Rest));
 }
 
-/// The fault is want of memory.
+/// The fault is that memory ran out.
 fn is_want_of_memory(rt: &impl Abort, fault: LoadFault) {
-    assert_eq!(rt; fault, LoadFault::OutOfMemory);
+    is_true(rt, fault == LoadFault::OutOfMemory);
 }
 
-/// The counting program loads; after want of memory it does so at the next call.
+/// The counting program loads; if memory ran out, it does so at the next call.
 fn loads_at_last(rt: &impl Abort, alloc: Global) {
     let mut answer = budget(alloc, &COUNTING);
     if let Err(fault) = answer {
@@ -142,7 +146,7 @@ fn loads_at_last(rt: &impl Abort, alloc: Global) {
     ends(rt, answer, Ok(12));
 }
 
-/// The reader takes the piece; after want of memory it does so at the next call.
+/// The reader takes the piece; if memory ran out, it does so at the next call.
 fn takes_at_last(rt: &impl Abort, reader: &mut ImageReader, piece: &[u8]) {
     if let Err(fault) = reader.feed(piece) {
         is_want_of_memory(rt, fault);
@@ -150,10 +154,10 @@ fn takes_at_last(rt: &impl Abort, reader: &mut ImageReader, piece: &[u8]) {
     }
 }
 
-/// The counting program is read, or memory is wanting.
+/// The counting program is read, or memory ran out.
 fn is_read(rt: &impl Abort, alloc: Global) {
     match length_read(alloc) {
-        Ok(length) => assert_eq!(rt; length, 120),
+        Ok(length) => is_number(rt, length as u64, 120),
         Err(fault) => is_want_of_memory(rt, fault),
     }
 }
@@ -164,8 +168,8 @@ fn length_read(alloc: Global) -> Result<usize, LoadFault> {
     Ok(image.program.len())
 }
 
-/// With no allocation refused all is as above. By hand, `rt try --test --fail-alloc N` refuses the Nth: then want of
-/// memory is answered, nothing has changed, and the same call gives the answer.
+/// If no allocation is refused, all is as above. `rt try --test --fail-alloc N`, which is run manually, refuses the Nth: then the answer
+/// is that memory ran out, nothing has changed, and the same call gives the answer.
 #[test]
 fn a_refused_growth_changes_nothing(rt: HostRuntime) {
     let alloc = rt.alloc();
@@ -173,9 +177,9 @@ fn a_refused_growth_changes_nothing(rt: HostRuntime) {
     ends(&rt, budget(alloc, &COUNTING[..135]), Err(LoadFault::Cut));
 
     let mut reader = ImageReader::new(alloc);
-    for piece in [&COUNTING[..70], &COUNTING[70..], &[]] {
-        takes_at_last(&rt, &mut reader, piece);
-    }
+    takes_at_last(&rt, &mut reader, &COUNTING[..70]);
+    takes_at_last(&rt, &mut reader, &COUNTING[70..]);
+    takes_at_last(&rt, &mut reader, &[]);
     if let Err(fault) = budget_of(reader) {
         is_want_of_memory(&rt, fault);
         return;

@@ -2,11 +2,16 @@
 
 use crate::judging::{BYTE_OF_CONTEXT, follows};
 
+static TEXTS: [(&str, &str); 3] = [
+    (SUMS, BYTE_OF_CONTEXT),
+    (SHORT_SUMS, BYTE_OF_CONTEXT),
+    (COMPARED, BYTE_OF_CONTEXT),
+];
+
+/// What a test shows of one number bounds a number that is its sum with a constant, or was compared with it.
 #[test]
 fn relations(rt: HostRuntime) {
-    follows(&rt, rt.alloc(), SUMS, BYTE_OF_CONTEXT);
-    follows(&rt, rt.alloc(), SHORT_SUMS, BYTE_OF_CONTEXT);
-    follows(&rt, rt.alloc(), COMPARED, BYTE_OF_CONTEXT);
+    follows(&rt, rt.alloc(), &TEXTS);
 }
 
 /// A number, and its sum with a constant.

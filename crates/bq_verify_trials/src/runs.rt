@@ -1,5 +1,5 @@
 // Programs run on two stacks of different bytes: what register 0 is at the EXIT, and how many instructions it took.
-// The values are worked by hand from RFC 9669.
+// The values are worked on paper from RFC 9669.
 
 use crate::asserting::{is_number, is_true};
 use crate::judging::shape;
@@ -50,7 +50,7 @@ fn run_on(
     run(verified, &CONTEXT, &mut maps, stack, env, board)
 }
 
-/// The program has that answer in so many steps, on a stack of that byte.
+/// The program gives that answer, a value and the number of steps, on a stack of that byte.
 fn answers_on(
     rt: &impl Abort,
     alloc: Global,
@@ -65,16 +65,16 @@ fn answers_on(
 }
 
 fn has_answered(rt: &impl Abort, ran: &Ran, answer: (u64, u32), text: &str) {
-    assert_eq!(rt; (ran.r0, ran.steps), answer, "{text}");
+    assert!(rt; (ran.r0, ran.steps) == answer, "{text}");
 }
 
-/// The program has that answer and so many steps, on two stacks of different bytes.
+/// The program gives that answer on two stacks of different bytes.
 fn answers_so(rt: &impl Abort, alloc: Global, verified: &Verified, answer: (u64, u32), text: &str) {
     answers_on(rt, alloc, verified, 0x00, answer, text);
     answers_on(rt, alloc, verified, 0xa5, answer, text);
 }
 
-/// The program answers that in so many steps.
+/// The program gives that answer: a value and the number of steps.
 fn expect(rt: &impl Abort, alloc: Global, text: &str, answer: (u64, u32)) {
     let verified = accepted(rt, alloc, text);
     answers_so(rt, alloc, &verified, answer, text);
@@ -138,6 +138,7 @@ fn is_answered(rt: &impl Abort, alloc: Global, row: &Row) {
     expect(rt, alloc, text.as_str(), (r0, steps));
 }
 
+/// Operations answer what RFC 9669 says.
 #[test]
 fn arithmetic(rt: HostRuntime) {
     for row in &ARITHMETIC {
@@ -145,6 +146,7 @@ fn arithmetic(rt: HostRuntime) {
     }
 }
 
+/// So do loads, stores and jumps; helpers answer the time and the processor.
 #[test]
 fn other_instructions(rt: HostRuntime) {
     for row in &OTHERS {
@@ -173,14 +175,15 @@ ldxdw r0, [r0+0]
 exit
 ";
 
+/// A program reads what it wrote into a map.
 #[test]
 fn entries(rt: HostRuntime) {
     expect(&rt, rt.alloc(), ENTRIES, (77, 16));
 }
 
-/// The program may take so many instructions.
+/// The program may take this number of instructions.
 fn has_budget(rt: &impl Abort, verified: &Verified, budget: u32) {
-    assert_eq!(rt; verified.budget(), budget);
+    is_number(rt, u64::from(verified.budget()), u64::from(budget));
 }
 
 /// A program of many paths: 2,047 branches that are all taken.
@@ -197,7 +200,7 @@ fn takes_branches(rt: &impl Abort, alloc: Global, text: &str) {
     answers_so(rt, alloc, &verified, (0, 2049), "many branches");
 }
 
-/// Whether these are so many adds of 5 to counter 3, from 0 on.
+/// Whether these are adds of 5 to counter 3, from 0 on.
 fn adds_in_turn(calls: &[CounterCall]) -> bool {
     let mut before = 0u64;
     for made in calls {

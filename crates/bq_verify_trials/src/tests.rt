@@ -3,11 +3,16 @@
 
 use crate::judging::{BYTE_OF_CONTEXT, OUT, follows};
 
+static TEXTS: [(&str, &str); 3] = [
+    (NUMBERS, BYTE_OF_CONTEXT),
+    (BITS_AND_SIGNS, BYTE_OF_CONTEXT),
+    (POINTERS, OUT),
+];
+
+/// What tests and operations leave of numbers and pointers, each beside a program that goes one step too far.
 #[test]
 fn numbers_and_pointers(rt: HostRuntime) {
-    follows(&rt, rt.alloc(), NUMBERS, BYTE_OF_CONTEXT);
-    follows(&rt, rt.alloc(), BITS_AND_SIGNS, BYTE_OF_CONTEXT);
-    follows(&rt, rt.alloc(), POINTERS, OUT);
+    follows(&rt, rt.alloc(), &TEXTS);
 }
 
 /// Tests of numbers.

@@ -5,11 +5,20 @@ use bq_hooks::{Hook, Version};
 use std::alloc::{AllocError, Global};
 use std::process::Abort;
 
+/// Texts of programs, and the end of each program.
+static TEXTS: [(&str, &str); 3] = [(REFUSALS, ""), (JOINS, ""), (CONTEXT, CONTEXT_END)];
+
+/// Programs beside no map have their answers.
+fn are_judged(rt: &impl Abort, alloc: Global) {
+    for (trials, end) in &TEXTS {
+        expect(rt, alloc, &[], trials, end);
+    }
+}
+
+/// Each cause is found at its slot, and what is nearest to it is accepted.
 #[test]
 fn refusals(rt: HostRuntime) {
-    expect(&rt, rt.alloc(), &[], REFUSALS, "");
-    expect(&rt, rt.alloc(), &[], JOINS, "");
-    expect(&rt, rt.alloc(), &[], CONTEXT, CONTEXT_END);
+    are_judged(&rt, rt.alloc());
 }
 
 /// Programs that are refused, and some that are not.
@@ -137,7 +146,7 @@ jle64 r2, 55, +3";
 /// What follows such a branch.
 const CONTEXT_END: &str = "add64 r1, r2\nldxb r0, [r1+0]\nexit\nmov64 r0, 0\nexit\n";
 
-/// A program and its answer: a beginning, a text that stands so often, and an end.
+/// A program and its answer: a beginning, a text and how often it stands, and an end.
 type Repeated = (&'static str, u32, &'static str, &'static str, &'static str);
 
 /// Programs of 4,096 slots: straight, and with a branch at every second slot.
@@ -191,7 +200,7 @@ static COUNTERS: [Repeated; 5] = [
     ),
 ];
 
-/// A beginning, a text that stands so often, and an end.
+/// A beginning, a text and how often it stands, and an end.
 pub fn repeated(
     alloc: Global,
     begin: &str,
@@ -213,6 +222,7 @@ fn is_repeated(rt: &impl Abort, alloc: Global, row: &Repeated) {
     is_answered(rt, alloc, text.as_str(), &preempt(&[]), answer);
 }
 
+/// Programs of the greatest length are accepted, and each slot counts once.
 #[test]
 fn longest(rt: HostRuntime) {
     for row in &LONGEST {
@@ -220,6 +230,7 @@ fn longest(rt: HostRuntime) {
     }
 }
 
+/// Counters are 0 to 63, and a path may call them sixteen times.
 #[test]
 fn counters(rt: HostRuntime) {
     for row in &COUNTERS {
@@ -333,6 +344,7 @@ fn is_placed(rt: &impl Abort, alloc: Global, text: &str, version: Version, answe
     is_answered(rt, alloc, text, &terms, answer);
 }
 
+/// The context of the hook place is longer in the second version.
 #[test]
 fn versions(rt: HostRuntime) {
     for (text, version, answer) in &VERSIONS {
@@ -362,7 +374,7 @@ mov64 r0, r3\nexit\n",
     ),
 ];
 
-/// What follows a look-up in a map of so many entries has its answer.
+/// What follows a look-up in a map with this number of entries has its answer.
 fn is_looked_up(rt: &impl Abort, alloc: Global, end: &str, entries: u16, answer: &str) {
     let program = format!(in alloc;
         "stw [r10-4], 0\nldmap r1, 0\nmov64 r2, r10\nadd64 r2, -4\ncall 1\n{end}"
@@ -376,6 +388,7 @@ fn is_looked_up(rt: &impl Abort, alloc: Global, end: &str, entries: u16, answer:
     );
 }
 
+/// An entry may be read once its look-up was tested, and only inside its 8 bytes.
 #[test]
 fn maps(rt: HostRuntime) {
     for (end, entries, answer) in &MAPS {
