@@ -27,7 +27,7 @@ fn part_of_task(entity: &Entity) -> Part {
     ]
 }
 
-/// The task that was moved, charged or found; nothing where there is none.
+/// The task that was moved, charged or found; nothing if there is no task.
 fn shown(entity: Option<Entity>) -> Part {
     match entity {
         None => NOTHING,
@@ -42,7 +42,7 @@ fn node_shown(node: Option<&Node>) -> Part {
     }
 }
 
-/// An id and one more, or 0 where there is none.
+/// An id and one more, or 0 if there is no task.
 fn id_shown(id: Option<u16>) -> i128 {
     match id {
         None => 0,
@@ -95,7 +95,7 @@ fn next_of<Q: RunQueue>(queue: &Q, current: &Option<Entity>) -> Option<u16> {
     }
 }
 
-/// The choice over queue and current, that of the queue alone, whom the current gives way to, and whether it wants to.
+/// The choice over queue and current, that of the queue by itself, whom the current gives way to, and whether it wants to.
 fn choices<Q: RunQueue>(queue: &Q, current: &Option<Entity>) -> Part {
     let queued = id_shown(queue.choice(None));
     match current {

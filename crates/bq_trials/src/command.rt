@@ -13,7 +13,7 @@ pub(crate) struct Newcomer {
     pub pulled: bool,
 }
 
-/// What a queue is told, or asked. A task is named by its id.
+/// A call of a queue. A task is named by its id.
 #[derive(Clone, Copy)]
 pub(crate) enum Command {
     /// A task enters, unless it is there or runs.
@@ -24,9 +24,9 @@ pub(crate) enum Command {
     Choose,
     /// The current task and the next change places; where nothing runs the choice runs.
     Next,
-    /// The current task has run for so many nanoseconds.
+    /// The current task has run for this time, in nanoseconds.
     Charge { time: u64 },
-    /// The mark is computed anew.
+    /// The mark is computed again.
     Mark,
     /// The current task leaves to sleep.
     Leave,

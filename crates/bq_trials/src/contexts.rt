@@ -2,7 +2,7 @@
 //! docs/CONTEXTS.md.
 
 use crate::answer::put;
-use crate::asserting::{are_bytes_of, is_byte};
+use crate::asserting::is_true;
 use bq_cfs::{Cfs, CfsQueue};
 use bq_disc::{Entity, List, RunQueue};
 use bq_eevdf::{Eevdf, EevdfQueue};
@@ -34,44 +34,44 @@ fn preemption<Q: RunQueue>(rt: &impl Abort, queue: &Q, current: &Entity, own: bo
 }
 
 /// Task 1 has run for a millisecond beside task 2, which is the queue's choice.
-const BESIDE_ONE: &str = "\
-00000000         ; the processor
-01000000         ; how many tasks wait
-01000000         ; the current task
-00040000         ; its weight
-40420f0001000000 ; its v
-0000000000000000 ; its deadline
-02000000         ; the queue's choice
-00040000         ; its weight
-0000000001000000 ; its v
-00000000         ; the own answer
-00000000
-";
+static BESIDE_ONE: [u8; 56] = [
+    0, 0, 0, 0, // the processor
+    1, 0, 0, 0, // how many tasks wait
+    1, 0, 0, 0, // the current task
+    0, 4, 0, 0, // its weight
+    0x40, 0x42, 0x0f, 0, 1, 0, 0, 0, // its v
+    0, 0, 0, 0, 0, 0, 0, 0, // its deadline
+    2, 0, 0, 0, // the queue's choice
+    0, 4, 0, 0, // its weight
+    0, 0, 0, 0, 1, 0, 0, 0, // its v
+    0, 0, 0, 0, // the own answer
+    0, 0, 0, 0, // not used
+];
 
 fn a_preemption_beside_one_task<Q: RunQueue>(rt: &impl Abort, alloc: Global, queue: &mut Q) {
     put(rt, alloc, queue, task(2, 4294967296, 0));
     let context = preemption(rt, queue, &task(1, 4295967296, 0), false);
-    are_bytes_of(rt, alloc, &context, BESIDE_ONE);
+    is_true(rt, context == BESIDE_ONE);
 }
 
-/// Alone, task 513 sees none beside it.
-const ALONE: &str = "\
-00000000         ; the processor
-00000000         ; how many tasks wait
-01020000         ; the current task
-00040000         ; its weight
-0000000000000040 ; its v
-ffffffffffffff3f ; its deadline
-ffffffff         ; no choice
-00000000         ; no weight
-0000000000000000 ; no v
-01000000         ; the own answer
-00000000
-";
+/// Task 513 has no other beside it.
+static ALONE: [u8; 56] = [
+    0, 0, 0, 0, // the processor
+    0, 0, 0, 0, // how many tasks wait
+    1, 2, 0, 0, // the current task
+    0, 4, 0, 0, // its weight
+    0, 0, 0, 0, 0, 0, 0, 0x40, // its v
+    0xff, 0xff, 0xff, 0xff, 0xff, 0xff, 0xff, 0x3f, // its deadline
+    0xff, 0xff, 0xff, 0xff, // no choice
+    0, 0, 0, 0, // no weight
+    0, 0, 0, 0, 0, 0, 0, 0, // no v
+    1, 0, 0, 0, // the own answer
+    0, 0, 0, 0, // not used
+];
 
-fn a_preemption_of_a_task_alone<Q: RunQueue>(rt: &impl Abort, alloc: Global, queue: &Q) {
+fn a_preemption_of_a_task_alone<Q: RunQueue>(rt: &impl Abort, queue: &Q) {
     let context = preemption(rt, queue, &task(513, 1 << 62, (1 << 62) - 1), true);
-    are_bytes_of(rt, alloc, &context, ALONE);
+    is_true(rt, context == ALONE);
 }
 
 /// The context of a pull by processor 1 from processor 0, where three tasks run or wait and none does here.
@@ -90,111 +90,97 @@ fn pull<Q: RunQueue>(queue: &Q, own: Option<u16>) -> [u8; 160] {
     context
 }
 
-/// Compares the context of such a pull with its first 32 bytes and the tasks that are shown behind them.
-fn pull_shows(rt: &impl Abort, alloc: Global, context: &[u8; 160], header: &str, shown: &[u16]) {
-    let (first, tasks) = context.split_at(32);
-    are_bytes_of(rt, alloc, first, header);
-    for (at, byte) in tasks.iter().enumerate() {
-        is_byte(rt, at, *byte, byte_shown(shown, at));
-    }
-}
+/// A queue whose only task is not permitted there shows none.
+static NONE_IS_SHOWN: [u8; 160] = [
+    1, 0, 0, 0, // the puller
+    0, 0, 0, 0, // the other
+    0, 0, 0, 0, // how many tasks the puller has
+    3, 0, 0, 0, // and the other
+    0, 0, 0, 0, // how many may be pulled
+    0, 0, 0, 0, // how many are shown
+    0xff, 0xff, 0xff, 0xff, // no own choice
+    0, 0, 0, 0, // not used
+    0, 0, 0, 0, 0, 0, 0, 0, 0, 0, 0, 0, 0, 0, 0, 0, //
+    0, 0, 0, 0, 0, 0, 0, 0, 0, 0, 0, 0, 0, 0, 0, 0, //
+    0, 0, 0, 0, 0, 0, 0, 0, 0, 0, 0, 0, 0, 0, 0, 0, //
+    0, 0, 0, 0, 0, 0, 0, 0, 0, 0, 0, 0, 0, 0, 0, 0, //
+    0, 0, 0, 0, 0, 0, 0, 0, 0, 0, 0, 0, 0, 0, 0, 0, //
+    0, 0, 0, 0, 0, 0, 0, 0, 0, 0, 0, 0, 0, 0, 0, 0, //
+    0, 0, 0, 0, 0, 0, 0, 0, 0, 0, 0, 0, 0, 0, 0, 0, //
+    0, 0, 0, 0, 0, 0, 0, 0, 0, 0, 0, 0, 0, 0, 0, 0, //
+];
 
-/// A byte of what is shown of some tasks of nice 0, each of which has its v at 2^32 and its id.
-fn byte_shown(shown: &[u16], at: usize) -> u8 {
-    match shown.get(at / 16) {
-        None => 0,
-        Some(id) => byte_of(*id, at % 16),
-    }
-}
-
-/// A byte of what is shown of one of them.
-fn byte_of(id: u16, at: usize) -> u8 {
-    match at {
-        0 | 8 => (id % 256) as u8,
-        1 => (id / 256) as u8,
-        5 => 0x04,
-        12 => 1,
-        _ => 0,
-    }
-}
-
-/// Of a queue whose only task is not permitted there none is shown.
-const NONE_IS_SHOWN: &str = "\
-01000000 ; the puller
-00000000 ; the other
-00000000 ; how many tasks the puller has
-03000000 ; and the other
-00000000 ; how many may be pulled
-00000000 ; how many are shown
-ffffffff ; no own choice
-00000000
-";
-
-/// Of nine tasks that may be pulled eight are shown.
-const EIGHT_ARE_SHOWN: &str = "\
-01000000 ; the puller
-00000000 ; the other
-00000000 ; how many tasks the puller has
-03000000 ; and the other
-09000000 ; how many may be pulled
-08000000 ; how many are shown
-0a000000 ; the own choice
-00000000
-";
-
-static EIGHT: [u16; 8] = [10, 9, 8, 7, 6, 5, 4, 3];
+/// Of nine tasks that may be pulled eight are shown: of each its id, its weight of 1024, and its v, which is 2^32 and its id.
+static EIGHT_ARE_SHOWN: [u8; 160] = [
+    1, 0, 0, 0, // the puller
+    0, 0, 0, 0, // the other
+    0, 0, 0, 0, // how many tasks the puller has
+    3, 0, 0, 0, // and the other
+    9, 0, 0, 0, // how many may be pulled
+    8, 0, 0, 0, // how many are shown
+    10, 0, 0, 0, // the own choice
+    0, 0, 0, 0, // not used
+    10, 0, 0, 0, 0, 4, 0, 0, 10, 0, 0, 0, 1, 0, 0, 0, // task 10
+    9, 0, 0, 0, 0, 4, 0, 0, 9, 0, 0, 0, 1, 0, 0, 0, // task 9
+    8, 0, 0, 0, 0, 4, 0, 0, 8, 0, 0, 0, 1, 0, 0, 0, // task 8
+    7, 0, 0, 0, 0, 4, 0, 0, 7, 0, 0, 0, 1, 0, 0, 0, // task 7
+    6, 0, 0, 0, 0, 4, 0, 0, 6, 0, 0, 0, 1, 0, 0, 0, // task 6
+    5, 0, 0, 0, 0, 4, 0, 0, 5, 0, 0, 0, 1, 0, 0, 0, // task 5
+    4, 0, 0, 0, 0, 4, 0, 0, 4, 0, 0, 0, 1, 0, 0, 0, // task 4
+    3, 0, 0, 0, 0, 4, 0, 0, 3, 0, 0, 0, 1, 0, 0, 0, // task 3
+];
 
 /// Tasks that may be pulled are shown from the greatest (v, id) on, eight at most.
 fn pulls_of_many_tasks<Q: RunQueue>(rt: &impl Abort, alloc: Global, queue: &mut Q) {
     put(rt, alloc, queue, Entity::new(1, 1024, 1, 3_000_000));
-    pull_shows(rt, alloc, &pull(queue, None), NONE_IS_SHOWN, &[]);
+    is_true(rt, pull(queue, None) == NONE_IS_SHOWN);
     for id in 2..11 {
         put(rt, alloc, queue, task(id, 4294967296 + u64::from(id), 0));
     }
-    pull_shows(rt, alloc, &pull(queue, Some(10)), EIGHT_ARE_SHOWN, &EIGHT);
-}
-
-/// The first 64 bytes of a pull's context are these, and the others 0.
-fn begins(rt: &impl Abort, alloc: Global, context: &[u8; 160], shown: &str) {
-    let (first, rest) = context.split_at(64);
-    are_bytes_of(rt, alloc, first, shown);
-    for (at, byte) in rest.iter().enumerate() {
-        is_byte(rt, at, *byte, 0);
-    }
+    is_true(rt, pull(queue, Some(10)) == EIGHT_ARE_SHOWN);
 }
 
 /// Of two tasks that wait at the mark the one of the greater id is shown first.
-const ONE_OF_TWO: &str = "\
-01000000         ; the puller
-00000000         ; the other
-00000000         ; how many tasks the puller has
-03000000         ; and the other
-02000000         ; how many may be pulled
-02000000         ; how many are shown
-03000000         ; the own choice
-00000000
-03000000         ; the first task
-00040000         ; its weight
-0000000001000000 ; its v
-02000000         ; the second
-00040000         ; its weight
-0000000001000000 ; its v
-";
+static ONE_OF_TWO: [u8; 160] = [
+    1, 0, 0, 0, // the puller
+    0, 0, 0, 0, // the other
+    0, 0, 0, 0, // how many tasks the puller has
+    3, 0, 0, 0, // and the other
+    2, 0, 0, 0, // how many may be pulled
+    2, 0, 0, 0, // how many are shown
+    3, 0, 0, 0, // the own choice
+    0, 0, 0, 0, // not used
+    3, 0, 0, 0, // the first task
+    0, 4, 0, 0, // its weight
+    0, 0, 0, 0, 1, 0, 0, 0, // its v
+    2, 0, 0, 0, // the second
+    0, 4, 0, 0, // its weight
+    0, 0, 0, 0, 1, 0, 0, 0, // its v
+    0, 0, 0, 0, 0, 0, 0, 0, 0, 0, 0, 0, 0, 0, 0, 0, //
+    0, 0, 0, 0, 0, 0, 0, 0, 0, 0, 0, 0, 0, 0, 0, 0, //
+    0, 0, 0, 0, 0, 0, 0, 0, 0, 0, 0, 0, 0, 0, 0, 0, //
+    0, 0, 0, 0, 0, 0, 0, 0, 0, 0, 0, 0, 0, 0, 0, 0, //
+    0, 0, 0, 0, 0, 0, 0, 0, 0, 0, 0, 0, 0, 0, 0, 0, //
+    0, 0, 0, 0, 0, 0, 0, 0, 0, 0, 0, 0, 0, 0, 0, 0, //
+];
 
 fn a_pull_of_one_of_two<Q: RunQueue>(rt: &impl Abort, alloc: Global, queue: &mut Q) {
     put(rt, alloc, queue, task(2, 4294967296, 0));
     put(rt, alloc, queue, task(3, 4294967296, 0));
-    begins(rt, alloc, &pull(queue, Some(3)), ONE_OF_TWO);
+    is_true(rt, pull(queue, Some(3)) == ONE_OF_TWO);
 }
 
 fn is_settled(rt: &impl Abort, choice: &Choice<Option<u16>>, value: Option<u16>, by: By) {
-    assert_eq!(rt; *choice, Choice { value, by });
+    is_true(rt, *choice == Choice { value, by });
 }
 
-/// Tasks 2 and 3 may be pulled by processor 1, and task 1 may not.
+/// The ids and masks of three tasks: 2 and 3 may be pulled by processor 1, and task 1 may not.
+static THREE: [(u16, u64); 3] = [(1, 1), (2, 3), (3, 3)];
+
+/// Puts them into a queue.
 fn fill<Q: RunQueue>(rt: &impl Abort, alloc: Global, queue: &mut Q) {
-    for (id, mask) in [(1, 1), (2, 3), (3, 3)] {
-        put(rt, alloc, queue, Entity::new(id, 1024, mask, 3_000_000));
+    for (id, mask) in &THREE {
+        put(rt, alloc, queue, Entity::new(*id, 1024, *mask, 3_000_000));
     }
 }
 
@@ -222,12 +208,13 @@ fn pulls_that_are_permitted<Q: RunQueue>(rt: &impl Abort, alloc: Global, queue: 
 /// What policies are shown of queues of that kind, and which of their answers are taken.
 fn contexts_of<Q: RunQueue + Drop>(rt: &impl Abort, alloc: Global) {
     a_preemption_beside_one_task(rt, alloc, &mut Q::empty());
-    a_preemption_of_a_task_alone(rt, alloc, &Q::empty());
+    a_preemption_of_a_task_alone(rt, &Q::empty());
     pulls_of_many_tasks(rt, alloc, &mut Q::empty());
     a_pull_of_one_of_two(rt, alloc, &mut Q::empty());
     pulls_that_are_permitted(rt, alloc, &mut Q::empty());
 }
 
+/// The list and the tree show the same contexts under both rules.
 #[test]
 fn contexts_of_each_queue(rt: HostRuntime) {
     contexts_of::<CfsQueue>(&rt, rt.alloc());

@@ -1,10 +1,9 @@
 // Runs of a core over worked events, on a board of its own: the answers, in order, under both disciplines. The lines are
-// worked by hand from the rules of both disciplines and from the programs of the policies.
+// worked on paper from the rules of both disciplines and from the programs of the policies.
 
 ghost use Rattle.std.specs.Prelude.{◌≤◌};
 
 use crate::asserting::{is_number, is_text};
-use crate::hex_text::bytes_of;
 use bq_bpf::{Board, Plain};
 use bq_cfs::CfsQueue;
 use bq_core::Core;
@@ -20,50 +19,62 @@ use std::alloc::Global;
 use std::process::Abort;
 
 /// Preempt, one map of 8 bytes and 1 entry: answers the old value of its entry and adds one to it, or answers 2.
-const COUNTING: &str = "\
-42515049 01 01 0100 0800 0100 0f000000
-620afcff00000000                 ; stw [r10-4], 0
-18510000000000000000000000000000 ; ldmap r1, 0
-bfa2000000000000                 ; mov64 r2, r10
-07020000fcffffff                 ; add64 r2, -4
-8500000001000000                 ; call 1
-5500020000000000                 ; jne64 r0, 0, +2
-b700000002000000                 ; mov64 r0, 2
-9500000000000000                 ; exit
-7903000000000000                 ; ldxdw r3, [r0+0]
-bf34000000000000                 ; mov64 r4, r3
-0704000001000000                 ; add64 r4, 1
-7b40000000000000                 ; stxdw [r0+0], r4
-bf30000000000000                 ; mov64 r0, r3
-9500000000000000                 ; exit
-";
+const COUNTING: [u8; 136] = [
+    0x42, 0x51, 0x50, 0x49, 1, 1, 1, 0, 8, 0, 1, 0, 15, 0, 0, 0, // one map, 15 slots
+    0x62, 0x0a, 0xfc, 0xff, 0, 0, 0, 0, // stw [r10-4], 0
+    0x18, 0x51, 0, 0, 0, 0, 0, 0, 0, 0, 0, 0, 0, 0, 0, 0, // ldmap r1, 0
+    0xbf, 0xa2, 0, 0, 0, 0, 0, 0, // mov64 r2, r10
+    7, 2, 0, 0, 0xfc, 0xff, 0xff, 0xff, // add64 r2, -4
+    0x85, 0, 0, 0, 1, 0, 0, 0, // call 1
+    0x55, 0, 2, 0, 0, 0, 0, 0, // jne64 r0, 0, +2
+    0xb7, 0, 0, 0, 2, 0, 0, 0, // mov64 r0, 2
+    0x95, 0, 0, 0, 0, 0, 0, 0, // exit
+    0x79, 3, 0, 0, 0, 0, 0, 0, // ldxdw r3, [r0+0]
+    0xbf, 0x34, 0, 0, 0, 0, 0, 0, // mov64 r4, r3
+    7, 4, 0, 0, 1, 0, 0, 0, // add64 r4, 1
+    0x7b, 0x40, 0, 0, 0, 0, 0, 0, // stxdw [r0+0], r4
+    0xbf, 0x30, 0, 0, 0, 0, 0, 0, // mov64 r0, r3
+    0x95, 0, 0, 0, 0, 0, 0, 0, // exit
+];
 
 /// Preempt: adds 5 to counter 3, and answers 0.
-const ADDING: &str = "\
-42515049 01 01 0000 05000000
-b701000003000000 ; mov64 r1, 3
-b702000005000000 ; mov64 r2, 5
-8500000064000000 ; call 100
-b700000000000000 ; mov64 r0, 0
-9500000000000000 ; exit
-";
+const ADDING: [u8; 52] = [
+    0x42, 0x51, 0x50, 0x49, 1, 1, 0, 0, 5, 0, 0, 0, // no map, 5 slots
+    0xb7, 1, 0, 0, 3, 0, 0, 0, // mov64 r1, 3
+    0xb7, 2, 0, 0, 5, 0, 0, 0, // mov64 r2, 5
+    0x85, 0, 0, 0, 100, 0, 0, 0, // call 100
+    0xb7, 0, 0, 0, 0, 0, 0, 0, // mov64 r0, 0
+    0x95, 0, 0, 0, 0, 0, 0, 0, // exit
+];
 
 /// Place: answers processor 0.
-const FIRST_PROCESSOR: &str = "42515049 01 00 0000 02000000  b700000000000000 9500000000000000";
+const FIRST_PROCESSOR: [u8; 28] = [
+    0x42, 0x51, 0x50, 0x49, 1, 0, 0, 0, 2, 0, 0, 0, // no map, 2 slots
+    0xb7, 0, 0, 0, 0, 0, 0, 0, // mov64 r0, 0
+    0x95, 0, 0, 0, 0, 0, 0, 0, // exit
+];
 
 /// Pull: asks for task 1, and for task 2.
-const FIRST_TASK: &str = "42515049 01 02 0000 02000000  b700000001000000 9500000000000000";
+const FIRST_TASK: [u8; 28] = [
+    0x42, 0x51, 0x50, 0x49, 1, 2, 0, 0, 2, 0, 0, 0, // no map, 2 slots
+    0xb7, 0, 0, 0, 1, 0, 0, 0, // mov64 r0, 1
+    0x95, 0, 0, 0, 0, 0, 0, 0, // exit
+];
 
-const SECOND_TASK: &str = "42515049 01 02 0000 02000000  b700000002000000 9500000000000000";
+const SECOND_TASK: [u8; 28] = [
+    0x42, 0x51, 0x50, 0x49, 1, 2, 0, 0, 2, 0, 0, 0, // no map, 2 slots
+    0xb7, 0, 0, 0, 2, 0, 0, 0, // mov64 r0, 2
+    0x95, 0, 0, 0, 0, 0, 0, 0, // exit
+];
 
-/// An event that is told without a policy of its own, so that rows of events own nothing. Admitted tasks are of nice 0.
+/// An event as a row has it, whose policy is an image, so that rows own nothing. Admitted tasks are of nice 0.
 #[derive(Clone, Copy)]
 enum EventRow {
     /// A task, its mask and its slice.
     Admit(u16, u64, u64),
     Draw,
     /// At a processor's hook, as a generation: the policy of this image, or none.
-    Install(u8, Hook, u64, Option<&'static str>),
+    Install(u8, Hook, u64, Option<&'static [u8]>),
     /// A task comes into the hand of processor 0.
     BeginWake(u16),
     /// And it is placed, at this time.
@@ -80,13 +91,13 @@ enum EventRow {
 type Answer = Result<Reply, Refusal>;
 
 /// The policy of an image.
-fn policy(rt: &impl Abort, alloc: Global, image: &str) -> Policy {
-    let program = load(alloc, bytes_of(rt, alloc, image).as_slice()).expect(rt, "an image");
+fn policy(rt: &impl Abort, alloc: Global, image: &[u8]) -> Policy {
+    let program = load(alloc, image).expect(rt, "an image");
     Policy::new(alloc, program).expect(rt, "memory")
 }
 
 /// The policy of an image, if there is an image.
-fn policy_of(rt: &impl Abort, alloc: Global, image: Option<&str>) -> Option<Policy> {
+fn policy_of(rt: &impl Abort, alloc: Global, image: Option<&[u8]>) -> Option<Policy> {
     Some(policy(rt, alloc, image?))
 }
 
@@ -170,7 +181,7 @@ static MAP_ROWS: [EventRow; 13] = [
     EventRow::Admit(1, 1, 3_000_000),
     EventRow::Admit(2, 1, 3_000_000),
     EventRow::Draw,
-    EventRow::Install(0, Hook::Preempt, 1, Some(COUNTING)),
+    EventRow::Install(0, Hook::Preempt, 1, Some(&COUNTING)),
     EventRow::BeginWake(1),
     EventRow::EndWake(0),
     EventRow::BeginWake(2),
@@ -187,6 +198,7 @@ admit ok\nadmit ok\ndraw 1\ninstall ok\nbegin 1 loads 0 0\nend 1 to 0 by rule st
 end 2 to 0 by rule steps 0\ndrain 2 run 1 by rule steps 0\ntick run 1 by policy steps 12\n\
 tick run 2 by policy steps 12\ntick run 2 by rule steps 12\nrefused C12 Older 1\n";
 
+/// A policy counts in its map: it answers 0, 1 and then 2, which is not permitted.
 #[test]
 fn a_map_is_written_and_read_back(rt: HostRuntime) {
     is_answered::<CfsQueue, 2>(&rt, rt.alloc(), &MAP_ROWS, &mut Plain::new(), MAP_LINES);
@@ -213,6 +225,7 @@ admit ok\nadmit ok\nbegin 1 loads 0\nend 1 to 0 by rule steps 0\nbegin 2 loads 1
 drain 2 run 2 by rule steps 0\ntick run 1 by rule steps 0\nblock 1 run 2\ntick run 2 by rule steps 0\n\
 begin 1 loads 1\nend 1 to 0 by rule steps 0\n";
 
+/// A task that has had more than its share does not run, though its deadline is the earliest.
 #[test]
 fn the_earliest_deadline_is_not_eligible(rt: HostRuntime) {
     is_answered::<EevdfQueue, 1>(
@@ -230,7 +243,7 @@ static PULL_ROWS: [EventRow; 21] = [
     EventRow::Admit(2, 3, 3_000_000),
     EventRow::Admit(3, 3, 3_000_000),
     EventRow::Draw,
-    EventRow::Install(0, Hook::Place, 1, Some(FIRST_PROCESSOR)),
+    EventRow::Install(0, Hook::Place, 1, Some(&FIRST_PROCESSOR)),
     EventRow::BeginWake(1),
     EventRow::EndWake(0),
     EventRow::BeginWake(2),
@@ -241,10 +254,10 @@ static PULL_ROWS: [EventRow; 21] = [
     EventRow::Pull(0),
     EventRow::Pull(0),
     EventRow::Draw,
-    EventRow::Install(1, Hook::Pull, 2, Some(FIRST_TASK)),
+    EventRow::Install(1, Hook::Pull, 2, Some(&FIRST_TASK)),
     EventRow::Pull(0),
     EventRow::Draw,
-    EventRow::Install(1, Hook::Pull, 3, Some(SECOND_TASK)),
+    EventRow::Install(1, Hook::Pull, 3, Some(&SECOND_TASK)),
     EventRow::Pull(0),
     EventRow::Pull(1),
 ];
@@ -255,6 +268,7 @@ begin 2 loads 1 0\nend 2 to 0 by policy steps 2\nbegin 3 loads 2 0\nend 3 to 0 b
 drain 3 run 1 by rule steps 0\npull 3 run 3 by rule steps 0\npull none run 3 by rule steps 0\ndraw 2\ninstall ok\n\
 pull none run 3 by rule steps 2\ndraw 3\ninstall ok\npull 2 run 3 by policy steps 2\nrefused C9 SameProcessor\n";
 
+/// A pull takes what the rule or a policy chooses, and nothing that may not move.
 #[test]
 fn an_emptier_processor_pulls(rt: HostRuntime) {
     is_answered::<CfsQueue, 2>(&rt, rt.alloc(), &PULL_ROWS, &mut Plain::new(), PULL_LINES);
@@ -264,7 +278,7 @@ fn an_emptier_processor_pulls(rt: HostRuntime) {
 static BOARD_ROWS: [EventRow; 8] = [
     EventRow::Admit(1, 1, 3_000_000),
     EventRow::Draw,
-    EventRow::Install(0, Hook::Preempt, 1, Some(ADDING)),
+    EventRow::Install(0, Hook::Preempt, 1, Some(&ADDING)),
     EventRow::BeginWake(1),
     EventRow::EndWake(0),
     EventRow::Drain(0),
@@ -276,6 +290,7 @@ static BOARD_LINES: &str = "\
 admit ok\ndraw 1\ninstall ok\nbegin 1 loads 0\nend 1 to 0 by rule steps 0\ndrain 1 run 1 by rule steps 0\n\
 tick run 1 by policy steps 5\ntick run 1 by policy steps 5\n";
 
+/// Two ticks at which a policy adds 5 leave 10 on the counter.
 #[test]
 fn what_policies_add_stands_on_the_board(rt: HostRuntime) {
     let mut board = Plain::new();
@@ -321,6 +336,7 @@ fn ticks(answers: &[Answer]) -> u64 {
     count
 }
 
+/// A list of 20,000 events has as many answers.
 #[test]
 fn a_long_run_is_answered_to_its_end(rt: HostRuntime) {
     let events = long_events(&rt, rt.alloc());

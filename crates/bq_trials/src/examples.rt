@@ -1,6 +1,7 @@
 // What a user of the library starts with: programs and their images. Each body stands, word for word, as the example of the call that
 // it shows; `tests/examples.py` compares them.
 
+use crate::failing::Fail;
 use arrayvec::ArrayVec;
 use bq_asm::assemble;
 use bq_bpf::{Env, Plain};
@@ -12,7 +13,6 @@ use bq_load::{Image, ImageReader, load, read_image, write_image};
 use bq_maps::Maps;
 use bq_verify::{PolicyForm, Program, Verified, known_states, verify};
 use std::alloc::Global;
-use std::test::Fail;
 
 /// The example of `assemble`.
 #[test]
@@ -139,6 +139,7 @@ fn answer_of(alloc: Global, verified: &Verified) -> Result<Option<(u64, u32)>, F
     Ok(Some((ran.r0, ran.steps)))
 }
 
+/// The example of `run` answers 1, in two instructions.
 #[test]
 fn a_program_is_run(rt: HostRuntime) -> Result<(), Fail> {
     let alloc = rt.alloc();
@@ -207,6 +208,7 @@ fn answer_and_snapshots_of(
     Ok(Some((ran.r0, snapshots.len())))
 }
 
+/// The examples of `run_into` and `run_traced`: one call of a counter, and three states.
 #[test]
 fn a_run_reports_its_calls_and_its_steps(rt: HostRuntime) -> Result<(), Fail> {
     let alloc = rt.alloc();

@@ -18,7 +18,7 @@ mod core_runs;
 #[cfg(test)]
 mod examples;
 #[cfg(test)]
-mod hex_text;
+mod failing;
 #[cfg(test)]
 mod one_verdict;
 #[cfg(test)]

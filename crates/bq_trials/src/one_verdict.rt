@@ -4,7 +4,7 @@
 
 ghost use Rattle.std.specs.Prelude.{◌≡◌};
 
-use crate::asserting::holds;
+use crate::asserting::is_text;
 use bq_cfs::CfsQueue;
 use bq_history::Naming;
 use bq_hooks::Hook;
@@ -13,7 +13,7 @@ use bq_policy_file::{Head, PolicySource, read_policy};
 use bq_recording::{Prepared, Seat, prepare};
 use bq_shared::{Counting, UnnamedCounters};
 use bq_verify::{Refused, verify};
-use std::alloc::{AllocError, Global};
+use std::alloc::Global;
 use std::marker::Brand;
 use std::process::Abort;
 use std::sync::Wait;
@@ -101,18 +101,24 @@ fn next(number: u64) -> u64 {
     x
 }
 
+/// Adds text to a text.
+fn add(rt: &impl Abort, text: &mut String, more: &str) {
+    text.push_str(more).expect(rt, "memory");
+}
+
 /// The text of a policy with a map of one entry, of 1 to 8 drawn lines and an exit.
-fn text(alloc: Global, number: &mut u64) -> Result<String, AllocError> {
-    let mut text = String::from_str(alloc, ";@ hook preempt\n;@ maps 8:1\n")?;
+fn text(rt: &impl Abort, alloc: Global, number: &mut u64) -> String {
+    let mut text = String::new(alloc);
+    add(rt, &mut text, ";@ hook preempt\n;@ maps 8:1\n");
     *number = next(*number);
     let drawn = (*number >> 20) % 8 + 1;
     for _ in 0..drawn {
         *number = next(*number);
-        text.push_str(LINES[((*number >> 20) % 48) as usize])?;
-        text.push_str("\n")?;
+        add(rt, &mut text, LINES[((*number >> 20) % 48) as usize]);
+        add(rt, &mut text, "\n");
     }
-    text.push_str("exit\n")?;
-    Ok(text)
+    add(rt, &mut text, "exit\n");
+    text
 }
 
 /// How `verify` refuses the program of a policy.
@@ -128,30 +134,30 @@ fn judged(rt: &impl Abort, alloc: Global, policy: &PolicySource) -> Option<Refus
     }
 }
 
-/// The next program that is drawn.
-fn next_sample(rt: &impl Abort, alloc: Global, number: &mut u64) -> Sample {
-    let text = text(alloc, number).expect(rt, "memory");
+/// The program of a text.
+fn sample_of(rt: &impl Abort, alloc: Global, text: &str) -> Sample {
     let policy = read_policy(alloc, text.as_bytes(), &Head::nothing()).expect(rt, "a policy");
-    let image = policy.image(alloc).expect(rt, "memory");
-    let refusal = judged(rt, alloc, &policy);
-    Sample { image, refusal }
+    Sample {
+        image: policy.image(alloc).expect(rt, "memory"),
+        refusal: judged(rt, alloc, &policy),
+    }
 }
 
-/// The first line that is told is the one that refuses the program; of one that is accepted, it begins so.
-fn agrees(
-    rt: &impl Abort,
-    alloc: Global,
-    reported: &str,
-    refusal: Option<Refusal>,
-    accepted: &str,
-) {
-    let line = reported.lines().next().unwrap_or("nothing");
-    let Some(Refusal { cause, slot }) = refusal else {
-        holds(rt, line.starts_with(accepted), line, accepted);
-        return;
+/// The text of the machine's answer is the one that refuses the program with its cause and slot, or that it is loaded.
+fn agrees(rt: &impl Abort, alloc: Global, answer: Option<LoadRefused>, refusal: Option<Refusal>) {
+    let found = match answer {
+        None => String::from_str(alloc, "loaded"),
+        Some(refused) => format!(in alloc; "refused {refused}"),
     };
-    let wanted = format!(in alloc; "refused L8 V{cause} {slot}").expect(rt, "memory");
-    holds(rt, line == wanted.as_str(), line, wanted.as_str());
+    let wanted = match refusal {
+        None => String::from_str(alloc, "loaded"),
+        Some(Refusal { cause, slot }) => format!(in alloc; "refused L8 V{cause} {slot}"),
+    };
+    is_text(
+        rt,
+        found.expect(rt, "memory").as_str(),
+        wanted.expect(rt, "memory").as_str(),
+    );
 }
 
 /// A clock that stands still.
@@ -169,22 +175,17 @@ impl Clock for Steady {
 /// A machine of one processor under CFS, by one thread.
 type Single<N> = Machine<CfsQueue, Steady, N, 1>;
 
-/// What the machine answers to a load of the image.
+/// The machine answers to a load of the text's image what `verify` does.
 fn is_loaded<N: Naming + Counting, R: Abort + Wait>(
     rt: &R,
     alloc: Global,
     machine: &Single<N>,
     seat: &mut Seat<N>,
-    sample: &Sample,
+    text: &str,
 ) {
-    let image = Some(sample.image.as_slice());
-    let reported = match machine.load_all(rt, alloc, seat, Hook::Preempt, image) {
-        Ok(_) => String::from_str(alloc, "loaded"),
-        Err(LoadRefused::Fault(fault)) => format!(in alloc; "refused {fault}"),
-        Err(LoadRefused::Refusal(refusal)) => format!(in alloc; "refused {refusal}"),
-    };
-    let reported = reported.expect(rt, "memory");
-    agrees(rt, alloc, reported.as_str(), sample.refusal, "loaded");
+    let Sample { image, refusal } = sample_of(rt, alloc, text);
+    let answer = machine.load_all(rt, alloc, seat, Hook::Preempt, Some(image.as_slice()));
+    agrees(rt, alloc, answer.err(), refusal);
 }
 
 /// Each program as a load of the locked machine.
@@ -204,11 +205,12 @@ fn are_loaded<N: Naming + Counting, R: Abort + Wait>(
     let mut seat = seats.pop().expect(rt, "a seat");
     let mut number = SEED;
     for _ in 0..PROGRAMS {
-        let sample = next_sample(rt, alloc, &mut number);
-        is_loaded(rt, alloc, &machine, &mut seat, &sample);
+        let text = text(rt, alloc, &mut number);
+        is_loaded(rt, alloc, &machine, &mut seat, text.as_str());
     }
 }
 
+/// The locked machine accepts what `verify` accepts, and refuses for the same cause at the same slot what it refuses.
 #[test]
 fn the_machine_agrees(rt: HostRuntime) {
     let alloc = rt.alloc();

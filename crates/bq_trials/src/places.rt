@@ -3,12 +3,11 @@
 
 ghost use Rattle.std.specs.Prelude.{◌≤◌, length};
 
-use crate::asserting::{are_bytes_of, is_byte, is_number};
+use crate::asserting::{is_number, is_true};
 use bq_disc::Entity;
 use bq_hooks::{
     By, Choice, Loads, Place, own_place, place_ctx, settle_place, settle_preempt, wide_place_ctx,
 };
-use std::alloc::Global;
 use std::process::Abort;
 
 /// The loads 1, 2, 3 and so on.
@@ -22,18 +21,18 @@ fn rising(count: u16) -> Loads {
     loads
 }
 
-/// Compares a context with its first 40 bytes and the loads of so many processors behind them.
-fn shows(rt: &impl Abort, alloc: Global, context: &[u8], header: &str, processors: usize)
+/// Compares a context with its first 40 bytes and the loads of that number of processors behind them.
+fn shows(rt: &impl Abort, context: &[u8], header: &[u8; 40], processors: usize)
     requires { 40 ≤ length context.now }
 {
     let (first, loads) = context.split_at(40);
-    are_bytes_of(rt, alloc, first, header);
+    is_true(rt, first == header.as_slice());
     for (at, byte) in loads.iter().enumerate() {
-        is_byte(rt, at, *byte, load_byte(at, processors));
+        is_number(rt, u64::from(*byte), u64::from(load_byte(at, processors)));
     }
 }
 
-/// A byte of the loads of so many processors, 64 at most, each of which is its processor's number and one more.
+/// A byte of the loads of that number of processors, 64 at most, each of which is its processor's number and one more.
 fn load_byte(at: usize, processors: usize) -> u8 {
     if at % 4 == 0 && at / 4 < processors.min(64) {
         (at / 4 + 1) as u8
@@ -43,17 +42,17 @@ fn load_byte(at: usize, processors: usize) -> u8 {
 }
 
 /// Compares the context of version 1.
-fn first_shows(rt: &impl Abort, alloc: Global, facts: &Place, header: &str) {
+fn first_shows(rt: &impl Abort, facts: &Place, header: &[u8; 40]) {
     let mut context = [0xaa; 104];
     place_ctx(facts, &mut context);
-    shows(rt, alloc, &context, header, facts.processors.min(16));
+    shows(rt, &context, header, facts.processors.min(16));
 }
 
 /// And that of version 2.
-fn second_shows(rt: &impl Abort, alloc: Global, facts: &Place, header: &str) {
+fn second_shows(rt: &impl Abort, facts: &Place, header: &[u8; 40]) {
     let mut context = [0xaa; 296];
     wide_place_ctx(facts, &mut context);
-    shows(rt, alloc, &context, header, facts.processors.min(64));
+    shows(rt, &context, header, facts.processors.min(64));
 }
 
 /// A task that is placed, by the first words of its contexts in both versions.
@@ -66,8 +65,8 @@ struct Row {
     waking: u8,
     processors: u16,
     own: u8,
-    first: &'static str,
-    second: &'static str,
+    first: &'static [u8; 40],
+    second: &'static [u8; 40],
 }
 
 static ROWS: [Row; 4] = [
@@ -81,8 +80,8 @@ static ROWS: [Row; 4] = [
         waking: 0,
         processors: 1,
         own: 0,
-        first: ON_ONE,
-        second: ON_ONE,
+        first: &ON_ONE,
+        second: &ON_ONE,
     },
     // and on sixteen: number 15 is the last that version 1 shows
     Row {
@@ -94,8 +93,8 @@ static ROWS: [Row; 4] = [
         waking: 15,
         processors: 16,
         own: 0,
-        first: ON_SIXTEEN,
-        second: ON_SIXTEEN,
+        first: &ON_SIXTEEN,
+        second: &ON_SIXTEEN,
     },
     // on more, version 1 shows sixteen processors, and none in place of those beyond
     Row {
@@ -107,8 +106,8 @@ static ROWS: [Row; 4] = [
         waking: 16,
         processors: 64,
         own: 15,
-        first: FIRST_ON_SIXTY_FOUR,
-        second: SECOND_ON_SIXTY_FOUR,
+        first: &FIRST_ON_SIXTY_FOUR,
+        second: &SECOND_ON_SIXTY_FOUR,
     },
     // an own choice beyond number 15 is not shown to version 1; mask bits beyond the machine are shown to neither
     Row {
@@ -120,76 +119,76 @@ static ROWS: [Row; 4] = [
         waking: 15,
         processors: 32,
         own: 20,
-        first: FIRST_ON_THIRTY_TWO,
-        second: SECOND_ON_THIRTY_TWO,
+        first: &FIRST_ON_THIRTY_TWO,
+        second: &SECOND_ON_THIRTY_TWO,
     },
 ];
 
-const ON_ONE: &str = "\
-ff030000         ; the task
-00040000         ; its weight
-0100000000000000 ; its mask
-a086010000000000 ; its slice
-00000000         ; the waking processor
-ffffffff         ; no previous one
-01000000         ; how many processors there are
-00000000         ; the own choice
-";
+const ON_ONE: [u8; 40] = [
+    0xff, 3, 0, 0, // the task
+    0, 4, 0, 0, // its weight
+    1, 0, 0, 0, 0, 0, 0, 0, // its mask
+    0xa0, 0x86, 1, 0, 0, 0, 0, 0, // its slice
+    0, 0, 0, 0, // the waking processor
+    0xff, 0xff, 0xff, 0xff, // no previous one
+    1, 0, 0, 0, // how many processors there are
+    0, 0, 0, 0, // the own choice
+];
 
-const ON_SIXTEEN: &str = "\
-03000000         ; the task
-b95a0100         ; its weight
-0180000000000000 ; its mask
-00e1f50500000000 ; its slice
-0f000000         ; the waking processor
-0f000000         ; the previous one
-10000000         ; how many processors there are
-00000000         ; the own choice
-";
+const ON_SIXTEEN: [u8; 40] = [
+    3, 0, 0, 0, // the task
+    0xb9, 0x5a, 1, 0, // its weight
+    1, 0x80, 0, 0, 0, 0, 0, 0, // its mask
+    0, 0xe1, 0xf5, 5, 0, 0, 0, 0, // its slice
+    0x0f, 0, 0, 0, // the waking processor
+    0x0f, 0, 0, 0, // the previous one
+    0x10, 0, 0, 0, // how many processors there are
+    0, 0, 0, 0, // the own choice
+];
 
-const FIRST_ON_SIXTY_FOUR: &str = "\
-01020000         ; the task
-0f000000         ; its weight
-0180000000000000 ; its mask, of the first sixteen
-c0c62d0000000000 ; its slice
-ffffffff         ; the waking processor is not shown
-ffffffff         ; nor is the previous one
-10000000         ; how many processors are shown
-0f000000         ; the own choice
-";
+const FIRST_ON_SIXTY_FOUR: [u8; 40] = [
+    1, 2, 0, 0, // the task
+    0x0f, 0, 0, 0, // its weight
+    1, 0x80, 0, 0, 0, 0, 0, 0, // its mask, of the first sixteen
+    0xc0, 0xc6, 0x2d, 0, 0, 0, 0, 0, // its slice
+    0xff, 0xff, 0xff, 0xff, // the waking processor is not shown
+    0xff, 0xff, 0xff, 0xff, // nor is the previous one
+    0x10, 0, 0, 0, // how many processors are shown
+    0x0f, 0, 0, 0, // the own choice
+];
 
-const SECOND_ON_SIXTY_FOUR: &str = "\
-01020000         ; the task
-0f000000         ; its weight
-0180010000000080 ; its mask
-c0c62d0000000000 ; its slice
-10000000         ; the waking processor
-3f000000         ; the previous one
-40000000         ; how many processors there are
-0f000000         ; the own choice
-";
+const SECOND_ON_SIXTY_FOUR: [u8; 40] = [
+    1, 2, 0, 0, // the task
+    0x0f, 0, 0, 0, // its weight
+    1, 0x80, 1, 0, 0, 0, 0, 0x80, // its mask
+    0xc0, 0xc6, 0x2d, 0, 0, 0, 0, 0, // its slice
+    0x10, 0, 0, 0, // the waking processor
+    0x3f, 0, 0, 0, // the previous one
+    0x40, 0, 0, 0, // how many processors there are
+    0x0f, 0, 0, 0, // the own choice
+];
 
-const FIRST_ON_THIRTY_TWO: &str = "\
-01000000         ; the task
-00040000         ; its weight
-0000000000000000 ; its mask, of the first sixteen
-c0c62d0000000000 ; its slice
-0f000000         ; the waking processor
-0e000000         ; the previous one
-10000000         ; how many processors are shown
-ffffffff         ; the own choice is not shown
-";
+const FIRST_ON_THIRTY_TWO: [u8; 40] = [
+    1, 0, 0, 0, // the task
+    0, 4, 0, 0, // its weight
+    0, 0, 0, 0, 0, 0, 0, 0, // its mask, of the first sixteen
+    0xc0, 0xc6, 0x2d, 0, 0, 0, 0, 0, // its slice
+    0x0f, 0, 0, 0, // the waking processor
+    0x0e, 0, 0, 0, // the previous one
+    0x10, 0, 0, 0, // how many processors are shown
+    0xff, 0xff, 0xff, 0xff, // the own choice is not shown
+];
 
-const SECOND_ON_THIRTY_TWO: &str = "\
-01000000         ; the task
-00040000         ; its weight
-0000100000000000 ; its mask
-c0c62d0000000000 ; its slice
-0f000000         ; the waking processor
-0e000000         ; the previous one
-20000000         ; how many processors there are
-14000000         ; the own choice
-";
+const SECOND_ON_THIRTY_TWO: [u8; 40] = [
+    1, 0, 0, 0, // the task
+    0, 4, 0, 0, // its weight
+    0, 0, 0x10, 0, 0, 0, 0, 0, // its mask
+    0xc0, 0xc6, 0x2d, 0, 0, 0, 0, 0, // its slice
+    0x0f, 0, 0, 0, // the waking processor
+    0x0e, 0, 0, 0, // the previous one
+    0x20, 0, 0, 0, // how many processors there are
+    0x14, 0, 0, 0, // the own choice
+];
 
 /// The task of a row.
 fn task(row: &Row) -> Entity {
@@ -203,7 +202,7 @@ fn task(row: &Row) -> Entity {
 }
 
 /// Both contexts of a place show what the row says.
-fn both_show(rt: &impl Abort, alloc: Global, row: &Row) {
+fn both_show(rt: &impl Abort, row: &Row) {
     let facts = Place {
         task: &task(row),
         waking: row.waking,
@@ -211,14 +210,15 @@ fn both_show(rt: &impl Abort, alloc: Global, row: &Row) {
         own: row.own,
         loads: &rising(row.processors),
     };
-    first_shows(rt, alloc, &facts, row.first);
-    second_shows(rt, alloc, &facts, row.second);
+    first_shows(rt, &facts, row.first);
+    second_shows(rt, &facts, row.second);
 }
 
+/// Both versions of a context show the fields that the tables of docs/CONTEXTS.md have.
 #[test]
 fn places_are_shown(rt: HostRuntime) {
     for row in &ROWS {
-        both_show(&rt, rt.alloc(), row);
+        both_show(&rt, row);
     }
 }
 
@@ -233,7 +233,7 @@ static PERMITTED_PLACES: [(Option<u64>, By); 6] = [
 ];
 
 fn is_placed(rt: &impl Abort, r0: Option<u64>, task: &Entity, by: By) {
-    assert_eq!(rt; settle_place(r0, 2, task, 1), Choice { value: 1, by });
+    is_true(rt, settle_place(r0, 2, task, 1) == Choice { value: 1, by });
 }
 
 /// Of two processors the mask allows the second: 200, 0 and -1 are not permitted, and 1 is.
@@ -259,7 +259,7 @@ static PREEMPTIONS: [(Option<u64>, bool, bool, By); 9] = [
 ];
 
 fn is_settled(rt: &impl Abort, choice: &Choice<bool>, value: bool, by: By) {
-    assert_eq!(rt; *choice, Choice { value, by });
+    is_true(rt, *choice == Choice { value, by });
 }
 
 /// 0 and 1 are permitted, whatever the discipline's own answer is.
@@ -268,6 +268,19 @@ fn preemptions_that_are_permitted(rt: HostRuntime) {
     for (r0, own, value, by) in &PREEMPTIONS {
         is_settled(&rt, &settle_preempt(*r0, *own), *value, *by);
     }
+}
+
+/// The loads of six processors.
+static SIX_LOADS: [u16; 6] = [3, 1, 2, 1, 1, 0];
+
+fn loads_of_six() -> Loads {
+    let mut loads = Loads::new();
+    for load in &SIX_LOADS {
+        if loads.as_slice().len() < 6 {
+            loads.push(*load);
+        }
+    }
+    loads
 }
 
 /// A mask of six processors, the previous one, and the own place.
@@ -295,12 +308,7 @@ fn is_own_place(rt: &impl Abort, loads: &Loads, mask: u64, prev: Option<u8>, pla
 /// The least load is chosen in the mask; of equal loads the previous processor, and else the least number.
 #[test]
 fn own_places(rt: HostRuntime) {
-    let mut loads = Loads::new();
-    for load in [3, 1, 2, 1, 1, 0] {
-        if loads.as_slice().len() < 6 {
-            loads.push(load);
-        }
-    }
+    let loads = loads_of_six();
     for (mask, prev, place) in &OWN_PLACES {
         is_own_place(&rt, &loads, *mask, *prev, *place);
     }

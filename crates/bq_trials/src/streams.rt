@@ -3,9 +3,10 @@
 use crate::asserting::holds;
 use bq_console::reason;
 use bq_streams::ErrorKeeper;
+use std::alloc::Global;
 use std::io;
 use std::io::{Error, Read, Write};
-use std::test::Fail;
+use std::process::Abort;
 
 /// Errors by their numbers, and the system's words for them.
 static NUMBERED: [(i32, &str); 5] = [
@@ -19,19 +20,21 @@ static NUMBERED: [(i32, &str); 5] = [
 /// Errors of other texts, and what is said of them.
 static OTHERS: [(&str, &str); 2] = [("Nothing is there", "nothing is there"), ("", "")];
 
+/// These words report the error.
+fn is_told(rt: &impl Abort, alloc: Global, error: &Error, words: &str) {
+    let told = reason(alloc, error).expect(rt, "memory");
+    holds(rt, told.as_str() == words, told.as_str(), words);
+}
+
+/// The system's words report an error of the system, and its own words another one; they begin with a small letter.
 #[test]
-fn reasons_are_the_systems_words(rt: HostRuntime) -> Result<(), Fail> {
+fn reasons_are_the_systems_words(rt: HostRuntime) {
     for (number, words) in &NUMBERED {
-        let error = Error::from_raw_os_error(*number);
-        let printed = reason(rt.alloc(), &error)?;
-        holds(&rt, printed.as_str() == *words, printed.as_str(), words);
+        is_told(&rt, rt.alloc(), &Error::from_raw_os_error(*number), words);
     }
     for (text, words) in &OTHERS {
-        let error = Error::other(*text);
-        let printed = reason(rt.alloc(), &error)?;
-        holds(&rt, printed.as_str() == *words, printed.as_str(), words);
+        is_told(&rt, rt.alloc(), &Error::other(*text), words);
     }
-    Ok(())
 }
 
 /// Gives one byte, then fails as a directory does, then gives bytes again; takes nothing of what is written.

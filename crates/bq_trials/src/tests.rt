@@ -46,11 +46,13 @@ fn begin_alike<A: RunQueue + Drop, B: RunQueue + Drop>(
     agree(rt, alloc, &mut A::empty(), &mut B::empty(), commands);
 }
 
+/// Under CFS the tree and the plain list answer 20,000 drawn commands alike.
 #[test]
 fn the_tree_answers_as_the_list_under_cfs(rt: HostRuntime) {
     begin_alike::<CfsQueue, List<Cfs>>(&rt, rt.alloc(), 20_000);
 }
 
+/// And under EEVDF.
 #[test]
 fn the_tree_answers_as_the_list_under_eevdf(rt: HostRuntime) {
     begin_alike::<EevdfQueue, List<Eevdf>>(&rt, rt.alloc(), 20_000);
@@ -65,17 +67,13 @@ fn a_tree_without_sums_answers_as_the_list(rt: HostRuntime) {
 /// A queue's task of nice 0: its id, v and deadline.
 type Row = (u16, u64, u64);
 
-fn is_fresh(rt: &impl Abort, fresh: bool, id: u16) {
-    assert!(rt; fresh, "task {id}");
-}
-
 /// Puts some tasks of nice 0 into a queue.
 fn fill<Q: RunQueue>(rt: &impl Abort, alloc: Global, queue: &mut Q, rows: &[Row]) {
     for row in rows {
         let (id, v, deadline) = *row;
         let mut entity = Entity::new(id, 1024, 1, 3_000_000);
         entity.set_times(v.min(1 << 62), deadline.min(1 << 62));
-        is_fresh(rt, put(rt, alloc, queue, entity), id);
+        is_true(rt, put(rt, alloc, queue, entity));
     }
 }
 
@@ -144,43 +142,42 @@ fn greatest_tasks_are_all_eligible<Q: RunQueue>(rt: &impl Abort, alloc: Global, 
     are_chosen_in_order(rt, queue);
 }
 
-/// A task that was so far from the mark wakes, and has this v and this deadline.
-fn wakes<Q: RunQueue>(
-    rt: &impl Abort,
-    queue: &Q,
-    node: &mut Node,
-    rel: i64,
-    v: u64,
-    deadline: u64,
-) {
+/// The task of a row wakes so.
+fn wakes<Q: RunQueue>(rt: &impl Abort, queue: &Q, row: &Wake) {
+    let (weight, slice, rel, v, deadline) = *row;
+    let mut node = Node::new(
+        1,
+        weight.clamp(15, 88761),
+        1,
+        slice.clamp(100_000, 100_000_000),
+    );
     node.entity.set_rel(rel);
-    queue.enter(node, Entry::Wake);
+    queue.enter(&mut node, Entry::Wake);
     is_number(rt, node.entity.v(), v);
     is_number(rt, node.entity.deadline(), deadline);
 }
 
-/// A woken task keeps its lag as far as one slice's virtual time, at the mark of a queue that is empty.
-fn wake_under_eevdf<Q: RunQueue>(rt: &impl Abort, queue: &Q) {
-    let rows = [
-        (1024, 100_000, 250_000, 4295067296, 4295167296),
-        (1024, 100_000, -250_000, 4294867296, 4294967296),
-        (335, 3_000_000, -10_000_000, 4285797147, 4294967296),
-    ];
-    for (weight, slice, rel, v, deadline) in rows {
-        let mut node = Node::new(1, weight, 1, slice);
-        wakes(rt, queue, &mut node, rel, v, deadline);
-    }
-}
+/// A task's weight, its slice, how far it was from the mark, and its v and its deadline once it woke.
+type Wake = (u32, u64, i64, u64, u64);
 
-fn wake_under_cfs<Q: RunQueue>(rt: &impl Abort, queue: &Q) {
-    let rows = [
-        (250_000, 4295217296),
-        (-3_000_000, 4291967296),
-        (-3_000_001, 4291967296),
-    ];
-    for (rel, v) in rows {
-        let mut node = Node::new(1, 1024, 1, 3_000_000);
-        wakes(rt, queue, &mut node, rel, v, 0);
+/// A woken task keeps its lag as far as one slice's virtual time, at the mark of a queue that is empty.
+static WAKES_UNDER_EEVDF: [Wake; 3] = [
+    (1024, 100_000, 250_000, 4295067296, 4295167296),
+    (1024, 100_000, -250_000, 4294867296, 4294967296),
+    (335, 3_000_000, -10_000_000, 4285797147, 4294967296),
+];
+
+/// A woken task is at most one slice behind the mark of a queue that is empty. CFS has no deadlines.
+static WAKES_UNDER_CFS: [Wake; 3] = [
+    (1024, 3_000_000, 250_000, 4295217296, 0),
+    (1024, 3_000_000, -3_000_000, 4291967296, 0),
+    (1024, 3_000_000, -3_000_001, 4291967296, 0),
+];
+
+/// The tasks of some rows wake so.
+fn all_wake<Q: RunQueue>(rt: &impl Abort, queue: &Q, rows: &[Wake]) {
+    for row in rows {
+        wakes(rt, queue, row);
     }
 }
 
@@ -190,9 +187,10 @@ fn rows_under_eevdf<Q: RunQueue + Drop>(rt: &impl Abort, alloc: Global) {
         chooses(rt, alloc, &mut Q::empty(), choice);
     }
     greatest_tasks_are_all_eligible(rt, alloc, &mut Q::empty());
-    wake_under_eevdf(rt, &Q::empty());
+    all_wake(rt, &Q::empty(), &WAKES_UNDER_EEVDF);
 }
 
+/// Both queues under EEVDF choose, mark and wake as the rows say.
 #[test]
 fn rows_of_eevdf(rt: HostRuntime) {
     rows_under_eevdf::<EevdfQueue>(&rt, rt.alloc());
@@ -248,9 +246,10 @@ fn marks_of_a_task_alone<Q: RunQueue>(rt: &impl Abort, queue: &mut Q) {
 fn rows_under_cfs<Q: RunQueue + Drop>(rt: &impl Abort, alloc: Global) {
     gives_way_to_one(rt, alloc, &mut Q::empty());
     marks_of_a_task_alone(rt, &mut Q::empty());
-    wake_under_cfs(rt, &Q::empty());
+    all_wake(rt, &Q::empty(), &WAKES_UNDER_CFS);
 }
 
+/// The queue under CFS gives way, marks and wakes as the rows say.
 #[test]
 fn rows_of_cfs(rt: HostRuntime) {
     rows_under_cfs::<CfsQueue>(&rt, rt.alloc());

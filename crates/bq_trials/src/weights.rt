@@ -10,6 +10,7 @@ static TABLE: [u32; 40] = [
     70, 56, 45, 36, 29, 23, 18, 15,
 ];
 
+/// The weights are those of Linux's table.
 #[test]
 fn each_nice_value_has_its_weight(rt: HostRuntime) {
     for place in 0..40u8 {
@@ -33,6 +34,7 @@ fn a_step_of_nice_is_a_quarter(rt: HostRuntime) {
     }
 }
 
+/// Time t at weight w is t * 1024 / w of virtual time, rounded down: 10240000000 / 335, 3072000000 / 335, and t itself at 1024.
 #[test]
 fn virtual_time_passes_by_weight(rt: HostRuntime) {
     is_number(&rt, vdelta(10_000_000, 335), 30_567_164);
@@ -41,6 +43,7 @@ fn virtual_time_passes_by_weight(rt: HostRuntime) {
     is_number(&rt, vdelta(281_474_976_710_655, 1024), 281_474_976_710_655);
 }
 
+/// Virtual time is held from 0 to 2^62, a shift back within a limit, and a distance within 2^30.
 #[test]
 fn virtual_time_is_held_within_its_ends(rt: HostRuntime) {
     is_number(

@@ -2,6 +2,7 @@
 // it shows; `tests/examples.py` compares them.
 ghost use Rattle.std.specs.Prelude.{◌≡◌};
 
+use crate::failing::Fail;
 use bq_bpf::Plain;
 use bq_cfs::CfsQueue;
 use bq_core::{Core, DynamicCore};
@@ -16,7 +17,6 @@ use bq_trace::{Session, replay};
 use std::alloc::Global;
 use std::marker::Brand;
 use std::sync::Wait;
-use std::test::Fail;
 
 /// The example of `RunQueue`.
 #[test]
@@ -155,6 +155,7 @@ fn life_of_a_machine<N: Naming + Counting, R: Wait>(
     Ok((closed.len(), closed.confirms(&ticked)))
 }
 
+/// The example of `Machine` has five events, as a wake is two, and the receipt of its tick is confirmed.
 #[test]
 fn a_machine_is_opened_called_and_closed(rt: HostRuntime) -> Result<(), Fail> {
     let alloc = rt.alloc();
