@@ -9,8 +9,8 @@ use bq_shared::{Counting, Record};
 use std::alloc::Global;
 use std::sync::Wait;
 
-/// A call of a machine, but for those that load policies and read counters.
-#[derive(Clone, Copy, Drop)]
+/// A call of a machine, except those that load policies or read counters.
+#[derive(Clone, Copy)]
 pub enum Request {
     Admit { admission: Admission },
     Retire { task: u16 },

@@ -1,74 +1,111 @@
 //! Counters that four threads add to.
 
+use crate::asking::Request;
+use crate::asserting::{is_number, is_true};
+use crate::gate::Point;
 use crate::images::{ADDS, READS};
-use crate::play::{Play, Script};
+use crate::play::{Script, Step};
 use crate::script::{AllPlayed, run_script};
+use crate::{admit, life};
 use bq_bpf::CounterCall;
+use bq_machine::Admission;
 use std::alloc::Global;
 use std::process::Abort;
 
-/// Whether the answers to the adds of 5 are 0, 5, 10 and so on, so many, each once, and the one read answers their sum.
-fn adds_up(rt: &impl Abort, alloc: Global, outcome: &AllPlayed, adds: usize, sum: u64) -> bool {
-    let mut seen = vec![in alloc; false; adds].expect(rt, "memory");
-    let mut found = 0usize;
-    let mut reads = 0u32;
-    for place in 0..outcome.closed.len() {
-        let Some((_, _, calls)) = outcome.closed.logged(place) else {
-            return false;
-        };
-        for call in calls {
-            match call {
-                CounterCall::Read { counter: 3, answer } if *answer == sum => {
-                    reads = reads.wrapping_add(1);
-                }
-                CounterCall::Add {
-                    counter: 3,
-                    amount: 5,
-                    answer,
-                } => {
-                    let Some(one) = seen.get_mut((*answer / 5) as usize) else {
-                        return false;
-                    };
-                    if *answer % 5 != 0 || *one {
-                        return false;
-                    }
-                    *one = true;
-                    found = found.wrapping_add(1);
-                }
-                _ => return false,
+/// The answers to the adds of 5 that were found, by a fifth of each, and how often the counter was read.
+#[derive(Drop)]
+struct Tally {
+    seen: Vec<bool>,
+    reads: u32,
+}
+
+impl Tally {
+    /// Adds a call. Returns whether it is an add of 5 to counter 3 whose answer is a multiple of 5 that was not seen, or a read
+    /// that answers this sum.
+    fn add(&mut self, call: &CounterCall, sum: u64) -> bool {
+        match call {
+            CounterCall::Read { counter: 3, answer } => {
+                self.reads = self.reads.wrapping_add(1);
+                *answer == sum
             }
+            CounterCall::Add {
+                counter: 3,
+                amount: 5,
+                answer,
+            } => {
+                let Some(one) = self.seen.get_mut((*answer / 5) as usize) else {
+                    return false;
+                };
+                let is_new = *answer % 5 == 0 && !*one;
+                *one = true;
+                is_new
+            }
+            _ => false,
         }
     }
-    reads == 1 && found == adds
+
+    /// Adds calls. Returns whether each is so.
+    fn add_all(&mut self, calls: &[CounterCall], sum: u64) -> bool {
+        for call in calls {
+            if !self.add(call, sum) {
+                return false;
+            }
+        }
+        true
+    }
+
+    /// Whether all answers were seen, and the counter was read once.
+    fn is_whole(&self) -> bool {
+        for one in &self.seen {
+            if !*one {
+                return false;
+            }
+        }
+        self.reads == 1
+    }
+}
+
+/// The answers to that number of adds of 5 are 0, 5, 10 and so on, each once, and the one read answers their sum.
+fn adds_up(rt: &impl Abort, alloc: Global, outcome: &AllPlayed, adds: usize, sum: u64) {
+    let mut tally = Tally {
+        seen: vec![in alloc; false; adds].expect(rt, "memory"),
+        reads: 0,
+    };
+    for place in 0..outcome.closed.len() {
+        let Some((_, _, calls)) = outcome.closed.logged(place) else {
+            panic!(rt; "a place without an event")
+        };
+        is_true(rt, tally.add_all(calls, sum));
+    }
+    is_true(rt, tally.is_whole());
 }
 
 /// Four lives of adds, and then a read.
-fn adding(rt: &impl Abort, alloc: Global) -> Script {
-    let mut script = Script::new(alloc);
-    script.before.push(Play::Load(&ADDS)).expect(rt, "memory");
-    for processor in 0..4u8 {
-        let life = Play::Life {
-            processor,
-            mask: 1 << processor,
-            ticks: 1000,
-        };
-        script.at_once.push(life).expect(rt, "memory");
-    }
-    script.after.push(Play::Load(&READS)).expect(rt, "memory");
-    script.after.push(Play::Tick).expect(rt, "memory");
-    script
-}
+static ADDING: Script<'static> = Script {
+    before: &[Step::Load(&ADDS)],
+    at_once: &[
+        life!(0, 1, 1000),
+        life!(1, 2, 1000),
+        life!(2, 4, 1000),
+        life!(3, 8, 1000),
+    ],
+    after: &[
+        Step::Load(&READS),
+        Step::Calls(1, &[Request::Tick { processor: 0 }]),
+        Step::Read,
+    ],
+};
 
 /// 4 times 1,000 ticks added 5 each.
 fn counts_once(rt: &impl Abort, alloc: Global, outcome: &AllPlayed) {
-    assert_eq!(rt; outcome.read, [0, 20_000, 0]);
-    assert_eq!(rt; outcome.closed.counters[3], 20_000);
-    assert!(rt; adds_up(rt, alloc, outcome, 4000, 20_000));
+    is_true(rt, outcome.read == Some([0, 20_000, 0]));
+    is_number(rt, outcome.closed.counters[3], 20_000);
+    adds_up(rt, alloc, outcome, 4000, 20_000);
 }
 
+/// No add is lost or counted twice where four threads add to one counter.
 #[test]
 fn each_add_counts_once(rt: HostRuntime) {
-    let script = adding(&rt, rt.alloc());
-    let outcome = run_script(&rt, rt.alloc(), None, script);
+    let outcome = run_script(&rt, rt.alloc(), Point::Nowhere, &ADDING);
     counts_once(&rt, rt.alloc(), &outcome);
 }

@@ -6,7 +6,8 @@ use bq_disc::RunQueue;
 use bq_history::Naming;
 use bq_hooks::Hook;
 use bq_load::LoadFault;
-use bq_machine::{Admission, Clock, LoadRefused, Machine};
+use bq_machine::{Admission, LoadRefused, Machine};
+use bq_par::Metronome;
 use bq_parts::Refusal;
 use bq_recording::Seat;
 use bq_shared::Counting;
@@ -15,6 +16,9 @@ use std::sync::Wait;
 
 /// The nice values of tasks that are admitted.
 const NICES: [i8; 8] = [-20, -10, -5, -1, 0, 1, 10, 19];
+
+/// The machine that races are run on, of 64 processors.
+pub type RaceTrack<Q, N> = Machine<Q, Metronome, N, 64>;
 
 /// A seat, and the seed of what its thread draws.
 #[derive(Drop)]
@@ -86,10 +90,10 @@ fn request(number: u64, other: u64) -> Request {
 
 /// Makes a call that two numbers say: of 512 one loads an image, one reads a counter, the others are requests. False where memory
 /// was wanting.
-fn draw<Q: RunQueue + Drop, K: Clock + Drop, N: Naming + Counting, R: Wait, const P: usize>(
+fn draw<Q: RunQueue + Drop, N: Naming + Counting, R: Wait>(
     rt: &R,
     alloc: Global,
-    machine: &Machine<Q, K, N, P>,
+    machine: &RaceTrack<Q, N>,
     seat: &mut Seat<N>,
     number: u64,
     other: u64,
@@ -117,11 +121,11 @@ fn draw<Q: RunQueue + Drop, K: Clock + Drop, N: Naming + Counting, R: Wait, cons
     }
 }
 
-/// Makes so many drawn calls, and gives the seat back, unless memory is wanting.
-pub fn race<Q: RunQueue + Drop, K: Clock + Drop, N: Naming + Counting, R: Wait, const P: usize>(
+/// Makes that number of drawn calls. Returns the seat; None if memory ran out.
+pub fn race<Q: RunQueue + Drop, N: Naming + Counting, R: Wait>(
     rt: &R,
     alloc: Global,
-    machine: &Machine<Q, K, N, P>,
+    machine: &RaceTrack<Q, N>,
     racer: Racer<N>,
     calls: u32,
 ) -> Option<Seat<N>> {

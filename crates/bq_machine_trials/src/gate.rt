@@ -7,9 +7,10 @@ use std::thread::yield_now;
 const TURNS: u32 = 1_000_000;
 
 /// What a thread is about to do when it comes to a gate: it reads the clock of this processor, or calls processor 0's queue for its
-/// mark, whether the running task gives way, its choice, or one of its tasks.
+/// mark, whether the running task gives way, its choice, or one of its tasks. No thread comes to the point `Nowhere`.
 #[derive(Clone, Copy, PartialEq, Eq)]
 pub enum Point {
+    Nowhere,
     Clock(u8),
     Mark,
     Preempt,
@@ -17,7 +18,7 @@ pub enum Point {
     Take,
 }
 
-/// Holds the first thread that comes to its point once it is armed, until it is opened, or for so many turns.
+/// Holds the first thread that comes to its point once it is armed, until it is opened, or for `TURNS` turns.
 #[derive(Drop)]
 pub struct Gate {
     point: Point,
@@ -44,12 +45,12 @@ impl Gate {
         self.armed.store(true, Ordering::SeqCst);
     }
 
-    /// The held thread may go on. Only a thread that saw another held here calls this, so no gate is opened before it is entered.
+    /// The held thread may go on.
     pub fn open(&self) {
         self.opened.store(true, Ordering::SeqCst);
     }
 
-    /// Whether a thread is, or was, held, once one has come or so many turns have gone by.
+    /// Whether a thread is, or was, held, once one has come or `TURNS` turns have gone by.
     pub fn is_entered(&self) -> bool {
         for _ in 0..TURNS {
             if self.entered.load(Ordering::SeqCst) {

@@ -1,149 +1,291 @@
 //! A call is held in its clock reading, or where it calls its queue, until another seat has its answers.
 
-use crate::gate::{Gate, Point};
+use crate::admit;
+use crate::asking::Request;
+use crate::asserting::is_true;
+use crate::gate::Point;
 use crate::images::{ALWAYS, SUMS, ZERO};
-use crate::play::{Beside, Held, Play, Script};
+use crate::play::{Play, Script, Step};
 use crate::script::{AllPlayed, run_script};
+use bq_machine::Admission;
 use std::alloc::Global;
 use std::process::Abort;
-use std::sync::{Arc, Wait};
+use std::sync::Wait;
 use std::thread::Threads;
+
+/// Tasks 0 and 8 come to processor 0, and task 7 sleeps.
+const THREE_TASKS: [Request; 7] = [
+    admit!(0, 3),
+    Request::Wake {
+        processor: 0,
+        task: 0,
+    },
+    Request::Drain { processor: 0 },
+    admit!(8, 1),
+    Request::Wake {
+        processor: 0,
+        task: 8,
+    },
+    Request::Drain { processor: 0 },
+    admit!(7, 1),
+];
+
+/// There are three tasks; then the gate is armed, and this call is made, which comes to it.
+macro_rules! held {
+    ($call:expr) => {
+        &[
+            Step::Calls(1, &THREE_TASKS),
+            Step::Arm,
+            Step::Calls(1, &[$call]),
+        ]
+    };
+}
+
+const TICK: Play = held!(Request::Tick { processor: 0 });
+
+const NEXT_TICK: Play = held!(Request::Tick { processor: 1 });
+
+const DRAIN: Play = held!(Request::Drain { processor: 0 });
+
+const BLOCK: Play = held!(Request::Block { processor: 0 });
+
+/// The task that sleeps is woken.
+const WAKE: Play = held!(Request::Wake {
+    processor: 0,
+    task: 7,
+});
+
+/// Processor 0 pulls from processor 1, which has no task.
+const PULL: Play = held!(Request::Pull {
+    processor: 0,
+    from: 1,
+});
+
+/// Processor 1 pulls from processor 0, which has a task too many.
+const GIVE: Play = held!(Request::Pull {
+    processor: 1,
+    from: 0,
+});
+
+/// Task 9 is admitted, woken at processor 2, drained, ticked and blocked there; processor 3 pulls from 2; the task retires.
+const LIFE: Step = Step::Calls(
+    1,
+    &[
+        admit!(9, 12),
+        Request::Wake {
+            processor: 2,
+            task: 9,
+        },
+        Request::Drain { processor: 2 },
+        Request::Tick { processor: 2 },
+        Request::Block { processor: 2 },
+        Request::Pull {
+            processor: 3,
+            from: 2,
+        },
+        Request::Retire { task: 9 },
+    ],
+);
+
+/// Another seat calls that while a call is held.
+const BESIDE: Play = &[Step::Await, LIFE, Step::Open];
+
+/// And then task 10 is admitted and woken at processor 2, and goes to processor 0's inbox.
+const BESIDE_INBOX: Play = &[
+    Step::Await,
+    LIFE,
+    Step::Calls(
+        1,
+        &[
+            admit!(10, 1),
+            Request::Wake {
+                processor: 2,
+                task: 10,
+            },
+        ],
+    ),
+    Step::Open,
+];
+
+/// And then processors 0 and 1 tick.
+const BESIDE_TICKS: Play = &[
+    Step::Await,
+    LIFE,
+    Step::Calls(
+        1,
+        &[
+            Request::Tick { processor: 0 },
+            Request::Tick { processor: 1 },
+        ],
+    ),
+    Step::Open,
+];
+
+/// Processor 2 drains and ticks, and processor 3 pulls from it: none of these calls takes the lobby, nor processors 0 and 1.
+const BESIDE_QUEUES: Play = &[
+    Step::Await,
+    Step::Calls(
+        1,
+        &[
+            Request::Drain { processor: 2 },
+            Request::Tick { processor: 2 },
+            Request::Pull {
+                processor: 3,
+                from: 2,
+            },
+        ],
+    ),
+    Step::Open,
+];
+
+/// A policy that wants each task to give way is at each processor.
+const LOADED: Play = &[Step::Load(&ALWAYS)];
+
+const NOTHING: Play = &[];
 
 /// A call that is held, where, and what another seat is answered meanwhile.
 ///
-/// A reading is held under the lock of processor 0 alone, and that of a pull under none. A call of the queue is held under the
+/// A reading is held under the lock of processor 0 only, and that of a pull under none. A call of the queue is held under the
 /// locks that its event needs; the journal's is not among them, before a policy has run and after (the queue gives the task that
 /// comes to run once the policy has answered). A block has the lobby, too.
-const HOLDS: [(Held, Point, Beside); 19] = [
-    (Held::Tick, Point::Clock(0), Beside::Inbox),
-    (Held::Drain, Point::Clock(0), Beside::Inbox),
-    (Held::Block, Point::Clock(0), Beside::Inbox),
-    (Held::Wake, Point::Clock(0), Beside::Inbox),
-    (Held::Pull, Point::Clock(0), Beside::Ticks),
-    (Held::Tick, Point::Mark, Beside::Inbox),
-    (Held::Drain, Point::Mark, Beside::Life),
-    (Held::Block, Point::Mark, Beside::Queues),
-    (Held::Wake, Point::Mark, Beside::Inbox),
-    (Held::Pull, Point::Mark, Beside::Life),
-    (Held::Tick, Point::Preempt, Beside::Inbox),
-    (Held::Drain, Point::Preempt, Beside::Life),
-    (Held::Tick, Point::Choice, Beside::Inbox),
-    (Held::Drain, Point::Choice, Beside::Life),
-    (Held::Block, Point::Choice, Beside::Queues),
-    (Held::Tick, Point::Take, Beside::Inbox),
-    (Held::Drain, Point::Take, Beside::Life),
-    (Held::Block, Point::Take, Beside::Queues),
-    (Held::Give, Point::Take, Beside::Life),
+static HOLDS: [(Play, Point, Play); 19] = [
+    (TICK, Point::Clock(0), BESIDE_INBOX),
+    (DRAIN, Point::Clock(0), BESIDE_INBOX),
+    (BLOCK, Point::Clock(0), BESIDE_INBOX),
+    (WAKE, Point::Clock(0), BESIDE_INBOX),
+    (PULL, Point::Clock(0), BESIDE_TICKS),
+    (TICK, Point::Mark, BESIDE_INBOX),
+    (DRAIN, Point::Mark, BESIDE),
+    (BLOCK, Point::Mark, BESIDE_QUEUES),
+    (WAKE, Point::Mark, BESIDE_INBOX),
+    (PULL, Point::Mark, BESIDE),
+    (TICK, Point::Preempt, BESIDE_INBOX),
+    (DRAIN, Point::Preempt, BESIDE),
+    (TICK, Point::Choice, BESIDE_INBOX),
+    (DRAIN, Point::Choice, BESIDE),
+    (BLOCK, Point::Choice, BESIDE_QUEUES),
+    (TICK, Point::Take, BESIDE_INBOX),
+    (DRAIN, Point::Take, BESIDE),
+    (BLOCK, Point::Take, BESIDE_QUEUES),
+    (GIVE, Point::Take, BESIDE),
 ];
 
-/// The same gate once more.
-fn again(rt: &impl Abort, gate: &Arc<Gate, Global>) -> Arc<Gate, Global> {
-    Arc::try_clone(gate).expect(rt, "memory")
+/// Each receipt stands in the history, and so does no other event; and a call was held until another seat opened the gate.
+fn was_held(rt: &impl Abort, outcome: &AllPlayed) {
+    is_true(rt, outcome.opened && outcome.is_confirmed());
 }
 
-/// A call is held at a gate, while a policy stands at each processor's hook preempt.
-fn holding(
-    rt: &impl Abort,
-    alloc: Global,
-    gate: &Arc<Gate, Global>,
-    held: Held,
-    policy: &'static [u8],
-) -> Script {
-    let mut script = Script::new(alloc);
-    script.before.push(Play::Load(policy)).expect(rt, "memory");
-    let hold = Play::Hold(again(rt, gate), held);
-    script.at_once.push(hold).expect(rt, "memory");
-    script
-}
-
-/// Whether a call was held at the gate, and another seat's play opened it; and what came of the script, to which that play is added.
-fn run_beside<R: Abort + Threads + Wait + Sync>(
-    rt: &R,
-    alloc: Global,
-    gate: &Arc<Gate, Global>,
-    mut script: Script,
-    play: Play,
-) -> (bool, AllPlayed) {
-    script.at_once.push(play).expect(rt, "memory");
-    let outcome = run_script(rt, alloc, Some(again(rt, gate)), script);
-    (gate.was_opened(), outcome)
-}
-
-/// Whether another seat had its answers while this call was held.
+/// Another seat has its answers while this call is held.
 fn is_answered_while_held<R: Abort + Threads + Wait + Sync>(
     rt: &R,
     alloc: Global,
-    held: Held,
-    at: Point,
-    beside: Beside,
-) -> bool {
-    let gate = Arc::new(alloc, Gate::new(at)).expect(rt, "memory");
-    let script = holding(rt, alloc, &gate, held, &ALWAYS);
-    let pass = Play::Pass(again(rt, &gate), beside);
-    let (opened, outcome) = run_beside(rt, alloc, &gate, script, pass);
-    opened && outcome.confirmed() == outcome.closed.len()
+    hold: &(Play, Point, Play),
+) {
+    let (held, at, beside) = *hold;
+    let script = Script {
+        before: LOADED,
+        at_once: &[held, beside],
+        after: NOTHING,
+    };
+    was_held(rt, &run_script(rt, alloc, at, &script));
 }
 
+/// Calls that need none of the locks that a held call has are answered while it is held.
 #[test]
 fn calls_go_on_beside_a_call_that_is_held(rt: HostRuntime) {
-    for (held, at, beside) in HOLDS {
-        assert!(&rt; is_answered_while_held(&rt, rt.alloc(), held, at, beside));
+    for hold in &HOLDS {
+        is_answered_while_held(&rt, rt.alloc(), hold);
     }
 }
 
 /// Three ticks of processor 1 and the second drain of processor 0 have asked the policy before the call is held, and then the
 /// tick that was held does.
+static COUNTED: Script<'static> = Script {
+    before: &[
+        Step::Load(&SUMS),
+        Step::Calls(
+            1,
+            &[
+                admit!(1, 2),
+                Request::Wake {
+                    processor: 1,
+                    task: 1,
+                },
+                Request::Drain { processor: 1 },
+            ],
+        ),
+        Step::Calls(3, &[Request::Tick { processor: 1 }]),
+    ],
+    at_once: &[TICK, &[Step::Await, Step::Read, Step::Open]],
+    after: NOTHING,
+};
+
+/// The policy adds 11, 5 and 7: four times before the call is held, and five times in the end.
+fn are_counted(rt: &impl Abort, outcome: &AllPlayed) {
+    is_true(rt, outcome.opened);
+    is_true(rt, outcome.read == Some([44, 20, 28]));
+    let closed = &outcome.closed.counters;
+    is_true(rt, [closed[0], closed[3], closed[63]] == [55, 25, 35]);
+}
+
+/// A read of counters takes no lock.
 #[test]
 fn counters_are_read_while_a_call_is_held(rt: HostRuntime) {
-    let gate = Arc::new(rt.alloc(), Gate::new(Point::Clock(0))).expect(&rt, "memory");
-    let mut script = holding(&rt, rt.alloc(), &gate, Held::Tick, &SUMS);
-    let life = Play::Life {
-        processor: 1,
-        mask: 2,
-        ticks: 3,
-    };
-    script.before.push(life).expect(&rt, "memory");
-    let read = Play::Read(again(&rt, &gate));
-    let (opened, outcome) = run_beside(&rt, rt.alloc(), &gate, script, read);
-    assert!(&rt; opened);
-    assert_eq!(&rt; outcome.read, [44, 20, 28]);
-    let closed = &outcome.closed.counters;
-    assert_eq!(&rt; (closed[0], closed[3], closed[63]), (55, 25, 35));
+    are_counted(&rt, &run_script(&rt, rt.alloc(), Point::Clock(0), &COUNTED));
 }
 
-/// The first load has five events, and the seat whose call is held has nine before it: a load draws its number before it waits
-/// for the processor whose lock is held.
+/// The first load has five events, and the seat whose call is held has nine before it, so that the history has fourteen then. A load draws
+/// its number before it waits for the processor whose lock is held: one event of another seat.
+static DRAWN: Script<'static> = Script {
+    before: LOADED,
+    at_once: &[
+        TICK,
+        &[Step::Await, Step::Load(&ZERO)],
+        &[
+            Step::Await,
+            Step::Watch {
+                processor: 3,
+                events: 14,
+                others: 1,
+            },
+            Step::Open,
+        ],
+    ],
+    after: NOTHING,
+};
+
+/// A load draws its number while a processor's lock is held.
 #[test]
 fn a_number_is_drawn_while_a_processor_is_held(rt: HostRuntime) {
-    let gate = Arc::new(rt.alloc(), Gate::new(Point::Mark)).expect(&rt, "memory");
-    let mut script = holding(&rt, rt.alloc(), &gate, Held::Tick, &ALWAYS);
-    let load = Play::LoadBeside(again(&rt, &gate), &ZERO);
-    script.at_once.push(load).expect(&rt, "memory");
-    let watch = Play::Watch {
-        gate: again(&rt, &gate),
-        processor: 3,
-        events: 14,
-        others: 1,
-    };
-    let (opened, _) = run_beside(&rt, rt.alloc(), &gate, script, watch);
-    assert!(&rt; opened);
+    let outcome = run_script(&rt, rt.alloc(), Point::Mark, &DRAWN);
+    is_true(&rt, outcome.opened);
 }
 
-/// A load holds one processor at a time: while processor 1's lock is held it draws its number, installs at processor 0, and waits
-/// without the lock of processor 0, which ticks after that install.
+/// While processor 1's lock is held a load draws its number, installs at processor 0, and waits without the lock of processor 0, which
+/// ticks after that install: two events of another seat.
+static INSTALLED: Script<'static> = Script {
+    before: LOADED,
+    at_once: &[
+        NEXT_TICK,
+        &[Step::Await, Step::Load(&ZERO)],
+        &[
+            Step::Await,
+            Step::Watch {
+                processor: 0,
+                events: 14,
+                others: 2,
+            },
+            Step::Open,
+        ],
+    ],
+    after: NOTHING,
+};
+
+/// A load holds one processor at a time.
 #[test]
 fn a_processor_ticks_while_a_load_waits_for_the_next(rt: HostRuntime) {
-    let gate = Arc::new(rt.alloc(), Gate::new(Point::Clock(1))).expect(&rt, "memory");
-    let mut script = holding(&rt, rt.alloc(), &gate, Held::NextTick, &ALWAYS);
-    let load = Play::LoadBeside(again(&rt, &gate), &ZERO);
-    script.at_once.push(load).expect(&rt, "memory");
-    let watch = Play::Watch {
-        gate: again(&rt, &gate),
-        processor: 0,
-        events: 14,
-        others: 2,
-    };
-    let (opened, outcome) = run_beside(&rt, rt.alloc(), &gate, script, watch);
-    assert!(&rt; opened);
-    assert_eq!(&rt; outcome.confirmed(), outcome.closed.len());
+    was_held(
+        &rt,
+        &run_script(&rt, rt.alloc(), Point::Clock(1), &INSTALLED),
+    );
 }

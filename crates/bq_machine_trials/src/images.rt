@@ -1,4 +1,4 @@
-//! Images of small policies, worked by hand.
+//! Images of small policies. The bytes are worked on paper from docs/IMAGE.md and docs/INSTRUCTIONS.md.
 
 /// Preempt: answers 0.
 pub const ZERO: [u8; 28] = [

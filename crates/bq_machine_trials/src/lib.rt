@@ -7,7 +7,7 @@
 #[cfg(test)]
 mod asking;
 #[cfg(test)]
-mod caller;
+mod asserting;
 #[cfg(test)]
 mod counter_tests;
 #[cfg(test)]
@@ -30,6 +30,8 @@ mod load_tests;
 mod one_seat_tests;
 #[cfg(test)]
 mod play;
+#[cfg(test)]
+mod player;
 #[cfg(test)]
 mod race_tests;
 #[cfg(test)]

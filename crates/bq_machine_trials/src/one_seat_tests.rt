@@ -2,7 +2,9 @@
 //! follow from the rules.
 ghost use Rattle.std.specs.Prelude.{◌≡◌, ◌≤◌};
 
+use crate::admit;
 use crate::asking::{Request, ask};
+use crate::asserting::{is_number, is_true};
 use crate::images::ZERO;
 use bq_cfs::CfsQueue;
 use bq_disc::limits::PROCESSORS;
@@ -33,52 +35,133 @@ impl Clock for Steady {
 /// A machine under CFS, by one thread.
 type Single<N, const P: usize> = Machine<CfsQueue, Steady, N, P>;
 
-/// What is asked of an opening machine.
-#[derive(Clone, Copy, Drop)]
-enum Row {
-    /// A block where nothing runs.
-    Block,
-    /// A pull where there is no task.
-    Pull,
-    /// An image is loaded at two processors, and taken away.
-    Load,
-    /// On three processors an image is loaded, and a task is woken that only the last of them may run.
-    Three,
+/// What a receipt says.
+#[derive(Clone, Copy)]
+enum Answer {
+    /// Nothing runs, and so nothing is blocked.
+    Idle,
+    /// There is nothing to pull, and nothing runs.
+    NothingPulled,
+    /// The task is admitted.
+    Admitted,
+    /// Task 1 is placed at processor 2 by the discipline.
+    Placed,
 }
 
-/// Nothing runs on an opening machine, and so nothing is blocked there.
-fn is_idle(receipt: &Receipt<Record>) -> bool {
-    receipt.place == 0 && matches!(receipt.entry.reply.reported(), Err(Refusal::Idle))
+/// What is asked, and how it has to be answered.
+#[derive(Clone, Copy)]
+enum Asked {
+    /// The call is refused so, and does not come into the history.
+    Refused(Request, Refusal),
+    /// The last receipt of the call has this place and this answer.
+    Answered(Request, u64, Answer),
+    /// An image, or none, is loaded: the number is drawn at this place, and behind it is the install at each processor.
+    Loaded {
+        image: Option<&'static [u8]>,
+        place: u64,
+        number: u64,
+    },
+    /// An image that is cut short is refused for that.
+    Cut,
 }
 
-/// An opening machine has nothing to pull.
-fn is_pull_of_none(receipt: &Receipt<Record>) -> bool {
-    let reply = receipt.entry.reply.reported();
-    receipt.place == 0
-        && matches!(
-            reply,
-            Ok(Reply::Pulled {
-                task: None,
-                run: None,
-                by: By::Discipline,
-                steps: 0
-            })
-        )
-}
+/// The number of a machine's processors, what is asked of it as it opens, and how many events its history then has.
+type Row = (u64, &'static [Asked], u64);
 
-/// The task is placed at processor 2, by the seventh event.
-fn is_placed(receipt: &Receipt<Record>) -> bool {
-    let reply = receipt.entry.reply.reported();
-    receipt.place == 6
-        && matches!(
-            reply,
-            Ok(Reply::Placed {
-                task: 1,
-                to: 2,
-                by: By::Discipline,
-                steps: 0
-            })
-        )
+static ROWS: [Row; 4] = [
+    // nothing runs, and there is no processor 2
+    (
+        2,
+        &[
+            Asked::Answered(Request::Block { processor: 0 }, 0, Answer::Idle),
+            Asked::Refused(Request::Tick { processor: 2 }, Refusal::NoProcessor),
+        ],
+        1,
+    ),
+    // there is no task
+    (
+        2,
+        &[
+            Asked::Refused(
+                Request::Pull {
+                    processor: 0,
+                    from: 0,
+                },
+                Refusal::SameProcessor,
+            ),
+            Asked::Answered(
+                Request::Pull {
+                    processor: 1,
+                    from: 0,
+                },
+                0,
+                Answer::NothingPulled,
+            ),
+        ],
+        1,
+    ),
+    // an image is loaded at two processors, and taken away
+    (
+        2,
+        &[
+            Asked::Loaded {
+                image: Some(&ZERO),
+                place: 0,
+                number: 1,
+            },
+            Asked::Loaded {
+                image: None,
+                place: 3,
+                number: 2,
+            },
+            Asked::Cut,
+        ],
+        6,
+    ),
+    // an image is loaded at three processors, and a task is woken that only the last of them may run
+    (
+        3,
+        &[
+            Asked::Loaded {
+                image: Some(&ZERO),
+                place: 0,
+                number: 1,
+            },
+            Asked::Refused(Request::Tick { processor: 3 }, Refusal::NoProcessor),
+            Asked::Refused(admit!(1, 8), Refusal::EmptyMask),
+            Asked::Answered(admit!(1, 12), 4, Answer::Admitted),
+            Asked::Answered(
+                Request::Wake {
+                    processor: 0,
+                    task: 1,
+                },
+                6,
+                Answer::Placed,
+            ),
+        ],
+        7,
+    ),
+];
+
+/// Whether the receipt has this place and this answer.
+fn says(receipt: &Receipt<Record>, place: u64, answer: Answer) -> bool {
+    let wanted = match answer {
+        Answer::Idle => Err(Refusal::Idle),
+        Answer::NothingPulled => Ok(Reply::Pulled {
+            task: None,
+            run: None,
+            by: By::Discipline,
+            steps: 0,
+        }),
+        Answer::Admitted => Ok(Reply::Admitted),
+        Answer::Placed => Ok(Reply::Placed {
+            task: 1,
+            to: 2,
+            by: By::Discipline,
+            steps: 0,
+        }),
+    };
+    receipt.place == place && receipt.entry.reply.reported() == wanted
 }
 
 /// Whether the receipts of installs stand behind this place, one after another, and say that each was done.
@@ -95,157 +178,72 @@ fn are_installed(installs: &[Receipt<Record>], draw: u64) -> bool {
     true
 }
 
-/// Where in the history a load stands, and the number that is drawn for it.
-#[derive(Clone, Copy)]
-struct Drawn {
-    place: u64,
-    number: u64,
+/// Whether the receipt has this place, and says that this number was drawn.
+fn is_drawn(receipt: &Receipt<Record>, place: u64, number: u64) -> bool {
+    let reply = receipt.entry.reply.reported();
+    receipt.place == place
+        && matches!(reply, Ok(Reply::Drawn { generation }) if generation == number)
 }
 
-/// Whether an image, or none, is loaded at each processor, from this place on, under this number.
-fn loads<N: Naming + Counting, R: Wait, const P: usize>(
+/// Whether what is asked is answered as it has to be.
+fn is_answered<N: Naming + Counting, R: Wait, const P: usize>(
     rt: &R,
     alloc: Global,
     machine: &Single<N, P>,
     seat: &mut Seat<N>,
-    image: Option<&[u8]>,
-    wanted: Drawn,
+    asked: Asked,
 ) -> bool {
-    let Drawn { place, number } = wanted;
-    match machine.load_all(rt, alloc, seat, Hook::Preempt, image) {
-        Ok(loaded) => {
-            let drawn = &loaded.draw;
-            let numbered =
-                matches!(drawn.entry.reply.reported(), Ok(Reply::Drawn { generation }) if generation == number);
-            drawn.place == place
-                && numbered
-                && loaded.installs.len() == P
-                && are_installed(&loaded.installs, place)
+    match asked {
+        Asked::Refused(request, wanted) => {
+            matches!(ask(rt, alloc, machine, seat, request), Err(refusal) if refusal == wanted)
         }
-        Err(_) => false,
-    }
-}
-
-/// Whether an image that is cut short is refused for that.
-fn refuses_the_cut<N: Naming + Counting, R: Wait, const P: usize>(
-    rt: &R,
-    alloc: Global,
-    machine: &Single<N, P>,
-    seat: &mut Seat<N>,
-) -> bool {
-    let cut = machine.load_all(rt, alloc, seat, Hook::Preempt, Some(&ZERO[..27]));
-    matches!(cut, Err(LoadRefused::Fault(LoadFault::Cut)))
-}
-
-/// Whether this call is refused so.
-fn is_refused<N: Naming + Counting, R: Wait, const P: usize>(
-    rt: &R,
-    alloc: Global,
-    machine: &Single<N, P>,
-    seat: &mut Seat<N>,
-    request: Request,
-    wanted: Refusal,
-) -> bool {
-    matches!(ask(rt, alloc, machine, seat, request), Err(refusal) if refusal == wanted)
-}
-
-/// Task 1 is admitted at nice 0 with this mask.
-fn admit(mask: u64) -> Request {
-    Request::Admit {
-        admission: Admission {
-            task: 1,
-            nice: 0,
-            mask,
-            slice: 3_000_000,
+        Asked::Answered(request, place, answer) => match ask(rt, alloc, machine, seat, request) {
+            Ok(receipts) => match &receipts.second {
+                Some(second) => says(second, place, answer),
+                None => says(&receipts.first, place, answer),
+            },
+            Err(_) => false,
         },
+        Asked::Loaded {
+            image,
+            place,
+            number,
+        } => match machine.load_all(rt, alloc, seat, Hook::Preempt, image) {
+            Ok(loaded) => {
+                is_drawn(&loaded.draw, place, number)
+                    && loaded.installs.len() == P
+                    && are_installed(&loaded.installs, place)
+            }
+            Err(_) => false,
+        },
+        Asked::Cut => {
+            let cut = machine.load_all(rt, alloc, seat, Hook::Preempt, Some(&ZERO[..27]));
+            matches!(cut, Err(LoadRefused::Fault(LoadFault::Cut)))
+        }
     }
 }
 
-/// The last receipt of a call that is not refused.
-fn last<N: Naming + Counting, R: Wait, const P: usize>(
+/// All that is asked is answered as it has to be.
+fn are_answered<N: Naming + Counting, R: Abort + Wait, const P: usize>(
     rt: &R,
     alloc: Global,
     machine: &Single<N, P>,
     seat: &mut Seat<N>,
-    request: Request,
-) -> Option<Receipt<Record>> {
-    match ask(rt, alloc, machine, seat, request) {
-        Ok(receipts) => receipts.second.or(Some(receipts.first)),
-        Err(_) => None,
+    all: &[Asked],
+) {
+    for asked in all {
+        is_true(rt, is_answered(rt, alloc, machine, seat, *asked));
     }
 }
 
-/// Whether a task is woken at processor 0 and placed at processor 2, the last of three.
-fn is_three<N: Naming + Counting, R: Wait, const P: usize>(
-    rt: &R,
-    alloc: Global,
-    machine: &Single<N, P>,
-    seat: &mut Seat<N>,
-) -> bool {
-    let (processor, task) = (0, 1);
-    let tick = Request::Tick { processor: 3 };
-    let wake = Request::Wake { processor, task };
-    is_refused(rt, alloc, machine, seat, tick, Refusal::NoProcessor)
-        && is_refused(rt, alloc, machine, seat, admit(8), Refusal::EmptyMask)
-        && last(rt, alloc, machine, seat, admit(12)).is_some()
-        && last(rt, alloc, machine, seat, wake).is_some_and(|receipt| is_placed(&receipt))
-}
-
-/// How many events the calls of a row leave in the history; None if they are not answered as they should be.
-fn events<N: Naming + Counting, R: Wait, const P: usize>(
-    rt: &R,
-    alloc: Global,
-    machine: &Single<N, P>,
-    seat: &mut Seat<N>,
-    row: Row,
-) -> Option<u64> {
-    let (processor, from) = (0, 0);
-    let first = Drawn {
-        place: 0,
-        number: 1,
-    };
-    let second = Drawn {
-        place: 3,
-        number: 2,
-    };
-    let (well, events) = match row {
-        Row::Block => {
-            let tick = Request::Tick { processor: 2 };
-            let idle = last(rt, alloc, machine, seat, Request::Block { processor })?;
-            let absent = is_refused(rt, alloc, machine, seat, tick, Refusal::NoProcessor);
-            (is_idle(&idle) && absent, 1)
-        }
-        Row::Pull => {
-            let own = Request::Pull { processor, from };
-            let pull = Request::Pull { processor: 1, from };
-            let same = is_refused(rt, alloc, machine, seat, own, Refusal::SameProcessor);
-            let none = last(rt, alloc, machine, seat, pull)?;
-            (same && is_pull_of_none(&none), 1)
-        }
-        Row::Load => {
-            let loaded = loads(rt, alloc, machine, seat, Some(&ZERO), first);
-            let taken = loads(rt, alloc, machine, seat, None, second);
-            (
-                loaded && taken && refuses_the_cut(rt, alloc, machine, seat),
-                6,
-            )
-        }
-        Row::Three => {
-            let loaded = loads(rt, alloc, machine, seat, Some(&ZERO), first);
-            (loaded && is_three(rt, alloc, machine, seat), 7)
-        }
-    };
-    well.then_some(events)
-}
-
-/// Whether the calls of a row are answered as they should be, and the history is that long.
-fn is_kept<N: Naming + Counting, R: Abort + Wait, const P: usize>(
+/// On an opening machine all is answered as it has to be. Returns how many events its history then has.
+fn events<N: Naming + Counting, R: Abort + Wait, const P: usize>(
     rt: &R,
     alloc: Global,
     prepared: Prepared<CfsQueue>,
     unnamed: UnnamedCounters,
-    row: Row,
-) -> bool
+    all: &[Asked],
+) -> u64
     requires few { P ≤ PROCESSORS }
     requires name { prepared.0 ≡ N.table }
     requires counters { unnamed.0 ≡ N.counters }
@@ -255,47 +253,50 @@ fn is_kept<N: Naming + Counting, R: Abort + Wait, const P: usize>(
         rt, "memory",
     );
     let mut seat = seats.pop().expect(rt, "a seat");
-    let events = events(rt, alloc, &machine, &mut seat, row);
+    are_answered(rt, alloc, &machine, &mut seat, all);
     seats.push(seat).expect(rt, "memory");
     assert!(rt; machine.owns(&seats));
     let closed = machine.close(seats);
-    events == Some(closed.len()) && closed.core.processors() == P
+    is_true(rt, closed.core.processors() == P);
+    closed.len()
 }
 
 /// The same of two processors or three, a number that the type of the machine takes as a constant.
-fn is_kept_by<N: Naming + Counting, R: Abort + Wait>(
+fn events_by<N: Naming + Counting, R: Abort + Wait>(
     rt: &R,
     alloc: Global,
     prepared: Prepared<CfsQueue>,
     unnamed: UnnamedCounters,
     processors: u64,
-    row: Row,
-) -> bool
+    all: &[Asked],
+) -> u64
     requires name { prepared.0 ≡ N.table }
     requires counters { unnamed.0 ≡ N.counters }
     requires counts { (prepared.1.about ≡ processors) × (prepared.1.callers ≡ 1) × (unnamed.1 ≡ 1) }
 {
     if processors == 2 {
-        return is_kept::<N, R, 2>(rt, alloc, prepared, unnamed, row);
+        return events::<N, R, 2>(rt, alloc, prepared, unnamed, all);
     }
     if processors == 3 {
-        return is_kept::<N, R, 3>(rt, alloc, prepared, unnamed, row);
+        return events::<N, R, 3>(rt, alloc, prepared, unnamed, all);
     }
     panic!(rt; "two processors or three")
 }
 
-/// Whether the calls of a row are answered as they should be on an opening machine of two processors or three.
-fn is_answered<R: Abort + Wait>(rt: &R, alloc: Global, processors: u64, row: Row) -> bool {
+/// All that a row asks is answered as it has to be, and the history is that long.
+fn is_kept<R: Abort + Wait>(rt: &R, alloc: Global, row: &Row) {
+    let (processors, all, wanted) = *row;
     let Ok((prepared, unnamed)) = prepare::<CfsQueue>(alloc, processors, 1) else {
         panic!(rt; "memory")
     };
-    is_kept_by::<Brand, R>(rt, alloc, prepared, unnamed, processors, row)
+    let events = events_by::<Brand, R>(rt, alloc, prepared, unnamed, processors, all);
+    is_number(rt, events, wanted);
 }
 
+/// A seat on an opening machine has the answers that the rules say.
 #[test]
 fn one_seat_is_answered(rt: HostRuntime) {
-    for row in [Row::Block, Row::Pull, Row::Load] {
-        assert!(&rt; is_answered(&rt, rt.alloc(), 2, row));
+    for row in &ROWS {
+        is_kept(&rt, rt.alloc(), row);
     }
-    assert!(&rt; is_answered(&rt, rt.alloc(), 3, Row::Three));
 }

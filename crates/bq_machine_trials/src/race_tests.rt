@@ -1,13 +1,13 @@
-//! Long races of drawn calls by eight threads, whose histories a core then goes through once more.
+//! Long races of drawn calls by eight threads, whose histories a core then goes through again.
 ghost use Rattle.std.specs.Prelude.{◌≡◌};
 
-use crate::drawn::{race, racers};
+use crate::asserting::is_true;
+use crate::drawn::{RaceTrack, race, racers};
 use crate::replayed::is_replayed;
 use bq_cfs::CfsQueue;
 use bq_disc::RunQueue;
 use bq_eevdf::EevdfQueue;
 use bq_history::Naming;
-use bq_machine::Machine;
 use bq_par::Metronome;
 use bq_recording::{Closed, Prepared, Seat, prepare};
 use bq_shared::{Counting, UnnamedCounters};
@@ -52,9 +52,9 @@ where
     requires counts { (prepared.1.about ≡ 64) × (prepared.1.callers ≡ THREADS) × (unnamed.1 ≡ THREADS) }
 {
     let clock = Metronome::new(alloc, 64).expect(rt, "memory");
-    let (machine, seats) = Machine::<Q, Metronome, N, 64>::new(
-        alloc, clock, prepared, unnamed, THREADS,
-    ).expect(rt, "memory");
+    let (machine, seats) = RaceTrack::<Q, N>::new(alloc, clock, prepared, unnamed, THREADS).expect(
+        rt, "memory",
+    );
     let racers = racers(alloc, seats).expect(rt, "memory");
     let shared = &machine;
     let done = map_vec(rt, racers, &|racer| race(rt, alloc, shared, racer, CALLS)).expect(
@@ -65,7 +65,7 @@ where
     machine.close(seats)
 }
 
-/// Whether a race has so many events, and a core goes through them to the same end.
+/// Whether a race has at least `EVENTS` events, and a core goes through them to the same end.
 fn is_run_again<Q: RunQueue + Drop + Send, T: Abort + Threads + Wait + Sync>(
     rt: &T,
     alloc: Global,
@@ -80,12 +80,14 @@ where
     closed.len() >= EVENTS && is_replayed(rt, alloc, closed)
 }
 
+/// A core answers a race under CFS as the machine did.
 #[test]
 fn a_race_under_cfs_is_replayed(rt: HostRuntime) {
-    assert!(&rt; is_run_again::<CfsQueue, _>(&rt, rt.alloc()));
+    is_true(&rt, is_run_again::<CfsQueue, _>(&rt, rt.alloc()));
 }
 
+/// And so it does one under EEVDF.
 #[test]
 fn a_race_under_eevdf_is_replayed(rt: HostRuntime) {
-    assert!(&rt; is_run_again::<EevdfQueue, _>(&rt, rt.alloc()));
+    is_true(&rt, is_run_again::<EevdfQueue, _>(&rt, rt.alloc()));
 }

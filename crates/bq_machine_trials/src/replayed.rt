@@ -1,13 +1,10 @@
-//! A history that a core goes through once more, event by event.
-ghost use Rattle.std.specs.Prelude.{◌≤◌};
-
+//! A history that a core goes through again, event by event.
 use bq_bpf::{Board, CounterCall, Plain};
 use bq_core::Core;
 use bq_disc::RunQueue;
 use bq_disc::clock::LATEST;
-use bq_disc::limits::PROCESSORS;
 use bq_hooks::Hook;
-use bq_parts::{Event, Refusal, Reply};
+use bq_parts::{Cpu, Event, Refusal, Reply};
 use bq_recording::Closed;
 use bq_shared::copy_event;
 use bq_trace::shows::write_processor;
@@ -73,24 +70,22 @@ impl Board for Recorded<'_> {
 
 /// Whether a core from the start answers each event of the history as the machine did, where the counters answer it as they
 /// did, and ends as the machine did, and the counters are the sums of the adds.
-pub fn is_replayed<Q: RunQueue + Drop, R: Abort, const P: usize>(
-    rt: &R,
+pub fn is_replayed<Q: RunQueue + Drop>(
+    rt: &impl Abort,
     alloc: Global,
-    mut closed: Closed<Q, P>,
-) -> bool
-    requires { P ≤ PROCESSORS }
-{
-    let mut core = Core::<Q, P>::new(alloc).expect(rt, "memory");
+    mut closed: Closed<Q, 64>,
+) -> bool {
+    let mut core = Core::<Q, 64>::new(alloc).expect(rt, "memory");
     is_followed(rt, alloc, &mut core, &closed)
         && is_same_world(rt, alloc, &mut core, &mut closed.core)
 }
 
 /// Whether a core answers each event of the history so, and the counters are the sums of the adds.
-fn is_followed<Q: RunQueue + Drop, const P: usize>(
+fn is_followed<Q: RunQueue + Drop>(
     rt: &impl Abort,
     alloc: Global,
-    core: &mut Core<Q, P>,
-    closed: &Closed<Q, P>,
+    core: &mut Core<Q, 64>,
+    closed: &Closed<Q, 64>,
 ) -> bool {
     let mut sums = [0u64; 64];
     for place in 0..closed.len() {
@@ -106,10 +101,10 @@ fn is_followed<Q: RunQueue + Drop, const P: usize>(
     sums.as_slice() == closed.counters.as_slice()
 }
 
-/// Whether a core answers an event so, with just these calls of counters.
-fn is_answered_so<Q: RunQueue + Drop, const P: usize>(
+/// Whether a core answers an event so, with exactly these calls of counters.
+fn is_answered_so<Q: RunQueue + Drop>(
     alloc: Global,
-    core: &mut Core<Q, P>,
+    core: &mut Core<Q, 64>,
     event: Event,
     reply: &Result<Reply, Refusal>,
     calls: &[CounterCall],
@@ -139,30 +134,58 @@ fn add_all(sums: &mut [u64; 64], calls: &[CounterCall]) {
     }
 }
 
-/// Whether two cores are shown the same, and answer the same from then on: to a drain of each inbox, a new number, and an
-/// admission and a wake of each task.
-fn is_same_world<Q: RunQueue + Drop, const P: usize>(
+/// Whether two cores are shown the same, and answer the last events alike, and are shown the same then.
+fn is_same_world<Q: RunQueue + Drop>(
     rt: &impl Abort,
     alloc: Global,
-    core: &mut Core<Q, P>,
-    other: &mut Core<Q, P>,
+    core: &mut Core<Q, 64>,
+    other: &mut Core<Q, 64>,
 ) -> bool {
     is_shown_the_same(rt, alloc, core, other)
-        && is_answered_the_same(rt, alloc, core, other)
+        && is_answered_the_same(alloc, core, other)
         && is_shown_the_same(rt, alloc, core, other)
 }
 
+/// How many last events there are.
+const LAST_EVENTS: u16 = 64 + 1 + 3 * 1024;
+
+/// The last events, by their numbers: a drain of each inbox, a new number, and an admission and a wake of each task.
+fn last_event(number: u16) -> Event {
+    if number < 64 {
+        return Event::Drain {
+            processor: number as u8,
+            now: LATEST,
+        };
+    }
+    if number == 64 {
+        return Event::Draw;
+    }
+    let number = number - 65;
+    let task = number / 3;
+    match number % 3 {
+        0 => Event::Admit {
+            task,
+            nice: 0,
+            mask: u64::MAX,
+            slice: 3_000_000,
+        },
+        1 => Event::BeginWake { processor: 0, task },
+        _ => Event::EndWake {
+            processor: 0,
+            now: LATEST,
+        },
+    }
+}
+
 /// Whether two cores answer the last events alike.
-fn is_answered_the_same<Q: RunQueue + Drop, const P: usize>(
-    rt: &impl Abort,
+fn is_answered_the_same<Q: RunQueue + Drop>(
     alloc: Global,
-    core: &mut Core<Q, P>,
-    other: &mut Core<Q, P>,
+    core: &mut Core<Q, 64>,
+    other: &mut Core<Q, 64>,
 ) -> bool {
-    for event in last_events(rt, alloc, core.processors() as u8) {
-        let again = copy_event(&event).expect(rt, "memory");
-        let answer = core.step(alloc, again, &mut Plain::new());
-        let other_answer = other.step(alloc, event, &mut Plain::new());
+    for number in 0..LAST_EVENTS {
+        let answer = core.step(alloc, last_event(number), &mut Plain::new());
+        let other_answer = other.step(alloc, last_event(number), &mut Plain::new());
         if answer != other_answer {
             return false;
         }
@@ -170,64 +193,30 @@ fn is_answered_the_same<Q: RunQueue + Drop, const P: usize>(
     true
 }
 
-/// Drains of each inbox, a new number, and an admission and a wake of each task.
-fn last_events(rt: &impl Abort, alloc: Global, processors: u8) -> Vec<Event> {
-    let mut events = Vec::new(alloc);
-    for processor in 0..processors {
-        let drain = Event::Drain {
-            processor,
-            now: LATEST,
-        };
-        events.push(drain).expect(rt, "memory");
-    }
-    events.push(Event::Draw).expect(rt, "memory");
-    for task in 0..1024 {
-        for event in life(task) {
-            events.push(event).expect(rt, "memory");
-        }
-    }
-    events
-}
-
-/// An admission and a wake of a task.
-fn life(task: u16) -> [Event; 3] {
-    [
-        Event::Admit {
-            task,
-            nice: 0,
-            mask: u64::MAX,
-            slice: 3_000_000,
-        },
-        Event::BeginWake { processor: 0, task },
-        Event::EndWake {
-            processor: 0,
-            now: LATEST,
-        },
-    ]
-}
-
 /// Whether the processors of two cores are shown the same, and have policies of the same numbers.
-fn is_shown_the_same<Q: RunQueue + Drop, const P: usize>(
+fn is_shown_the_same<Q: RunQueue + Drop>(
     rt: &impl Abort,
     alloc: Global,
-    core: &Core<Q, P>,
-    other: &Core<Q, P>,
+    core: &Core<Q, 64>,
+    other: &Core<Q, 64>,
 ) -> bool {
-    let (mut text, mut other_text) = (String::new(alloc), String::new(alloc));
-    let count = core.processors();
-    if count != other.processors() {
-        return false;
-    }
-    for number in 0..count {
+    shown(rt, alloc, core) == shown(rt, alloc, other)
+}
+
+/// The lines that show the processors of a core, each behind the numbers of its policies.
+fn shown<Q: RunQueue + Drop>(rt: &impl Abort, alloc: Global, core: &Core<Q, 64>) -> String {
+    let mut text = String::new(alloc);
+    for number in 0..core.processors() {
         let number = number as u8;
-        let (cpu, other_cpu) = (core.cpu(number), other.cpu(number));
-        for hook in [Hook::Place, Hook::Preempt, Hook::Pull] {
-            if cpu.generation(hook) != other_cpu.generation(hook) {
-                return false;
-            }
-        }
-        write_processor(&mut text, number, cpu).expect(rt, "memory");
-        write_processor(&mut other_text, number, other_cpu).expect(rt, "memory");
+        show(rt, &mut text, number, core.cpu(number));
     }
-    text == other_text
+    text
+}
+
+fn show<Q: RunQueue>(rt: &impl Abort, text: &mut String, number: u8, cpu: &Cpu<Q>) {
+    let place = cpu.generation(Hook::Place);
+    let preempt = cpu.generation(Hook::Preempt);
+    let pull = cpu.generation(Hook::Pull);
+    write!(text, "{place} {preempt} {pull} ").expect(rt, "memory");
+    write_processor(text, number, cpu).expect(rt, "memory");
 }

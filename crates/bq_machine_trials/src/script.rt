@@ -1,13 +1,12 @@
 //! Scripts, and what comes of them.
 ghost use Rattle.std.specs.Prelude.{◌≡◌, ◌^◌, [], All, IfOk, length, vec_len};
 
-use crate::caller::{Player, Raced};
 use crate::counting_clock::CountingClock;
-use crate::gate::Gate;
+use crate::gate::{Gate, Point};
 use crate::held_queue::HeldQueue;
 use crate::play::{Play, Script};
+use crate::player::{Player, Raced};
 use bq_history::{Naming, Receipt};
-use bq_parts::Refusal;
 use bq_recording::{Closed, Prepared, Seat, prepare};
 use bq_shared::{Counting, Record, UnnamedCounters};
 use std::alloc::{AllocError, Global};
@@ -23,20 +22,22 @@ pub struct Job<N: Naming + Counting> {
     pub play: Play,
 }
 
-/// A seat with the receipts that it got, and counters 0, 3 and 63 as it read them.
+/// A seat with the receipts that it got, and counters 0, 3 and 63, if it read them.
 #[derive(Drop)]
 pub struct Played<N: Naming + Counting> {
     pub seat: Seat<N>,
     pub receipts: Vec<Receipt<Record>>,
-    pub read: [u64; 3],
+    pub read: Option<[u64; 3]>,
 }
 
-/// What came of all plays: the machine's end, the receipts of each play, and what the last play read of counters 0, 3 and 63.
+/// What came of all plays: whether a thread was held at the gate until another opened it, the machine's end, the receipts of each play,
+/// and what was read last of counters 0, 3 and 63.
 #[derive(Drop)]
 pub struct AllPlayed {
+    pub opened: bool,
     pub closed: Closed<HeldQueue, 4>,
     pub receipts: Vec<Vec<Receipt<Record>>>,
-    pub read: [u64; 3],
+    pub read: Option<[u64; 3]>,
 }
 
 impl AllPlayed {
@@ -52,30 +53,43 @@ impl AllPlayed {
         }
         count
     }
+
+    /// Whether each event of the history has a receipt that was given.
+    pub fn is_confirmed(&self) -> bool {
+        self.confirmed() == self.closed.len()
+    }
 }
 
 /// One thread's work.
-fn work<N: Naming + Counting, R: Wait>(
+fn work<N: Naming + Counting, R: Abort + Wait>(
     rt: &R,
     alloc: Global,
     machine: &Raced<N>,
+    gate: &Gate,
     job: Job<N>,
-) -> Result<Played<N>, Refusal> {
+) -> Played<N> {
     let Job { seat, play } = job;
-    let mut caller = Player {
+    let mut player = Player {
         rt,
         alloc,
         machine,
+        gate,
         seat,
         receipts: Vec::new(alloc),
+        read: None,
     };
-    let read = caller.play(play)?;
-    let Player { seat, receipts, .. } = caller;
-    Ok(Played {
+    player.play(play);
+    let Player {
         seat,
         receipts,
         read,
-    })
+        ..
+    } = player;
+    Played {
+        seat,
+        receipts,
+        read,
+    }
 }
 
 /// What was collected so far: seats that have come back, receipts, and what was read last of the counters.
@@ -83,49 +97,79 @@ fn work<N: Naming + Counting, R: Wait>(
 struct Collected<N: Naming + Counting> {
     seats: Vec<Seat<N>>,
     receipts: Vec<Vec<Receipt<Record>>>,
-    read: [u64; 3],
+    read: Option<[u64; 3]>,
 }
 
 impl<N: Naming + Counting> Collected<N> {
-    fn add(&mut self, rt: &impl Abort, played: Result<Played<N>, Refusal>) {
+    fn add(&mut self, rt: &impl Abort, played: Played<N>) {
         let Played {
             seat,
             receipts,
             read,
-        } = played.expect(rt, "a call was refused");
+        } = played;
         self.seats.push(seat).expect(rt, "memory");
         self.receipts.push(receipts).expect(rt, "memory");
-        self.read = read;
+        if read.is_some() {
+            self.read = read;
+        }
     }
 
-    /// Some plays in turn, by the seat that came last.
-    fn in_turn<R: Abort + Wait>(
+    /// A play by the seat that came last.
+    fn alone<R: Abort + Wait>(
         &mut self,
         rt: &R,
         alloc: Global,
         machine: &Raced<N>,
-        plays: Vec<Play>,
+        gate: &Gate,
+        play: Play,
     ) {
+        let seat = self.seats.pop().expect(rt, "a seat");
+        self.add(rt, work(rt, alloc, machine, gate, Job { seat, play }));
+    }
+
+    /// The jobs of plays that are made at once, each with a seat.
+    fn jobs(&mut self, rt: &impl Abort, alloc: Global, plays: &[Play]) -> Vec<Job<N>> {
+        let mut jobs = Vec::new(alloc);
         for play in plays {
             let seat = self.seats.pop().expect(rt, "a seat");
-            self.add(rt, work(rt, alloc, machine, Job { seat, play }));
+            jobs.push(Job { seat, play: *play }).expect(rt, "memory");
         }
+        jobs
     }
 }
 
-/// The jobs of plays that are made at once, each with a seat.
-fn jobs<N: Naming + Counting>(
-    rt: &impl Abort,
+/// Does each job by a thread of its own, all at once.
+fn at_once<N: Naming + Counting + Send + Sync, R: Abort + Threads + Wait + Sync>(
+    rt: &R,
     alloc: Global,
-    seats: &mut Vec<Seat<N>>,
-    plays: Vec<Play>,
-) -> Vec<Job<N>> {
-    let mut jobs = Vec::new(alloc);
-    for play in plays {
-        let seat = seats.pop().expect(rt, "a seat");
-        jobs.push(Job { seat, play }).expect(rt, "memory");
+    machine: &Raced<N>,
+    gate: &Gate,
+    jobs: Vec<Job<N>>,
+) -> Vec<Played<N>> {
+    map_vec(rt, jobs, &|job| work(rt, alloc, machine, gate, job)).expect(rt, "memory")
+}
+
+/// Plays a script at a machine. Its seats come back.
+fn play_script<N: Naming + Counting + Send + Sync, R: Abort + Threads + Wait + Sync>(
+    rt: &R,
+    alloc: Global,
+    machine: &Raced<N>,
+    gate: &Gate,
+    seats: Vec<Seat<N>>,
+    script: &Script<'_>,
+) -> Collected<N> {
+    let mut collected = Collected {
+        seats,
+        receipts: Vec::new(alloc),
+        read: None,
+    };
+    collected.alone(rt, alloc, machine, gate, script.before);
+    let jobs = collected.jobs(rt, alloc, script.at_once);
+    for played in at_once(rt, alloc, machine, gate, jobs) {
+        collected.add(rt, played);
     }
-    jobs
+    collected.alone(rt, alloc, machine, gate, script.after);
+    collected
 }
 
 /// What a machine is made of: its clock, and a queue for each processor.
@@ -135,97 +179,90 @@ struct Parts {
     queues: Vec<HeldQueue>,
 }
 
-/// Plays a script on a machine of these parts, and ends it. It has a seat for each play at once.
+/// Plays a script on a machine of these parts, and ends it. `count` is the number of its seats, one for each play at once.
 fn play_all<N: Naming + Counting + Send + Sync, R: Abort + Threads + Wait + Sync>(
     rt: &R,
     alloc: Global,
     prepared: Prepared<HeldQueue>,
     unnamed: UnnamedCounters,
     parts: Parts,
-    script: Script,
+    gate: &Gate,
+    script: &Script<'_>,
+    count: u64,
 ) -> AllPlayed
     requires name { prepared.0 ≡ N.table }
     requires counters { unnamed.0 ≡ N.counters }
-    requires counts { (prepared.1.about ≡ 4) × (prepared.1.callers ≡ length script.at_once.items) × (unnamed.1 ≡ length script.at_once.items) }
+    requires counts { (prepared.1.about ≡ 4) × (prepared.1.callers ≡ count) × (unnamed.1 ≡ count) }
     requires many { length parts.queues.items ≡ 4 }
     requires empty { All (λ q. (q.queue.members ≡ []) × (q.queue.mark ≡ 2 ^ 32)) parts.queues.items }
 {
     let Parts { clock, queues } = parts;
-    let Script {
-        before,
-        at_once,
-        after,
-    } = script;
-    let count = at_once.len() as u64;
     let (machine, seats) = Raced::<N>::with_queues(
         alloc, clock, queues, prepared, unnamed, count,
     ).expect(rt, "memory");
-    let mut collected = Collected {
-        seats,
-        receipts: Vec::new(alloc),
-        read: [0; 3],
-    };
-    collected.in_turn(rt, alloc, &machine, before);
-    let jobs = jobs(rt, alloc, &mut collected.seats, at_once);
-    let shared = &machine;
-    let done = map_vec(rt, jobs, &|job| work(rt, alloc, shared, job)).expect(rt, "memory");
-    for one in done {
-        collected.add(rt, one);
-    }
-    collected.in_turn(rt, alloc, &machine, after);
     let Collected {
         seats,
         receipts,
         read,
-    } = collected;
+    } = play_script(rt, alloc, &machine, gate, seats, script);
     if !machine.owns(&seats) {
         panic!(rt; "a seat is missing")
     }
     let closed = machine.close(seats);
     AllPlayed {
+        opened: gate.was_opened(),
         closed,
         receipts,
         read,
     }
 }
 
-/// Queues without tasks. Calls of the first come to the gate, if there is one.
+/// Queues without tasks. Calls of the first come to the gate.
 fn queues(
     alloc: Global,
     count: usize,
-    gate: Option<Arc<Gate, Global>>,
+    gate: Arc<Gate, Global>,
 ) -> Result<Vec<HeldQueue>, AllocError>
     ensures many { IfOk result (λ v. vec_len v ≡ count) }
     ensures empty { IfOk result (λ v. All (λ q. (q.queue.members ≡ []) × (q.queue.mark ≡ 2 ^ 32)) v.items) }
 {
     let mut queues = Vec::new(alloc);
-    let mut gate = gate;
+    let mut gate = Some(gate);
     'queues: for _ in 0..count {
         queues.push(HeldQueue::at(gate.take()))?;
     }
     Ok(queues)
 }
 
-/// What comes of a script on a machine of four processors, where processor 0's clock and the calls of its queue come to the gate, if
-/// there is one.
+/// The same gate again.
+fn again(rt: &impl Abort, gate: &Arc<Gate, Global>) -> Arc<Gate, Global> {
+    Arc::try_clone(gate).expect(rt, "memory")
+}
+
+/// The parts of a machine of four processors, where the clocks' readings and the calls of processor 0's queue come to the gate.
+fn parts_of_four(rt: &impl Abort, alloc: Global, gate: &Arc<Gate, Global>) -> Parts
+    ensures many { length result.queues.items ≡ 4 }
+    ensures empty { All (λ q. (q.queue.members ≡ []) × (q.queue.mark ≡ 2 ^ 32)) result.queues.items }
+{
+    let clock = CountingClock::new(alloc, 4, again(rt, gate)).expect(rt, "memory");
+    let Ok(queues) = queues(alloc, 4, again(rt, gate)) else {
+        panic!(rt; "memory")
+    };
+    Parts { clock, queues }
+}
+
+/// What comes of a script on a machine of four processors, with a gate at this point.
 pub fn run_script<R: Abort + Threads + Wait + Sync>(
     rt: &R,
     alloc: Global,
-    gate: Option<Arc<Gate, Global>>,
-    script: Script,
+    at: Point,
+    script: &Script<'_>,
 ) -> AllPlayed {
-    let at_clock = match &gate {
-        Some(gate) => Some(Arc::try_clone(gate).expect(rt, "memory")),
-        None => None,
-    };
-    let clock = CountingClock::new(alloc, 4, at_clock).expect(rt, "memory");
-    let Ok(queues) = queues(alloc, 4, gate) else {
+    let gate = Arc::new(alloc, Gate::new(at)).expect(rt, "memory");
+    let parts = parts_of_four(rt, alloc, &gate);
+    let count = script.at_once.len() as u64;
+    let Ok((prepared, unnamed)) = prepare::<HeldQueue>(alloc, 4, count) else {
         panic!(rt; "memory")
     };
-    let parts = Parts { clock, queues };
-    let seats = script.at_once.len() as u64;
-    let Ok((prepared, unnamed)) = prepare::<HeldQueue>(alloc, 4, seats) else {
-        panic!(rt; "memory")
-    };
-    play_all::<Brand, R>(rt, alloc, prepared, unnamed, parts, script)
+    play_all::<Brand, R>(rt, alloc, prepared, unnamed, parts, &gate, script, count)
 }
