@@ -5,20 +5,12 @@ use bq_hooks::{Hook, Version};
 use std::alloc::{AllocError, Global};
 use std::process::Abort;
 
-/// Texts of programs, and the end of each program.
-static TEXTS: [(&str, &str); 3] = [(REFUSALS, ""), (JOINS, ""), (CONTEXT, CONTEXT_END)];
-
-/// Programs beside no map have their answers.
-fn are_judged(rt: &impl Abort, alloc: Global) {
-    for (trials, end) in &TEXTS {
-        expect(rt, alloc, &[], trials, end);
-    }
-}
-
 /// Each cause is found at its slot, and what is nearest to it is accepted.
 #[test]
 fn refusals(rt: HostRuntime) {
-    are_judged(&rt, rt.alloc());
+    expect(&rt, rt.alloc(), &[], REFUSALS, "");
+    expect(&rt, rt.alloc(), &[], JOINS, "");
+    expect(&rt, rt.alloc(), &[], CONTEXT, CONTEXT_END);
 }
 
 /// Programs that are refused, and some that are not.
