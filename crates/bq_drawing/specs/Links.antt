@@ -52,13 +52,13 @@ dot_text colour place height =
     codes "<circle class=\"c" ++ (decimal colour ++ (codes " run\" cx=\"" ++ (hundredths place ++ (codes "\" cy=\"" ++ (decimal height
     ++ codes "\" r=\"4.5\"/>")))))
 
--- the beginning of a group, the line, and its end: an arrow for a pull, and dashes with a dot for a migration
+-- the line and its end: an arrow for a pull, and dashes with a dot for a migration
 abbrev pub link_text : LinkKind → ℕ → ℕ → ℕ → ℕ → ℕ → Bool → List ℕ
 link_text Pull colour left begin right end is_down =
-    (codes "<g><path class=\"c" ++ (decimal colour ++ (codes " link\" d=\"M" ++ way_text left begin right end (codes "\"/>"))))
+    (codes "<path class=\"c" ++ (decimal colour ++ (codes " link\" d=\"M" ++ way_text left begin right end (codes "\"/>"))))
     ++ head_text colour right end is_down
 link_text Migration colour left begin right end is_down =
-    (codes "<g><path class=\"c" ++ (decimal colour ++ (codes " link dashed\" d=\"M" ++ way_text left begin right end (codes "\"/>"))))
+    (codes "<path class=\"c" ++ (decimal colour ++ (codes " link dashed\" d=\"M" ++ way_text left begin right end (codes "\"/>"))))
     ++ dot_text colour right end
 
 -- what the line means
@@ -84,7 +84,7 @@ link_between s link from to =
     let begin = enters_at link (leaves_at from to) (link_end from to) s.extent.from in
     let right = moment_place s.extent link.to.at in
     let end = link_end from to in
-    link_text link.kind (colour_of s.tasks link.task) left begin right end (nat_lt from to) ++ link_title s link
+    (codes "<g>" ++ link_text link.kind (colour_of s.tasks link.task) left begin right end (nat_lt from to)) ++ link_title s link
 
 -- a line between two bands, as `link_between` draws it, if both bands are drawn
 abbrev pub link_if : PictureSetting → RowLink → Option ℕ → Option ℕ → List ℕ

@@ -1,5 +1,5 @@
 //! The lines between rows: pulls and migrations.
-ghost use Rattle.std.specs.Prelude.{◌≡◌, ◌++◌, OnOk, string_bytes};
+ghost use Rattle.std.specs.Prelude.{◌≡◌, ◌++◌, OnOk, codes, string_bytes};
 ghost use Rattle.bq_drawing.specs.declared.links.LinkKind.TheVariants.{Migration, Pull};
 ghost use Rattle.bq_drawing.specs.Links.{act_text, dot_text, link_end, enters_at, head_text, height_left, leaves_at, link_text, link_between, link_title, name_head, same_kind};
 ghost use Rattle.bq_drawing.specs.Shapes.{picture_setting};
@@ -78,6 +78,7 @@ impl RowLink {
             is_down: top_from < top_to,
         };
         let colour = frame.colour(self.task);
+        write_group(text)?;
         write_line(self.kind, colour, &line, text)?;
         self.write_title(frame, text)
     }
@@ -159,7 +160,14 @@ fn write_act(kind: LinkKind, from: u8, to: u8, text: &mut String) -> Result<(), 
     }
 }
 
-/// Adds the beginning of a group, a line in a colour, and its end.
+/// Adds the beginning of a group.
+fn write_group(text: &mut String) -> Result<(), AllocError>
+    ensures { OnOk result (string_bytes text.new ≡ string_bytes text.old ++ codes "<g>") }
+{
+    text.push_str("<g>")
+}
+
+/// Adds a line in a colour, and its end.
 fn write_line(
     kind: LinkKind,
     colour: usize,
@@ -175,7 +183,7 @@ fn write_line(
     }
 }
 
-/// Adds the beginning of a group, and an arrow.
+/// Adds an arrow.
 fn write_arrow_line(colour: usize, line: &Line, text: &mut String) -> Result<(), AllocError>
     ensures { OnOk result (string_bytes text.new
         ≡ string_bytes text.old ++ link_text Pull colour line.now.left.0 line.now.begin line.now.right.0 line.now.end line.now.is_down) }
@@ -189,12 +197,12 @@ fn write_arrow_line(colour: usize, line: &Line, text: &mut String) -> Result<(),
     } = *line;
     write!(
         text,
-        "<g><path class=\"c{colour} link\" d=\"M{left} {begin}L{right} {end}\"/>"
+        "<path class=\"c{colour} link\" d=\"M{left} {begin}L{right} {end}\"/>"
     )?;
     write_head(colour, right, end, is_down, text)
 }
 
-/// Adds the beginning of a group, and a dashed line to a dot.
+/// Adds a dashed line to a dot.
 fn write_dashed_line(colour: usize, line: &Line, text: &mut String) -> Result<(), AllocError>
     ensures { OnOk result (string_bytes text.new
         ≡ string_bytes text.old ++ link_text Migration colour line.now.left.0 line.now.begin line.now.right.0 line.now.end line.now.is_down) }
@@ -208,7 +216,7 @@ fn write_dashed_line(colour: usize, line: &Line, text: &mut String) -> Result<()
     } = *line;
     write!(
         text,
-        "<g><path class=\"c{colour} link dashed\" d=\"M{left} {begin}L{right} {end}\"/>"
+        "<path class=\"c{colour} link dashed\" d=\"M{left} {begin}L{right} {end}\"/>"
     )?;
     write_dot(colour, right, end, text)
 }

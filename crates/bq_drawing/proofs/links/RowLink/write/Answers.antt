@@ -1,4 +1,5 @@
 use Rattle.std.proofs.Common.{◌≡◌, ℕ, List, ◌++◌, ◌∙◌, ap, nat_lt, string_bytes}
+use Rattle.std.specs.Prelude.{codes}
 use Rattle.std.proofs.lemmas.Result.{on_ok_weaker}
 use Rattle.bq_drawing.specs.Links.{link_end, enters_at, leaves_at, link_text, link_title}
 use Rattle.bq_drawing.specs.Places.{moment_place}
@@ -19,7 +20,7 @@ returns c =
     let right = moment_place s.extent link.to.at in
     let end = link_end from to in
     let drawn : ℕ → ℕ → ℕ → ℕ → ℕ → List ℕ
-    = λ a b x y colour. link_text link.kind colour a b x y (nat_lt from to) in
+    = λ a b x y colour. codes "<g>" ++ link_text link.kind colour a b x y (nat_lt from to) in
     let enters : c.enters_at.result ≡ begin
     = c.enters_at.ensures ∙ ap (λ b. enters_at link b c.ends_at-end.result first) c.leaves_at-begin.ensures
     ∙ ap (λ e. enters_at link (leaves_at from to) e first) c.ends_at-end.ensures in
@@ -31,7 +32,9 @@ returns c =
     ∙ ap (λ y. drawn left begin right y c.colour-colour.result) c.ends_at-end.ensures
     ∙ ap (λ colour. drawn left begin right end colour) c.colour-colour.ensures in
     let line : string_bytes c.write_line.new.text ≡ old ++ drawn left begin right end (colour_of s.tasks link.task) =
-    c.in_ok-write_line.ensures ∙ ap (λ (t : List ℕ). old ++ t) same in
+    both_added old (string_bytes c.write_group.new.text) (string_bytes c.write_line.new.text) _ _ c.in_ok-write_group.ensures
+    c.in_ok-write_line.ensures
+    ∙ ap (λ (t : List ℕ). old ++ t) same in
     on_ok_weaker c.write_title.result
     (λ e. both_added old (string_bytes c.write_line.new.text) (string_bytes c.write_title.new.text)
     (drawn left begin right end (colour_of s.tasks link.task)) (link_title s link) line e)
