@@ -42,6 +42,18 @@ DESCRIPTION = [
         "options",
     ),
 ]
+SCRIPT = [
+    ("./bqsim WORDS..", "runs the program that the repository carries, or the one that --build made there"),
+    ("./bqsim --build WORDS..", "proves and builds the sources as they are now, keeps the program, and runs it; this and --prove need the Rattle kit"),
+    ("./bqsim --prove", "proves and builds everything from nothing, and compares the program with the one that the repository carries"),
+    ("./bqsim --program", "prints the path of the program that runs"),
+    ("./bqsim --made-of", "prints its commit, its kit, and the checksums of its sources and of itself"),
+]
+FOLDERS = [
+    ("workloads/, examples/", "workloads and traces to begin with"),
+    ("policies/", "policies as assembler text; policies/c/ has some in C, with bqsim.h"),
+    ("docs/GUIDE.md", "a tour by tasks; docs/LAB.md has exercises"),
+]
 STATUSES = [
     ("0", "all is well"),
     ("1", "a trace has a bad line, or, for timeline, a refused line; or asm, dis, check, run, import or simulate refuses what it read"),
@@ -143,6 +155,12 @@ def page(program, commands):
             for words, what in entries:
                 lines += [".TP", f".B {roff(words)}", roff(what)]
         lines += [".PP", "Examples:", ".RS", ".nf", *map(roff, told.examples()), ".fi", ".RE"]
+    lines += [".SH THE SCRIPT", "In a clone of the repository the script ./bqsim runs the program. It has some words of its own:"]
+    for words, what in SCRIPT:
+        lines += [".TP", f".B {roff(words)}", roff(what)]
+    lines += [".SH FILES", "In the repository:"]
+    for name, what in FOLDERS:
+        lines += [".TP", f".I {roff(name)}", roff(what)]
     lines += [".SH EXIT STATUS"]
     for status, what in STATUSES:
         lines += [".TP", f".B {status}", roff(what)]
