@@ -20,8 +20,8 @@ use Rattle.bq_hooks.specs.declared.settled.By.{By}
 use Rattle.bq_hooks.specs.declared.settled.By.TheVariants as who
 use Rattle.bq_parts.specs.declared.event.Event.{Event}
 use Rattle.bq_parts.specs.declared.reply.Reply.{Reply}
-use Rattle.bq_words.specs.declared.rule.Rule.{Rule}
-use Rattle.bq_words.specs.declared.rule.Rule.TheVariants.{Cfs, Eevdf}
+use Rattle.bq_words.specs.declared.discipline_name.DisciplineName.{DisciplineName}
+use Rattle.bq_words.specs.declared.discipline_name.DisciplineName.TheVariants.{Cfs, Eevdf}
 use Rattle.bq_bounds.specs.declared.charge.Charge.{Charge}
 use Rattle.bq_bounds.specs.declared.running_task.RunningTask.{RunningTask}
 use Rattle.bq_bounds.specs.declared.watch.Watch.{Watch}
@@ -209,17 +209,17 @@ counts d p nows now w is =
       greatest = is.greatest;
     }
 
-watch_within : (rule : Rule) (d : Discipline) → MeasureWithin rule d → WatchWithin rule d
-watch_within rule d law p nows now None w sound is h = counts d p nows now w is
-watch_within rule d law p nows now (Some s) w sound is h =
+watch_within : (discipline : DisciplineName) (d : Discipline) → MeasureWithin discipline d → WatchWithin discipline d
+watch_within discipline d law p nows now None w sound is h = counts d p nows now w is
+watch_within discipline d law p nows now (Some s) w sound is h =
     let q = runs_on d p nows in
     let r = rise q now in
     let mean = (charge d q now).mark in
     let next = risen r w in
     let counted = counts d p nows now w is in
-    let P : Option ℕ → Type 0 = λ o. IsWatchOf d p (nows ++ now ∷ []) (charged_by rule s r mean o next) in
+    let P : Option ℕ → Type 0 = λ o. IsWatchOf d p (nows ++ now ∷ []) (charged_by discipline s r mean o next) in
     subst P (sym counted.since) (measured_by d p (nows ++ now ∷ [])
-    (measured_charge rule s r (risen_since d p (nows ++ now ∷ [])) mean) next (law p nows now s sound h) counted)
+    (measured_charge discipline s r (risen_since d p (nows ++ now ∷ [])) mean) next (law p nows now s sound h) counted)
 
 -- who decides changes nothing of what is kept
 

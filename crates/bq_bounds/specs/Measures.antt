@@ -9,8 +9,8 @@ use Rattle.bq_fairness.specs.Steps.{ProcessorStep, Pass, Decide, Enter, Leave, M
 use Rattle.bq_hooks.specs.declared.settled.By.TheVariants as who
 use Rattle.bq_parts.specs.declared.event.Event.{Event}
 use Rattle.bq_parts.specs.declared.reply.Reply.{Reply}
-use Rattle.bq_words.specs.declared.rule.Rule.{Rule}
-use Rattle.bq_words.specs.declared.rule.Rule.TheVariants.{Cfs, Eevdf}
+use Rattle.bq_words.specs.declared.discipline_name.DisciplineName.{DisciplineName}
+use Rattle.bq_words.specs.declared.discipline_name.DisciplineName.TheVariants.{Cfs, Eevdf}
 use Rattle.bq_bounds.specs.declared.charge.Charge.{Charge}
 use Rattle.bq_bounds.specs.declared.lags.Effect.TheVariants.{Passes, Decides}
 use Rattle.bq_bounds.specs.declared.lags.Lags.{Lags}
@@ -31,14 +31,14 @@ KeepsItsBound c = c.difference ≤ c.bound
 
 -- The charge of the running task at a reading of the clock keeps its bound, if the discipline has decided and the clock was read a few
 -- times since. The charge is measured by the clock's rise, its rise since the decision, and the mean that the charge computes
-abbrev pub MeasureWithin : Rule → Discipline → Type 0
-MeasureWithin rule d =
+abbrev pub MeasureWithin : DisciplineName → Discipline → Type 0
+MeasureWithin discipline d =
     (p : Running) (nows : List ℕ) (now : ℕ) (s : RunningTask) → AreTasksSound p →
     (let q = runs_on d p nows in
     IsRunningTask q.current q.queue (Some s) →
-    IfSome (measured_charge rule s (rise q now) (risen_since d p (nows ++ now ∷ [])) (charge d q now).mark) KeepsItsBound)
+    IfSome (measured_charge discipline s (rise q now) (risen_since d p (nows ++ now ∷ [])) (charge d q now).mark) KeepsItsBound)
 
--- `MeasureWithin` holds under each rule
+-- `MeasureWithin` holds under each discipline
 pub record MeasuresWithin : Type 0 where
   pub cfs : MeasureWithin Cfs cfs
   pub eevdf : MeasureWithin Eevdf eevdf
@@ -50,14 +50,14 @@ pub record IsWatchOf (d : Discipline) (p : Running) (nows : List ℕ) (w : Watch
   pub greatest : IfSome w.greatest KeepsItsBound
 
 -- `IsWatchOf` still holds after one more reading
-abbrev pub WatchWithin : Rule → Discipline → Type 0
-WatchWithin rule d =
+abbrev pub WatchWithin : DisciplineName → Discipline → Type 0
+WatchWithin discipline d =
     (p : Running) (nows : List ℕ) (now : ℕ) (s : Option RunningTask) (w : Watch) → AreTasksSound p → IsWatchOf d p nows w →
     (let q = runs_on d p nows in
     IsRunningTask q.current q.queue s →
-    IsWatchOf d p (nows ++ now ∷ []) (read_by rule s (rise q now) (charge d q now).mark w))
+    IsWatchOf d p (nows ++ now ∷ []) (read_by discipline s (rise q now) (charge d q now).mark w))
 
--- `IsWatchOf` begins at a decision and holds under each rule; and whatever an event does after its reading, the greatest charge stays
+-- `IsWatchOf` begins at a decision and holds under each discipline; and whatever an event does after its reading, the greatest charge stays
 pub record WatchesWithin : Type 0 where
   pub begins : (d : Discipline) (p : Running) (w : Watch) → IfSome w.greatest KeepsItsBound → IsWatchOf d p [] (watch_decided who.Discipline w)
   pub cfs : WatchWithin Cfs cfs

@@ -3,8 +3,8 @@ use Rattle.std.specs.Prelude.{ℕ, Bool, true, false, nat_le, if◌then◌else�
 use Rattle.std.specs.Option.{option_map}
 use Rattle.bq_hooks.specs.declared.settled.By.{By}
 use Rattle.bq_hooks.specs.declared.settled.By.TheVariants as who
-use Rattle.bq_words.specs.declared.rule.Rule.{Rule}
-use Rattle.bq_words.specs.declared.rule.Rule.TheVariants.{Eevdf}
+use Rattle.bq_words.specs.declared.discipline_name.DisciplineName.{DisciplineName}
+use Rattle.bq_words.specs.declared.discipline_name.DisciplineName.TheVariants.{Eevdf}
 use Rattle.bq_parts.specs.declared.event.Event.{Event}
 use Rattle.bq_parts.specs.declared.event.Event.TheVariants.{Drain, Tick, Block, Pull}
 use Rattle.bq_parts.specs.declared.reply.Reply.{Reply}
@@ -38,14 +38,14 @@ measured_if None w = w
 measured_if (Some c) w = measured c w
 
 -- the running task is charged: the charge is measured if the discipline decided last and nothing has disturbed that since
-abbrev pub watch_charged : Rule → RunningTask → ℕ → ℕ → Option ℕ → Watch → Watch
-watch_charged rule s rise mean None w = record w { left_out = saturating_sum w.left_out 1 }
-watch_charged rule s rise mean (Some since) w = measured_if (measured_charge rule s rise since mean) w
+abbrev pub watch_charged : DisciplineName → RunningTask → ℕ → ℕ → Option ℕ → Watch → Watch
+watch_charged discipline s rise mean None w = record w { left_out = saturating_sum w.left_out 1 }
+watch_charged discipline s rise mean (Some since) w = measured_if (measured_charge discipline s rise since mean) w
 
 -- the watch after the running task was charged, if one ran
-abbrev pub charged_if : Rule → Option RunningTask → ℕ → ℕ → Watch → Watch
-charged_if rule None rise mean w = w
-charged_if rule (Some s) rise mean w = watch_charged rule s rise mean w.since w
+abbrev pub charged_if : DisciplineName → Option RunningTask → ℕ → ℕ → Watch → Watch
+charged_if discipline None rise mean w = w
+charged_if discipline (Some s) rise mean w = watch_charged discipline s rise mean w.since w
 
 -- the watch after a decision: the discipline's starts the count, a policy's ends it
 abbrev pub watch_decided : By → Watch → Watch
@@ -71,25 +71,25 @@ decided_by_event (Pull processor from now) (Pulled task run by steps) busy w = w
 decided_by_event e r busy w = w
 
 -- a reading of the clock: the clock has risen, and the running task is charged
-abbrev pub read_by : Rule → Option RunningTask → ℕ → ℕ → Watch → Watch
-read_by rule s rise mean w = charged_if rule s rise mean (risen rise w)
+abbrev pub read_by : DisciplineName → Option RunningTask → ℕ → ℕ → Watch → Watch
+read_by discipline s rise mean w = charged_if discipline s rise mean (risen rise w)
 
 -- an event of the processor: its clock is read, and a decision may be made
-abbrev pub watch_after : Rule → Event → Reply → Option RunningTask → ℕ → ℕ → Watch → Watch
-watch_after rule e r s rise mean w = decided_by_event e r (is_some s) (read_by rule s rise mean w)
+abbrev pub watch_after : DisciplineName → Event → Reply → Option RunningTask → ℕ → ℕ → Watch → Watch
+watch_after discipline e r s rise mean w = decided_by_event e r (is_some s) (read_by discipline s rise mean w)
 
 -- the watch of a processor
 abbrev pub watch_of : List Watch → ℕ → Watch
 watch_of ws processor = slice_index_or ws processor unwatched
 
 -- under EEVDF a pull disturbs the processor that it takes a task from: the mean moves there
-abbrev pub source_disturbed : Rule → Event → Reply → List Watch → List Watch
+abbrev pub source_disturbed : DisciplineName → Event → Reply → List Watch → List Watch
 source_disturbed Eevdf (Pull processor from now) (Pulled (Some id) run by steps) ws = slice_set ws from (disturbed (watch_of ws from))
-source_disturbed rule e r ws = ws
+source_disturbed discipline e r ws = ws
 
 -- the watches of all processors after an event of one of them
-abbrev pub watches_after : Rule → ℕ → Event → Reply → Option RunningTask → ℕ → ℕ → List Watch → List Watch
-watches_after rule processor e r s rise mean ws = source_disturbed rule e r (slice_set ws processor (watch_after rule e r s rise mean (watch_of ws processor)))
+abbrev pub watches_after : DisciplineName → ℕ → Event → Reply → Option RunningTask → ℕ → ℕ → List Watch → List Watch
+watches_after discipline processor e r s rise mean ws = source_disturbed discipline e r (slice_set ws processor (watch_after discipline e r s rise mean (watch_of ws processor)))
 
 -- the greatest of some charges, of which the last one comes first in the list
 abbrev pub greatest_of : List Charge → Option Charge

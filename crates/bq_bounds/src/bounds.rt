@@ -11,30 +11,34 @@ use crate::watch::Watch;
 use bq_disc::Entity;
 use bq_disc::limits::TASKS;
 use bq_parts::{Event, Reply};
-use bq_words::Rule;
+use bq_words::DisciplineName;
 use std::alloc::{AllocError, Global};
 
-/// How near each processor of a machine comes to the bounds of its rule. It takes one answer at a time.
+/// How near each processor of a machine comes to the bounds of its discipline. It takes one answer at a time.
 /// Measuring what was charged takes constant time. Measuring what tasks are owed takes a time that grows with the number of tasks, but only
 /// if some task may be owed more than any was before.
 #[derive(Drop)]
 pub struct Bounds {
-    pub rule: Rule,
+    pub discipline: DisciplineName,
     watches: Vec<Watch>,
     lags: Vec<Lags>,
 }
 
 impl Bounds {
     /// Bounds of this many processors, before the first event.
-    pub fn new(alloc: Global, rule: Rule, processors: usize) -> Result<Bounds, AllocError>
-        ensures rule { IfOk result (λ b. b.rule ≡ rule) }
+    pub fn new(
+        alloc: Global,
+        discipline: DisciplineName,
+        processors: usize,
+    ) -> Result<Bounds, AllocError>
+        ensures discipline { IfOk result (λ b. b.discipline ≡ discipline) }
         ensures watches { IfOk result (λ b. b.watches.items ≡ replicate processors unwatched) }
         ensures lags { IfOk result (λ b. b.lags.items ≡ replicate processors no_lags) }
     {
         let watches = vec![in alloc; Watch::new(); processors]?;
         let lags = vec![in alloc; Lags::new(); processors]?;
         Ok(Bounds {
-            rule,
+            discipline,
             watches,
             lags,
         })
@@ -51,23 +55,23 @@ impl Bounds {
         rise: u64,
         mean: u64,
     )
-        ensures rule { self.new.rule ≡ self.old.rule }
-        ensures watches { self.new.watches.items ≡ watches_after self.old.rule processor event.now reply.now running rise mean self.old.watches.items }
+        ensures discipline { self.new.discipline ≡ self.old.discipline }
+        ensures watches { self.new.watches.items ≡ watches_after self.old.discipline processor event.now reply.now running rise mean self.old.watches.items }
         ensures lags { self.new.lags ≡ self.old.lags }
     {
         if let Some(watch) = self.watches.get_mut(usize::from(processor)) {
-            watch.take(self.rule, event, reply, running, rise, mean);
+            watch.take(self.discipline, event, reply, running, rise, mean);
         }
         self.disturb_source(event, reply);
     }
 
     /// Under EEVDF a pull takes a task away from another processor, and disturbs what is measured there.
     fn disturb_source(&mut self, event: &Event, reply: &Reply)
-        ensures rule { self.new.rule ≡ self.old.rule }
-        ensures watches { self.new.watches.items ≡ source_disturbed self.old.rule event.now reply.now self.old.watches.items }
+        ensures discipline { self.new.discipline ≡ self.old.discipline }
+        ensures watches { self.new.watches.items ≡ source_disturbed self.old.discipline event.now reply.now self.old.watches.items }
         ensures lags { self.new.lags ≡ self.old.lags }
     {
-        if self.rule != Rule::Eevdf {
+        if self.discipline != DisciplineName::Eevdf {
             return;
         }
         if let (
@@ -93,7 +97,7 @@ impl Bounds {
     /// Under EEVDF: an event of a processor was answered, and its clock rose by `rise` ns. `tasks` are its tasks now.
     pub fn owe(&mut self, processor: u8, event: &Event, reply: &Reply, rise: u64, tasks: &[Entity])
         requires { length tasks.now ≤ TASKS }
-        ensures rule { self.new.rule ≡ self.old.rule }
+        ensures discipline { self.new.discipline ≡ self.old.discipline }
         ensures watches { self.new.watches ≡ self.old.watches }
         ensures lags { self.new.lags.items ≡ all_lags_after processor event.now reply.now rise tasks.now self.old.lags.items }
     {
@@ -113,7 +117,7 @@ impl Bounds {
         rise: u64,
         glance: Glance,
     ) -> bool
-        ensures rule { self.new.rule ≡ self.old.rule }
+        ensures discipline { self.new.discipline ≡ self.old.discipline }
         ensures watches { self.new.watches ≡ self.old.watches }
         ensures done { (xs : List Task) → IsTrue result → LagsByGlance processor event.now reply.now rise glance xs self.old.lags.items self.new.lags.items }
         ensures left { result ≡ false → self.new.lags.items ≡ self.old.lags.items }
@@ -131,7 +135,7 @@ impl Bounds {
 
     /// A pull takes a task away from another processor, whose stretch ends there.
     fn forget_source(&mut self, event: &Event, reply: &Reply)
-        ensures rule { self.new.rule ≡ self.old.rule }
+        ensures discipline { self.new.discipline ≡ self.old.discipline }
         ensures watches { self.new.watches ≡ self.old.watches }
         ensures lags { self.new.lags.items ≡ source_forgotten event.now reply.now self.old.lags.items }
     {

@@ -6,9 +6,9 @@ ghost use Rattle.bq_bounds.specs.Charges.{measured_charge, charge_from};
 use crate::running_task::RunningTask;
 use bq_cfs::GRANULARITY;
 use bq_weights::{GREATEST, NICE_0_WEIGHT};
-use bq_words::Rule;
+use bq_words::DisciplineName;
 
-/// How far the running task was beyond the base of its rule when its time was charged, and how far it may be. Both in virtual
+/// How far the running task was beyond the base of its discipline when its time was charged, and how far it may be. Both in virtual
 /// nanoseconds.
 #[derive(Clone, Copy)]
 pub struct Charge {
@@ -19,15 +19,21 @@ pub struct Charge {
 impl RunningTask {
     /// The charge for a rise of the clock. `since` is how far the clock has risen since the discipline decided who runs. CFS measures
     /// from the least virtual runtime that waits, and answers `None` if no task waits. EEVDF measures from the mean after the charge.
-    pub fn charge(&self, rule: Rule, rise: u64, since: u64, mean: u64) -> Option<Charge>
-        ensures { result ≡ measured_charge rule self.now rise since mean }
+    pub fn charge(
+        &self,
+        discipline: DisciplineName,
+        rise: u64,
+        since: u64,
+        mean: u64,
+    ) -> Option<Charge>
+        ensures { result ≡ measured_charge discipline self.now rise since mean }
     {
-        match rule {
-            Rule::Cfs => match self.least {
+        match discipline {
+            DisciplineName::Cfs => match self.least {
                 Some(least) => Some(self.charge_from(least, GRANULARITY, rise, since)),
                 None => None,
             },
-            Rule::Eevdf => Some(self.charge_from(mean, 0, rise, since)),
+            DisciplineName::Eevdf => Some(self.charge_from(mean, 0, rise, since)),
         }
     }
 

@@ -6,7 +6,7 @@ use crate::charge::Charge;
 use crate::running_task::RunningTask;
 use bq_hooks::By;
 use bq_parts::{Event, Reply};
-use bq_words::Rule;
+use bq_words::DisciplineName;
 
 /// The charges of one processor so far. Counts stop at their type's greatest number.
 #[derive(Clone, Copy)]
@@ -39,18 +39,18 @@ impl Watch {
     /// its mean after the charge.
     pub fn take(
         &mut self,
-        rule: Rule,
+        discipline: DisciplineName,
         event: &Event,
         reply: &Reply,
         running: Option<RunningTask>,
         rise: u64,
         mean: u64,
     )
-        ensures { self.new ≡ watch_after rule event.now reply.now running rise mean self.old }
+        ensures { self.new ≡ watch_after discipline event.now reply.now running rise mean self.old }
     {
         self.rise(rise);
         if let Some(running) = running {
-            self.charge(rule, &running, rise, mean);
+            self.charge(discipline, &running, rise, mean);
         }
         self.decide_by_event(event, reply, running.is_some());
     }
@@ -65,12 +65,12 @@ impl Watch {
     }
 
     /// The task that ran is charged.
-    fn charge(&mut self, rule: Rule, running: &RunningTask, rise: u64, mean: u64)
-        ensures { self.new ≡ watch_charged rule running.now rise mean self.old.since self.old }
+    fn charge(&mut self, discipline: DisciplineName, running: &RunningTask, rise: u64, mean: u64)
+        ensures { self.new ≡ watch_charged discipline running.now rise mean self.old.since self.old }
     {
         match self.since {
             Some(since) => {
-                if let Some(charge) = running.charge(rule, rise, since, mean) {
+                if let Some(charge) = running.charge(discipline, rise, since, mean) {
                     self.measure(charge);
                 }
             }

@@ -17,7 +17,7 @@ use Rattle.bq_cli.specs.declared.par.ParWords.{ParWords}
 
 -- The line says what a history of the scheduler that was asked for has.
 abbrev pub IsParLine : ParWords → List ℕ → Type 0
-IsParLine p line = (s : HistorySummary) × IsHistorySummary (discipline_of p.rule) (processors_in p.size) p.ticks s × (line ≡ summary_line s)
+IsParLine p line = (s : HistorySummary) × IsHistorySummary (discipline_of p.discipline) (processors_in p.size) p.ticks s × (line ≡ summary_line s)
 
 -- The writer got the line.
 abbrev pub WritesPar : ParWords → Option (List ℕ) → Option (List ℕ) → Type 0

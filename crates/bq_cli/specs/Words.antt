@@ -22,7 +22,7 @@ use Rattle.bq_experiment.specs.declared.words.MachineWords.{MachineWords}
 use Rattle.bq_experiment.specs.declared.words.StudyWords.{StudyWords}
 use Rattle.bq_timeline.specs.declared.settings.Words.{Words}
 use Rattle.bq_words.specs.Numbers.{below}
-use Rattle.bq_words.specs.Sizes.{rule_of}
+use Rattle.bq_words.specs.Sizes.{discipline_named}
 use Rattle.bq_cli.specs.declared.asm.AsmWords.{AsmWords}
 use Rattle.bq_cli.specs.declared.par.ParWords.{ParWords}
 use Rattle.bq_cli.specs.declared.par.TheConstants.{MOST_TICKS}
@@ -111,7 +111,7 @@ ticks_of word = below (MOST_TICKS + 1) (decimal_of word)
 
 -- the values of `par`
 pub record AreParWords (rows : List Row) (p : ParWords) : Type 0 where
-  pub rule : option_and_then rule_of (first_of (codes "rule") rows) ≡ Some p.rule
+  pub discipline : option_and_then discipline_named (first_of (codes "rule") rows) ≡ Some p.discipline
   pub size : option_and_then size_in_word (first_of (codes "processors") rows) ≡ Some p.size
   pub ticks : option_and_then ticks_of (first_of (codes "ticks") rows) ≡ Some p.ticks
 

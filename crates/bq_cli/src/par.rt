@@ -2,8 +2,8 @@
 ghost use Rattle.std.specs.Prelude.{◌≡◌, ℕ, List, Option, Some, true, IfOk, IfErr, OnOk, OnErr, option_map, option_and_then};
 ghost use Rattle.std.specs.Borrow.{Bor};
 ghost use Rattle.clap.specs.Words.{found_of, rows_of};
-ghost use Rattle.bq_words.specs.Sizes.{rule_of, processors_in};
-ghost use Rattle.bq_words.specs.declared.rule.Rule.{Rule as Way};
+ghost use Rattle.bq_words.specs.Sizes.{discipline_named, processors_in};
+ghost use Rattle.bq_words.specs.declared.discipline_name.DisciplineName.{DisciplineName as Way};
 ghost use Rattle.bq_words.specs.declared.processor_count.ProcessorCount.{ProcessorCount as Many};
 ghost use Rattle.bq_words.specs.Quantities.{size_in_word};
 ghost use Rattle.bq_par.specs.Summaries.{IsHistorySummary};
@@ -20,7 +20,7 @@ use bq_console::{WordsFault, refused_value, value};
 use bq_eevdf::EevdfQueue;
 use bq_par::{HistorySummary, run};
 use bq_streams::{Counted, StreamFault};
-use bq_words::{ProcessorCount, Rule, quantities, with_rules, with_sizes};
+use bq_words::{DisciplineName, ProcessorCount, quantities, with_disciplines, with_sizes};
 use clap::ArgMatches;
 use std::alloc::{AllocError, Global};
 use std::io::Write;
@@ -41,18 +41,18 @@ macro_rules! with_ticks {
     };
 }
 
-/// What `par` is to run: under which rule, how many processors, and how often each of them ticks, at most `MOST_TICKS` times.
+/// What `par` is to run: under which discipline, how many processors, and how often each of them ticks, at most `MOST_TICKS` times.
 #[derive(Clone, Copy)]
 pub struct ParWords {
-    pub rule: Rule,
+    pub discipline: DisciplineName,
     pub size: ProcessorCount,
     pub ticks: u32,
 }
 
 /// What the value of `--rule` is.
-const RULE: &str = with_rules!("a rule is ");
-/// The words of rules as a list.
-const RULE_WORDS: &str = with_rules!("");
+const DISCIPLINE: &str = with_disciplines!("a rule is ");
+/// The words of disciplines as a list.
+const DISCIPLINE_WORDS: &str = with_disciplines!("");
 /// What the value of `--processors` is.
 const SIZE: &str = with_sizes!("a number of processors is ");
 /// What the value of `--ticks` is.
@@ -63,23 +63,27 @@ pub(crate) fn par_words(alloc: Global, matches: &ArgMatches<'_>) -> Result<ParWo
     ensures ok { IfOk result (AreParWords (rows_of (found_of matches.now))) }
     ensures taken { IfErr result (λ e. (p : Asked) → AreParWords (rows_of (found_of matches.now)) p → e ≡ WordsFault.OutOfMemory) }
 {
-    let rule = rule_in(alloc, value(matches, "rule"))?;
+    let discipline = discipline_in(alloc, value(matches, "rule"))?;
     let size = size_in(alloc, value(matches, "processors"))?;
     let ticks = ticks_in(alloc, value(matches, "ticks"))?;
-    Ok(ParWords { rule, size, ticks })
+    Ok(ParWords {
+        discipline,
+        size,
+        ticks,
+    })
 }
 
-/// The rule that a word names.
-fn rule_in(alloc: Global, word: Option<&str>) -> Result<Rule, WordsFault>
-    ensures ok { IfOk result (λ r. option_and_then rule_of (option_map (λ (w : Bor (List ℕ)). w.now) word.entry) ≡ Some r) }
-    ensures taken { IfErr result (λ e. (r : Way) → option_and_then rule_of (option_map (λ (w : Bor (List ℕ)). w.now) word.entry) ≡ Some r → e ≡ WordsFault.OutOfMemory) }
+/// The discipline that a word names.
+fn discipline_in(alloc: Global, word: Option<&str>) -> Result<DisciplineName, WordsFault>
+    ensures ok { IfOk result (λ r. option_and_then discipline_named (option_map (λ (w : Bor (List ℕ)). w.now) word.entry) ≡ Some r) }
+    ensures taken { IfErr result (λ e. (r : Way) → option_and_then discipline_named (option_map (λ (w : Bor (List ℕ)). w.now) word.entry) ≡ Some r → e ≡ WordsFault.OutOfMemory) }
 {
     let Some(word) = word else {
-        return Err(refused_value(alloc, "rule", "", RULE, RULE_WORDS));
+        return Err(refused_value(alloc, "rule", "", DISCIPLINE, DISCIPLINE_WORDS));
     };
-    match Rule::of_word(word.as_bytes()) {
-        Some(rule) => Ok(rule),
-        None => Err(refused_value(alloc, "rule", word, RULE, RULE_WORDS)),
+    match DisciplineName::of_word(word.as_bytes()) {
+        Some(discipline) => Ok(discipline),
+        None => Err(refused_value(alloc, "rule", word, DISCIPLINE, DISCIPLINE_WORDS)),
     }
 }
 
@@ -140,17 +144,21 @@ pub(crate) fn perform_par<T: Threads + Wait + Sync, W: Write>(
     Ok(true)
 }
 
-/// Runs processors under the rule that is asked for.
+/// Runs processors under the discipline that is asked for.
 fn run_as_asked<T: Threads + Wait + Sync>(
     rt: &T,
     alloc: Global,
     parallel: &ParWords,
 ) -> Result<HistorySummary, AllocError>
-    ensures { IfOk result (IsHistorySummary (discipline_of parallel.now.rule) (processors_in parallel.now.size) parallel.now.ticks) }
+    ensures { IfOk result (IsHistorySummary (discipline_of parallel.now.discipline) (processors_in parallel.now.size) parallel.now.ticks) }
 {
-    let ParWords { rule, size, ticks } = *parallel;
-    match rule {
-        Rule::Cfs => run::<CfsQueue, T>(rt, alloc, size, ticks),
-        Rule::Eevdf => run::<EevdfQueue, T>(rt, alloc, size, ticks),
+    let ParWords {
+        discipline,
+        size,
+        ticks,
+    } = *parallel;
+    match discipline {
+        DisciplineName::Cfs => run::<CfsQueue, T>(rt, alloc, size, ticks),
+        DisciplineName::Eevdf => run::<EevdfQueue, T>(rt, alloc, size, ticks),
     }
 }

@@ -9,7 +9,7 @@ use bq_experiment::{AttachFault, HookWords, Policies, StudyWords};
 use bq_hooks::Hook;
 use bq_load::LoadFault;
 use bq_policy_file::{Head, fault_text, read_policy};
-use bq_words::Rule;
+use bq_words::DisciplineName;
 use bq_workload::Workload;
 use bq_workload_file::{Changes, WorkloadFault, read};
 use std::io::{Error, ErrorKind};
@@ -167,10 +167,10 @@ fn policy_bytes(
 fn say_no_policy(rt: &HostRuntime, path: &str, error: &Error) -> ExitCode {
     let code = report_unread(rt, Some(path), error);
     if error.kind() == ErrorKind::NotFound {
-        if let Some(rule) = Rule::of_word(path.as_bytes()) {
-            let rule = rule.word();
+        if let Some(discipline) = DisciplineName::of_word(path.as_bytes()) {
+            let discipline = discipline.word();
             let _ = eprintln!(rt;
-                "bqsim: --place, --preempt, --pull and --against take the file of a policy, or none; a discipline goes by --discipline {rule}, and docs/SEEDS.md compares two"
+                "bqsim: --place, --preempt, --pull and --against take the file of a policy, or none; a discipline goes by --discipline {discipline}, and docs/SEEDS.md compares two"
             );
         }
     }

@@ -12,7 +12,7 @@ use bq_console::{CommandText, OptionText, with_commands};
 use bq_drawing::with_themes;
 use bq_hooks::{with_hooks, with_versions};
 use bq_timeline::{with_columns, with_forms};
-use bq_words::{with_rules, with_sizes};
+use bq_words::{with_disciplines, with_sizes};
 use clap::Command;
 use std::alloc::{AllocError, Global};
 
@@ -144,7 +144,7 @@ const IMPORT_OPTIONS: &[OptionText] = options! {
 
 /// What `par` runs.
 const PAR_OPTIONS: &[OptionText] = options! {
-    ("rule", Needed("RULE"), with_rules!("How processors choose: ")),
+    ("rule", Needed("RULE"), with_disciplines!("How processors choose: ")),
     ("processors", Needed("PROCESSORS"), with_sizes!("How many processors there are: ", " (a mask has a bit for each, 64 in all)")),
     ("ticks", Needed("TICKS"), with_ticks!("How often each processor ticks: ", " (the history keeps each tick)"))
 };
@@ -180,7 +180,7 @@ const WORKLOAD_FILE: &[OptionText] = options! {
 /// What replaces parts of a workload's own machine, and its seed.
 const MACHINE_OPTIONS: &[OptionText] = options! {
     "Machine";
-    ("discipline", Once("RULE"), with_rules!("How processors choose, in place of the workload's own: ")),
+    ("discipline", Once("RULE"), with_disciplines!("How processors choose, in place of the workload's own: ")),
     ("processors", Once("P"), with_sizes!("How many processors, in place of the workload's own: ")),
     ("duration", Once("TIME"), "How long it runs, in place of the workload's own, as 1500us, 1.5ms or 2s"),
     ("seed", Once("N"), "The seed of drawn lengths, in place of the workload's own")

@@ -61,7 +61,7 @@ gathers_simulation old new policies w none empty g wants =
 -- a schedule that has begun stays
 stays : (s : Figures) (reported : Reported) → IsSome (schedule_after (Some s) reported)
 stays s [] = refl
-stays s ((n, Opened rule size) ∷ more) = stays (opening_figures (processors_in size)) more
+stays s ((n, Opened discipline size) ∷ more) = stays (opening_figures (processors_in size)) more
 stays s ((n, Answered event answer m) ∷ more) = stays (figures_after s event answer) more
 stays s ((n, Skipped line) ∷ more) = stays s more
 stays s ((n, Comes event m) ∷ more) = stays s more
@@ -76,7 +76,7 @@ pub schedule_gathered : (policies : List Accepted) (w : Workload) (most : ℕ) (
     → IsGathered policies w most schedule tasks → IsSome schedule
 schedule_gathered policies w most schedule tasks g =
     let run = g.simulation in
-    let reported : g.reported ≡ (1, Opened w.machine.rule w.machine.size) ∷ run.more =
+    let reported : g.reported ≡ (1, Opened w.machine.discipline w.machine.size) ∷ run.more =
     run.whole ∙ ap (λ (l : Reported). l ++ run.more) run.starts.reports in
     let is : schedule ≡ schedule_after (Some (opening_figures (processors_in w.machine.size))) run.more =
     g.schedule_is ∙ ap (schedule_after None) reported in

@@ -26,7 +26,7 @@ use Rattle.bq_drawing.specs.declared.links.RowLink.{RowLink}
 use Rattle.bq_drawing.specs.declared.links.LinkKind.{LinkKind}
 use Rattle.bq_drawing.specs.declared.look.Look.{Look}
 use Rattle.bq_drawing.specs.declared.svg.Svg.{Svg}
-use Rattle.bq_words.specs.declared.rule.Rule.{Rule}
+use Rattle.bq_words.specs.declared.discipline_name.DisciplineName.{DisciplineName}
 use Rattle.bq_drawing.specs.Axes.{axis_text}
 use Rattle.bq_drawing.specs.Headings.{heading_text, title_of}
 use Rattle.bq_drawing.specs.Holdings.{Held, HoldsChange, HoldsPull, HoldsRun, HoldsRunners, HoldsStart, HoldsWait, HoldsWaiting, HoldsWake, Stops, wait_at, with_stop, with_wake}
@@ -201,16 +201,16 @@ row_there w s rows number row old new there shown is written =
     inl (record { exists = there; shown = shown }, subst (λ r. IsRowWritten s number r old new) is written)
 
 -- what stands above, the axis, the lines between rows, and what stands behind them
-pub drawing_whole : (w : Window) (s : PictureSetting) (title : List ℕ) (rule : Option Rule) (held : Held) (written : WrittenRows)
+pub drawing_whole : (w : Window) (s : PictureSetting) (title : List ℕ) (discipline : Option DisciplineName) (held : Held) (written : WrittenRows)
     (height : ℕ) (t0 t1 t2 t3 t4 t5 : List ℕ)
-    → AreDrawn w s held written → t0 ≡ heading_text s title rule
+    → AreDrawn w s held written → t0 ≡ heading_text s title discipline
     → t1 ≡ t0 ++ axis_text s (axis_step s.extent) rows_edge written.bottom → t2 ≡ t1 ++ string_bytes written.links
     → t3 ≡ t2 ++ string_bytes written.text → t4 ≡ t3 ++ string_bytes written.labels
     → t5 ≡ t4 ++ legend_text s (tasks_shown s.tasks held.tasks) (key_beside held.links written) (legend_top written.bottom)
     → height
     ≡ saturating_sum (legend_top written.bottom) (legend_height (length (tasks_shown s.tasks held.tasks)) (key_beside held.links written))
-    → IsDrawing w s title rule held height t5
-drawing_whole w s title rule held written height t0 t1 t2 t3 t4 t5 drawn_so e0 e1 e2 e3 e4 e5 high =
+    → IsDrawing w s title discipline held height t5
+drawing_whole w s title discipline held written height t0 t1 t2 t3 t4 t5 drawn_so e0 e1 e2 e3 e4 e5 high =
     let are = drawn_so.are_written in
     let axis = axis_text s (axis_step s.extent) rows_edge written.bottom in
     let drawn = flat_map (drawing_row_text s) are.placed in
@@ -235,12 +235,12 @@ drawing_whole w s title rule held written height t0 t1 t2 t3 t4 t5 drawn_so e0 e
     }
 
 -- a picture: its head, what is drawn, and its end
-pub picture_added : (w : Window) (look : Look) (s : PictureSetting) (rule : Option Rule) (held : Held)
+pub picture_added : (w : Window) (look : Look) (s : PictureSetting) (discipline : Option DisciplineName) (held : Held)
     (height : ℕ) (head drawn old t1 t2 t3 : List ℕ)
-    → IsDrawing w s (title_of look) rule held height drawn → IsHead look drawn height head → t1 ≡ old ++ head
+    → IsDrawing w s (title_of look) discipline held height drawn → IsHead look drawn height head → t1 ≡ old ++ head
     → t2 ≡ t1 ++ drawn → t3 ≡ t2 ++ codes "</svg>\n"
-    → GrowsByPart (IsPicture w look s rule held) old t3
-picture_added w look s rule held height head drawn old t1 t2 t3 is is_head e1 e2 e3 = (
+    → GrowsByPart (IsPicture w look s discipline held) old t3
+picture_added w look s discipline held height head drawn old t1 t2 t3 is is_head e1 e2 e3 = (
   head ++ (drawn ++ codes "</svg>\n"),
   record { head = head; drawn = drawn; height = height; is_drawing = is; is_head = is_head; whole = refl },
   all_added old t1 t2 t3 head drawn (codes "</svg>\n") e1 e2 e3,
@@ -251,12 +251,12 @@ pub picture_at_end : (held between last : Svg) (s : Figures) (names : NamedTasks
     → between ≡ record held { drawing = between.drawing } → last ≡ record between { drawing = last.drawing }
     → HoldsRunners held.window s 64 held.drawing between.drawing
     → HoldsWaiting between.window s 1024 between.drawing last.drawing → IsDrawnOver last.window s e
-    → GrowsByPart (IsPicture last.window last.look (drawn_in e last.admitted names) last.rule last.drawing) old new
-    → GrowsByPart (IsPictureOf held.window held.look held.rule s names held.admitted held.drawing) old new
+    → GrowsByPart (IsPicture last.window last.look (drawn_in e last.admitted names) last.discipline last.drawing) old new
+    → GrowsByPart (IsPictureOf held.window held.look held.discipline s names held.admitted held.drawing) old new
 picture_at_end held between last s names e old new first second runs waits over added =
     let whole : last ≡ record held { drawing = last.drawing } = second ∙ ap (λ (v : Svg). record v { drawing = last.drawing }) first in
-    let own : GrowsByPart (IsPicture held.window held.look (drawn_in e held.admitted names) held.rule last.drawing) old new
-    = subst (λ (v : Svg). GrowsByPart (IsPicture v.window v.look (drawn_in e v.admitted names) v.rule last.drawing) old new) whole added in (
+    let own : GrowsByPart (IsPicture held.window held.look (drawn_in e held.admitted names) held.discipline last.drawing) old new
+    = subst (λ (v : Svg). GrowsByPart (IsPicture v.window v.look (drawn_in e v.admitted names) v.discipline last.drawing) old new) whole added in (
       own.0,
       record {
         running = between.drawing;

@@ -2,8 +2,8 @@
 use Rattle.std.specs.Prelude.{ℕ, List, [], ◌++◌, Option, Some, None, codes, string_bytes, unwrap_or}
 use Rattle.std.specs.Fmt.{decimal}
 use Rattle.std.specs.Option.{option_map}
-use Rattle.bq_words.specs.declared.rule.Rule.{Rule}
-use Rattle.bq_words.specs.declared.rule.Rule.TheVariants.{Cfs, Eevdf}
+use Rattle.bq_words.specs.declared.discipline_name.DisciplineName.{DisciplineName}
+use Rattle.bq_words.specs.declared.discipline_name.DisciplineName.TheVariants.{Cfs, Eevdf}
 use Rattle.bq_drawing.specs.declared.look.Look.{Look}
 use Rattle.bq_drawing.specs.Places.{left_edge}
 use Rattle.bq_drawing.specs.Shapes.{PictureSetting}
@@ -14,14 +14,14 @@ abbrev pub title_of : Look → List ℕ
 title_of look = unwrap_or (option_map (λ t. string_bytes t) look.title) (codes "Schedule")
 
 -- the name of a discipline
-abbrev pub discipline : Rule → List ℕ
-discipline Cfs = codes "CFS"
-discipline Eevdf = codes "EEVDF"
+abbrev pub acronym : DisciplineName → List ℕ
+acronym Cfs = codes "CFS"
+acronym Eevdf = codes "EEVDF"
 
 -- the discipline, if it is known
-abbrev pub rule_text : Option Rule → List ℕ
-rule_text None = []
-rule_text (Some rule) = discipline rule ++ codes ", "
+abbrev pub discipline_text : Option DisciplineName → List ℕ
+discipline_text None = []
+discipline_text (Some discipline) = discipline discipline ++ codes ", "
 
 -- the time that a picture is drawn over
 abbrev pub times_text : PictureSetting → List ℕ
@@ -33,9 +33,9 @@ abbrev pub title_text : List ℕ → List ℕ
 title_text title = (codes "<text class=\"title\" x=\"" ++ (decimal left_edge ++ codes "\" y=\"34\">")) ++ (escaped 90 title ++ codes "</text>\n")
 
 -- the line below the title: the discipline and the time
-abbrev pub span_text : PictureSetting → Option Rule → List ℕ
-span_text s rule = (codes "<text class=\"small\" x=\"" ++ (decimal left_edge ++ codes "\" y=\"58\">")) ++ (rule_text rule ++ times_text s)
+abbrev pub span_text : PictureSetting → Option DisciplineName → List ℕ
+span_text s discipline = (codes "<text class=\"small\" x=\"" ++ (decimal left_edge ++ codes "\" y=\"58\">")) ++ (discipline_text discipline ++ times_text s)
 
 -- the title, then the discipline and the time
-abbrev pub heading_text : PictureSetting → List ℕ → Option Rule → List ℕ
-heading_text s title rule = title_text title ++ span_text s rule
+abbrev pub heading_text : PictureSetting → List ℕ → Option DisciplineName → List ℕ
+heading_text s title discipline = title_text title ++ span_text s discipline

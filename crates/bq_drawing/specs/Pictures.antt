@@ -6,7 +6,7 @@ use Rattle.bq_report.specs.declared.extent.Extent.{Extent}
 use Rattle.bq_report.specs.declared.window.Window.{Window}
 use Rattle.bq_report.specs.Extents.{SpansReadings}
 use Rattle.bq_report.specs.Names.{NamedTasks}
-use Rattle.bq_words.specs.declared.rule.Rule.{Rule}
+use Rattle.bq_words.specs.declared.discipline_name.DisciplineName.{DisciplineName}
 use Rattle.bq_drawing.specs.declared.look.Look.{Look}
 use Rattle.bq_drawing.specs.Axes.{axis_text}
 use Rattle.bq_drawing.specs.Frames.{hash_of, picture_name_text, root_text, root_title}
@@ -20,12 +20,12 @@ use Rattle.bq_drawing.specs.Shapes.{PictureSetting, drawn_in}
 use Rattle.bq_drawing.specs.Titles.{axis_step}
 
 -- all that is drawn: the heading, the axis, the lines between rows, the rows over them, the names on their runs, and the legend
-pub record IsDrawing (w : Window) (s : PictureSetting) (title : List ℕ) (rule : Option Rule) (held : Held) (height : ℕ) (text : List ℕ) : Type 0 where
+pub record IsDrawing (w : Window) (s : PictureSetting) (title : List ℕ) (discipline : Option DisciplineName) (held : Held) (height : ℕ) (text : List ℕ) : Type 0 where
   pub placed : List PlacedRow
   pub edge : ℕ
   pub are_placed : ArePlaced w s held.rows PROCESSORS placed edge
   pub is_high : height ≡ picture_height s held placed edge
-  pub whole : text ≡ heading_text s title rule
+  pub whole : text ≡ heading_text s title discipline
       ++ (axis_text s (axis_step s.extent) rows_edge edge
       ++ (links_text s placed held.links
       ++ (flat_map (drawing_row_text s) placed
@@ -38,11 +38,11 @@ IsHead look drawn height text =
     (styles : List ℕ) × (text ≡ root_text (picture_name_text (hash_of look.theme drawn)) height ++ (root_title (title_of look) ++ styles))
 
 -- a picture: its head, all that is drawn, and the end of its root
-pub record IsPicture (w : Window) (look : Look) (s : PictureSetting) (rule : Option Rule) (held : Held) (text : List ℕ) : Type 0 where
+pub record IsPicture (w : Window) (look : Look) (s : PictureSetting) (discipline : Option DisciplineName) (held : Held) (text : List ℕ) : Type 0 where
   pub head : List ℕ
   pub drawn : List ℕ
   pub height : ℕ
-  pub is_drawing : IsDrawing w s (title_of look) rule held height drawn
+  pub is_drawing : IsDrawing w s (title_of look) discipline held height drawn
   pub is_head : IsHead look drawn height head
   pub whole : text ≡ head ++ (drawn ++ codes "</svg>\n")
 
@@ -55,7 +55,7 @@ abbrev pub IsDrawnOver : Window → Figures → Extent → Type 0
 IsDrawnOver w s e = (SpansReadings w s e × (e.from < e.to)) ⊎ (PassesNoTime w s × (e ≡ record { from = 0; to = 1 }))
 
 -- the picture at the end of a schedule: of all that is held, and of the runs and the waits that still go on
-pub record IsPictureOf (w : Window) (look : Look) (rule : Option Rule) (s : Figures) (names : NamedTasks) (tasks : List ℕ) (old : Held)
+pub record IsPictureOf (w : Window) (look : Look) (discipline : Option DisciplineName) (s : Figures) (names : NamedTasks) (tasks : List ℕ) (old : Held)
     (text : List ℕ) : Type 0 where
   pub running : Held
   pub held : Held
@@ -63,4 +63,4 @@ pub record IsPictureOf (w : Window) (look : Look) (rule : Option Rule) (s : Figu
   pub holds_runs : HoldsRunners w s PROCESSORS old running
   pub holds_waits : HoldsWaiting w s TASKS running held
   pub drawn_over : IsDrawnOver w s extent
-  pub whole : IsPicture w look (drawn_in extent tasks names) rule held text
+  pub whole : IsPicture w look (drawn_in extent tasks names) discipline held text

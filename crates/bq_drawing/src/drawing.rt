@@ -139,7 +139,7 @@ impl Drawing {
         admitted: &AdmittedTasks,
         names: &Names,
     ) -> Result<Written, AllocError>
-        ensures { IfOk result (λ d. IsDrawing window.now (drawn_in extent admitted.now names.now) heading.now.title.now heading.now.rule self.now
+        ensures { IfOk result (λ d. IsDrawing window.now (drawn_in extent admitted.now names.now) heading.now.title.now heading.now.discipline self.now
             d.height (string_bytes d.text)) }
     {
         let step = round_step(extent.length(), STEPS).unwrap_or(1);

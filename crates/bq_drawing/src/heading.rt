@@ -1,12 +1,12 @@
 //! The heading of a picture: its title, the discipline, and the time that it is drawn over.
 ghost use Rattle.std.specs.Prelude.{◌≡◌, ◌++◌, OnOk, string_bytes};
-ghost use Rattle.bq_drawing.specs.Headings.{discipline, heading_text, rule_text, span_text, times_text, title_text};
+ghost use Rattle.bq_drawing.specs.Headings.{acronym, heading_text, discipline_text, span_text, times_text, title_text};
 ghost use Rattle.bq_drawing.specs.Shapes.{picture_setting};
 
 use crate::escaped::write_escaped;
 use crate::frame::Frame;
 use crate::scale::LEFT;
-use bq_words::Rule;
+use bq_words::DisciplineName;
 use std::alloc::AllocError;
 
 /// How many characters of a title are written above the picture.
@@ -17,17 +17,17 @@ const MOST: usize = 90;
 pub struct Heading<'a> {
     /// The title of the picture.
     pub title: &'a str,
-    /// The rule by which processors choose, once it is known.
-    pub rule: Option<Rule>,
+    /// The discipline by which processors choose, once it is known.
+    pub discipline: Option<DisciplineName>,
 }
 
 impl Heading<'_> {
     /// Adds the title, and below it the discipline and the time that the picture is drawn over.
     pub fn write(&self, frame: &Frame<'_>, text: &mut String) -> Result<(), AllocError>
-        ensures { OnOk result (string_bytes text.new ≡ string_bytes text.old ++ heading_text (picture_setting frame.now) self.now.title.now self.now.rule) }
+        ensures { OnOk result (string_bytes text.new ≡ string_bytes text.old ++ heading_text (picture_setting frame.now) self.now.title.now self.now.discipline) }
     {
         write_title(self.title, text)?;
-        write_span(self.rule, frame, text)
+        write_span(self.discipline, frame, text)
     }
 }
 
@@ -41,23 +41,27 @@ fn write_title(title: &str, text: &mut String) -> Result<(), AllocError>
 }
 
 /// Adds the line below the title: the discipline and the time.
-fn write_span(rule: Option<Rule>, frame: &Frame<'_>, text: &mut String) -> Result<(), AllocError>
-    ensures { OnOk result (string_bytes text.new ≡ string_bytes text.old ++ span_text (picture_setting frame.now) rule) }
+fn write_span(
+    discipline: Option<DisciplineName>,
+    frame: &Frame<'_>,
+    text: &mut String,
+) -> Result<(), AllocError>
+    ensures { OnOk result (string_bytes text.new ≡ string_bytes text.old ++ span_text (picture_setting frame.now) discipline) }
 {
     write!(text, "<text class=\"small\" x=\"{LEFT}\" y=\"58\">")?;
-    write_rule(rule, text)?;
+    write_discipline(discipline, text)?;
     write_times(frame, text)
 }
 
 /// Adds the discipline, if it is known.
-fn write_rule(rule: Option<Rule>, text: &mut String) -> Result<(), AllocError>
-    ensures { OnOk result (string_bytes text.new ≡ string_bytes text.old ++ rule_text rule) }
+fn write_discipline(discipline: Option<DisciplineName>, text: &mut String) -> Result<(), AllocError>
+    ensures { OnOk result (string_bytes text.new ≡ string_bytes text.old ++ discipline_text discipline) }
 {
-    let Some(rule) = rule else {
+    let Some(discipline) = discipline else {
         return Ok(());
     };
-    let discipline = discipline(rule);
-    write!(text, "{discipline}, ")
+    let acronym = acronym(discipline);
+    write!(text, "{acronym}, ")
 }
 
 /// Adds the time that the picture is drawn over.
@@ -71,11 +75,11 @@ fn write_times(frame: &Frame<'_>, text: &mut String) -> Result<(), AllocError>
 }
 
 /// The name of a discipline.
-fn discipline(rule: Rule) -> &'static str
-    ensures { result.now ≡ discipline rule }
+fn acronym(discipline: DisciplineName) -> &'static str
+    ensures { result.now ≡ acronym discipline }
 {
-    match rule {
-        Rule::Cfs => "CFS",
-        Rule::Eevdf => "EEVDF",
+    match discipline {
+        DisciplineName::Cfs => "CFS",
+        DisciplineName::Eevdf => "EEVDF",
     }
 }

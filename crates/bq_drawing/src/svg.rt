@@ -24,7 +24,7 @@ use crate::theme::Theme;
 use bq_disc::limits::{PROCESSORS, TASKS};
 use bq_report::{AdmittedTasks, Extent, Names, ScheduleForm, Window};
 use bq_schedule::{Change, PulledTask, Schedule, Slice, Start, Stop, Wake};
-use bq_words::Rule;
+use bq_words::DisciplineName;
 use std::alloc::{AllocError, Global};
 use std::collections::BTreeMap;
 
@@ -36,7 +36,7 @@ pub struct Svg {
     alloc: Global,
     window: Window,
     look: Look,
-    rule: Option<Rule>,
+    discipline: Option<DisciplineName>,
     admitted: AdmittedTasks,
     drawing: Drawing,
     /// When each task last stopped running.
@@ -48,25 +48,25 @@ impl Svg {
     pub fn new(alloc: Global, window: Window, look: Look) -> Svg
         ensures window { result.window ≡ window }
         ensures look { result.look ≡ look }
-        ensures rule { result.rule ≡ None }
+        ensures discipline { result.discipline ≡ None }
         ensures none { (result.drawing ≡ nothing_of 0) × (result.admitted ≡ []) × (result.stops.entries ≡ []) }
     {
         Svg {
             alloc,
             window,
             look,
-            rule: None,
+            discipline: None,
             admitted: AdmittedTasks::new(alloc),
             drawing: Drawing::new(alloc),
             stops: BTreeMap::new(alloc),
         }
     }
 
-    /// Sets the rule by which the processors choose, which the picture names.
-    pub fn under(&mut self, rule: Rule)
-        ensures { self.new ≡ record self.old { rule = Some rule } }
+    /// Sets the discipline by which the processors choose, which the picture names.
+    pub fn under(&mut self, discipline: DisciplineName)
+        ensures { self.new ≡ record self.old { discipline = Some discipline } }
     {
-        self.rule = Some(rule);
+        self.discipline = Some(discipline);
     }
 
     /// Holds the shown part of a run, if there is one.
@@ -225,12 +225,12 @@ impl Svg {
 
     /// Adds the picture of what is held.
     fn write(&self, extent: Extent, names: &Names, text: &mut String) -> Result<(), AllocError>
-        ensures { OnOk result (GrowsByPart (IsPicture self.now.window self.now.look (drawn_in extent self.now.admitted names.now) self.now.rule self.now.drawing)
+        ensures { OnOk result (GrowsByPart (IsPicture self.now.window self.now.look (drawn_in extent self.now.admitted names.now) self.now.discipline self.now.drawing)
             (string_bytes text.old) (string_bytes text.new)) }
     {
         let heading = Heading {
             title: self.look.title(),
-            rule: self.rule,
+            discipline: self.discipline,
         };
         let drawn = self
             .drawing
@@ -426,7 +426,7 @@ impl ScheduleForm for Svg {
         names: &Names,
         text: &mut String,
     ) -> Result<(), AllocError>
-        ensures picture { OnOk result (GrowsByPart (IsPictureOf self.old.window self.old.look self.old.rule schedule.now names.now self.old.admitted self.old.drawing)
+        ensures picture { OnOk result (GrowsByPart (IsPictureOf self.old.window self.old.look self.old.discipline schedule.now names.now self.old.admitted self.old.drawing)
             (string_bytes text.old) (string_bytes text.new)) }
     {
         self.hold_runners(schedule)?;

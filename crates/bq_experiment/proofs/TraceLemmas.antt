@@ -111,7 +111,7 @@ traces_are_replayed w policies images text t =
     let from = installs_of_images images policies w t.reported s t.of_images in
     let fits = (AreFitting-parts s.first s.more (subst AreFitting s.whole t.fits)).1 in
     let answers =
-    texts_are_replayed images (comments_of w) w.machine.rule w.machine.size s.opening s.closing (events_of s.deeds) s.first
+    texts_are_replayed images (comments_of w) w.machine.discipline w.machine.size s.opening s.closing (events_of s.deeds) s.first
     s.more names s.starts s.drives from fits in
     subst (λ x. ReplaysTo x (texts t.reported) s.closing) (sym t.whole)
     (subst (λ (reported : Reported). ReplaysTo (with_feeds (comments_of w ++ reported_lines images reported)) (texts reported) s.closing)

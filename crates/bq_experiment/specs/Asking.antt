@@ -6,7 +6,7 @@ use Rattle.bq_words.specs.Quantities.{size_in_word, decimal_of}
 use Rattle.bq_policy_check.specs.Given.{option_bytes}
 use Rattle.bq_timeline.specs.Settings.{AsksForSettings, IsNoSettings, asked_or, form_asked, settings_option_refused as option_unset, settings_word_refused as word_unset}
 use Rattle.bq_timeline.specs.declared.settings.Words.{Words}
-use Rattle.bq_words.specs.Sizes.{rule_of}
+use Rattle.bq_words.specs.Sizes.{discipline_named}
 use Rattle.bq_words.specs.Durations.{duration_of}
 use Rattle.bq_workload_file.specs.declared.changes.Changes.{Changes}
 use Rattle.bq_experiment.specs.declared.asked.ShownAs.{ShownAs}
@@ -30,14 +30,14 @@ simulable_time word = option_and_then simulable (duration_of word)
 
 -- the words ask for these changes of the machine
 pub record AskForChanges (w : MachineWords) (c : Changes) : Type 0 where
-  pub rule : change_asked rule_of w.discipline ≡ Some c.rule
+  pub discipline : change_asked discipline_named w.discipline ≡ Some c.discipline
   pub size : change_asked size_in_word w.processors ≡ Some c.size
   pub duration : change_asked simulable_time w.duration ≡ Some c.duration
   pub seed : change_asked decimal_of w.seed ≡ Some c.seed
 
 -- the word that the fault names is not of its kind
 abbrev pub IsNoChange : MachineWords → AskedFault → Type 0
-IsNoChange w fault.Discipline = change_asked rule_of w.discipline ≡ None
+IsNoChange w fault.Discipline = change_asked discipline_named w.discipline ≡ None
 IsNoChange w fault.Processors = change_asked size_in_word w.processors ≡ None
 IsNoChange w fault.Duration = change_asked simulable_time w.duration ≡ None
 IsNoChange w fault.Seed = change_asked decimal_of w.seed ≡ None

@@ -2,14 +2,16 @@
 ghost use Rattle.std.specs.Prelude.{◌≡◌, ◌↔◌, IfErr, IfNone, IfOk, IfSome, IsTrue, None, Some, codes};
 ghost use Rattle.bq_words.specs.Quantities.{size_in_word, decimal_of};
 ghost use Rattle.bq_policy_check.specs.Given.{option_bytes};
-ghost use Rattle.bq_words.specs.Sizes.{rule_of};
+ghost use Rattle.bq_words.specs.Sizes.{discipline_named};
 ghost use Rattle.bq_timeline.specs.Settings.{optional_word_text};
 ghost use Rattle.bq_experiment.specs.Asking.{AskForChanges, AskToShow, IsNoChange, IsNotShown, change_asked, chooses_part, asked_option_refused, simulable_time, asked_word_refused};
 
 use crate::words::StudyWords;
 use bq_timeline::{RefusedWord, Settings, SettingsFault, Words, with_forms, word_after};
 use bq_words::quantities::{decimal, size};
-use bq_words::{ProcessorCount, Rule, duration, with_rules, with_sizes, with_units};
+use bq_words::{
+    DisciplineName, ProcessorCount, duration, with_disciplines, with_sizes, with_units,
+};
 use bq_workload::limits::LONGEST;
 use bq_workload_file::Changes;
 use std::alloc::Global;
@@ -25,7 +27,7 @@ pub enum ShownAs {
 }
 
 /// What a word for the discipline has to be.
-const RULES: &str = with_rules!("a discipline is ");
+const DISCIPLINES: &str = with_disciplines!("a discipline is ");
 
 /// What a word for the number of processors has to be.
 const SIZES: &str = with_sizes!("a number of processors is ");
@@ -42,7 +44,7 @@ const DURATION: &str = with_units!(
 /// Why words ask for no simulation. A fault of one word says only what is right; `AskedFault::refused` answers the word.
 #[derive(Clone, Copy, Debug, PartialEq, Eq, Error)]
 pub enum AskedFault {
-    #[error("{words}", words = RULES)]
+    #[error("{words}", words = DISCIPLINES)]
     Discipline,
     #[error("{words}", words = SIZES)]
     Processors,
@@ -70,7 +72,7 @@ impl AskedFault {
             AskedFault::Discipline => word_after(
                 "discipline",
                 &machine.discipline,
-                with_rules!(""),
+                with_disciplines!(""),
             ),
             AskedFault::Processors => word_after("processors", &machine.processors, ""),
             AskedFault::Duration => word_after("duration", &machine.duration, ""),
@@ -131,25 +133,25 @@ pub fn asked_changes(words: &StudyWords) -> Result<Changes, AskedFault>
     ensures fault { IfErr result (IsNoChange words.now.machine) }
 {
     let words = &words.machine;
-    let rule = rule_asked(&words.discipline).ok_or(AskedFault::Discipline)?;
+    let discipline = discipline_asked(&words.discipline).ok_or(AskedFault::Discipline)?;
     let size = size_asked(&words.processors).ok_or(AskedFault::Processors)?;
     let duration = time_asked(&words.duration).ok_or(AskedFault::Duration)?;
     let seed = seed_asked(&words.seed).ok_or(AskedFault::Seed)?;
     Ok(Changes {
-        rule,
+        discipline,
         size,
         duration,
         seed,
     })
 }
 
-/// The rule that a word asks for, if there is a word.
-fn rule_asked(word: &Option<String>) -> Option<Option<Rule>>
-    ensures { result ≡ change_asked rule_of word.now }
+/// The discipline that a word asks for, if there is a word.
+fn discipline_asked(word: &Option<String>) -> Option<Option<DisciplineName>>
+    ensures { result ≡ change_asked discipline_named word.now }
 {
     match word {
         None => Some(None),
-        Some(word) => Some(Some(Rule::of_word(word.as_bytes())?)),
+        Some(word) => Some(Some(DisciplineName::of_word(word.as_bytes())?)),
     }
 }
 

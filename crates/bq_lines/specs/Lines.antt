@@ -10,8 +10,8 @@ use Rattle.bq_hooks.specs.declared.hook.Hook.{Hook}
 use Rattle.bq_lines.specs.Bytes.{is_allowed}
 use Rattle.bq_words.specs.Quantities.{size_in_word, decimal_of, processor_in_word, task_in_word, mask_in_word, nice_in_word}
 use Rattle.bq_words.specs.declared.processor_count.ProcessorCount.{ProcessorCount}
-use Rattle.bq_words.specs.declared.rule.Rule.{Rule}
-use Rattle.bq_words.specs.Sizes.{rule_of}
+use Rattle.bq_words.specs.declared.discipline_name.DisciplineName.{DisciplineName}
+use Rattle.bq_words.specs.Sizes.{discipline_named}
 use Rattle.bq_lines.specs.Keywords.{keyword_of}
 use Rattle.bq_lines.specs.declared.keyword.Keyword.{Keyword}
 use Rattle.bq_lines.specs.declared.keyword.Keyword.TheVariants as keywords
@@ -22,9 +22,9 @@ use Rattle.bq_lines.specs.declared.command.LineReading.TheVariants.{Skipped, Bad
 
 -- what the words after a command's name write
 
--- a rule and a number of processors
-abbrev pub machine_words : List (List ℕ) → Option (Rule × ProcessorCount)
-machine_words operands = option_and_then (λ w. option_and_then (λ r. option_map (λ s. (r, s)) (size_in_word w.1)) (rule_of w.0)) (two_of operands)
+-- a discipline and a number of processors
+abbrev pub machine_words : List (List ℕ) → Option (DisciplineName × ProcessorCount)
+machine_words operands = option_and_then (λ w. option_and_then (λ r. option_map (λ s. (r, s)) (size_in_word w.1)) (discipline_named w.0)) (two_of operands)
 
 -- a task, its nice value, its mask and its slice
 abbrev pub admit_words : List (List ℕ) → Option (ℕ × ℤ × ℕ × ℕ)

@@ -3,14 +3,14 @@
 use crate::hex_word::HexWord;
 use bq_hooks::Hook;
 use bq_parts::Event;
-use bq_words::{ProcessorCount, Rule};
+use bq_words::{DisciplineName, ProcessorCount};
 
 /// What a line may ask. An image stays in the bytes of its line.
 #[derive(Drop)]
 pub enum LineCommand<'a> {
     /// A machine is made.
     Machine {
-        rule: Rule,
+        discipline: DisciplineName,
         size: ProcessorCount,
     },
     /// An event happens in the machine.

@@ -1,6 +1,6 @@
 //! The lines of a trace: what a line asks, and the line that has begun of a text in pieces.
 //! Promises that each line is read as the format says, whatever its bytes.
-//! Builds on the events of `bq_parts`, on the hooks of `bq_hooks`, and on `bq_words` for words, numbers, rules and sizes.
+//! Builds on the events of `bq_parts`, on the hooks of `bq_hooks`, and on `bq_words` for words, numbers, disciplines and sizes.
 #![tactic(auto)]
 
 pub mod bytes;

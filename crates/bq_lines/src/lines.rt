@@ -12,8 +12,8 @@ use crate::keyword::Keyword;
 use bq_hooks::Hook;
 use bq_parts::Event;
 use bq_words::{
-    ProcessorCount, Rule, end_of_words, four_words, next_word, only_word, quantities, three_words,
-    two_words,
+    DisciplineName, ProcessorCount, end_of_words, four_words, next_word, only_word, quantities,
+    three_words, two_words,
 };
 
 /// The most bytes of a line.
@@ -77,12 +77,12 @@ fn command<'a>(name: &[u8], operands: &'a [u8]) -> LineReading<'a>
     }
 }
 
-/// A rule and a number of processors.
-fn machine_words(operands: &[u8]) -> Option<(Rule, ProcessorCount)>
+/// A discipline and a number of processors.
+fn machine_words(operands: &[u8]) -> Option<(DisciplineName, ProcessorCount)>
     ensures { result ≡ machine_words (words operands.now) }
 {
     match two_words(operands) {
-        Some((first, second)) => Rule::of_word(first).zip(quantities::size(second)),
+        Some((first, second)) => DisciplineName::of_word(first).zip(quantities::size(second)),
         None => None,
     }
 }
@@ -184,7 +184,7 @@ fn machine(operands: &[u8]) -> LineReading<'_>
     ensures { result ≡ reading_of_command (machine_command (words operands.now)) }
 {
     match machine_words(operands) {
-        Some((rule, size)) => LineReading::Asks(LineCommand::Machine { rule, size }),
+        Some((discipline, size)) => LineReading::Asks(LineCommand::Machine { discipline, size }),
         None => LineReading::Bad,
     }
 }

@@ -20,7 +20,7 @@ use Rattle.bq_simulate.specs.AgreementLaws.{CallsFailForMemory, FailsForMemory, 
 use Rattle.bq_simulate.specs.Drives.{IsWakeFault, PlacesWoken, reading_of_event}
 use Rattle.bq_simulate.proofs.AdmissionTakenLemmas.{admissions_are_taken}
 use Rattle.bq_simulate.proofs.FaultLemmas.{only_memory_is_wanted}
-use Rattle.bq_simulate.proofs.MeetAgreeLemmas.{same_rule, step_of, world_of}
+use Rattle.bq_simulate.proofs.MeetAgreeLemmas.{same_discipline, step_of, world_of}
 use Rattle.bq_simulate.proofs.TakenLemmas.{blocks_are_taken, installs_are_taken, pulls_are_taken, ticks_are_taken}
 use Rattle.bq_simulate.proofs.WakeTakenLemmas.{wakes_are_taken}
 
@@ -37,10 +37,10 @@ wake_fails : (d : Driver) (a : Accounts) (from task now : ℕ) (c : TaskProgress
     → IsWakeFault d from task now why
     → why ≡ OutOfMemory
 wake_fails d a from task now c why ready low at sleeps (inl fails) =
-    let begin = wakes_are_taken (discipline_of d.machine.rule) any_periods (world_of d) a from task now c ready.agrees low at sleeps in
+    let begin = wakes_are_taken (discipline_of d.machine.discipline) any_periods (world_of d) a from task now c ready.agrees low at sleeps in
     for_memory d (BeginWake from task) tt begin.taken why fails
 wake_fails d a from task now c why ready low at sleeps (inr (begun, reported, mid, does, fails)) =
-    let begin = wakes_are_taken (discipline_of d.machine.rule) any_periods (world_of d) a from task now c ready.agrees low at sleeps in
+    let begin = wakes_are_taken (discipline_of d.machine.discipline) any_periods (world_of d) a from task now c ready.agrees low at sleeps in
     let end = begin.leaves does.happens.moves.step.calls begun (world_of mid) (step_of d (BeginWake from task) begun reported mid does) in
     for_memory mid (EndWake from now) (subst (λ n. IsReadable n (Some now)) (sym does.rises) ready.reading) end.taken why fails
 
@@ -52,15 +52,15 @@ drain_fails d e a from task to now c reported ready low at sleeps places =
     let mid : Driver = places.mid in
     let begins = places.begins in
     let ends = places.ends in
-    let r = discipline_of d.machine.rule in
+    let r = discipline_of d.machine.discipline in
     let begin = wakes_are_taken r any_periods (world_of d) a from task now c ready.agrees low at sleeps in
     let end =
     begin.leaves begins.happens.moves.step.calls places.begun (world_of mid)
     (step_of d (BeginWake from task) places.begun places.first mid begins) in
-    let rule = same_rule d (BeginWake from task) places.begun places.first mid begins in
+    let discipline = same_discipline d (BeginWake from task) places.begun places.first mid begins in
     let step =
     subst (λ x. WorldStep (by_programs x) (world_of mid) (EndWake from now) ends.happens.moves.step.calls (Ok places.placed) (world_of e))
-    rule (step_of mid (EndWake from now) places.placed places.more e ends) in
+    discipline (step_of mid (EndWake from now) places.placed places.more e ends) in
     let drain = end.leaves ends.happens.moves.step.calls places.placed (world_of e) step to places.place in
     let read : e.now ≡ now = ends.rises.2 in
     for_memory e (Drain to now) (omega (arith, read), ready.reading.1) drain.taken
@@ -71,19 +71,19 @@ calls_fail_for_memory = record {
   draws = λ d. for_memory d Draw tt refl;
   installs = λ d a processor generation policy h low newer drawn.
       for_memory d (Install processor policy.hook generation (Some policy)) tt
-      (installs_are_taken (discipline_of d.machine.rule) any_periods (world_of d) a processor generation policy h low newer drawn).taken;
+      (installs_are_taken (discipline_of d.machine.discipline) any_periods (world_of d) a processor generation policy h low newer drawn).taken;
   admissions = λ d a home kind h may.
       for_memory d (Admit _ kind.nice kind.mask kind.slice) tt
-      (admissions_are_taken (discipline_of d.machine.rule) (world_of d) a 0 home kind h may).taken;
+      (admissions_are_taken (discipline_of d.machine.discipline) (world_of d) a 0 home kind h may).taken;
   ticks = λ d a processor now ready low.
       for_memory d (Tick processor now) ready.reading
-      (ticks_are_taken (discipline_of d.machine.rule) any_periods (world_of d) a processor now ready.agrees low).taken;
+      (ticks_are_taken (discipline_of d.machine.discipline) any_periods (world_of d) a processor now ready.agrees low).taken;
   blocks = λ d a processor task now h reading low runs.
       for_memory d (Block processor now) reading
-      (blocks_are_taken (discipline_of d.machine.rule) any_periods (world_of d) a processor task now h low runs).taken;
+      (blocks_are_taken (discipline_of d.machine.discipline) any_periods (world_of d) a processor task now h low runs).taken;
   pulls = λ d a processor from now ready low there apart.
       for_memory d (Pull processor from now) ready.reading
-      (pulls_are_taken (discipline_of d.machine.rule) any_periods (world_of d) a processor from now ready.agrees low there apart).taken;
+      (pulls_are_taken (discipline_of d.machine.discipline) any_periods (world_of d) a processor from now ready.agrees low there apart).taken;
   wakes = wake_fails;
   drains = drain_fails;
 }

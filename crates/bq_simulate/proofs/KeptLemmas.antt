@@ -124,7 +124,7 @@ by_kept kinds seed periods d e b c now (Happens event reply ∷ deeds) reported 
       later.0,
       later.1 ∙ event_keeps (λ (x : Accounts). length x.by_task ≡ length b.accounts.by_task)
           (count_of_places (length b.accounts.by_task)) periods event reply b.accounts refl,
-      later.2 ∙ step_count (by_programs (discipline_of d.machine.rule)) (world_of d) event does.happens.moves.step.calls
+      later.2 ∙ step_count (by_programs (discipline_of d.machine.discipline)) (world_of d) event does.happens.moves.step.calls
           (Ok reply) (world_of mid) step,
     )
 by_kept kinds seed periods d e b c now (Joins kind home ∷ deeds) reported are leads low = absurd are
@@ -149,7 +149,7 @@ pub none_stands : (w : Workload) → StandAtActions w.tasks.items (opening_book 
 none_stands w = record { tasks = λ task c at. absurd (none-some c at); streams = refl }
 
 opened : (policies : List Accepted) (w : Workload) (d e : Driver) (b : Book) (deeds : List Deed) (first reported : Reported)
-    → first_flaw w ≡ None → Starts w.machine.rule w.machine.size first d
+    → first_flaw w ≡ None → Starts w.machine.discipline w.machine.size first d
     → Opens policies (processors_in w.machine.size) w.tasks.items deeds
     → DeedsLeadIn w d (opening_book w.machine) deeds reported e b
     → IsKept w.tasks.items 0 e b

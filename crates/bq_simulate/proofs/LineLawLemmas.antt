@@ -18,8 +18,8 @@ events_are_read image event can fits =
 
 -- the line that asks for a machine is read as just that
 pub machines_are_read : MachinesAreRead
-machines_are_read rule size =
-    reading-spaced (machine_words rule size) (plain_machine rule size) (room_machine rule size) ∙ machine_reads rule size
+machines_are_read discipline size =
+    reading-spaced (machine_words discipline size) (plain_machine discipline size) (room_machine discipline size) ∙ machine_reads discipline size
 
 -- what each allowed byte is, each byte of a line of such is
 of_each : (P : ℕ → Type 0) → ((b : ℕ) → is_allowed b ≡ true → P b) → (line : List ℕ) → list_all is_allowed line ≡ true
@@ -51,5 +51,5 @@ pub are_lines : AreLines
 are_lines = record {
   events = λ image event can fits.
       allowed_whole (asking_line image event) (allowed-spaced (event_words image event) (plain_words image event can fits));
-  machines = λ rule size. allowed_whole (machine_line rule size) (allowed-spaced (machine_words rule size) (plain_machine rule size));
+  machines = λ discipline size. allowed_whole (machine_line discipline size) (allowed-spaced (machine_words discipline size) (plain_machine discipline size));
 }

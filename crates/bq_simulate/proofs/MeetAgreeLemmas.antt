@@ -192,7 +192,7 @@ agrees_but_it w a task processor c new at sleeps home runs h =
 -- the step that it made in the world
 pub step_of : (d : Driver) (event : Event) (reply : Reply) (reported : Reported) (e : Driver)
     (does : DrivesEvent d event reply reported e)
-    → WorldStep (by_programs (discipline_of d.machine.rule)) (world_of d) event does.happens.moves.step.calls (Ok reply) (world_of e)
+    → WorldStep (by_programs (discipline_of d.machine.discipline)) (world_of d) event does.happens.moves.step.calls (Ok reply) (world_of e)
 step_of d event reply reported e does = does.happens.moves.step.step
 
 -- a tick
@@ -203,7 +203,7 @@ tick_agrees periods d e b processor now reply reported does h =
     let w : World = world_of d in
     let step = step_of d (Tick processor now) reply reported e does in
     let low = (not_refused_is_there (count_in w) processor None (accepted w (Tick processor now) step.0).0).0 in
-    (ticks_are_taken (discipline_of d.machine.rule) periods w b.accounts processor now h low).leaves
+    (ticks_are_taken (discipline_of d.machine.discipline) periods w b.accounts processor now h low).leaves
     does.happens.moves.step.calls reply (world_of e) step
 
 -- a block, once its task sleeps by the accounts
@@ -216,7 +216,7 @@ block_agrees periods d e b processor task now reply reported does h runs =
     let w : World = world_of d in
     let step = step_of d (Block processor now) reply reported e does in
     let low = (not_refused_is_there (count_in w) processor None (accepted w (Block processor now) step.0).0).0 in
-    (blocks_are_taken (discipline_of d.machine.rule) periods w b.accounts processor task now h low runs).leaves
+    (blocks_are_taken (discipline_of d.machine.discipline) periods w b.accounts processor task now h low runs).leaves
     does.happens.moves.step.calls reply (world_of e) step
 
 -- a pull of one processor from another
@@ -229,7 +229,7 @@ pull_agrees periods d e b processor from now reply reported does h =
     let f = not_refused_is_there (count_in w) processor _ (accepted w (Pull processor from now) step.0).0 in
     let g = not_refused_is_there (count_in w) from _ f.1 in
     let apart = eqb-false processor from (first_refusal_passed (processor == from) no.SameProcessor None g.1).0 in
-    (pulls_are_taken (discipline_of d.machine.rule) periods w b.accounts processor from now h f.0 g.0 apart).leaves
+    (pulls_are_taken (discipline_of d.machine.discipline) periods w b.accounts processor from now h f.0 g.0 apart).leaves
     does.happens.moves.step.calls reply (world_of e) step
 
 -- a task that may be woken sleeps
@@ -239,10 +239,10 @@ sleeps_if_woken a Waiting home from h = refl
 sleeps_if_woken a Runnable home from h = absurd h
 sleeps_if_woken a Over home from h = absurd h
 
--- an event leaves the machine under the same rule
-pub same_rule : (d : Driver) (event : Event) (reply : Reply) (reported : Reported) (e : Driver)
-    → DrivesEvent d event reply reported e → discipline_of e.machine.rule ≡ discipline_of d.machine.rule
-same_rule d event reply reported e does = ap discipline_of does.happens.moves.same_rule
+-- an event leaves the machine under the same discipline
+pub same_discipline : (d : Driver) (event : Event) (reply : Reply) (reported : Reported) (e : Driver)
+    → DrivesEvent d event reply reported e → discipline_of e.machine.discipline ≡ discipline_of d.machine.discipline
+same_discipline d event reply reported e does = ap discipline_of does.happens.moves.same_discipline
 
 wake_agrees : (kinds : List TaskKind) (seed : ℕ) (periods : Periods) (d e : Driver) (b c : Book) (from task now to : ℕ)
     (begun placed drained : Reply) (reported : Reported)
@@ -262,7 +262,7 @@ wake_agrees kinds seed periods d e b c from task now to begun placed drained rep
   whole,
 ) h =
     let w : World = world_of d in
-    let r = discipline_of d.machine.rule in
+    let r = discipline_of d.machine.discipline in
     let P : Driver → Type 0 =
     λ x. BookAgrees x (after_answer periods (Drain to now) drained (after_answer periods (BeginWake from task) begun b)) in
     let step = step_of d (BeginWake from task) begun first one begins in
@@ -271,12 +271,12 @@ wake_agrees kinds seed periods d e b c from task now to begun placed drained rep
     wakes_are_taken r periods w b.accounts from task now woken.progress h low woken.there
     (sleeps_if_woken b.accounts woken.progress.task_state woken.progress.home from woken.place) in
     let end = begin.leaves begins.happens.moves.step.calls begun (world_of one) step in
-    let rule2 = same_rule d (BeginWake from task) begun first one begins in
+    let rule2 = same_discipline d (BeginWake from task) begun first one begins in
     let step2 =
     subst (λ x. WorldStep (by_programs x) (world_of one) (EndWake from now) ends.happens.moves.step.calls (Ok placed) (world_of two))
     rule2 (step_of one (EndWake from now) placed second two ends) in
     let drain = end.leaves ends.happens.moves.step.calls placed (world_of two) step2 to at in
-    let rule3 = same_rule one (EndWake from now) placed second two ends ∙ rule2 in
+    let rule3 = same_discipline one (EndWake from now) placed second two ends ∙ rule2 in
     let step3 =
     subst (λ x. WorldStep (by_programs x) (world_of two) (Drain to now) drains.happens.moves.step.calls (Ok drained) (world_of three))
     rule3 (step_of two (Drain to now) drained third three drains) in

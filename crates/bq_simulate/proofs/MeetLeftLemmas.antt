@@ -149,7 +149,7 @@ pulled-left (Some from) kinds seed periods d e b c processor now deeds reported 
     let less = passed-left kinds now from processor (task_pulled reply) b.accounts in
     let idle : run ≡ None → runner_at b.accounts.by_processor processor ≡ None = λ stops.
     runs processor
-    ∙ pull-keeps (discipline_of d.machine.rule) (world_of d) (world_of mid) processor from now does.happens.moves.step.calls
+    ∙ pull-keeps (discipline_of d.machine.discipline) (world_of d) (world_of mid) processor from now does.happens.moves.step.calls
     reply (step_of d (Pull processor from now) reply first mid does) stops in
     elim (some_or_none (slice_get a.by_processor processor)) [
       | inl gone ↦

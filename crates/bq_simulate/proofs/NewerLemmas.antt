@@ -19,7 +19,7 @@ pub drawn-newer : (count generation : ℕ) (d e : Driver) (reported : Reported)
     → HasGenerations (count + 1) (world_of e) × IsNewerFrom 0 generation (world_of e)
 drawn-newer count generation d e reported early h does =
     let n =
-    generations_are_newer.drawn (discipline_of d.machine.rule) (world_of d) (world_of e) does.happens.moves.step.calls
+    generations_are_newer.drawn (discipline_of d.machine.discipline) (world_of d) (world_of e) does.happens.moves.step.calls
     generation (omega (arith, early, h.many)) h.were (step_of d Draw (Drawn generation) reported e does) in
     (record { many = omega (arith, n.0, h.many); were = n.1 }, n.2)
 
@@ -32,7 +32,7 @@ pub installed-newer : (count processor generation : ℕ) (hook : Hook) (policy :
 installed-newer count processor generation hook policy d e reported h newer
     (reply, mid, first, more, does, (none, same), whole) =
     let n =
-    generations_are_newer.installed (discipline_of d.machine.rule) (world_of d)
+    generations_are_newer.installed (discipline_of d.machine.discipline) (world_of d)
     (world_of mid) does.happens.moves.step.calls reply processor generation hook policy newer h.were
     (step_of d (Install processor hook generation policy) reply first mid does) in
     let after : HasGenerations count (world_of mid) × IsNewerFrom (processor + 1) generation (world_of mid) =

@@ -178,7 +178,7 @@ opened-well w s all h =
 
 -- a simulation by whose machine nothing was done starts well
 pub starts-well : (w : Workload) (seed : ℕ) (d : Driver) (s : Simulation) (first : Reported)
-    → first_flaw w ≡ None → Starts w.machine.rule w.machine.size first d → IsNew (with_seed w seed) d s → s.counts.tasks ≡ 0
+    → first_flaw w ≡ None → Starts w.machine.discipline w.machine.size first d → IsNew (with_seed w seed) d s → s.counts.tasks ≡ 0
     → StartsWell w s
 starts-well w seed d s first sound starts new counted =
     let n = processors_in w.machine.size in

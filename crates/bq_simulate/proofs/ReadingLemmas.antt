@@ -12,9 +12,9 @@ use Rattle.bq_hooks.specs.declared.hook.Hook.TheVariants as hooks
 use Rattle.bq_hooks.proofs.HookLemmas.{hook_of-hook_word}
 use Rattle.bq_parts.specs.declared.event.Event.{Event}
 use Rattle.bq_parts.specs.declared.event.Event.TheVariants.{Admit, Retire, Draw, Install, BeginWake, EndWake, Drain, Tick, Block, Pull}
-use Rattle.bq_words.specs.Sizes.{processors_in, rule_of, rule_word, size_numbered}
-use Rattle.bq_words.specs.declared.rule.Rule.{Rule}
-use Rattle.bq_words.specs.declared.rule.Rule.TheVariants.{Cfs, Eevdf}
+use Rattle.bq_words.specs.Sizes.{processors_in, discipline_named, discipline_word, size_numbered}
+use Rattle.bq_words.specs.declared.discipline_name.DisciplineName.{DisciplineName}
+use Rattle.bq_words.specs.declared.discipline_name.DisciplineName.TheVariants.{Cfs, Eevdf}
 use Rattle.bq_words.specs.declared.processor_count.ProcessorCount.{ProcessorCount}
 use Rattle.bq_words.specs.declared.processor_count.ProcessorCount.TheVariants.{One, Two, Four, Eight, Sixteen, ThirtyTwo, SixtyFour}
 use Rattle.bq_words.proofs.SizeLemmas.{processors_in-few}
@@ -184,34 +184,34 @@ words_read image (Pull c from now) can h =
     (decimal_of-decimal now h.2)
 
 -- the words of a machine
-abbrev pub machine_words : Rule → ProcessorCount → List (List ℕ)
-machine_words rule size = keyword_word keywords.Machine ∷ rule_word rule ∷ decimal (processors_in size) ∷ []
+abbrev pub machine_words : DisciplineName → ProcessorCount → List (List ℕ)
+machine_words discipline size = keyword_word keywords.Machine ∷ discipline_word discipline ∷ decimal (processors_in size) ∷ []
 
-plain_rule : (rule : Rule) → IsPlain (rule_word rule)
+plain_rule : (discipline : DisciplineName) → IsPlain (discipline_word discipline)
 plain_rule Cfs = known (codes "cfs") refl
 plain_rule Eevdf = known (codes "eevdf") refl
 
-short_rule : (rule : Rule) → length (rule_word rule) ≤ 5
+short_rule : (discipline : DisciplineName) → length (discipline_word discipline) ≤ 5
 short_rule Cfs = lit≤ tt
 short_rule Eevdf = lit≤ tt
 
 -- the words of a machine are plain
-pub plain_machine : (rule : Rule) (size : ProcessorCount) → AllByRecursion IsPlain (machine_words rule size)
-plain_machine rule size =
+pub plain_machine : (discipline : DisciplineName) (size : ProcessorCount) → AllByRecursion IsPlain (machine_words discipline size)
+plain_machine discipline size =
     let small = processors_in-few size in
-    (plain_keyword keywords.Machine, (plain_rule rule, (plain_decimal (processors_in size) (omega arith), tt)))
+    (plain_keyword keywords.Machine, (plain_rule discipline, (plain_decimal (processors_in size) (omega arith), tt)))
 
 -- a line has room for the words of a machine
-pub room_machine : (rule : Rule) (size : ProcessorCount) → room (machine_words rule size) ≤ 131072
-room_machine rule size =
+pub room_machine : (discipline : DisciplineName) (size : ProcessorCount) → room (machine_words discipline size) ≤ 131072
+room_machine discipline size =
     let small = processors_in-few size in
     let number = short_decimal (processors_in size) (omega arith) in
-    let word = short_rule rule in
+    let word = short_rule discipline in
     omega arith
 
-rule_of-word : (rule : Rule) → rule_of (rule_word rule) ≡ Some rule
-rule_of-word Cfs = refl
-rule_of-word Eevdf = refl
+discipline_named-word : (discipline : DisciplineName) → discipline_named (discipline_word discipline) ≡ Some discipline
+discipline_named-word Cfs = refl
+discipline_named-word Eevdf = refl
 
 size_of-number : (size : ProcessorCount) → size_numbered (processors_in size) ≡ Some size
 size_of-number One = refl
@@ -228,5 +228,5 @@ size_of-decimal size =
     ap (option_and_then size_numbered) (processor_of-decimal (processors_in size) (omega arith)) ∙ size_of-number size
 
 -- the words of a machine ask for it
-pub machine_reads : (rule : Rule) (size : ProcessorCount) → reading_of_words (machine_words rule size) ≡ Asks (Machine rule size)
-machine_reads rule size = of_two (λ r s. Machine r s) _ _ rule size (rule_of-word rule) (size_of-decimal size)
+pub machine_reads : (discipline : DisciplineName) (size : ProcessorCount) → reading_of_words (machine_words discipline size) ≡ Asks (Machine discipline size)
+machine_reads discipline size = of_two (λ r s. Machine r s) _ _ discipline size (discipline_named-word discipline) (size_of-decimal size)

@@ -10,7 +10,7 @@ use Rattle.bq_parts.specs.declared.event.Event.{Event}
 use Rattle.bq_parts.specs.declared.event.Event.TheVariants.{Admit, Retire, Draw, Install, BeginWake, EndWake, Drain, Tick, Block, Pull}
 use Rattle.bq_parts.specs.declared.reply.Reply.{Reply}
 use Rattle.bq_parts.specs.declared.refusal.Refusal.{Refusal}
-use Rattle.bq_words.specs.declared.rule.Rule.{Rule}
+use Rattle.bq_words.specs.declared.discipline_name.DisciplineName.{DisciplineName}
 use Rattle.bq_words.specs.declared.processor_count.ProcessorCount.{ProcessorCount}
 use Rattle.bq_lines.specs.Kept.{IsOneLine}
 use Rattle.bq_lines.specs.Lines.{reading_of}
@@ -75,11 +75,11 @@ skips (line ∷ comments) n h =
     )
 
 -- a machine is made
-opens : (rule : Rule) (size : ProcessorCount) (n : ℕ)
-    → AnswersLine (after Waiting n) (machine_line rule size) [] (after (Running (opening_machine rule size)) (one_more n))
-opens rule size n =
-    line_reads (machine_line rule size) [] _ Waiting (Running (opening_machine rule size)) n
-    (machines_are_read rule size) (refl, refl, refl)
+opens : (discipline : DisciplineName) (size : ProcessorCount) (n : ℕ)
+    → AnswersLine (after Waiting n) (machine_line discipline size) [] (after (Running (opening_machine discipline size)) (one_more n))
+opens discipline size n =
+    line_reads (machine_line discipline size) [] _ Waiting (Running (opening_machine discipline size)) n
+    (machines_are_read discipline size) (refl, refl, refl)
 
 -- the line of an event that happens, where it asks for the event itself
 as_it_is : (line : List ℕ) (m k : Driven) (n number : ℕ) (event : Event) (answer : Result Reply Refusal) (reported : Reported)
@@ -259,18 +259,18 @@ comments_whole (line ∷ comments) ls h k = (h.0.whole, comments_whole comments 
 
 -- the lines that ask for events which were done are answered by the answers that these got
 pub texts_are_replayed : TextsAreReplayed
-texts_are_replayed images comments rule size d e events first more skipped starts drives from fits =
+texts_are_replayed images comments discipline size d e events first more skipped starts drives from fits =
     let rest = goes images d e events more (one_more (skips comments 0 skipped).0) drives from fits in
     let before = (skips comments 0 skipped).1 in
     let n = (skips comments 0 skipped).0 in
-    let opened : AnswersLine (after Waiting n) (machine_line rule size) [] (after (Running d.machine) (one_more n)) =
-    subst (λ m. AnswersLine (after Waiting n) (machine_line rule size) [] (after (Running m) (one_more n)))
-    (sym starts.machine) (opens rule size n) in
-    let all : reported_lines images (first ++ more) ≡ machine_line rule size ∷ reported_lines images more =
+    let opened : AnswersLine (after Waiting n) (machine_line discipline size) [] (after (Running d.machine) (one_more n)) =
+    subst (λ m. AnswersLine (after Waiting n) (machine_line discipline size) [] (after (Running m) (one_more n)))
+    (sym starts.machine) (opens discipline size n) in
+    let all : reported_lines images (first ++ more) ≡ machine_line discipline size ∷ reported_lines images more =
     reported_lines-append images first more ∙ ap (λ t. reported_lines images t ++ reported_lines images more) starts.reports in
     let stated : texts (first ++ more) ≡ texts more = texts-append first more ∙ ap (λ t. texts t ++ texts more) starts.reports in
     let asks : AllByRecursion IsWholeLine (reported_lines images (first ++ more)) =
-    subst (AllByRecursion IsWholeLine) (sym all) (are_lines.machines rule size, rest.whole) in
+    subst (AllByRecursion IsWholeLine) (sym all) (are_lines.machines discipline size, rest.whole) in
     let chain : AnswersAll (after Waiting n) (reported_lines images (first ++ more)) (texts (first ++ more))
     (after (Running e.machine) rest.last) =
     subst (λ ls. AnswersAll (after Waiting n) ls (texts (first ++ more)) (after (Running e.machine) rest.last)) (sym all)

@@ -128,7 +128,7 @@ just_kept P f keeps kinds seed periods d e b c (n ∷ numbers) deeds reported (r
 pub draw_opens : (processors tasks : ℕ) → Keeps (IsOpening processors tasks) Draw
 draw_opens processors tasks periods d e b reply reported does h =
     let step = step_of d Draw reply reported e does in
-    let r = discipline_of d.machine.rule in
+    let r = discipline_of d.machine.discipline in
     record {
       agree = (draws_are_taken r periods (world_of d) b.accounts h.agree).leaves does.happens.moves.step.calls reply (world_of e) step;
       on_time = h.on_time;
@@ -146,7 +146,7 @@ install_opens processors tasks generation policy processor periods d e b reply r
     let event : Event = Install processor policy.hook generation (Some policy) in
     let w : World = world_of d in
     let step = step_of d event reply reported e does in
-    let r = discipline_of d.machine.rule in
+    let r = discipline_of d.machine.discipline in
     let low = (not_refused_is_there (count_in w) processor _ (accepted w event step.0).0).0 in
     record {
       agree =
@@ -208,7 +208,7 @@ admission_opens kinds seed periods d e b c processors number task home kind repl
     let w : World = world_of d in
     let a : Accounts = b.accounts in
     let event : ℕ → Event = λ n. Admit n kind.nice kind.mask kind.slice in
-    let r = discipline_of d.machine.rule in
+    let r = discipline_of d.machine.discipline in
     let was = step_of d (event task) reply first mid does in
     let step =
     subst (λ n. WorldStep (by_programs r) w (event n) does.happens.moves.step.calls (Ok reply) (world_of mid))
@@ -335,7 +335,7 @@ opening_on_time n balance =
 
 -- of the opening machine nothing was done
 pub opening_opens : (w : Workload) (d : Driver) (first : Reported)
-    → Starts w.machine.rule w.machine.size first d
+    → Starts w.machine.discipline w.machine.size first d
     → IsOpening (processors_in w.machine.size) 0 d (opening_book w.machine)
 opening_opens w d first starts =
     let n = processors_in w.machine.size in
@@ -352,7 +352,7 @@ opening_opens w d first starts =
 -- once a simulation has opened all of its tasks are there
 pub opened_open : (policies : List Accepted) (w : Workload) (d e : Driver) (b : Book) (deeds : List Deed)
     (first reported : Reported)
-    → Starts w.machine.rule w.machine.size first d → Opens policies (processors_in w.machine.size) w.tasks.items deeds
+    → Starts w.machine.discipline w.machine.size first d → Opens policies (processors_in w.machine.size) w.tasks.items deeds
     → DeedsLead w.tasks.items w.machine.seed (periods_of w.machine) d (opening_book w.machine) deeds reported e b
     → IsOpening (processors_in w.machine.size) (tasks_in w.tasks.items) e b
 opened_open policies w d e b deeds first reported starts o leads =
@@ -373,7 +373,7 @@ opened_open policies w d e b deeds first reported starts o leads =
 -- from the opening to where nothing comes any more
 proceeds_agree : (policies : List Accepted) (w : Workload) (d e : Driver) (b : Book) (most end : ℕ)
     (deeds : List Deed) (first reported : Reported)
-    → Starts w.machine.rule w.machine.size first d
+    → Starts w.machine.discipline w.machine.size first d
     → Proceeds policies (processors_in w.machine.size) w.tasks.items w.machine.seed (periods_of w.machine) most end
     (opening_book w.machine) deeds
     → DeedsLead w.tasks.items w.machine.seed (periods_of w.machine) d (opening_book w.machine) deeds reported e b

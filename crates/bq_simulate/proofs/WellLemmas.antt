@@ -36,7 +36,7 @@ drives_count : (d e : Driver) (events : List Event) (reported : Reported)
     → Drives d events reported e → count_in (world_of e) ≡ count_in (world_of d)
 drives_count d e [] reported h = ap (λ (x : Driver). count_in (world_of x)) h.1
 drives_count d e (event ∷ events) reported (reply, mid, first, more, does, rest, whole) =
-    let r = discipline_of d.machine.rule in
+    let r = discipline_of d.machine.discipline in
     drives_count mid e events more rest
     ∙ step_count (by_programs r) (world_of d) event does.happens.moves.step.calls (Ok reply)
     (world_of mid) (step_of d event reply first mid does)

@@ -35,7 +35,7 @@ use Rattle.bq_simulate.specs.Drives.{DrivesEvent, IsWakeFault, PlacesWoken, coun
 use Rattle.bq_simulate.specs.GoingWell.{SimulationGoesWell}
 use Rattle.bq_simulate.specs.Simulations.{book_of}
 use Rattle.bq_simulate.proofs.CallLemmas.{calls_fail_for_memory}
-use Rattle.bq_simulate.proofs.MeetAgreeLemmas.{pull_agrees, same_rule, sleeps_if_woken, step_of, tick_agrees, world_of}
+use Rattle.bq_simulate.proofs.MeetAgreeLemmas.{pull_agrees, same_discipline, sleeps_if_woken, step_of, tick_agrees, world_of}
 use Rattle.bq_simulate.proofs.MeetTimeLemmas.{sleeper_rests, woken_on_time}
 use Rattle.bq_simulate.proofs.MirrorLemmas.{state_there}
 use Rattle.bq_simulate.proofs.SoundKindLemmas.{sound_times}
@@ -143,7 +143,7 @@ pull_passes w now s e processor from task reply reported h low apart takes does 
     let a : Accounts = accounts_of s.roster in
     let step = step_of s.driver (Pull processor from now) reply reported e does in
     let one =
-    pulled_from_some (discipline_of s.driver.machine.rule) world (world_of e) processor from now does.happens.moves.step.calls
+    pulled_from_some (discipline_of s.driver.machine.discipline) world (world_of e) processor from now does.happens.moves.step.calls
     reply h.kept.agrees.orderly (λ none. some (sym takes ∙ none)) step in
     omega (arith, empty, one, h.kept.agrees.mirrors.processors.sizes from)
 pull_passes w now s e processor from task reply reported h low apart takes does some (inr growth) =
@@ -254,19 +254,19 @@ is_in periods d mid e a from task to now first more reply h woken places drains 
     let one : Driver = places.mid in
     let begins = places.begins in
     let ends = places.ends in
-    let r = discipline_of d.machine.rule in
+    let r = discipline_of d.machine.discipline in
     let begin =
     wakes_are_taken r periods w a from task now woken.progress h (woken_from w a from task h woken) woken.there
     (woken_sleeps a from task woken) in
     let step = step_of d (BeginWake from task) places.begun places.first one begins in
     let end = begin.leaves begins.happens.moves.step.calls places.begun (world_of one) step in
-    let rule2 = same_rule d (BeginWake from task) places.begun places.first one begins in
+    let rule2 = same_discipline d (BeginWake from task) places.begun places.first one begins in
     let step2 =
     subst
     (λ x. WorldStep (by_programs x) (world_of one) (EndWake from now) ends.happens.moves.step.calls (Ok places.placed) (world_of mid))
     rule2 (step_of one (EndWake from now) places.placed places.more mid ends) in
     let drain = end.leaves ends.happens.moves.step.calls places.placed (world_of mid) step2 to places.place in
-    let rule3 = same_rule one (EndWake from now) places.placed places.more mid ends ∙ rule2 in
+    let rule3 = same_discipline one (EndWake from now) places.placed places.more mid ends ∙ rule2 in
     let step3 =
     subst (λ x. WorldStep (by_programs x) (world_of mid) (Drain to now) drains.happens.moves.step.calls (Ok reply) (world_of e))
     rule3 (step_of mid (Drain to now) reply more e drains) in

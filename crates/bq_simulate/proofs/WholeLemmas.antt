@@ -146,7 +146,7 @@ begun takes b c Are w d s t new goes_on =
 -- what is reported of the opening machine, and then of the deeds by which it goes on
 reported-begun : {S : Type 0} (takes : S → ℕ → TraceEvent → S → Type 0) (a b c : S) (Are : By) (w : Workload) (d : Driver)
     (s t : Simulation) (Holds : Reported → Type 0)
-    → (first : Gets takes a b (λ reported. Starts w.machine.rule w.machine.size reported d))
+    → (first : Gets takes a b (λ reported. Starts w.machine.discipline w.machine.size reported d))
     → (begun : Begun takes Are w d b s c t) → Holds (first.reported ++ begun.goes.reports.reported)
     → Gets takes a c Holds
 reported-begun takes a b c Are w d s t Holds first begun holds = record {
@@ -158,7 +158,7 @@ reported-begun takes a b c Are w d s t Holds first begun holds = record {
 -- how it begins, by the deeds that open it and some that come due
 abbrev beginning : {S : Type 0} (takes : S → ℕ → TraceEvent → S → Type 0) (a b c : S) (Are : By) (policies : List Accepted)
     (w : Workload) (d : Driver) (s t : Simulation)
-    → (first : Gets takes a b (λ reported. Starts w.machine.rule w.machine.size reported d)) → (begun : Begun takes Are w d b s c t)
+    → (first : Gets takes a b (λ reported. Starts w.machine.discipline w.machine.size reported d)) → (begun : Begun takes Are w d b s c t)
     → ProceedsIn policies w w.machine.seed (periods_of w.machine) (opening_book w.machine) begun.goes.deeds
     → SimulationBegins policies w (first.reported ++ begun.goes.reports.reported)
 beginning takes a b c Are policies w d s t first begun proceeds =
@@ -184,7 +184,7 @@ beginning takes a b c Are policies w d s t first begun proceeds =
 -- some of what comes due is met
 begins-of : {S : Type 0} (takes : S → ℕ → TraceEvent → S → Type 0) (a b c : S) (policies : List Accepted)
     (w : Workload) (d : Driver) (s t : Simulation)
-    → Gets takes a b (λ reported. Starts w.machine.rule w.machine.size reported d)
+    → Gets takes a b (λ reported. Starts w.machine.discipline w.machine.size reported d)
     → Begun takes (ProceedsIn policies w) w d b s c t
     → Gets takes a c (SimulationBegins policies w)
 begins-of takes a b c policies w d s t first begun =
@@ -197,7 +197,7 @@ all-of-64-bits duration at_once large = omega (arith, large)
 -- where 64 bits do not count the bound, exactly as many things come due as 64 bits count
 pub too-long-of : {S : Type 0} (takes : S → ℕ → TraceEvent → S → Type 0) (a b c : S) (policies : List Accepted)
     (w : Workload) (d : Driver) (s t : Simulation)
-    → Gets takes a b (λ reported. Starts w.machine.rule w.machine.size reported d) → IsNew w d s
+    → Gets takes a b (λ reported. Starts w.machine.discipline w.machine.size reported d) → IsNew w d s
     → 2 ^ 64 ≤ (w.machine.duration + 1) * steps_at_once w → ComesToBound takes policies w b s c t
     → Gets takes a c (IsTooLong policies w)
 too-long-of takes a b c policies w d s t first new large runs =
@@ -209,7 +209,7 @@ too-long-of takes a b c policies w d s t first new large runs =
 -- what is reported of the opening machine, and then of all deeds to the end
 simulation-of : {S : Type 0} (takes : S → ℕ → TraceEvent → S → Type 0) (a b c : S) (policies : List Accepted)
     (w : Workload) (d : Driver) (s t : Simulation)
-    → Gets takes a b (λ reported. Starts w.machine.rule w.machine.size reported d) → IsNew w d s
+    → Gets takes a b (λ reported. Starts w.machine.discipline w.machine.size reported d) → IsNew w d s
     → RunsToLastTicks takes policies w.tasks.items (most_steps w) w.machine.duration (processors_in w.machine.size) b s c t
     → Gets takes a c (IsSimulation policies w)
 simulation-of takes a b c policies w d s t first new runs =
@@ -272,7 +272,7 @@ simulation-of takes a b c policies w d s t first new runs =
 -- what is reported of the opening machine, and then of all deeds, where the sink may have enough before the end
 pub followed-of : {S : Type 0} (takes : S → ℕ → TraceEvent → S → Type 0) (sated : S → Bool) (a b c : S)
     (policies : List Accepted) (w : Workload) (d : Driver) (s t : Simulation)
-    → Gets takes a b (λ reported. Starts w.machine.rule w.machine.size reported d) → IsNew w d s
+    → Gets takes a b (λ reported. Starts w.machine.discipline w.machine.size reported d) → IsNew w d s
     → RunsToEndOrEnough takes sated policies w b s c t
     → Gets takes a c (IsFollowed (sated c) policies w)
 followed-of takes sated a b c policies w d s t first new runs =

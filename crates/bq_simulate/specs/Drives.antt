@@ -4,7 +4,7 @@ use Rattle.bq_parts.specs.declared.event.Event.{Event}
 use Rattle.bq_parts.specs.declared.event.Event.TheVariants.{BeginWake, EndWake, Drain, Tick, Block, Pull}
 use Rattle.bq_parts.specs.declared.reply.Reply.{Reply}
 use Rattle.bq_parts.specs.declared.reply.Reply.TheVariants.{Placed, Drained, Ticked, Blocked, Pulled}
-use Rattle.bq_words.specs.declared.rule.Rule.{Rule}
+use Rattle.bq_words.specs.declared.discipline_name.DisciplineName.{DisciplineName}
 use Rattle.bq_words.specs.declared.processor_count.ProcessorCount.{ProcessorCount}
 use Rattle.bq_streams.specs.Counts.{one_more}
 use Rattle.bq_trace.specs.Machines.{opening_machine}
@@ -35,11 +35,11 @@ ReadingFalls last None = ⊥
 ReadingFalls last (Some now) = (now < last) ⊎ (2 ^ 48 ≤ now)
 
 -- a machine to which nothing has happened: the first line of a trace
-pub record Starts (rule : Rule) (size : ProcessorCount) (reported : Reported) (d : Driver) : Type 0 where
-  pub machine : d.machine ≡ opening_machine rule size
+pub record Starts (discipline : DisciplineName) (size : ProcessorCount) (reported : Reported) (d : Driver) : Type 0 where
+  pub machine : d.machine ≡ opening_machine discipline size
   pub line : d.line ≡ 1
   pub now : d.now ≡ 0
-  pub reports : reported ≡ (1, Opened rule size) ∷ []
+  pub reports : reported ≡ (1, Opened discipline size) ∷ []
 
 -- the event of the next line is done, and is not refused
 pub record DrivesEvent (d : Driver) (event : Event) (reply : Reply) (reported : Reported) (e : Driver) : Type 0 where

@@ -38,7 +38,7 @@ StandingIsKept =
 -- All is kept, of a workload that can be followed: at instant 0 once it has opened, from there until the next thing comes, and when that is met.
 pub record AllIsKept : Type 0 where
   pub opened : (policies : List Accepted) (w : Workload) (d e : Driver) (b : Book) (deeds : List Deed) (first reported : Reported) → first_flaw w ≡ None →
-      Starts w.machine.rule w.machine.size first d → Opens policies (processors_in w.machine.size) w.tasks.items deeds →
+      Starts w.machine.discipline w.machine.size first d → Opens policies (processors_in w.machine.size) w.tasks.items deeds →
       DeedsLeadIn w d (opening_book w.machine) deeds reported e b → IsKept w.tasks.items 0 e b
   pub comes : (w : Workload) (d : Driver) (b : Book) (due : Due) (now time : ℕ) → first_flaw w ≡ None → IsKept w.tasks.items now d b → IsNextDue w.machine.duration b.accounts due time →
       (now ≤ time) × (time ≤ w.machine.duration) × IsKept w.tasks.items time d b

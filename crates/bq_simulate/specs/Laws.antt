@@ -5,7 +5,7 @@ use Rattle.hex.specs.Hex.{IsBytes, decode_of, encode_lower}
 use Rattle.bq_parts.specs.declared.event.Event.{Event}
 use Rattle.bq_parts.specs.declared.event.Event.TheVariants.{Install}
 use Rattle.bq_hooks.specs.declared.hook.Hook.{Hook}
-use Rattle.bq_words.specs.declared.rule.Rule.{Rule}
+use Rattle.bq_words.specs.declared.discipline_name.DisciplineName.{DisciplineName}
 use Rattle.bq_words.specs.declared.processor_count.ProcessorCount.{ProcessorCount}
 use Rattle.bq_lines.specs.Kept.{IsOneLine}
 use Rattle.bq_lines.specs.Lines.{reading_of}
@@ -41,7 +41,7 @@ EventsAreRead = (image : Option (List ℕ)) (event : Event) → CanStandInLine i
 
 -- The line of a machine says that machine.
 abbrev pub MachinesAreRead : Type 0
-MachinesAreRead = (rule : Rule) (size : ProcessorCount) → reading_of (machine_line rule size) ≡ Asks (Machine rule size)
+MachinesAreRead = (discipline : DisciplineName) (size : ProcessorCount) → reading_of (machine_line discipline size) ≡ Asks (Machine discipline size)
 
 -- The hex of an image spells its bytes.
 abbrev pub ImagesAreRead : Type 0
@@ -55,4 +55,4 @@ pub record IsWholeLine (line : List ℕ) : Type 0 where
 -- Each of these lines is one.
 pub record AreLines : Type 0 where
   pub events : (image : Option (List ℕ)) (event : Event) → CanStandInLine image → HasFittingNumbers event → IsWholeLine (asking_line image event)
-  pub machines : (rule : Rule) (size : ProcessorCount) → IsWholeLine (machine_line rule size)
+  pub machines : (discipline : DisciplineName) (size : ProcessorCount) → IsWholeLine (machine_line discipline size)

@@ -10,7 +10,7 @@ use Rattle.bq_load.specs.Answers.{Loads}
 use Rattle.bq_parts.specs.declared.event.Event.{Event}
 use Rattle.bq_parts.specs.declared.event.Event.TheVariants.{Install}
 use Rattle.bq_simulate.specs.Texts.{AreFitting, ByHook, reported_lines}
-use Rattle.bq_words.specs.declared.rule.Rule.{Rule}
+use Rattle.bq_words.specs.declared.discipline_name.DisciplineName.{DisciplineName}
 use Rattle.bq_words.specs.declared.processor_count.ProcessorCount.{ProcessorCount}
 use Rattle.bq_simulate.specs.Laws.{IsWholeLine}
 use Rattle.bq_trace.specs.Feeding.{with_feeds}
@@ -50,7 +50,7 @@ pub record ReplaysTo (text answers : List ℕ) (d : Driver) : Type 0 where
 -- are a text that is answered by the answers that the events got.
 abbrev pub TextsAreReplayed : Type 0
 TextsAreReplayed =
-    (images : ByHook) (comments : List (List ℕ)) (rule : Rule) (size : ProcessorCount) (d e : Driver) (events : List Event) (first more : Reported)
-    → AllByRecursion IsComment comments → Starts rule size first d → Drives d events more e
+    (images : ByHook) (comments : List (List ℕ)) (discipline : DisciplineName) (size : ProcessorCount) (d e : Driver) (events : List Event) (first more : Reported)
+    → AllByRecursion IsComment comments → Starts discipline size first d → Drives d events more e
     → AllByRecursion (IsFromImages images) events → AreFitting more
     → ReplaysTo (with_feeds (comments ++ reported_lines images (first ++ more))) (texts (first ++ more)) e

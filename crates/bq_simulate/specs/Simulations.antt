@@ -86,7 +86,7 @@ pub record IsSimulation (policies : List Accepted) (w : Workload) (reported : Re
   pub book : Book
   pub first : Reported
   pub more : Reported
-  pub starts : Starts w.machine.rule w.machine.size first opening
+  pub starts : Starts w.machine.discipline w.machine.size first opening
   pub drives : Drives opening (events_of deeds) more closing
   pub leads : DeedsLead w.tasks.items w.machine.seed (periods_of w.machine) opening (opening_book w.machine) deeds more closing book
   pub whole : reported ≡ first ++ more
@@ -101,7 +101,7 @@ pub record SimulationBegins (policies : List Accepted) (w : Workload) (reported 
   pub book : Book
   pub first : Reported
   pub more : Reported
-  pub starts : Starts w.machine.rule w.machine.size first opening
+  pub starts : Starts w.machine.discipline w.machine.size first opening
   pub drives : Drives opening (events_of deeds) more closing
   pub leads : DeedsLead w.tasks.items w.machine.seed (periods_of w.machine) opening (opening_book w.machine) deeds more closing book
   pub whole : reported ≡ first ++ more

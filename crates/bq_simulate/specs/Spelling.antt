@@ -11,8 +11,8 @@ use Rattle.bq_parts.specs.declared.event.Event.{Event}
 use Rattle.bq_parts.specs.declared.event.Event.TheVariants.{Admit, Retire, Draw, Install, BeginWake, EndWake, Drain, Tick, Block, Pull}
 use Rattle.bq_lines.specs.Keywords.{keyword_of_event, keyword_word}
 use Rattle.bq_lines.specs.declared.keyword.Keyword.TheVariants as keywords
-use Rattle.bq_words.specs.Sizes.{processors_in, rule_word}
-use Rattle.bq_words.specs.declared.rule.Rule.{Rule}
+use Rattle.bq_words.specs.Sizes.{processors_in, discipline_word}
+use Rattle.bq_words.specs.declared.discipline_name.DisciplineName.{DisciplineName}
 use Rattle.bq_words.specs.declared.processor_count.ProcessorCount.{ProcessorCount}
 
 -- words, a space between each two
@@ -46,8 +46,8 @@ abbrev pub asking_line : Option (List ℕ) → Event → List ℕ
 asking_line image event = spaced_words (event_words image event)
 
 -- the line that asks for a machine
-abbrev pub machine_line : Rule → ProcessorCount → List ℕ
-machine_line rule size = spaced_words (keyword_word keywords.Machine ∷ rule_word rule ∷ decimal (processors_in size) ∷ [])
+abbrev pub machine_line : DisciplineName → ProcessorCount → List ℕ
+machine_line discipline size = spaced_words (keyword_word keywords.Machine ∷ discipline_word discipline ∷ decimal (processors_in size) ∷ [])
 
 -- the line that asks for an install of this image
 abbrev pub install_line : ℕ → ℕ → Hook → Option (List ℕ) → List ℕ

@@ -33,7 +33,7 @@ brought images event = None
 
 -- the lines that an event writes: one, or none
 abbrev pub traced_lines : ByHook → TraceEvent → List (List ℕ)
-traced_lines images (Opened rule size) = machine_line rule size ∷ []
+traced_lines images (Opened discipline size) = machine_line discipline size ∷ []
 traced_lines images (Skipped line) = if is_utf8 line then line ∷ [] else []
 traced_lines images (Comes event m) = asking_line (brought images event) event ∷ []
 traced_lines images traced = []

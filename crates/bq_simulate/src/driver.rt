@@ -9,7 +9,7 @@ use bq_disc::clock::LATEST;
 use bq_parts::{Event, Refusal, Reply};
 use bq_trace::bare::bare;
 use bq_trace::{AnyCore, Sink, TraceEvent};
-use bq_words::{ProcessorCount, Rule};
+use bq_words::{DisciplineName, ProcessorCount};
 use std::alloc::Global;
 
 /// A machine, the number of the last line of its trace, and the last reading that was given to a clock.
@@ -24,15 +24,15 @@ impl Driver {
     /// A machine to which nothing has happened: the first line of its trace. The sink gets its making.
     pub fn new<S: Sink>(
         alloc: Global,
-        rule: Rule,
+        discipline: DisciplineName,
         size: ProcessorCount,
         sink: &mut S,
     ) -> Result<Driver, DriveFault>
-        ensures starts { IfOk result (λ driver. Gets S.takes sink.old sink.new (λ reported. Starts rule size reported driver)) }
+        ensures starts { IfOk result (λ driver. Gets S.takes sink.old sink.new (λ reported. Starts discipline size reported driver)) }
         ensures fault { IfErr result (λ fault. fault ≡ OutOfMemory) }
     {
-        let machine = AnyCore::new(alloc, rule, size)?;
-        sink.take(1, &TraceEvent::Opened { rule, size })?;
+        let machine = AnyCore::new(alloc, discipline, size)?;
+        sink.take(1, &TraceEvent::Opened { discipline, size })?;
         Ok(Driver {
             machine,
             line: 1,

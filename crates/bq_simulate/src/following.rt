@@ -95,7 +95,7 @@ fn follow<S: Sink + Enough>(
     ensures endless { first_flaw workload.now ≡ None → IfErr result (IfEndless (Gets S.takes sink.old sink.new (IsTooLong policies.now (with_seed workload.now seed)))) }
 {
     let machine = &workload.machine;
-    let driver = Driver::new(alloc, machine.rule, machine.size, sink)?;
+    let driver = Driver::new(alloc, machine.discipline, machine.size, sink)?;
     let mut simulation = Simulation::new(alloc, machine, seed, driver)?;
     simulation.run(alloc, workload, policies, sink)
 }

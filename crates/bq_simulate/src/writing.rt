@@ -7,7 +7,7 @@ ghost use Rattle.bq_simulate.specs.Texts.{optional_image_bytes};
 use bq_hooks::Hook;
 use bq_lines::Keyword;
 use bq_parts::Event;
-use bq_words::{ProcessorCount, Rule};
+use bq_words::{DisciplineName, ProcessorCount};
 use std::alloc::{AllocError, Global};
 use std::fmt::Write;
 
@@ -89,11 +89,15 @@ fn write_image(alloc: Global, text: &mut String, image: Option<&[u8]>) -> Result
 }
 
 /// Adds the line that makes a machine, and a line feed.
-pub fn write_machine(text: &mut String, rule: Rule, size: ProcessorCount) -> Result<(), AllocError>
-    ensures { OnOk result (string_bytes text.new ≡ string_bytes text.old ++ (machine_line rule size ++ 10 ∷ [])) }
+pub fn write_machine(
+    text: &mut String,
+    discipline: DisciplineName,
+    size: ProcessorCount,
+) -> Result<(), AllocError>
+    ensures { OnOk result (string_bytes text.new ≡ string_bytes text.old ++ (machine_line discipline size ++ 10 ∷ [])) }
 {
     let keyword = Keyword::Machine.word();
-    let rule = rule.word();
+    let discipline = discipline.word();
     let processors = size.processors();
-    write!(text, "{keyword} {rule} {processors}\n")
+    write!(text, "{keyword} {discipline} {processors}\n")
 }

@@ -8,7 +8,7 @@ use Rattle.bq_schedule.specs.Figures.{Figures}
 use Rattle.bq_schedule.specs.Steps.{change, figures_after}
 use Rattle.bq_report.specs.Names.{NamedTasks}
 use Rattle.bq_report.specs.Reports.{GrowsByPart}
-use Rattle.bq_words.specs.declared.rule.Rule.{Rule}
+use Rattle.bq_words.specs.declared.discipline_name.DisciplineName.{DisciplineName}
 use Rattle.bq_trace.specs.TraceEvents.{TraceEvent, Reported, Opened, Skipped, Comes, Answered, NotHex, NotLoaded, ProcessorAsked, CounterRead, Bad}
 use Rattle.bq_timeline.specs.FormTexts.{FormAnswers, FormEnds, FormOpens, FormTakes}
 use Rattle.bq_timeline.specs.ScreenTexts.{BeginsText, FormEndsIf, IfShown, ScreenAnswers, ScreenBegins, ScreenEnds, ScreenState, StandsBehind}
@@ -24,17 +24,17 @@ grows_behind : (Is : List ℕ → Type 0) (p before after : List ℕ) → GrowsB
 grows_behind Is p before after h = (h.0, h.1, ap (λ t. p ++ t) h.2 ∙ sym (append_assoc p before h.0))
 
 -- a form begins behind another text as it does without it
-opens_behind : (p : List ℕ) (rule : Rule) (s : Figures) (old new : Shown) (before after : List ℕ)
-    → FormOpens rule s old new before after → FormOpens rule s old new (p ++ before) (p ++ after)
-opens_behind p rule s (form.Report old) (form.Report new) before after h = (h.0, ap (λ t. p ++ t) h.1)
-opens_behind p rule s (form.Map old) (form.Map new) before after h = (h.0, h.1, ap (λ t. p ++ t) h.2)
-opens_behind p rule s (form.Timehist old) (form.Timehist new) before after h = (h.0, ap (λ t. p ++ t) h.1 ∙ sym (append_assoc p before _))
-opens_behind p rule s (form.Csv old) (form.Csv new) before after h = (h.0, ap (λ t. p ++ t) h.1 ∙ sym (append_assoc p before _))
-opens_behind p rule s (form.Json old) (form.Json new) before after h = (h.0, ap (λ t. p ++ t) h.1)
-opens_behind p rule s (form.Svg old) (form.Svg new) before after h = (h.0, ap (λ t. p ++ t) h.1)
-opens_behind p rule s (form.Perfetto old) (form.Perfetto new) before after h = (h.0, grows_behind _ p before after h.1)
-opens_behind p rule s (form.Why old) (form.Why new) before after h = tt
-opens_behind p rule s old new before after h = absurd h
+opens_behind : (p : List ℕ) (discipline : DisciplineName) (s : Figures) (old new : Shown) (before after : List ℕ)
+    → FormOpens discipline s old new before after → FormOpens discipline s old new (p ++ before) (p ++ after)
+opens_behind p discipline s (form.Report old) (form.Report new) before after h = (h.0, ap (λ t. p ++ t) h.1)
+opens_behind p discipline s (form.Map old) (form.Map new) before after h = (h.0, h.1, ap (λ t. p ++ t) h.2)
+opens_behind p discipline s (form.Timehist old) (form.Timehist new) before after h = (h.0, ap (λ t. p ++ t) h.1 ∙ sym (append_assoc p before _))
+opens_behind p discipline s (form.Csv old) (form.Csv new) before after h = (h.0, ap (λ t. p ++ t) h.1 ∙ sym (append_assoc p before _))
+opens_behind p discipline s (form.Json old) (form.Json new) before after h = (h.0, ap (λ t. p ++ t) h.1)
+opens_behind p discipline s (form.Svg old) (form.Svg new) before after h = (h.0, ap (λ t. p ++ t) h.1)
+opens_behind p discipline s (form.Perfetto old) (form.Perfetto new) before after h = (h.0, grows_behind _ p before after h.1)
+opens_behind p discipline s (form.Why old) (form.Why new) before after h = tt
+opens_behind p discipline s old new before after h = absurd h
 
 -- a form takes a change behind another text as it does without it
 takes_behind : (p : List ℕ) (change : Change) (s : Figures) (names : NamedTasks) (old new : Shown) (before after : List ℕ)
@@ -53,23 +53,23 @@ takes_behind p change s names (form.Why old) (form.Why new) before after h = tt
 takes_behind p change s names old new before after h = absurd h
 
 -- the form begins behind another text as it does without it
-begins_behind : (p : List ℕ) (s : Option Figures) (rule : Option Rule) (asked : Option Settings) (old new : ScreenState) (before after : List ℕ)
-    → BeginsText s rule asked old new before after → BeginsText s rule asked old new (p ++ before) (p ++ after)
-begins_behind p (Some s) (Some rule) (Some asked) old new before after h =
+begins_behind : (p : List ℕ) (s : Option Figures) (discipline : Option DisciplineName) (asked : Option Settings) (old new : ScreenState) (before after : List ℕ)
+    → BeginsText s discipline asked old new before after → BeginsText s discipline asked old new (p ++ before) (p ++ after)
+begins_behind p (Some s) (Some discipline) (Some asked) old new before after h =
     let made = h.0 in (
       record {
         fresh = made.fresh;
         is_asked = made.is_asked;
         is_empty = made.is_empty;
         form = made.form;
-        opens = opens_behind p rule s made.fresh made.form before after made.opens;
+        opens = opens_behind p discipline s made.fresh made.form before after made.opens;
         shown = made.shown;
         table = made.table;
         rest = made.rest;
       },
       h.1,
     )
-begins_behind p s rule asked old new before after h = (h.0, ap (λ t. p ++ t) h.1)
+begins_behind p s discipline asked old new before after h = (h.0, ap (λ t. p ++ t) h.1)
 
 -- a form that there may be takes an event behind another text as it does without it
 shows_behind : (p : List ℕ) (event : Event) (change : Change) (s : Figures) (names : NamedTasks) (old new : Option Shown) (before after : List ℕ)
@@ -100,15 +100,15 @@ answer_behind p (Some s) event answer old new before after h =
 -- a trace event is shown behind another text as it is without it
 event_behind : (p : List ℕ) (s : Option Figures) (traced : TraceEvent) (old new : ScreenState) (before after : List ℕ)
     → ScreenTakes s traced old new before after → ScreenTakes s traced old new (p ++ before) (p ++ after)
-event_behind p s (Opened rule size) old new before after h = (h.0, ap (λ t. p ++ t) h.1)
+event_behind p s (Opened discipline size) old new before after h = (h.0, ap (λ t. p ++ t) h.1)
 event_behind p s (Skipped line) old new before after h = (h.0, h.1, ap (λ t. p ++ t) h.2)
-event_behind p s (Comes event machine) old new before after h = (h.0, begins_behind p s old.rule old.asked old h.0 before after h.1, h.2)
+event_behind p s (Comes event machine) old new before after h = (h.0, begins_behind p s old.discipline old.asked old h.0 before after h.1, h.2)
 event_behind p s (Answered event answer machine) old new before after h = answer_behind p s event answer old new before after h
 event_behind p s (CounterRead counter value) old new before after h = (h.0, ap (λ t. p ++ t) h.1)
-event_behind p s NotHex old new before after h = begins_behind p s old.rule old.asked old new before after h
-event_behind p s (NotLoaded why) old new before after h = begins_behind p s old.rule old.asked old new before after h
-event_behind p s (ProcessorAsked processor machine) old new before after h = begins_behind p s old.rule old.asked old new before after h
-event_behind p s (Bad line) old new before after h = begins_behind p s old.rule old.asked old new before after h
+event_behind p s NotHex old new before after h = begins_behind p s old.discipline old.asked old new before after h
+event_behind p s (NotLoaded why) old new before after h = begins_behind p s old.discipline old.asked old new before after h
+event_behind p s (ProcessorAsked processor machine) old new before after h = begins_behind p s old.discipline old.asked old new before after h
+event_behind p s (Bad line) old new before after h = begins_behind p s old.discipline old.asked old new before after h
 
 -- trace events are shown behind another text as they are without it
 pub all_behind : (p : List ℕ) (s : Option Figures) (old : ScreenState) (reported : Reported) (new : ScreenState) (before after : List ℕ)
@@ -171,6 +171,6 @@ pub closes_behind : (p : List ℕ) (s : Option Figures) (old : ScreenState) (bef
 closes_behind p s old before after h = record {
   begun = h.begun;
   opened = p ++ h.opened;
-  begins = begins_behind p s old.rule old.asked old h.begun before h.opened h.begins;
+  begins = begins_behind p s old.discipline old.asked old h.begun before h.opened h.begins;
   ends = text_ends_behind p s h.begun h.opened after h.ends;
 }

@@ -1,7 +1,7 @@
 -- The form begins once the comments at the top of the trace have named the tasks.
 use Rattle.std.specs.Prelude.{◌≡◌, ◌++◌, Option, Some, None, string_bytes}
 use Rattle.bq_schedule.specs.Figures.{Figures}
-use Rattle.bq_words.specs.declared.rule.Rule.{Rule}
+use Rattle.bq_words.specs.declared.discipline_name.DisciplineName.{DisciplineName}
 use Rattle.bq_timeline.specs.Called.{tasks_for, uncalled_notes}
 use Rattle.bq_timeline.specs.Notes.{absent_notes, last_notes}
 use Rattle.bq_timeline.specs.Shown.{ShowsAsked}
@@ -24,13 +24,13 @@ pub record FormStays (old new : Screen) : Type 0 where
   pub notes : new.notes ≡ old.notes
 
 -- The form begins if there is a machine and the form has not begun: then its settings are still there.
-abbrev pub BeginsBy : Option Rule → Option Settings → Screen → Screen → Type 0
-BeginsBy (Some rule) (Some s) old new = BeginsForm s old new
-BeginsBy rule asked old new = FormStays old new
+abbrev pub BeginsBy : Option DisciplineName → Option Settings → Screen → Screen → Type 0
+BeginsBy (Some discipline) (Some s) old new = BeginsForm s old new
+BeginsBy discipline asked old new = FormStays old new
 
 -- The form begins if it can, and otherwise nothing changes.
 abbrev pub FormBegins : Screen → Screen → Type 0
-FormBegins old new = BeginsBy old.rule old.asked old new
+FormBegins old new = BeginsBy old.discipline old.asked old new
 
 -- The form begins as `FormBegins` says if there is a schedule, which comes with the machine. Otherwise nothing changes.
 abbrev pub FormBeginsWith : Option Figures → Screen → Screen → Type 0

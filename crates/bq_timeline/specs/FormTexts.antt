@@ -20,7 +20,7 @@ use Rattle.bq_report.specs.AdmittedTasks.{with_admitted}
 use Rattle.bq_report.specs.Rows.{head_row, optional_slice_row}
 use Rattle.bq_report.specs.Timehist.{AreLastLines, IsShownMigration, IsShownStop, IsShownWake, change_text, head_lines}
 use Rattle.bq_report.specs.Windows.{IsShownPart}
-use Rattle.bq_words.specs.declared.rule.Rule.{Rule}
+use Rattle.bq_words.specs.declared.discipline_name.DisciplineName.{DisciplineName}
 use Rattle.bq_drawing.specs.declared.look.Look.{Look}
 use Rattle.bq_drawing.specs.Histories.{empty_past}
 use Rattle.bq_drawing.specs.Holdings.{HoldsChange, nothing_of}
@@ -39,24 +39,24 @@ IsEmptyForm width look (form.Report r) = ((task : ℕ) → latencies_of r.latenc
 IsEmptyForm width look (form.Map m) = (m.width ≡ width) × (m.admitted ≡ []) × (m.rows.items ≡ [])
 IsEmptyForm width look (form.Json j) = ((task : ℕ) → latencies_of j.latencies task ≡ []) × (j.missed ≡ 0)
 IsEmptyForm width look (form.Svg p) =
-    (p.look ≡ look) × (p.rule ≡ None) × (p.admitted ≡ []) × (p.drawing ≡ nothing_of 0) × (p.stops.entries ≡ [])
+    (p.look ≡ look) × (p.discipline ≡ None) × (p.admitted ≡ []) × (p.drawing ≡ nothing_of 0) × (p.stops.entries ≡ [])
 IsEmptyForm width look other = Unit {0}
 
--- A form begins under a rule, with a schedule to which nothing has happened: it and its text, before and after. A picture's title names
--- the rule.
-abbrev pub FormOpens : Rule → Figures → Shown → Shown → List ℕ → List ℕ → Type 0
-FormOpens rule s (form.Report old) (form.Report new) before after = (new ≡ old) × (after ≡ before)
-FormOpens rule s (form.Map old) (form.Map new) before after =
+-- A form begins under a discipline, with a schedule to which nothing has happened: it and its text, before and after. A picture's title names
+-- the discipline.
+abbrev pub FormOpens : DisciplineName → Figures → Shown → Shown → List ℕ → List ℕ → Type 0
+FormOpens discipline s (form.Report old) (form.Report new) before after = (new ≡ old) × (after ≡ before)
+FormOpens discipline s (form.Map old) (form.Map new) before after =
     (new.rows.items ≡ old.rows.items ++ replicate (length s.processors) empty_map_row) × KeepsLook old new × (after ≡ before)
-FormOpens rule s (form.Timehist old) (form.Timehist new) before after = (new ≡ old) × (after ≡ before ++ head_lines)
-FormOpens rule s (form.Csv old) (form.Csv new) before after = (new ≡ old) × (after ≡ before ++ head_row)
-FormOpens rule s (form.Json old) (form.Json new) before after = (new ≡ old) × (after ≡ before)
-FormOpens rule s (form.Svg old) (form.Svg new) before after =
-    (new ≡ record old { rule = Some rule; drawing = nothing_of (length s.processors) }) × (after ≡ before)
-FormOpens rule s (form.Perfetto old) (form.Perfetto new) before after =
+FormOpens discipline s (form.Timehist old) (form.Timehist new) before after = (new ≡ old) × (after ≡ before ++ head_lines)
+FormOpens discipline s (form.Csv old) (form.Csv new) before after = (new ≡ old) × (after ≡ before ++ head_row)
+FormOpens discipline s (form.Json old) (form.Json new) before after = (new ≡ old) × (after ≡ before)
+FormOpens discipline s (form.Svg old) (form.Svg new) before after =
+    (new ≡ record old { discipline = Some discipline; drawing = nothing_of (length s.processors) }) × (after ≡ before)
+FormOpens discipline s (form.Perfetto old) (form.Perfetto new) before after =
     (new ≡ record old { history = empty_past (length s.processors) TASKS }) × GrowsByPart (IsPerfettoHead (length s.processors)) before after
-FormOpens rule s (form.Why old) (form.Why new) before after = Unit {0}
-FormOpens rule s old new before after = ⊥
+FormOpens discipline s (form.Why old) (form.Why new) before after = Unit {0}
+FormOpens discipline s old new before after = ⊥
 
 -- A task is admitted. The map and the picture give it the next letter or colour. No other form heeds it.
 abbrev pub FormAdmits : ℕ → Shown → Shown → Type 0
@@ -109,6 +109,6 @@ FormEnds s names (form.Timehist old) before after = GrowsByPart (AreLastLines ol
 FormEnds s names (form.Csv old) before after = after ≡ before
 FormEnds s names (form.Json old) before after = GrowsByPart (IsJsonReport old.window names s old.latencies old.missed) before after
 FormEnds s names (form.Svg old) before after =
-    GrowsByPart (IsPictureOf old.window old.look old.rule s names old.admitted old.drawing) before after
+    GrowsByPart (IsPictureOf old.window old.look old.discipline s names old.admitted old.drawing) before after
 FormEnds s names (form.Perfetto old) before after = GrowsByPart (IsPerfettoTail old.window names s old.history) before after
 FormEnds s names (form.Why old) before after = Unit {0}

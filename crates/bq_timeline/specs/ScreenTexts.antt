@@ -6,7 +6,7 @@ use Rattle.bq_parts.specs.declared.reply.Reply.{Reply}
 use Rattle.bq_schedule.specs.declared.change.Change.{Change}
 use Rattle.bq_schedule.specs.Figures.{Figures}
 use Rattle.bq_report.specs.Names.{NamedTasks}
-use Rattle.bq_words.specs.declared.rule.Rule.{Rule}
+use Rattle.bq_words.specs.declared.discipline_name.DisciplineName.{DisciplineName}
 use Rattle.bq_timeline.specs.FormTexts.{FormAnswers, FormEnds, FormOpens, IsEmptyForm}
 use Rattle.bq_timeline.specs.Shown.{IsAskedFor}
 use Rattle.bq_timeline.specs.declared.bounds_table.BoundsTable.{BoundsTable}
@@ -19,13 +19,13 @@ use Rattle.bq_timeline.specs.declared.shown.Shown.TheVariants as form
 pub record ScreenState : Type 0 where
   pub names : NamedTasks
   pub asked : Option Settings
-  pub rule : Option Rule
+  pub discipline : Option DisciplineName
   pub shown : Option Shown
   pub near : Option BoundsTable
 
 -- what this screen holds besides its text and its notes
 abbrev pub state_of : Screen → ScreenState
-state_of screen = record { names = screen.names; asked = screen.asked; rule = screen.rule; shown = screen.shown; near = screen.near }
+state_of screen = record { names = screen.names; asked = screen.asked; discipline = screen.discipline; shown = screen.shown; near = screen.near }
 
 -- ---- the form begins
 
@@ -34,25 +34,25 @@ abbrev pub HasTable : Shown → Option BoundsTable → Type 0
 HasTable (form.Report report) near = IsSome near
 HasTable other near = near ≡ None
 
--- The form that the settings ask for appears, and what it adds when it begins under a rule stands behind the text.
-pub record FormAppears (rule : Rule) (s : Figures) (asked : Settings) (old new : ScreenState) (before after : List ℕ) : Type 0 where
+-- The form that the settings ask for appears, and what it adds when it begins under a discipline stands behind the text.
+pub record FormAppears (discipline : DisciplineName) (s : Figures) (asked : Settings) (old new : ScreenState) (before after : List ℕ) : Type 0 where
   pub fresh : Shown
   pub is_asked : IsAskedFor asked old.names fresh
   pub is_empty : IsEmptyForm asked.width asked.look fresh
   pub form : Shown
-  pub opens : FormOpens rule s fresh form before after
+  pub opens : FormOpens discipline s fresh form before after
   pub shown : new.shown ≡ Some form
   pub table : HasTable fresh new.near
-  pub rest : (new.names ≡ old.names) × (new.rule ≡ old.rule)
+  pub rest : (new.names ≡ old.names) × (new.discipline ≡ old.discipline)
 
--- the form begins if there is a schedule and a rule, and its settings are still there
-abbrev pub BeginsText : Option Figures → Option Rule → Option Settings → ScreenState → ScreenState → List ℕ → List ℕ → Type 0
-BeginsText (Some s) (Some rule) (Some asked) old new before after = FormAppears rule s asked old new before after × (new.asked ≡ None)
-BeginsText s rule asked old new before after = (new ≡ old) × (after ≡ before)
+-- the form begins if there is a schedule and a discipline, and its settings are still there
+abbrev pub BeginsText : Option Figures → Option DisciplineName → Option Settings → ScreenState → ScreenState → List ℕ → List ℕ → Type 0
+BeginsText (Some s) (Some discipline) (Some asked) old new before after = FormAppears discipline s asked old new before after × (new.asked ≡ None)
+BeginsText s discipline asked old new before after = (new ≡ old) × (after ≡ before)
 
 -- the form begins if it can; otherwise nothing changes
 abbrev pub ScreenBegins : Option Figures → ScreenState → ScreenState → List ℕ → List ℕ → Type 0
-ScreenBegins s old new before after = BeginsText s old.rule old.asked old new before after
+ScreenBegins s old new before after = BeginsText s old.discipline old.asked old new before after
 
 -- ---- an event
 

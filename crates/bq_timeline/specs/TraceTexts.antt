@@ -20,7 +20,7 @@ AnswerShows (Some s) event answer old new before after =
 -- A trace event, with the schedule before it: what the screen holds, and its text, before and after. The form begins at the first line that
 -- is not a comment, not the machine's, and does not read a counter.
 abbrev pub ScreenTakes : Option Figures → TraceEvent → ScreenState → ScreenState → List ℕ → List ℕ → Type 0
-ScreenTakes s (Opened rule size) old new before after = (new ≡ record old { rule = Some rule }) × (after ≡ before)
+ScreenTakes s (Opened discipline size) old new before after = (new ≡ record old { discipline = Some discipline }) × (after ≡ before)
 ScreenTakes s (Skipped line) old new before after =
     Learns line old.names new.names × (new ≡ record old { names = new.names }) × (after ≡ before)
 ScreenTakes s (Comes event machine) old new before after =
@@ -40,7 +40,7 @@ ScreenTakesAll s old ((line, traced) ∷ more) new before after =
 pub record IsBlank (asked : Settings) (state : ScreenState) : Type 0 where
   pub settings : state.asked ≡ Some asked
   pub names : (task : ℕ) → name_of state.names task ≡ None
-  pub rule : state.rule ≡ None
+  pub discipline : state.discipline ≡ None
   pub shown : state.shown ≡ None
   pub near : state.near ≡ None
 

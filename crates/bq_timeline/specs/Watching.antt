@@ -9,7 +9,7 @@ use Rattle.bq_schedule.specs.Steps.{figures_after}
 
 -- the schedule begins with the machine, and takes each event with its answer
 abbrev pub watched : Option Figures → TraceEvent → Option Figures
-watched s (Opened rule size) = Some (opening_figures (processors_in size))
+watched s (Opened discipline size) = Some (opening_figures (processors_in size))
 watched (Some s) (Answered event answer m) = Some (figures_after s event answer)
 watched s traced = s
 

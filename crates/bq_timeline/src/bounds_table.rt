@@ -1,4 +1,4 @@
-//! How near each processor came to the bounds of its rule: a table below the report.
+//! How near each processor came to the bounds of its discipline: a table below the report.
 ghost use Rattle.std.specs.Prelude.{◌≡◌, ◌++◌, ℕ, List, OnOk, string_bytes};
 ghost use Rattle.bq_timeline.specs.ScreenTexts.{under_bounds_head};
 
@@ -12,14 +12,14 @@ use bq_report::tables::write_millis;
 use bq_schedule::Change;
 use bq_trace::{AnyCore, AnyCpu};
 use bq_why::{place_of, present};
-use bq_words::Rule;
+use bq_words::DisciplineName;
 use std::alloc::{AllocError, Global};
 
 /// The head of the table, above the lines of the bounds. It begins with an empty line.
 const HEAD: &str =
     "\n  cpu law                 charges left out  greatest ms   at most ms   of it\n";
 
-/// The charges of all processors, measured against the bounds of the rule, event by event.
+/// The charges of all processors, measured against the bounds of the discipline, event by event.
 #[derive(Drop)]
 pub struct BoundsTable {
     alloc: Global,
@@ -30,10 +30,14 @@ pub struct BoundsTable {
 
 impl BoundsTable {
     /// A table for this many processors, before the first event.
-    pub fn new(alloc: Global, rule: Rule, processors: usize) -> Result<BoundsTable, AllocError> {
+    pub fn new(
+        alloc: Global,
+        discipline: DisciplineName,
+        processors: usize,
+    ) -> Result<BoundsTable, AllocError> {
         Ok(BoundsTable {
             alloc,
-            bounds: Bounds::new(alloc, rule, processors)?,
+            bounds: Bounds::new(alloc, discipline, processors)?,
             running: None,
         })
     }
@@ -105,9 +109,9 @@ impl BoundsTable {
 
     /// Adds the line of what a processor charged.
     fn write_charges(&self, number: u8, text: &mut String) -> Result<(), AllocError> {
-        let law = match self.bounds.rule {
-            Rule::Cfs => "beyond the least",
-            Rule::Eevdf => "ahead of the mean",
+        let law = match self.bounds.discipline {
+            DisciplineName::Cfs => "beyond the least",
+            DisciplineName::Eevdf => "ahead of the mean",
         };
         match self.bounds.watch(number) {
             Some(watch) => write_line(

@@ -21,7 +21,7 @@ use bq_schedule::{Change, ClockReading, Schedule};
 use bq_trace::AnyCore;
 use bq_why::line_fault::{LineFault, NOT_READ_ON, meant_keyword, why_bad};
 use bq_why::{Occurrence, RefusalText, RefusedEvent};
-use bq_words::Rule;
+use bq_words::DisciplineName;
 use std::alloc::{AllocError, Global};
 
 /// The part of a schedule that is asked for, apart from its tasks.
@@ -39,11 +39,11 @@ pub struct Screen {
     names: Names,
     /// The settings, until the form begins. By then the comments at the top of the trace have named the tasks.
     asked: Option<Settings>,
-    /// The rule of the machine, once there is one.
-    rule: Option<Rule>,
+    /// The discipline of the machine, once there is one.
+    discipline: Option<DisciplineName>,
     /// The form, once it has begun.
     shown: Option<Shown>,
-    /// How near the bounds of the rule are, once the form has begun, if it is the report.
+    /// How near the bounds of the discipline are, once the form has begun, if it is the report.
     near: Option<BoundsTable>,
     part: Part,
     /// The tasks that are shown, once the form has begun. Empty if all are shown.
@@ -59,7 +59,7 @@ impl Screen {
     pub fn new(alloc: Global, settings: Settings) -> Screen
         ensures asked { result.asked ≡ Some settings }
         ensures names { (task : ℕ) → name_of result.names task ≡ None }
-        ensures none { (result.rule ≡ None) × (result.shown ≡ None) × (result.near ≡ None) }
+        ensures none { (result.discipline ≡ None) × (result.shown ≡ None) × (result.near ≡ None) }
         ensures text { string_bytes result.text ≡ [] }
         ensures part { (result.part.processors ≡ settings.window.processors) × (result.part.from ≡ settings.window.from) }
     {
@@ -72,18 +72,18 @@ impl Screen {
             tasks: Vec::new(alloc),
             names: Names::new(alloc),
             asked: Some(settings),
-            rule: None,
+            discipline: None,
             shown: None,
             text: String::new(alloc),
             notes: String::new(alloc),
         }
     }
 
-    /// The machine is made, under a rule.
-    pub fn opened(&mut self, rule: Rule)
-        ensures { self.new ≡ record self.old { rule = Some rule } }
+    /// The machine is made, under a discipline.
+    pub fn opened(&mut self, discipline: DisciplineName)
+        ensures { self.new ≡ record self.old { discipline = Some discipline } }
     {
-        self.rule = Some(rule);
+        self.discipline = Some(discipline);
     }
 
     /// Begins the form that is asked for, if there is a machine and the form has not begun. It shows the tasks that are asked for by number,
@@ -92,7 +92,7 @@ impl Screen {
         ensures form { OnOk result (FormBegins self.old self.new) }
         ensures text { OnOk result (ScreenBegins (Some schedule.now) (state_of self.old) (state_of self.new) (string_bytes self.old.text) (string_bytes self.new.text)) }
     {
-        let Some(rule) = self.rule else {
+        let Some(discipline) = self.discipline else {
             return Ok(());
         };
         // Each event asks this, and settings are large: they are moved only if they are still there.
@@ -100,7 +100,7 @@ impl Screen {
             return Ok(());
         }
         match self.asked.take() {
-            Some(settings) => self.begin_form(alloc, rule, settings, schedule),
+            Some(settings) => self.begin_form(alloc, discipline, settings, schedule),
             None => Ok(()),
         }
     }
@@ -110,28 +110,28 @@ impl Screen {
     fn begin_form(
         &mut self,
         alloc: Global,
-        rule: Rule,
+        discipline: DisciplineName,
         settings: Settings,
         schedule: &Schedule,
     ) -> Result<(), AllocError>
         ensures form { OnOk result (BeginsForm settings self.old self.new) }
-        ensures text { OnOk result (FormAppears rule schedule.now settings (state_of self.old) (state_of self.new) (string_bytes self.old.text) (string_bytes self.new.text)) }
+        ensures text { OnOk result (FormAppears discipline schedule.now settings (state_of self.old) (state_of self.new) (string_bytes self.old.text) (string_bytes self.new.text)) }
         ensures asked { self.new.asked ≡ self.old.asked }
     {
         let asked = settings.names.as_slice();
         note_uncalled(alloc, &mut self.notes, asked, &self.names)?;
         let mut shown = self.form_of(alloc, settings)?;
-        self.begin_near(alloc, rule, &shown, schedule)?;
-        shown.begin(rule, schedule, &self.names, &mut self.text)?;
+        self.begin_near(alloc, discipline, &shown, schedule)?;
+        shown.begin(discipline, schedule, &self.names, &mut self.text)?;
         self.shown = Some(shown);
         Ok(())
     }
 
-    /// Prepares to show how near the bounds of the rule are, if the form is the report.
+    /// Prepares to show how near the bounds of the discipline are, if the form is the report.
     fn begin_near(
         &mut self,
         alloc: Global,
-        rule: Rule,
+        discipline: DisciplineName,
         shown: &Shown,
         schedule: &Schedule,
     ) -> Result<(), AllocError>
@@ -139,7 +139,7 @@ impl Screen {
         ensures rest { self.new ≡ record self.old { near = self.new.near } }
     {
         self.near = match shown {
-            Shown::Report(_) => Some(BoundsTable::new(alloc, rule, schedule.processors())?),
+            Shown::Report(_) => Some(BoundsTable::new(alloc, discipline, schedule.processors())?),
             _ => None,
         };
         Ok(())
@@ -215,7 +215,7 @@ impl Screen {
         }
     }
 
-    /// Measures how near the bounds of the rule an event came, if the form is the report.
+    /// Measures how near the bounds of the discipline an event came, if the form is the report.
     fn measure(
         &mut self,
         event: &Event,

@@ -10,7 +10,7 @@ use bq_report::{Csv, Json, Map, Names, Report, ScheduleForm, Timehist, Window};
 use bq_schedule::Schedule;
 use bq_trace::AnyCore;
 use bq_why::{Occurrence, Why};
-use bq_words::Rule;
+use bq_words::DisciplineName;
 use std::alloc::{AllocError, Global};
 
 /// One of the forms.
@@ -45,16 +45,16 @@ impl Shown {
         }
     }
 
-    /// Begins the form under a rule, with a schedule to which nothing has happened.
+    /// Begins the form under a discipline, with a schedule to which nothing has happened.
     pub fn begin(
         &mut self,
-        rule: Rule,
+        discipline: DisciplineName,
         schedule: &Schedule,
         names: &Names,
         text: &mut String,
     ) -> Result<(), AllocError>
         ensures stays { StaysShown self.old self.new }
-        ensures opens { OnOk result (FormOpens rule schedule.now self.old self.new (string_bytes text.old) (string_bytes text.new)) }
+        ensures opens { OnOk result (FormOpens discipline schedule.now self.old self.new (string_bytes text.old) (string_bytes text.new)) }
     {
         match self {
             Shown::Report(form) => form.begin(schedule, names, text),
@@ -63,7 +63,7 @@ impl Shown {
             Shown::Csv(form) => form.begin(schedule, names, text),
             Shown::Json(form) => form.begin(schedule, names, text),
             Shown::Svg(form) => {
-                form.under(rule);
+                form.under(discipline);
                 form.begin(schedule, names, text)
             }
             Shown::Perfetto(form) => form.begin(schedule, names, text),

@@ -146,9 +146,9 @@ impl Sink for Viewer {
         ensures short_line { OnOk result (ReadsComment (event_of event.now) self.old.screen.names self.new.screen.names) }
     {
         match event {
-            TraceEvent::Opened { rule, size } => {
+            TraceEvent::Opened { discipline, size } => {
                 let schedule = Schedule::new(self.alloc, size.processors())?;
-                self.screen.opened(*rule);
+                self.screen.opened(*discipline);
                 self.schedule = Some(schedule);
                 Ok(())
             }

@@ -30,7 +30,7 @@ use Rattle.bq_trace.proofs.TakingLemmas.{texts-append, added_by}
 pub happens_text : (m k : Driven) (n : ℕ) (event : Event) (answer : Result Reply Refusal) (reported : Reported)
     → Happens m n event answer reported k → DoesAndAnswers m event answer (texts reported) k
 happens_text m k n event answer reported h = record {
-  same_rule = h.moves.same_rule;
+  same_discipline = h.moves.same_discipline;
   step = record { calls = h.moves.step.calls; step = h.moves.step.step; through = h.moves.step.through; answered = h.answered };
   line = ap texts h.reports ∙ append-nil (event_line answer);
 }
@@ -79,7 +79,7 @@ pub reports_text : (p : Phase) (n : ℕ) (line : Option (List ℕ)) (r : LineRea
 reports_text Over n line r reported q bad h = (ap texts h.0, h.1, h.2)
 reports_text Waiting n line reads.Skipped reported q bad h = (ap texts h.0 ∙ skips_text n line, h.1, h.2)
 reports_text Waiting n line reads.Bad reported q bad h = (bad_text n line reported h.0, h.1, h.2)
-reports_text Waiting n line (reads.Asks (Machine rule size)) reported q bad h = (ap texts h.0, h.1, h.2)
+reports_text Waiting n line (reads.Asks (Machine discipline size)) reported q bad h = (ap texts h.0, h.1, h.2)
 reports_text Waiting n line (reads.Asks (Does event)) reported q bad h = (bad_text n line reported h.0, h.1, h.2)
 reports_text Waiting n line (reads.Asks (Wake c task now)) reported q bad h = (bad_text n line reported h.0, h.1, h.2)
 reports_text Waiting n line (reads.Asks (Load c hook generation image)) reported q bad h = (bad_text n line reported h.0, h.1, h.2)
@@ -87,7 +87,7 @@ reports_text Waiting n line (reads.Asks (Show c)) reported q bad h = (bad_text n
 reports_text Waiting n line (reads.Asks (Counter i)) reported q bad h = (bad_text n line reported h.0, h.1, h.2)
 reports_text (Running m) n line reads.Skipped reported q bad h = (ap texts h.0 ∙ skips_text n line, h.1, h.2)
 reports_text (Running m) n line reads.Bad reported q bad h = (bad_text n line reported h.0, h.1, h.2)
-reports_text (Running m) n line (reads.Asks (Machine rule size)) reported q bad h = (bad_text n line reported h.0, h.1, h.2)
+reports_text (Running m) n line (reads.Asks (Machine discipline size)) reported q bad h = (bad_text n line reported h.0, h.1, h.2)
 reports_text (Running m) n line (reads.Asks (Does event)) reported q bad h =
     (h.0, h.1, happens_text m h.0 n event h.1 reported h.2, h.3, h.4)
 reports_text (Running m) n line (reads.Asks (Wake c task now)) reported q bad h = (h.0, wake_text m h.0 n c task now reported h.1, h.2, h.3)

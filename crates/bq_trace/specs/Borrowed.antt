@@ -8,7 +8,7 @@ use Rattle.bq_trace.specs.declared.trace_event.TraceEvent.TheVariants as given
 
 -- the event with the values that its borrows hold now
 abbrev pub event_of : Given → TraceEvent
-event_of (given.Opened rule size) = Opened rule size
+event_of (given.Opened discipline size) = Opened discipline size
 event_of (given.Skipped line) = Skipped line.now
 event_of (given.Comes event m) = Comes event.now m.now
 event_of (given.Answered event answer m) = Answered event.now answer.now m.now

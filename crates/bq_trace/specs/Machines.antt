@@ -1,4 +1,4 @@
--- The machine that a trace drives: its rule, its world, and the counters that its policies share.
+-- The machine that a trace drives: its discipline, its world, and the counters that its policies share.
 use Rattle.std.specs.Prelude.{◌≢◌, ℕ, List, replicate, Result, Err}
 use Rattle.bq_disc.specs.Discipline.{Discipline}
 use Rattle.bq_cfs.specs.Cfs.{cfs}
@@ -13,29 +13,29 @@ use Rattle.bq_parts.specs.declared.event.Event.{Event}
 use Rattle.bq_parts.specs.declared.reply.Reply.{Reply}
 use Rattle.bq_parts.specs.declared.refusal.Refusal.{Refusal}
 use Rattle.bq_parts.specs.declared.refusal.Refusal.TheVariants.{OutOfMemory}
-use Rattle.bq_words.specs.declared.rule.Rule.{Rule}
-use Rattle.bq_words.specs.declared.rule.Rule.TheVariants.{Cfs, Eevdf}
+use Rattle.bq_words.specs.declared.discipline_name.DisciplineName.{DisciplineName}
+use Rattle.bq_words.specs.declared.discipline_name.DisciplineName.TheVariants.{Cfs, Eevdf}
 use Rattle.bq_words.specs.declared.processor_count.ProcessorCount.{ProcessorCount}
 use Rattle.bq_words.specs.Sizes.{processors_in}
 
--- the machine of a trace: its rule, its world and its counters
+-- the machine of a trace: its discipline, its world and its counters
 pub record Driven : Type 0 where
-  pub rule : Rule
+  pub discipline : DisciplineName
   pub world : World
   pub counters : List ℕ
 
--- the discipline that a rule names
-abbrev pub discipline_of : Rule → Discipline
+-- the discipline by its name
+abbrev pub discipline_of : DisciplineName → Discipline
 discipline_of Cfs = cfs
 discipline_of Eevdf = eevdf
 
--- the meaning of policies under a rule, by which the machine's world runs
-abbrev pub semantics_of : Rule → PolicySemantics
-semantics_of rule = by_programs (discipline_of rule)
+-- the meaning of policies under a discipline, by which the machine's world runs
+abbrev pub semantics_of : DisciplineName → PolicySemantics
+semantics_of discipline = by_programs (discipline_of discipline)
 
 -- a machine to which nothing has happened
-abbrev pub opening_machine : Rule → ProcessorCount → Driven
-opening_machine rule size = record { rule = rule; world = opening_world (processors_in size); counters = replicate COUNTERS 0 }
+abbrev pub opening_machine : DisciplineName → ProcessorCount → Driven
+opening_machine discipline size = record { discipline = discipline; world = opening_world (processors_in size); counters = replicate COUNTERS 0 }
 
 -- One event is a step of a world, and the policies' calls lead from the old counters to the new ones.
 pub record Advances (s : PolicySemantics) (w : World) (old : List ℕ) (event : Event) (answer : Result Reply Refusal) (v : World) (new : List ℕ) : Type 0 where

@@ -31,10 +31,10 @@ use Rattle.bq_trace.specs.declared.phase.Phase.TheVariants.{Waiting, Over, Runni
 use Rattle.bq_trace.specs.declared.progress.Progress.{Progress}
 use Rattle.bq_trace.specs.declared.trace_position.TracePosition.{TracePosition}
 
--- An event is done in the machine's world, under the machine's rule.
+-- An event is done in the machine's world, under the machine's discipline.
 pub record AdvancesMachine (m : Driven) (event : Event) (answer : Result Reply Refusal) (k : Driven) : Type 0 where
-  pub same_rule : k.rule ≡ m.rule
-  pub step : Advances (semantics_of m.rule) m.world m.counters event answer k.world k.counters
+  pub same_discipline : k.discipline ≡ m.discipline
+  pub step : Advances (semantics_of m.discipline) m.world m.counters event answer k.world k.counters
 
 -- Line n brings an event, which is reported before it is done, and with its answer after. The reports leave out the policy that
 -- it brings. Lack of memory is no answer.
@@ -79,8 +79,8 @@ skips n (Some line) = (n, Skipped line) ∷ []
 abbrev pub Reports : Phase → ℕ → Option (List ℕ) → LineReading → Reported → Phase → Bool → Type 0
 Reports Over n line reading reported after bad = (reported ≡ []) × (after ≡ Over) × (bad ≡ false)
 Reports Waiting n line reads.Skipped reported after bad = (reported ≡ skips n line) × (after ≡ Waiting) × (bad ≡ false)
-Reports Waiting n line (reads.Asks (Machine rule size)) reported after bad =
-    (reported ≡ (n, Opened rule size) ∷ []) × (after ≡ Running (opening_machine rule size)) × (bad ≡ false)
+Reports Waiting n line (reads.Asks (Machine discipline size)) reported after bad =
+    (reported ≡ (n, Opened discipline size) ∷ []) × (after ≡ Running (opening_machine discipline size)) × (bad ≡ false)
 Reports Waiting n line reading reported after bad = (reported ≡ (n, Bad line) ∷ []) × (after ≡ Over) × (bad ≡ true)
 Reports (Running m) n line reads.Skipped reported after bad = (reported ≡ skips n line) × (after ≡ Running m) × (bad ≡ false)
 Reports (Running m) n line (reads.Asks (Does event)) reported after bad =
@@ -91,7 +91,7 @@ Reports (Running m) n line (reads.Asks (Load c hook generation image)) reported 
 Reports (Running m) n line (reads.Asks (Counter i)) reported after bad =
     (reported ≡ (if nat_lt i COUNTERS then (n, CounterRead i (slice_index m.counters i)) ∷ [] else (n, Bad line) ∷ [])) × (after ≡ Running m) × (bad ≡ not (nat_lt i COUNTERS))
 Reports (Running m) n line (reads.Asks (Show c)) reported after bad = (reported ≡ (n, ProcessorAsked c m) ∷ []) × (after ≡ Running m) × (bad ≡ false)
-Reports (Running m) n line (reads.Asks (Machine rule size)) reported after bad = (reported ≡ (n, Bad line) ∷ []) × (after ≡ Running m) × (bad ≡ true)
+Reports (Running m) n line (reads.Asks (Machine discipline size)) reported after bad = (reported ≡ (n, Bad line) ∷ []) × (after ≡ Running m) × (bad ≡ true)
 Reports (Running m) n line reads.Bad reported after bad = (reported ≡ (n, Bad line) ∷ []) × (after ≡ Running m) × (bad ≡ true)
 
 -- What one line after p does, by what was kept of it: the report, and the state after the line.

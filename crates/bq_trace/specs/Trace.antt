@@ -38,7 +38,7 @@ pub record AnswersWake (m : Driven) (c task now : ℕ) (text : List ℕ) (n : Dr
 abbrev pub AnswersAtPhase : Phase → LineReading → ℕ → List ℕ → Phase → Bool → Type 0
 AnswersAtPhase Over reading n text after bad = (text ≡ []) × (after ≡ Over) × (bad ≡ false)
 AnswersAtPhase Waiting Skipped n text after bad = (text ≡ []) × (after ≡ Waiting) × (bad ≡ false)
-AnswersAtPhase Waiting (Asks (Machine rule size)) n text after bad = (text ≡ []) × (after ≡ Running (opening_machine rule size)) × (bad ≡ false)
+AnswersAtPhase Waiting (Asks (Machine discipline size)) n text after bad = (text ≡ []) × (after ≡ Running (opening_machine discipline size)) × (bad ≡ false)
 AnswersAtPhase Waiting reading n text after bad = (text ≡ bad_line n) × (after ≡ Over) × (bad ≡ true)
 AnswersAtPhase (Running m) Skipped n text after bad = (text ≡ []) × (after ≡ Running m) × (bad ≡ false)
 AnswersAtPhase (Running m) (Asks (Does event)) n text after bad =
@@ -48,7 +48,7 @@ AnswersAtPhase (Running m) (Asks (Load c hook generation image)) n text after ba
 AnswersAtPhase (Running m) (Asks (Counter i)) n text after bad =
     (text ≡ (if nat_lt i COUNTERS then counter_line i (slice_index m.counters i) else bad_line n)) × (after ≡ Running m) × (bad ≡ not (nat_lt i COUNTERS))
 AnswersAtPhase (Running m) (Asks (Show c)) n text after bad = (text ≡ show_line m.world c) × (after ≡ Running m) × (bad ≡ false)
-AnswersAtPhase (Running m) (Asks (Machine rule size)) n text after bad = (text ≡ bad_line n) × (after ≡ Running m) × (bad ≡ true)
+AnswersAtPhase (Running m) (Asks (Machine discipline size)) n text after bad = (text ≡ bad_line n) × (after ≡ Running m) × (bad ≡ true)
 AnswersAtPhase (Running m) Bad n text after bad = (text ≡ bad_line n) × (after ≡ Running m) × (bad ≡ true)
 
 -- The answer to one line after p, by what the line says, and the state after it.

@@ -4,7 +4,7 @@ use Rattle.bq_load.specs.declared.fault.LoadFault.{LoadFault}
 use Rattle.bq_parts.specs.declared.event.Event.{Event}
 use Rattle.bq_parts.specs.declared.reply.Reply.{Reply}
 use Rattle.bq_parts.specs.declared.refusal.Refusal.{Refusal}
-use Rattle.bq_words.specs.declared.rule.Rule.{Rule}
+use Rattle.bq_words.specs.declared.discipline_name.DisciplineName.{DisciplineName}
 use Rattle.bq_words.specs.declared.processor_count.ProcessorCount.{ProcessorCount}
 use Rattle.bq_trace.specs.Machines.{Driven}
 use Rattle.bq_trace.specs.Loading.{load_fault_line, no_hex_line}
@@ -13,7 +13,7 @@ use Rattle.bq_trace.specs.Texts.{event_line, bad_line, show_line, counter_line}
 -- what a line of a trace leads to
 pub data TraceEvent : Type 0 where
   -- a machine is made
-  Opened : Rule → ProcessorCount → TraceEvent
+  Opened : DisciplineName → ProcessorCount → TraceEvent
   -- the line says nothing: it has no words, or is a comment; a line that is too long is Bad, even if it is a comment
   Skipped : List ℕ → TraceEvent
   -- this event is about to be done in the machine
@@ -37,7 +37,7 @@ Reported = List (ℕ × TraceEvent)
 
 -- the text that answers one event, by the number of its line
 abbrev pub text_of : ℕ → TraceEvent → List ℕ
-text_of n (Opened rule size) = []
+text_of n (Opened discipline size) = []
 text_of n (Skipped line) = []
 text_of n (Comes event m) = []
 text_of n (Answered event answer m) = event_line answer

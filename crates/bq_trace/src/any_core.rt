@@ -1,4 +1,4 @@
-//! The machine that a trace drives: a core of one of the sizes and under one of the rules that a trace may ask for.
+//! The machine that a trace drives: a core of one of the sizes and under one of the disciplines that a trace may ask for.
 ghost use Rattle.std.specs.Prelude.{◌≡◌, ◌<◌, slice_index, IfOk};
 ghost use Rattle.std.specs.Borrow.{Bor};
 ghost use Rattle.std.specs.Option.{option_map};
@@ -14,11 +14,11 @@ use bq_core::DynamicCore;
 use bq_disc::RunQueue;
 use bq_eevdf::EevdfQueue;
 use bq_parts::{Cpu, Event, Refusal, Reply};
-use bq_words::{ProcessorCount, Rule};
+use bq_words::{DisciplineName, ProcessorCount};
 use std::alloc::{AllocError, Global};
 use std::marker::Model;
 
-/// A processor, under whichever rule its machine has.
+/// A processor, under whichever discipline its machine has.
 #[derive(Clone, Copy)]
 pub enum AnyCpu<'a> {
     /// Under CFS.
@@ -27,16 +27,16 @@ pub enum AnyCpu<'a> {
     Eevdf(&'a Cpu<EevdfQueue>),
 }
 
-/// A core under each rule.
+/// A core under each discipline.
 #[derive(Drop)]
-enum RuleCore {
+enum DisciplineCore {
     Cfs(DynamicCore<CfsQueue>),
     Eevdf(DynamicCore<EevdfQueue>),
 }
 
-/// A machine. Contracts see its rule, its world, and the counters that its policies share.
+/// A machine. Contracts see its discipline, its world, and the counters that its policies share.
 pub struct AnyCore {
-    core: RuleCore,
+    core: DisciplineCore,
     board: Plain,
 }
 
@@ -64,17 +64,21 @@ impl AnyCore {
     ghost use Rattle.bq_trace.specs.Seeing.{seen_in};
 
     /// A machine to which nothing has happened.
-    pub fn new(alloc: Global, rule: Rule, size: ProcessorCount) -> Result<AnyCore, AllocError>
-        ensures { IfOk result (λ m. m ≡ opening_machine rule size) }
+    pub fn new(
+        alloc: Global,
+        discipline: DisciplineName,
+        size: ProcessorCount,
+    ) -> Result<AnyCore, AllocError>
+        ensures { IfOk result (λ m. m ≡ opening_machine discipline size) }
     {
         let count = usize::from(size.processors());
-        let core = match rule {
-            Rule::Cfs => match DynamicCore::new(alloc, count) {
-                Ok(core) => RuleCore::Cfs(core),
+        let core = match discipline {
+            DisciplineName::Cfs => match DynamicCore::new(alloc, count) {
+                Ok(core) => DisciplineCore::Cfs(core),
                 Err(AllocError) => return Err(AllocError),
             },
-            Rule::Eevdf => match DynamicCore::new(alloc, count) {
-                Ok(core) => RuleCore::Eevdf(core),
+            DisciplineName::Eevdf => match DynamicCore::new(alloc, count) {
+                Ok(core) => DisciplineCore::Eevdf(core),
                 Err(AllocError) => return Err(AllocError),
             },
         };
@@ -84,13 +88,13 @@ impl AnyCore {
         })
     }
 
-    /// The rule of the machine's processors.
-    pub fn rule(&self) -> Rule
-        ensures { result ≡ self.now.rule }
+    /// The discipline of the machine's processors.
+    pub fn discipline(&self) -> DisciplineName
+        ensures { result ≡ self.now.discipline }
     {
         match &self.core {
-            RuleCore::Cfs(_) => Rule::Cfs,
-            RuleCore::Eevdf(_) => Rule::Eevdf,
+            DisciplineCore::Cfs(_) => DisciplineName::Cfs,
+            DisciplineCore::Eevdf(_) => DisciplineName::Eevdf,
         }
     }
 
@@ -100,8 +104,8 @@ impl AnyCore {
     {
         // Each arm returns by itself: a reply is large, and a common return would move it again.
         match &mut self.core {
-            RuleCore::Cfs(core) => return core.step(alloc, event, &mut self.board),
-            RuleCore::Eevdf(core) => return core.step(alloc, event, &mut self.board),
+            DisciplineCore::Cfs(core) => return core.step(alloc, event, &mut self.board),
+            DisciplineCore::Eevdf(core) => return core.step(alloc, event, &mut self.board),
         }
     }
 
@@ -118,11 +122,11 @@ impl AnyCore {
         ensures { option_map seen_of result ≡ seen_in self.now processor }
     {
         match &self.core {
-            RuleCore::Cfs(core) => match cpu(core, processor) {
+            DisciplineCore::Cfs(core) => match cpu(core, processor) {
                 Some(cpu) => Some(AnyCpu::Cfs(cpu)),
                 None => None,
             },
-            RuleCore::Eevdf(core) => match cpu(core, processor) {
+            DisciplineCore::Eevdf(core) => match cpu(core, processor) {
                 Some(cpu) => Some(AnyCpu::Eevdf(cpu)),
                 None => None,
             },

@@ -44,10 +44,10 @@ impl Phase {
     {
         match reading {
             LineReading::Skipped => report_skipped(number, line, sink),
-            LineReading::Asks(LineCommand::Machine { rule, size }) => {
-                *self = Phase::Running(AnyCore::new(alloc, *rule, *size)?);
+            LineReading::Asks(LineCommand::Machine { discipline, size }) => {
+                *self = Phase::Running(AnyCore::new(alloc, *discipline, *size)?);
                 let opened = TraceEvent::Opened {
-                    rule: *rule,
+                    discipline: *discipline,
                     size: *size,
                 };
                 report(number, &opened, sink)?;

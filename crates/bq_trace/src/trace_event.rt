@@ -3,14 +3,14 @@
 use crate::any_core::AnyCore;
 use bq_load::LoadFault;
 use bq_parts::{Event, Refusal, Reply};
-use bq_words::{ProcessorCount, Rule};
+use bq_words::{DisciplineName, ProcessorCount};
 
 /// One event of a trace, as a [`Sink`](crate::Sink) gets it. An `Install` comes without its policy.
 #[derive(Drop)]
 pub enum TraceEvent<'a> {
     /// A machine is made.
     Opened {
-        rule: Rule,
+        discipline: DisciplineName,
         size: ProcessorCount,
     },
     /// The line says nothing: it has no words, or is a comment. A line that is too long is `Bad`, even if it is a comment.

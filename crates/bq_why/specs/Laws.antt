@@ -1,6 +1,6 @@
 -- Laws of what the form says of a choice.
 use Rattle.std.specs.Prelude.{◌≡◌, ◌<◌, ℕ, Bool, true, false, nat_le, List, Some, IfSome, is_some, length}
-use Rattle.bq_words.specs.declared.rule.Rule.{Rule}
+use Rattle.bq_words.specs.declared.discipline_name.DisciplineName.{DisciplineName}
 use Rattle.bq_disc.specs.Tasks.{Task}
 use Rattle.bq_disc.specs.Totals.{total_weight, mean_of}
 use Rattle.bq_disc.specs.Movable.{movable_to}
@@ -18,7 +18,7 @@ EligibleUpToTheMean = (xs : List Task) (t : Task) (mean : ℕ) → 0 < total_wei
 
 -- if another task differs from the choice only by its id, the choice has the lower id
 abbrev pub LowerIdWins : Type 0
-LowerIdWins = (rule : Rule) (xs : List Task) → IfSome ((discipline_of rule).choice xs) (λ t. IfSome (tied_with rule t xs) (λ u. t.id < u.id))
+LowerIdWins = (discipline : DisciplineName) (xs : List Task) → IfSome ((discipline_of discipline).choice xs) (λ t. IfSome (tied_with discipline t xs) (λ u. t.id < u.id))
 
 -- whether the discipline takes a task for this reason
 abbrev pub is_taken : OwnPull → Bool

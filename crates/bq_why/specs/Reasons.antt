@@ -3,8 +3,8 @@ use Rattle.std.specs.Prelude.{ℕ, ◌+◌, ◌-◌, ◌==◌, nat_lt, if◌then
 use Rattle.bq_cfs.specs.declared.discipline.TheConstants.{GRANULARITY}
 use Rattle.bq_hooks.specs.declared.settled.By.{By}
 use Rattle.bq_hooks.specs.declared.settled.By.TheVariants as who
-use Rattle.bq_words.specs.declared.rule.Rule.{Rule}
-use Rattle.bq_words.specs.declared.rule.Rule.TheVariants.{Cfs, Eevdf}
+use Rattle.bq_words.specs.declared.discipline_name.DisciplineName.{DisciplineName}
+use Rattle.bq_words.specs.declared.discipline_name.DisciplineName.TheVariants.{Cfs, Eevdf}
 use Rattle.bq_disc.specs.Tasks.{Task, find_task}
 use Rattle.bq_cfs.specs.Cfs.{cfs}
 use Rattle.bq_eevdf.specs.Eevdf.{eevdf}
@@ -31,13 +31,13 @@ abbrev pub former_of : Option ℕ → List Task → Option Task
 former_of None xs = None
 former_of (Some id) xs = find_task id xs
 
--- the rule's reason, by the tasks that are there, the task that ran before and the running one
-abbrev pub rule_reason_of : Rule → Option ℕ → ℕ → List Task → Reason
+-- the discipline's reason, by the tasks that are there, the task that ran before and the running one
+abbrev pub rule_reason_of : DisciplineName → Option ℕ → ℕ → List Task → Reason
 rule_reason_of Eevdf was run xs = eevdf_reason_of run (eevdf.choice xs)
 rule_reason_of Cfs was run xs = cfs_reason_of (former_of was xs) (cfs.choice xs) (find_task run xs)
 
 -- the reason, by who chose: it names a policy exactly when a policy made the choice
-abbrev pub reason_of : Rule → By → Option ℕ → Option ℕ → List Task → Reason
-reason_of rule by was None xs = Nobody
-reason_of rule who.Policy was (Some run) xs = Policy
-reason_of rule who.Discipline was (Some run) xs = rule_reason_of rule was run xs
+abbrev pub reason_of : DisciplineName → By → Option ℕ → Option ℕ → List Task → Reason
+reason_of discipline by was None xs = Nobody
+reason_of discipline who.Policy was (Some run) xs = Policy
+reason_of discipline who.Discipline was (Some run) xs = rule_reason_of discipline was run xs

@@ -4,8 +4,8 @@ use Rattle.std.specs.Option.{option_map}
 use Rattle.bq_weights.specs.VirtualTime.{time_of}
 use Rattle.bq_disc.specs.Tasks.{Task}
 use Rattle.bq_disc.specs.Totals.{total_weight, weighted_sum, is_at_most_mean, mean_of}
-use Rattle.bq_words.specs.declared.rule.Rule.{Rule}
-use Rattle.bq_words.specs.declared.rule.Rule.TheVariants.{Cfs, Eevdf}
+use Rattle.bq_words.specs.declared.discipline_name.DisciplineName.{DisciplineName}
+use Rattle.bq_words.specs.declared.discipline_name.DisciplineName.TheVariants.{Cfs, Eevdf}
 use Rattle.bq_cfs.specs.Cfs.{least}
 use Rattle.bq_why.specs.declared.task_row.TaskRow.{TaskRow}
 
@@ -23,7 +23,7 @@ row_by weight sum mean t =
 abbrev pub row_of_task : List Task → Task → TaskRow
 row_of_task xs t = row_by (total_weight xs) (weighted_sum xs) (unwrap_or (mean_of xs) 0) t
 
--- what a rule measures some tasks from: CFS from their least v, EEVDF from their mean v
-abbrev pub measured_from : Rule → List Task → Option ℕ
+-- what a discipline measures some tasks from: CFS from their least v, EEVDF from their mean v
+abbrev pub measured_from : DisciplineName → List Task → Option ℕ
 measured_from Cfs xs = option_map (λ (t : Task). t.v) (least xs)
 measured_from Eevdf xs = mean_of xs

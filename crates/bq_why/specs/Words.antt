@@ -3,8 +3,8 @@ use Rattle.std.specs.Prelude.{◌^◌, ◌-◌, ℕ, min, nat_lt, if◌then◌el
 use Rattle.bq_parts.specs.declared.event.Event.{Event}
 use Rattle.bq_parts.specs.declared.event.Event.TheVariants.{EndWake, Drain, Tick, Block, Pull}
 use Rattle.bq_report.specs.Amounts.{millis_text}
-use Rattle.bq_words.specs.declared.rule.Rule.{Rule}
-use Rattle.bq_words.specs.declared.rule.Rule.TheVariants.{Cfs, Eevdf}
+use Rattle.bq_words.specs.declared.discipline_name.DisciplineName.{DisciplineName}
+use Rattle.bq_words.specs.declared.discipline_name.DisciplineName.TheVariants.{Cfs, Eevdf}
 use Rattle.bq_why.specs.declared.task_row.TaskRow.{TaskRow}
 use Rattle.bq_why.specs.declared.texts.StandingText.{StandingText}
 use Rattle.bq_why.specs.Rows.{apart}
@@ -44,11 +44,11 @@ sign_before time = if nat_lt time (2 ^ 32) then codes "-" else codes ""
 abbrev pub virtual_text : ℕ → List ℕ
 virtual_text time = sign_before time ++ millis_text (apart time (2 ^ 32))
 
--- the name of what a rule measures its tasks from
-abbrev pub origin_name : Rule → List ℕ
+-- the name of what a discipline measures its tasks from
+abbrev pub origin_name : DisciplineName → List ℕ
 origin_name Cfs = codes "least v"
 origin_name Eevdf = codes "mean"
 
--- the mark of a processor, and what the rule measures its tasks from
+-- the mark of a processor, and what the discipline measures its tasks from
 abbrev pub standing_text : StandingText → List ℕ
-standing_text s = codes "mark " ++ (virtual_text s.mark ++ (codes "  " ++ (origin_name s.rule ++ (codes " " ++ virtual_text s.from))))
+standing_text s = codes "mark " ++ (virtual_text s.mark ++ (codes "  " ++ (origin_name s.discipline ++ (codes " " ++ virtual_text s.from))))

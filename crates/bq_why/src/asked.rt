@@ -45,7 +45,7 @@ impl Asked {
         }
     }
 
-    /// If a policy's answer is known, adds that it is not permitted. Call this if the rule decided.
+    /// If a policy's answer is known, adds that it is not permitted. Call this if the discipline decided.
     pub fn write_overruled(&self, text: &mut String) -> Result<(), AllocError> {
         let steps = self.steps;
         match self.answer {

@@ -14,7 +14,7 @@ use bq_disc::limits::TASKS;
 use bq_hooks::{By, Hook};
 use bq_report::{Millis, Names};
 use bq_trace::{AnyCore, AnyCpu};
-use bq_words::Rule;
+use bq_words::DisciplineName;
 use std::alloc::{AllocError, Global};
 
 /// A choice of the task that runs at a processor.
@@ -37,19 +37,30 @@ pub(crate) fn write_choice(
     machine: &AnyCore,
     choice: &RunChoice,
 ) -> Result<(), AllocError> {
-    let rule = machine.rule();
+    let discipline = machine.discipline();
     let (mark, tasks) = match machine.seen(choice.processor) {
         Some(AnyCpu::Cfs(cpu)) => (cpu.mark(), present(alloc, cpu)?),
         Some(AnyCpu::Eevdf(cpu)) => (cpu.mark(), present(alloc, cpu)?),
         None => return Ok(()),
     };
-    if let Some(from) = measured_from(rule, tasks.as_slice()) {
-        let standing = StandingText { rule, mark, from };
+    if let Some(from) = measured_from(discipline, tasks.as_slice()) {
+        let standing = StandingText {
+            discipline,
+            mark,
+            from,
+        };
         write!(text, "    {standing}\n")?;
     }
     let rows = rows(alloc, tasks.as_slice())?;
-    write_rows(alloc, text, names, rule, rows.as_slice(), choice.run)?;
-    write_reason(text, names, rule, choice, tasks.as_slice(), rows.as_slice())
+    write_rows(alloc, text, names, discipline, rows.as_slice(), choice.run)?;
+    write_reason(
+        text,
+        names,
+        discipline,
+        choice,
+        tasks.as_slice(),
+        rows.as_slice(),
+    )
 }
 
 /// Adds a head and one line for each task, if there are tasks.
@@ -57,21 +68,21 @@ fn write_rows(
     alloc: Global,
     text: &mut String,
     names: &Names,
-    rule: Rule,
+    discipline: DisciplineName,
     rows: &[TaskRow],
     run: Option<u16>,
 ) -> Result<(), AllocError> {
     if rows.is_empty() {
         return Ok(());
     }
-    match rule {
-        Rule::Cfs => text.push_str("      task            weight          v\n")?,
-        Rule::Eevdf => text.push_str(
+    match discipline {
+        DisciplineName::Cfs => text.push_str("      task            weight          v\n")?,
+        DisciplineName::Eevdf => text.push_str(
             "      task            weight          v   deadline        lag\n",
         )?,
     }
     for row in rows {
-        write_row(alloc, text, names, rule, row, run == Some(row.task))?;
+        write_row(alloc, text, names, discipline, row, run == Some(row.task))?;
     }
     Ok(())
 }
@@ -81,7 +92,7 @@ fn write_row(
     alloc: Global,
     text: &mut String,
     names: &Names,
-    rule: Rule,
+    discipline: DisciplineName,
     row: &TaskRow,
     runs: bool,
 ) -> Result<(), AllocError> {
@@ -96,7 +107,7 @@ fn write_row(
     let weight = row.weight;
     let v = format!(in alloc; "{}", VirtualTime(row.v))?;
     write!(text, "    {sign} {who:<14.14}{weight:>8} {v:>10}")?;
-    if let Rule::Eevdf = rule {
+    if let DisciplineName::Eevdf = discipline {
         let deadline = format!(in alloc; "{}", VirtualTime(row.deadline))?;
         let lag = format!(in alloc; "{}", LagText(row))?;
         let eligible = eligibility(row);
@@ -109,7 +120,7 @@ fn write_row(
 fn write_reason(
     text: &mut String,
     names: &Names,
-    rule: Rule,
+    discipline: DisciplineName,
     choice: &RunChoice,
     tasks: &[Entity],
     rows: &[TaskRow],
@@ -124,7 +135,7 @@ fn write_reason(
     if choice.by == By::Discipline {
         choice.asked.write_overruled(text)?;
     }
-    match why(rule, choice.by, choice.was, choice.run, tasks) {
+    match why(discipline, choice.by, choice.was, choice.run, tasks) {
         Reason::Policy => choice.asked.write_answer(text, Hook::Preempt.word()),
         Reason::EarliestDeadline => {
             let eligible = IdsText { names, rows };

@@ -1,4 +1,4 @@
-//! Which of some tasks a rule chooses.
+//! Which of some tasks a discipline chooses.
 ghost use Rattle.std.specs.Prelude.{◌≡◌, ◌≤◌, length, filter};
 ghost use Rattle.bq_disc.specs.Tasks.{first_by, former, runs_before};
 ghost use Rattle.bq_disc.specs.Dues.{due_before};
@@ -8,16 +8,16 @@ ghost use Rattle.bq_trace.specs.Machines.{discipline_of};
 use bq_bounds::totals::totals;
 use bq_disc::Entity;
 use bq_disc::limits::TASKS;
-use bq_words::Rule;
+use bq_words::DisciplineName;
 
-/// The task that a rule chooses: CFS the one of least (v, id), EEVDF the eligible one of least (deadline, id). `None` if there is no such task.
-pub fn choice(rule: Rule, tasks: &[Entity]) -> Option<Entity>
+/// The task that a discipline chooses: CFS the one of least (v, id), EEVDF the eligible one of least (deadline, id). `None` if there is no such task.
+pub fn choice(discipline: DisciplineName, tasks: &[Entity]) -> Option<Entity>
     requires { length tasks.now ≤ TASKS }
-    ensures { result ≡ (discipline_of rule).choice tasks.now }
+    ensures { result ≡ (discipline_of discipline).choice tasks.now }
 {
-    match rule {
-        Rule::Cfs => least(tasks),
-        Rule::Eevdf => {
+    match discipline {
+        DisciplineName::Cfs => least(tasks),
+        DisciplineName::Eevdf => {
             let totals = totals(tasks);
             earliest(tasks, totals.weight, totals.moment)
         }

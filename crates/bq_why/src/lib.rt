@@ -1,4 +1,4 @@
-//! Why a task runs: the tasks of a processor as a choice saw them, and the rule's reason for the running one. The form `why` puts
+//! Why a task runs: the tasks of a processor as a choice saw them, and the discipline's reason for the running one. The form `why` puts
 //! this into words. Also why a line of a trace is bad.
 //! Promises that what it calls eligible is eligible by the definition, that the choice, the mean, the task passed over, and a
 //! pull's sizes and tasks are the definition's, and that it names a policy exactly when the answer does.

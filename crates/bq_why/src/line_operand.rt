@@ -9,13 +9,13 @@ use bq_hooks::hook::NO_HOOK;
 use bq_hooks::{Hook, with_hooks};
 use bq_lines::Keyword;
 use bq_words::numbers::hex_digits;
-use bq_words::{Rule, quantities, with_rules, with_tasks};
+use bq_words::{DisciplineName, quantities, with_disciplines, with_tasks};
 use std::fmt;
 
 /// What a word of a line must be.
 #[derive(Clone, Copy)]
 pub enum LineOperand {
-    Rule,
+    Discipline,
     ProcessorCount,
     Processor,
     Task,
@@ -33,7 +33,7 @@ impl LineOperand {
     /// Whether a word is of this kind.
     pub fn fits(self, word: &[u8]) -> bool {
         match self {
-            LineOperand::Rule => Rule::of_word(word).is_some(),
+            LineOperand::Discipline => DisciplineName::of_word(word).is_some(),
             LineOperand::ProcessorCount => quantities::size(word).is_some(),
             LineOperand::Processor => quantities::processor(word).is_some(),
             LineOperand::Task => quantities::task(word).is_some(),
@@ -54,7 +54,7 @@ impl LineOperand {
     /// for a mask. True if the kind is no number.
     pub fn has_form(self, word: &[u8]) -> bool {
         match self {
-            LineOperand::Rule
+            LineOperand::Discipline
             | LineOperand::ProcessorCount
             | LineOperand::Hook
             | LineOperand::Image => true,
@@ -88,7 +88,7 @@ impl LineOperand {
     /// What the word is called in the form of a line.
     pub fn name(self) -> &'static str {
         match self {
-            LineOperand::Rule => with_rules!(""),
+            LineOperand::Discipline => with_disciplines!(""),
             LineOperand::ProcessorCount => "processors",
             LineOperand::Processor => "processor",
             LineOperand::Task => "task",
@@ -105,7 +105,7 @@ impl LineOperand {
     /// What is said of a word that does not fit.
     fn words(self) -> &'static str {
         match self {
-            LineOperand::Rule => with_rules!("is no rule (", ")"),
+            LineOperand::Discipline => with_disciplines!("is no rule (", ")"),
             LineOperand::ProcessorCount => quantities::NO_SIZE,
             LineOperand::Processor => "does not fit a processor's number (0 to 255)",
             LineOperand::Task => with_tasks!("does not fit a task's number (", ")"),
@@ -144,7 +144,7 @@ fn all_digits(word: &[u8]) -> bool
 /// The words that follow a keyword.
 pub fn operands_of(keyword: Keyword) -> &'static [LineOperand] {
     match keyword {
-        Keyword::Machine => &[LineOperand::Rule, LineOperand::ProcessorCount],
+        Keyword::Machine => &[LineOperand::Discipline, LineOperand::ProcessorCount],
         Keyword::Admit => &[
             LineOperand::Task,
             LineOperand::Nice,

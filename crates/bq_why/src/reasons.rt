@@ -8,7 +8,7 @@ use bq_cfs::GRANULARITY;
 use bq_disc::Entity;
 use bq_disc::limits::TASKS;
 use bq_hooks::By;
-use bq_words::Rule;
+use bq_words::DisciplineName;
 
 /// Why the running task runs.
 #[derive(Clone, Copy)]
@@ -25,14 +25,20 @@ pub enum Reason {
     GivesWay { ahead: u64 },
     /// The task runs on: it is ahead of task `of`, but not so far that it gives way.
     Stays { ahead: u64, of: u16 },
-    /// The task is not the rule's choice.
+    /// The task is not the discipline's choice.
     Other,
 }
 
 /// Why `run` runs, among the tasks that are there. `by` made the choice, and `was` ran before.
-pub fn why(rule: Rule, by: By, was: Option<u16>, run: Option<u16>, tasks: &[Entity]) -> Reason
+pub fn why(
+    discipline: DisciplineName,
+    by: By,
+    was: Option<u16>,
+    run: Option<u16>,
+    tasks: &[Entity],
+) -> Reason
     requires { length tasks.now ≤ TASKS }
-    ensures { result ≡ reason_of rule by was run tasks.now }
+    ensures { result ≡ reason_of discipline by was run tasks.now }
 {
     let Some(run) = run else {
         return Reason::Nobody;
@@ -40,10 +46,10 @@ pub fn why(rule: Rule, by: By, was: Option<u16>, run: Option<u16>, tasks: &[Enti
     if let By::Policy = by {
         return Reason::Policy;
     }
-    let chosen = choice(rule, tasks);
-    match rule {
-        Rule::Eevdf => eevdf_reason(run, chosen),
-        Rule::Cfs => {
+    let chosen = choice(discipline, tasks);
+    match discipline {
+        DisciplineName::Eevdf => eevdf_reason(run, chosen),
+        DisciplineName::Cfs => {
             let former = match was {
                 Some(id) => with_number(tasks, id),
                 None => None,

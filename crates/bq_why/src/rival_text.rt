@@ -7,7 +7,7 @@ use crate::texts::{TaskText, VirtualTime};
 use bq_disc::Entity;
 use bq_disc::limits::TASKS;
 use bq_report::{Millis, Names};
-use bq_words::Rule;
+use bq_words::DisciplineName;
 use std::alloc::AllocError;
 
 /// Ends a line with the eligible task of the same deadline, if there is one, and the task that is due first of all but not eligible.
@@ -20,7 +20,7 @@ pub(crate) fn write_deadlines(
     requires { length tasks.now ≤ TASKS }
 {
     if let Some(chosen) = with_number(tasks, run) {
-        if let Some(other) = tied_with(Rule::Eevdf, &chosen, tasks) {
+        if let Some(other) = tied_with(DisciplineName::Eevdf, &chosen, tasks) {
             let who = who(names, &other);
             let tied = other.id();
             write!(
@@ -83,7 +83,7 @@ pub(crate) fn write_equal_runtime(
     requires { length tasks.now ≤ TASKS }
 {
     if let Some(chosen) = with_number(tasks, run) {
-        if let Some(other) = tied_with(Rule::Cfs, &chosen, tasks) {
+        if let Some(other) = tied_with(DisciplineName::Cfs, &chosen, tasks) {
             let who = who(names, &other);
             let tied = other.id();
             write!(text, "; {who} has the same v")?;

@@ -8,7 +8,7 @@ use crate::choices::due_first;
 use bq_bounds::totals::totals;
 use bq_disc::Entity;
 use bq_disc::limits::TASKS;
-use bq_words::Rule;
+use bq_words::DisciplineName;
 
 /// Under EEVDF the task that is due first of all, if it is not eligible: the choice passes it over.
 pub fn passed_over(tasks: &[Entity]) -> Option<Entity>
@@ -37,24 +37,36 @@ fn first_due(tasks: &[Entity]) -> Option<Entity>
 
 /// Another task that is as near to being chosen, so that the lower id wins. Under CFS it has the same virtual runtime, under EEVDF it is
 /// eligible and has the same deadline. Of several it is the first in their order.
-pub fn tied_with(rule: Rule, chosen: &Entity, tasks: &[Entity]) -> Option<Entity>
+pub fn tied_with(discipline: DisciplineName, chosen: &Entity, tasks: &[Entity]) -> Option<Entity>
     requires { length tasks.now ≤ TASKS }
-    ensures { result ≡ tied_with rule chosen.now tasks.now }
+    ensures { result ≡ tied_with discipline chosen.now tasks.now }
 {
     let totals = totals(tasks);
-    tasks.iter().copied().find(|task| is_tied(rule, totals.weight, totals.moment, chosen, task))
+    tasks.iter().copied().find(|task| is_tied(
+        discipline,
+        totals.weight,
+        totals.moment,
+        chosen,
+        task,
+    ))
 }
 
 /// Whether `task` is not `chosen`, but as near to being chosen. The tasks have this weight and this sum of weight times v together.
-fn is_tied(rule: Rule, weight: u64, moment: u128, chosen: &Entity, task: &Entity) -> bool
-    ensures { result ≡ is_tied rule weight moment chosen.now task.now }
+fn is_tied(
+    discipline: DisciplineName,
+    weight: u64,
+    moment: u128,
+    chosen: &Entity,
+    task: &Entity,
+) -> bool
+    ensures { result ≡ is_tied discipline weight moment chosen.now task.now }
 {
     if task.id() == chosen.id() {
         return false;
     }
-    match rule {
-        Rule::Cfs => task.v() == chosen.v(),
-        Rule::Eevdf => {
+    match discipline {
+        DisciplineName::Cfs => task.v() == chosen.v(),
+        DisciplineName::Eevdf => {
             task.deadline() == chosen.deadline() && task.is_at_most_mean(weight, moment)
         }
     }

@@ -7,7 +7,7 @@ use bq_bounds::totals::totals;
 use bq_disc::Entity;
 use bq_disc::limits::TASKS;
 use bq_weights::time_of;
-use bq_words::Rule;
+use bq_words::DisciplineName;
 use std::alloc::{AllocError, Global};
 
 /// A task as a choice saw it.
@@ -59,17 +59,17 @@ fn row_among(task: &Entity, weight: u64, moment: u128, mean: u64) -> TaskRow
     }
 }
 
-/// The virtual time that a rule measures its tasks from: CFS from the least v, EEVDF from the mean v, rounded down. `None` if there is no
+/// The virtual time that a discipline measures its tasks from: CFS from the least v, EEVDF from the mean v, rounded down. `None` if there is no
 /// task.
-pub fn measured_from(rule: Rule, tasks: &[Entity]) -> Option<u64>
+pub fn measured_from(discipline: DisciplineName, tasks: &[Entity]) -> Option<u64>
     requires { length tasks.now ≤ TASKS }
-    ensures { result ≡ measured_from rule tasks.now }
+    ensures { result ≡ measured_from discipline tasks.now }
 {
-    match rule {
-        Rule::Cfs => match choice(Rule::Cfs, tasks) {
+    match discipline {
+        DisciplineName::Cfs => match choice(DisciplineName::Cfs, tasks) {
             Some(least) => Some(least.v()),
             None => None,
         },
-        Rule::Eevdf => totals(tasks).mean(),
+        DisciplineName::Eevdf => totals(tasks).mean(),
     }
 }

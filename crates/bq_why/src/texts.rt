@@ -5,7 +5,7 @@ ghost use Rattle.bq_why.specs.Words.{lag_text, lag_sign, eligibility, standing_t
 use crate::task_row::TaskRow;
 use bq_disc::limits::FIRST_MARK;
 use bq_report::{Millis, Names};
-use bq_words::Rule;
+use bq_words::DisciplineName;
 use std::fmt;
 
 /// A task's name, or its number if it has none.
@@ -76,10 +76,10 @@ fn sign_before(time: u64) -> &'static str
     if time < FIRST_MARK { "-" } else { "" }
 }
 
-/// The mark of a processor, and the virtual time that its rule measures its tasks from.
+/// The mark of a processor, and the virtual time that its discipline measures its tasks from.
 #[derive(Clone, Copy)]
 pub struct StandingText {
-    pub rule: Rule,
+    pub discipline: DisciplineName,
     pub mark: u64,
     pub from: u64,
 }
@@ -89,19 +89,19 @@ impl fmt::Display for StandingText {
 
     fn fmt<W: fmt::Write>(&self, f: &mut fmt::Formatter<W>) -> fmt::Result {
         let mark = VirtualTime(self.mark);
-        let name = origin_name(self.rule);
+        let name = origin_name(self.discipline);
         let from = VirtualTime(self.from);
         write!(f, "mark {mark}  {name} {from}")
     }
 }
 
-/// What a rule measures its tasks from, in words.
-fn origin_name(rule: Rule) -> &'static str
-    ensures { result.now ≡ origin_name rule }
+/// What a discipline measures its tasks from, in words.
+fn origin_name(discipline: DisciplineName) -> &'static str
+    ensures { result.now ≡ origin_name discipline }
 {
-    match rule {
-        Rule::Cfs => "least v",
-        Rule::Eevdf => "mean",
+    match discipline {
+        DisciplineName::Cfs => "least v",
+        DisciplineName::Eevdf => "mean",
     }
 }
 

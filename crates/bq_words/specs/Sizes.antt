@@ -1,19 +1,19 @@
--- The rules by their words, and the numbers of processors that there may be.
+-- The disciplines by their words, and the numbers of processors that there may be.
 use Rattle.std.specs.Prelude.{ℕ, ◌==◌, List, Option, Some, None, codes, if◌then◌else◌}
 use Rattle.std.specs.Str.{bytes_eq}
-use Rattle.bq_words.specs.declared.rule.Rule.{Rule}
-use Rattle.bq_words.specs.declared.rule.Rule.TheVariants.{Cfs, Eevdf}
+use Rattle.bq_words.specs.declared.discipline_name.DisciplineName.{DisciplineName}
+use Rattle.bq_words.specs.declared.discipline_name.DisciplineName.TheVariants.{Cfs, Eevdf}
 use Rattle.bq_words.specs.declared.processor_count.ProcessorCount.{ProcessorCount}
 use Rattle.bq_words.specs.declared.processor_count.ProcessorCount.TheVariants.{One, Two, Four, Eight, Sixteen, ThirtyTwo, SixtyFour}
 
--- the word of a rule
-abbrev pub rule_word : Rule → List ℕ
-rule_word Cfs = codes "cfs"
-rule_word Eevdf = codes "eevdf"
+-- the word of a discipline
+abbrev pub discipline_word : DisciplineName → List ℕ
+discipline_word Cfs = codes "cfs"
+discipline_word Eevdf = codes "eevdf"
 
--- the rule that a word names
-abbrev pub rule_of : List ℕ → Option Rule
-rule_of word = if bytes_eq word (codes "cfs") then Some Cfs else if bytes_eq word (codes "eevdf") then Some Eevdf else None
+-- the discipline that a word names
+abbrev pub discipline_named : List ℕ → Option DisciplineName
+discipline_named word = if bytes_eq word (codes "cfs") then Some Cfs else if bytes_eq word (codes "eevdf") then Some Eevdf else None
 
 -- the size with this many processors, if there is one
 abbrev pub size_numbered : ℕ → Option ProcessorCount

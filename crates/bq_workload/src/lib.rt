@@ -2,7 +2,7 @@
 //! A workload is plain values. Calls find its first flaw, if it has one, and the most steps that it takes.
 //! Each length is a function of the seed, the task's number, its place and what is asked for, drawn in whole numbers.
 //! A roster keeps which task runs where, and says what is due first: by time, kind and number.
-//! Builds on bq_words for rules and numbers of processors, and on bq_disc for masks and clocks.
+//! Builds on bq_words for disciplines and numbers of processors, and on bq_disc for masks and clocks.
 #![tactic(auto)]
 
 pub mod action;

@@ -1,12 +1,12 @@
 //! The machine of a simulation.
 
-use bq_words::{ProcessorCount, Rule};
+use bq_words::{DisciplineName, ProcessorCount};
 
 /// The machine of a simulation, and how long it is watched. Times are nanoseconds.
 #[derive(Clone, Copy, PartialEq, Eq)]
 pub struct Setup {
-    /// The rule by which processors choose among their tasks.
-    pub rule: Rule,
+    /// The discipline by which processors choose among their tasks.
+    pub discipline: DisciplineName,
     /// How many processors there are.
     pub size: ProcessorCount,
     /// How long it runs, from 1 to 2^48 - 1. What comes after this instant is not done.

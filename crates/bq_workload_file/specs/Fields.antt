@@ -3,9 +3,9 @@ use Rattle.std.specs.Prelude.{ℕ, length, ◌&&◌, ◌==◌, nat_le, nat_lt, �
 use Rattle.toml.specs.Data.{Data, Members, as_integer, as_str, get_member}
 use Rattle.bq_weights.specs.VirtualTime.{is_nice}
 use Rattle.bq_workload.specs.declared.limits.TheConstants.{LONGEST_NAME}
-use Rattle.bq_words.specs.declared.rule.Rule.{Rule}
+use Rattle.bq_words.specs.declared.discipline_name.DisciplineName.{DisciplineName}
 use Rattle.bq_words.specs.declared.processor_count.ProcessorCount.{ProcessorCount}
-use Rattle.bq_words.specs.Sizes.{rule_of, size_numbered}
+use Rattle.bq_words.specs.Sizes.{discipline_named, size_numbered}
 use Rattle.bq_words.specs.Durations.{duration_of}
 use Rattle.bq_words.specs.ProcessorSets.{processors_of}
 
@@ -48,9 +48,9 @@ some_of all mask = if bit_and mask all == 0 then None else Some mask
 abbrev pub read_mask : ℕ → Data → Option ℕ
 read_mask all d = option_and_then (some_of all) (option_and_then processors_of (as_str d))
 
--- the rule that a value names
-abbrev pub rule_in : Data → Option Rule
-rule_in d = option_and_then rule_of (as_str d)
+-- the discipline that a value names
+abbrev pub discipline_in : Data → Option DisciplineName
+discipline_in d = option_and_then discipline_named (as_str d)
 
 -- the number of processors that a value is
 abbrev pub size_in : Data → Option ProcessorCount

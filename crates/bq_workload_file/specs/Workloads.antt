@@ -7,7 +7,7 @@ use Rattle.toml.specs.Data.{Data, Items, no_items, item, Members, no_members, ge
 use Rattle.toml.specs.Parse.{parse_document}
 use Rattle.bq_disc.specs.declared.limits.TheConstants.{DEFAULT_SLICE, GREATEST_SLICE, LEAST_SLICE, TASKS}
 use Rattle.bq_words.specs.Sizes.{processors_in}
-use Rattle.bq_words.specs.declared.rule.Rule.TheVariants.{Cfs}
+use Rattle.bq_words.specs.declared.discipline_name.DisciplineName.TheVariants.{Cfs}
 use Rattle.bq_words.specs.declared.processor_count.ProcessorCount.{ProcessorCount}
 use Rattle.bq_words.specs.declared.processor_count.ProcessorCount.TheVariants.{One}
 use Rattle.bq_workload.specs.Lengths.{longest, takes_time}
@@ -19,7 +19,7 @@ use Rattle.bq_workload.specs.declared.workload.Workload.{Workload}
 use Rattle.bq_workload_file.specs.declared.changes.Changes.{Changes}
 use Rattle.bq_workload_file.specs.declared.fault.WorkloadFault.{WorkloadFault}
 use Rattle.bq_workload_file.specs.declared.fault.WorkloadFault.TheVariants.{Syntax, Meaning, OutOfMemory}
-use Rattle.bq_workload_file.specs.Fields.{or_default, span_in, number_in, rule_in, size_in, loops_of, read_nice, read_mask, name_in_members}
+use Rattle.bq_workload_file.specs.Fields.{or_default, span_in, number_in, discipline_in, size_in, loops_of, read_nice, read_mask, name_in_members}
 use Rattle.bq_workload_file.specs.Keys.{document_keys, first_unknown, machine_keys, task_keys}
 use Rattle.bq_workload_file.specs.Lengths.{read_length}
 use Rattle.bq_workload_file.specs.Actions.{actions_with, named_at}
@@ -32,7 +32,7 @@ time_at_key default key ms = or_default default (span_in 1 longest) (get_member 
 -- the machine that a table describes, each of whose keys means something
 pub record IsSetup (ms : Members) (s : Setup) : Type 0 where
   pub known : first_unknown machine_keys ms ≡ None
-  pub rule : or_default Cfs rule_in (get_member (codes "discipline") ms) ≡ Some s.rule
+  pub discipline : or_default Cfs discipline_in (get_member (codes "discipline") ms) ≡ Some s.discipline
   pub size : or_default One size_in (get_member (codes "processors") ms) ≡ Some s.size
   pub duration : time_at_key 100000000 (codes "duration") ms ≡ Some s.duration
   pub tick : time_at_key 4000000 (codes "tick") ms ≡ Some s.tick
@@ -43,7 +43,7 @@ pub record IsSetup (ms : Members) (s : Setup) : Type 0 where
 -- the machine with what is put in its place
 abbrev pub changed_by : Changes → Setup → Setup
 changed_by c s = record s {
-  rule = unwrap_or c.rule s.rule;
+  discipline = unwrap_or c.discipline s.discipline;
   size = unwrap_or c.size s.size;
   duration = unwrap_or c.duration s.duration;
   seed = unwrap_or c.seed s.seed;

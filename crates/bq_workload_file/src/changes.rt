@@ -1,13 +1,13 @@
 //! What is asked for beside a workload's text.
 ghost use Rattle.std.specs.Prelude.{◌≡◌};
 
-use bq_words::{ProcessorCount, Rule};
+use bq_words::{DisciplineName, ProcessorCount};
 use bq_workload::Setup;
 
 /// What the words of a command put in the place of a machine's own.
 #[derive(Clone, Copy)]
 pub struct Changes {
-    pub rule: Option<Rule>,
+    pub discipline: Option<DisciplineName>,
     pub size: Option<ProcessorCount>,
     pub duration: Option<u64>,
     pub seed: Option<u64>,
@@ -16,7 +16,7 @@ pub struct Changes {
 impl Changes {
     /// None.
     pub const NONE: Changes = Changes {
-        rule: None,
+        discipline: None,
         size: None,
         duration: None,
         seed: None,
@@ -29,7 +29,7 @@ impl Changes {
         ensures { result ≡ changed_by self machine }
     {
         Setup {
-            rule: self.rule.unwrap_or(machine.rule),
+            discipline: self.discipline.unwrap_or(machine.discipline),
             size: self.size.unwrap_or(machine.size),
             duration: self.duration.unwrap_or(machine.duration),
             tick: machine.tick,

@@ -4,13 +4,13 @@ ghost use Rattle.std.specs.Result.{result_ok};
 ghost use Rattle.toml.specs.Data.{as_str, get_member};
 ghost use Rattle.toml.specs.View.{view, table_view};
 ghost use Rattle.bq_words.specs.ProcessorSets.{processors_of};
-ghost use Rattle.bq_workload_file.specs.Fields.{read_within, span_in, number_in, or_default, read_nice, rule_in, size_in, name_in_members, read_mask, loops_of};
+ghost use Rattle.bq_workload_file.specs.Fields.{read_within, span_in, number_in, or_default, read_nice, discipline_in, size_in, name_in_members, read_mask, loops_of};
 
 use crate::tables::at;
 use crate::why::{Range, Wanted, Why};
 use bq_weights::is_nice;
 use bq_words::processor_sets::processors;
-use bq_words::{ProcessorCount, Rule, duration};
+use bq_words::{DisciplineName, ProcessorCount, duration};
 use bq_workload::limits::LONGEST_NAME;
 use toml::{Table, Value};
 
@@ -173,29 +173,29 @@ fn named(value: &Value) -> Option<u64>
     processors(word.as_bytes())
 }
 
-/// The rule by which processors choose, or the default if the key is absent.
-pub(crate) fn rule(table: &Table, default: Rule) -> Result<Rule, Why<'_>>
-    ensures { result_ok result ≡ or_default default rule_in (get_member (codes "discipline") (table_view table.now)) }
+/// The discipline by which processors choose, or the default if the key is absent.
+pub(crate) fn discipline(table: &Table, default: DisciplineName) -> Result<DisciplineName, Why<'_>>
+    ensures { result_ok result ≡ or_default default discipline_in (get_member (codes "discipline") (table_view table.now)) }
 {
     match at(table, "discipline") {
         None => Ok(default),
-        Some(value) => match rule_named(value) {
-            Some(rule) => Ok(rule),
+        Some(value) => match named_discipline(value) {
+            Some(discipline) => Ok(discipline),
             None => Err(Why::NoSuch {
                 key: "discipline",
                 value,
-                wanted: Wanted::Rule,
+                wanted: Wanted::Discipline,
             }),
         },
     }
 }
 
-/// The rule that a value names.
-fn rule_named(value: &Value) -> Option<Rule>
-    ensures { result ≡ rule_in (view value.now) }
+/// The discipline that a value names.
+fn named_discipline(value: &Value) -> Option<DisciplineName>
+    ensures { result ≡ discipline_in (view value.now) }
 {
     let word = value.as_str()?;
-    Rule::of_word(word.as_bytes())
+    DisciplineName::of_word(word.as_bytes())
 }
 
 /// How many processors there are, or the default if the key is absent.

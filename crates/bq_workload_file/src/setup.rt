@@ -6,10 +6,10 @@ ghost use Rattle.toml.specs.View.{table_view};
 ghost use Rattle.bq_workload_file.specs.Keys.{first_unknown, machine_keys, unknown_key};
 ghost use Rattle.bq_workload_file.specs.Workloads.{IsSetup};
 
-use crate::fields::{number_at, rule, size, span_at};
+use crate::fields::{discipline, number_at, size, span_at};
 use crate::tables::all_known;
 use crate::why::{Range, Why};
-use bq_words::{ProcessorCount, Rule};
+use bq_words::{DisciplineName, ProcessorCount};
 use bq_workload::Setup;
 use bq_workload::limits::LONGEST;
 use toml::Table;
@@ -27,7 +27,7 @@ static MACHINE: [&str; 7] = [
 
 /// The machine of a text that says nothing of it: one processor under CFS for 100 ms, with a tick each 4 ms.
 const DEFAULT: Setup = Setup {
-    rule: Rule::Cfs,
+    discipline: DisciplineName::Cfs,
     size: ProcessorCount::One,
     duration: 100_000_000,
     tick: 4_000_000,
@@ -61,7 +61,7 @@ pub(crate) fn setup(table: &Table) -> Result<Setup, Why<'_>>
         least: 0,
         greatest: i64::MAX as u64,
     };
-    let rule = rule(table, DEFAULT.rule)?;
+    let discipline = discipline(table, DEFAULT.discipline)?;
     let size = size(table, DEFAULT.size)?;
     let duration = span_at(table, "duration", DEFAULT.duration, time)?;
     let tick = span_at(table, "tick", DEFAULT.tick, time)?;
@@ -69,7 +69,7 @@ pub(crate) fn setup(table: &Table) -> Result<Setup, Why<'_>>
     let migration_cost = span_at(table, "migration_cost", DEFAULT.migration_cost, cost)?;
     let seed = number_at(table, "seed", DEFAULT.seed, seeds)?;
     Ok(Setup {
-        rule,
+        discipline,
         size,
         duration,
         tick,

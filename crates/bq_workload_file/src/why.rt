@@ -6,7 +6,7 @@ use bq_disc::limits::TASKS;
 use bq_disc::with_processors;
 use bq_weights::with_nice_values;
 use bq_words::quantities::NO_SIZE;
-use bq_words::{duration, with_rules, with_units};
+use bq_words::{duration, with_disciplines, with_units};
 use bq_workload::limits::{LONGEST, LONGEST_NAME};
 use std::fmt;
 use toml::{Table, Value};
@@ -34,7 +34,7 @@ pub(crate) enum Wanted {
     /// A length of a phase: a duration, or how it is drawn.
     Length,
     Nice,
-    Rule,
+    Discipline,
     Size,
     Processors,
     /// A name of a task.
@@ -238,7 +238,7 @@ fn no_time<W: fmt::Write>(f: &mut fmt::Formatter<W>, value: &Value, range: &Rang
 fn described(wanted: &Wanted) -> &'static str {
     match wanted {
         Wanted::Nice => with_nice_values!("is not a nice value (a whole number from ", ")"),
-        Wanted::Rule => with_rules!("is not a discipline (\"", "\" or \"", "\")"),
+        Wanted::Discipline => with_disciplines!("is not a discipline (\"", "\" or \"", "\")"),
         Wanted::Size => NO_SIZE,
         Wanted::Processors => with_processors!(
             "is not a list of processors (numbers from ",

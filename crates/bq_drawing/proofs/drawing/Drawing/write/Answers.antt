@@ -21,14 +21,14 @@ returns c =
     (c.round_step.ensures ∙ ap (λ n. find (λ (step : ℕ). covers n 10 step) round_steps) c.length.ensures) in
     let unit : c.of_step.result ≡ setting.unit = c.of_step.ensures ∙ ap unit_of_step step in
     let title = c.args.heading.now.title.now in
-    let rule = c.args.heading.now.rule in
+    let discipline = c.args.heading.now.discipline in
     let edge = c.in_ok-rows.rows.bottom in
     let held = c.args.self.now in
-    drawing_whole c.args.window.now setting title rule held c.in_ok-rows.rows _ _ _ _ _ _ _
+    drawing_whole c.args.window.now setting title discipline held c.in_ok-rows.rows _ _ _ _ _ _ _
     (subst (λ (u : TimeUnit). AreDrawn c.args.window.now (record setting { unit = u }) held c.in_ok-rows.rows) unit c.in_ok-rows.ensures)
     (c.in_ok-write.ensures
-    ∙ ap (λ (u : TimeUnit). string_bytes c.new-text.result ++ heading_text (record setting { unit = u }) title rule) unit
-    ∙ ap (λ (t : List ℕ). t ++ heading_text setting title rule) c.new-text.ensures.bytes)
+    ∙ ap (λ (u : TimeUnit). string_bytes c.new-text.result ++ heading_text (record setting { unit = u }) title discipline) unit
+    ∙ ap (λ (t : List ℕ). t ++ heading_text setting title discipline) c.new-text.ensures.bytes)
     (c.in_ok-write_axis.ensures
     ∙ ap
     (λ (u : TimeUnit). string_bytes c.write.new.text ++ axis_text (record setting { unit = u }) c.unwrap_or-step.result rows_edge edge)

@@ -33,12 +33,12 @@ returns-clause-text c =
       is_empty = c.in_ok-shown.ensures.empty;
       form = c.begin.new.self;
       opens =
-          subst (λ (before : List ℕ). FormOpens c.args.rule c.args.schedule.now c.in_ok-shown.shown c.begin.new.self before (string_bytes c.begin.new.text))
+          subst (λ (before : List ℕ). FormOpens c.args.discipline c.args.schedule.now c.in_ok-shown.shown c.begin.new.self before (string_bytes c.begin.new.text))
           text c.in_ok-begin.ensures.opens;
       shown = refl;
       table = c.in_ok-begin_near.ensures.table;
       rest = (
         ap (λ (s : Screen). s.names) rest ∙ ap (λ (s : Screen). s.names) made,
-        ap (λ (s : Screen). s.rule) rest ∙ ap (λ (s : Screen). s.rule) made,
+        ap (λ (s : Screen). s.discipline) rest ∙ ap (λ (s : Screen). s.discipline) made,
       );
     }
