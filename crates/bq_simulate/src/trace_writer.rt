@@ -48,11 +48,9 @@ impl Sink for TraceWriter<'_> {
 
     fn take(&mut self, _number: u64, event: &TraceEvent<'_>) -> Result<(), AllocError> {
         match event {
-            TraceEvent::Opened { discipline, size } => write_machine(
-                &mut self.text,
-                *discipline,
-                *size,
-            ),
+            TraceEvent::Opened { discipline, size } => {
+                write_machine(&mut self.text, *discipline, *size)
+            }
             TraceEvent::Skipped { line } => match std::str::from_utf8(line) {
                 Ok(line) => write!(self.text, "{line}\n"),
                 Err(_) => Ok(()),
