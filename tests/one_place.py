@@ -134,7 +134,7 @@ def product(folder, ending):
     """The files of product code, or of specs, with what is no test of them."""
     for path in sorted(TOP.glob(f'*/{folder}/**/*{ending}')):
         crate = path.relative_to(TOP).parts[0]
-        if crate.endswith('_trials') or crate in ('bq_trials', 'bq_machine_trials') or path.name.endswith('tests.rt'):
+        if crate.endswith('_trials'):
             continue
         yield str(path.relative_to(TOP)), path.read_text(encoding='utf-8').split('#[cfg(test)]')[0]
 

@@ -1,5 +1,5 @@
-// Runs of a core over worked events, on a board of its own: the answers, in order, under both disciplines. The lines are
-// worked on paper from the rules of both disciplines and from the programs of the policies.
+//! Runs of a core over worked events, on a board of its own: the answers, in order, under both disciplines. The lines are
+//! worked on paper from the rules of both disciplines and from the programs of the policies.
 
 ghost use Rattle.std.specs.Prelude.{◌≤◌};
 

@@ -1,5 +1,5 @@
-// What a user of the library starts with: programs and their images. Each body stands, word for word, as the example of the call that
-// it shows; `tests/examples.py` compares them.
+//! What a user of the library starts with: programs and their images. Each body stands, word for word, as the example of the call that
+//! it shows; `tests/examples.py` compares them.
 
 use crate::failing::Fail;
 use arrayvec::ArrayVec;

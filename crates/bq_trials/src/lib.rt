@@ -26,9 +26,9 @@ mod places;
 #[cfg(test)]
 mod policies;
 #[cfg(test)]
-mod streams;
+mod queue_rows;
 #[cfg(test)]
-mod tests;
+mod streams;
 #[cfg(test)]
 mod weights;
 #[cfg(test)]

@@ -1,6 +1,6 @@
-// One program, one verdict. Each drawn program is loaded by `load_all` of the locked machine, which must answer what `verify` itself answers: that
-// it is accepted, or the same cause at the same slot. `tests/one_verdict.py` draws the same programs, and compares the four other ways by which a
-// program comes to the verifier: `check` of its hex, `check` and `run` of its file, and a trace's install.
+//! One program, one verdict. Each drawn program is loaded by `load_all` of the locked machine, which must answer what `verify` itself answers: that
+//! it is accepted, or the same cause at the same slot. `tests/one_verdict.py` draws the same programs, and compares the four other ways by which a
+//! program comes to the verifier: `check` of its hex, `check` and `run` of its file, and a trace's install.
 
 ghost use Rattle.std.specs.Prelude.{◌≡◌};
 

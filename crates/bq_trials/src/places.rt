@@ -1,5 +1,5 @@
-// Contexts of places, permitted answers and own places. Expected bytes are written field by field from the tables of
-// docs/CONTEXTS.md; each load is its processor's number and one more.
+//! Contexts of places, permitted answers and own places. Expected bytes are written field by field from the tables of
+//! docs/CONTEXTS.md; each load is its processor's number and one more.
 
 ghost use Rattle.std.specs.Prelude.{◌≤◌, length};
 

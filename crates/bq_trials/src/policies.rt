@@ -1,4 +1,4 @@
-// Policies are asked at their hooks: what they answer, in how many steps, and which maps and counters they see.
+//! Policies are asked at their hooks: what they answer, in how many steps, and which maps and counters they see.
 
 use crate::asserting::{is_number, is_true};
 use bq_asm::assemble;

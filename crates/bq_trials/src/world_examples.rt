@@ -1,5 +1,5 @@
-// What a user of the library starts with: worlds, machines and traces. Each body stands, word for word, as the example of the call that
-// it shows; `tests/examples.py` compares them.
+//! What a user of the library starts with: worlds, machines and traces. Each body stands, word for word, as the example of the call that
+//! it shows; `tests/examples.py` compares them.
 ghost use Rattle.std.specs.Prelude.{◌≡◌};
 
 use crate::failing::Fail;

@@ -1,4 +1,4 @@
-// Programs by what the verifier knows of maps of one shape: each may stand for another.
+//! Programs by what the verifier knows of maps of one shape: each may stand for another.
 
 use crate::judging::{OUT, expect, shape};
 use std::alloc::Global;

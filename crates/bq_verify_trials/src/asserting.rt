@@ -1,5 +1,5 @@
-// What the tests assert. Each assertion stands in a function of its own, which owns nothing: a proof of an assertion carries
-// all that its function would drop. An assertion that shows what it compared costs the proof twice as much, so only three do.
+//! What the tests assert. Each assertion stands in a function of its own, which owns nothing: a proof of an assertion carries
+//! all that its function would drop. An assertion that shows what it compared costs the proof twice as much, so only three do.
 
 use std::process::Abort;
 

@@ -1,4 +1,4 @@
-// Programs by what the verifier knows of copies: registers and slots of the stack that hold one word.
+//! Programs by what the verifier knows of copies: registers and slots of the stack that hold one word.
 
 use crate::judging::{BYTE_OF_CONTEXT, OUT, follows};
 

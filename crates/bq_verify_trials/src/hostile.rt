@@ -1,5 +1,5 @@
-// Hostile images: each byte of a worked image is set to each value. What is accepted of them takes at most its budget, on
-// contexts of zeros and of ff. That it does so on every context is proved; the test is of the code as it is built.
+//! Hostile images: each byte of a worked image is set to each value. What is accepted of them takes at most its budget, on
+//! contexts of zeros and of ff. That it does so on every context is proved; the test is of the code as it is built.
 
 use crate::asserting::is_true;
 use crate::images::COUNTING;

@@ -1,5 +1,5 @@
-// Images by their bytes: what is loaded, with its budget, and what is refused, with slot and cause.
-// The images and their answers are worked on paper from the format and the rules of the verifier.
+//! Images by their bytes: what is loaded, with its budget, and what is refused, with slot and cause.
+//! The images and their answers are worked on paper from the format and the rules of the verifier.
 
 use crate::asserting::{are_bytes, is_number, is_true, is_true_in_row};
 use bq_hooks::{Hook, Version};

@@ -1,4 +1,4 @@
-// What the verifier answers to programs that are given as texts.
+//! What the verifier answers to programs that are given as texts.
 
 ghost use Rattle.std.specs.Prelude.{◌≡◌, ◌≤◌, length, true};
 ghost use Rattle.bq_insn.specs.Spelling.{is_well_formed};

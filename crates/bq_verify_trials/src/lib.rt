@@ -20,6 +20,8 @@ mod maps;
 #[cfg(test)]
 mod parts;
 #[cfg(test)]
+mod preempt_programs;
+#[cfg(test)]
 mod ranges;
 #[cfg(test)]
 mod readers;
@@ -27,8 +29,6 @@ mod readers;
 mod relations;
 #[cfg(test)]
 mod runs;
-#[cfg(test)]
-mod tests;
 #[cfg(test)]
 mod verdicts;
 #[cfg(test)]

@@ -1,4 +1,4 @@
-// The limits of shapes, and values written and read back.
+//! The limits of shapes, and values written and read back.
 
 use crate::asserting::{are_bytes, is_number, is_true};
 use crate::judging::shape;

@@ -1,4 +1,4 @@
-// Programs by what the verifier knows of numbers that are stored in a few bytes of the stack.
+//! Programs by what the verifier knows of numbers that are stored in a few bytes of the stack.
 
 use crate::judging::{BYTE_OF_CONTEXT, follows};
 

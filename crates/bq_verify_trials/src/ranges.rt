@@ -1,4 +1,4 @@
-// Worked intervals: sums, products, shifts, and what branches leave.
+//! Worked intervals: sums, products, shifts, and what branches leave.
 
 use crate::asserting::is_true_in_row;
 use bq_insn::Condition::{

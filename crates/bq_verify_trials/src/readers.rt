@@ -1,4 +1,4 @@
-// Images in pieces: what a reader answers to each of them, and in the end; when memory runs out, that is answered, and nothing changes.
+//! Images in pieces: what a reader answers to each of them, and in the end; when memory runs out, that is answered, and nothing changes.
 
 use crate::asserting::{is_number, is_true};
 use crate::images::{COUNTING, Moves, ZERO, ZERO_CUT, budget, bytes_of};

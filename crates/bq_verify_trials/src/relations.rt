@@ -1,4 +1,4 @@
-// Programs by what the verifier knows of two numbers: that the one is a sum with the other, or how they compare.
+//! Programs by what the verifier knows of two numbers: that the one is a sum with the other, or how they compare.
 
 use crate::judging::{BYTE_OF_CONTEXT, follows};
 

@@ -1,5 +1,5 @@
-// Programs run on two stacks of different bytes: what register 0 is at the EXIT, and how many instructions it took.
-// The values are worked on paper from RFC 9669.
+//! Programs run on two stacks of different bytes: what register 0 is at the EXIT, and how many instructions it took.
+//! The values are worked on paper from RFC 9669.
 
 use crate::asserting::{is_number, is_true};
 use crate::judging::shape;

@@ -1,5 +1,5 @@
-// Programs of the hook preempt, whose context has 56 bytes, with their budgets, or with the cause and the slot of the
-// refusal. Most read a byte of the context at a place in `r2`, which has to be 0 to 55.
+//! Programs of the hook preempt, whose context has 56 bytes, with their budgets, or with the cause and the slot of the
+//! refusal. Most read a byte of the context at a place in `r2`, which has to be 0 to 55.
 
 use crate::judging::{BYTE_OF_CONTEXT, OUT, follows};
 
