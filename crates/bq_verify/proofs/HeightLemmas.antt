@@ -25,7 +25,7 @@ module _ (slots : List (Option Insn)) (sound : IsGraphSound slots) where
 
   module _ (slot : ℕ) (targets : Targets) (out : LeadsOut slots slot targets) (heights : List ℕ)
       (measured : Measured slots (slot + 1) heights) where
-    -- the height of a target is its longest path out, and by one edge more it is a path out from the slot:
+    -- the height of a target is the length of its longest path out, and one more is that of a path out from the slot:
     best : (to : ℕ) → IsAmongTargets targets to → IsGreatest (PathOut slots to) (slice_index heights to)
     best to of =
         let later = target_later slots slot targets sound out to of in

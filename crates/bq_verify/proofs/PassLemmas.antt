@@ -235,7 +235,7 @@ ends_more f s (suc n) (suc m) made made' le le' (inr (inr (few, each))) =
       λ x small. let e = each x small in (e.0, e.1, e.2, e.3, ends_more f e.1 n m (made + 1) (made' + 1) (omega arith) (omega arith) e.4),
     ))
 
--- a state that ends now ends within any budget, and one before it within a greater one:
+-- a state that ends now ends within any budget from 1 on, and a state one step before ends within a greater budget:
 ends_now : (f : Setting) (s : State) (n made answer : ℕ) → 1 ≤ n → Ends f s answer s.maps → EndsWithin f s n made
 ends_now f s zero made answer le ends = absurd (omega arith)
 ends_now f s (suc n) made answer le ends = inl (answer, ends)

@@ -187,7 +187,7 @@ gives_pointer kind o r slot k _ state Was frame known made = absurd made
 -- one slot of a program that is straight up to it
 module _ (p : Subject) (slot : ℕ) (insn : Insn) (state : AbstractState) (here : instruction_at p.slots slot ≡ Some insn)
     (straight : IsStraightBefore p (slot + 1)) (has : (x : Fact) → IsFactDue p.slots x slot → Has x state) where
-  -- some path leads to the slot, since `Never` does not hold
+  -- it is not so that no path leads to the slot
   reached : (Path p.slots 0 slot → ⊥) → ⊥
   reached none = has Never none
 
