@@ -45,7 +45,7 @@ magic_bad field rest four bad =
     let no : bytes_eq field magic ≡ false = false_from_ne_true _ (λ e. bad ((bytes_eq-Decides field magic).0 e)) in
     rw (long, is, no) refl
 
--- a byte that is no version's number is bad, and no byte is cut:
+-- a byte that is no version's number is bad, and a missing byte is a cut:
 version_bad : (b : ℕ) (rest : List ℕ) → ((v : Version) → b ∷ [] ≢ version_number v ∷ []) → version_at (b ∷ rest) ≡ Err fault.Version
 unfolding version_at
 version_bad b rest bad =
@@ -58,7 +58,7 @@ unfolding version_at
 version_cut [] h = refl
 version_cut (b ∷ bytes) h = absurd (omega arith)
 
--- a byte that names no hook is bad, and no byte is cut:
+-- a byte that names no hook is bad, and a missing byte is a cut:
 hook_bad : (b : ℕ) (rest : List ℕ) → ((h : Hook) → b ∷ [] ≢ hook_byte h ∷ []) → hook_at (b ∷ rest) ≡ Err fault.Hook
 unfolding hook_at
 hook_bad b rest bad =

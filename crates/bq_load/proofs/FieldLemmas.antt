@@ -56,7 +56,7 @@ pub bind_err : {A B : Type 0} (r : Result A LoadFault) (f : A → Result B LoadF
 bind_err (Ok x) f e h = inr (x, refl, h)
 bind_err (Err d) f e h = inl cc
 
--- the failure with a fault
+-- the result of a reading that failed with this fault
 abbrev failed : {A : Type 0} → LoadFault → Result A LoadFault
 failed f = Err f
 

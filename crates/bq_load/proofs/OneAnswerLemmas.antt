@@ -195,7 +195,7 @@ one_answer bytes (fault.Refused slot (Graph cause)) answer fits of b a = graph_f
 one_answer bytes (fault.Refused slot (State obligation)) answer fits of b a = absurd of
 one_answer bytes fault.OutOfMemory answer fits of b a = absurd of
 
--- two numbers that are each the greatest are the same
+-- two numbers that are each the greatest with a property are the same
 one_greatest : (P : ℕ → Type 0) (m n : ℕ) → IsGreatest P m → IsGreatest P n → m ≡ n
 one_greatest P m n a b = let below = a.bounds n b.holds in let above = b.bounds m a.holds in omega (arith, below, above)
 

@@ -346,6 +346,7 @@ counting_13 = record {
   amount = λ is. absurd (omega (arith, ints, is));
 }
 
+-- a register below 5 is below register 10, and the number of map 0 is below that of maps:
 below_10 : (n : ℕ) → n < 5 → n < 10
 below_10 n lt = omega arith
 

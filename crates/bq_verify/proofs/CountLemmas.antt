@@ -193,6 +193,7 @@ module _ (slots : List (Option Insn)) where
         let more = along next rest one.0 p.1 one.1 in
         (more.0, more.1, omega (arith, one.2, more.2))
 
+    -- a number at a slot is the most calls on a path to the slot, and a slot without a number has no path
     most_by : (k : ℕ) (v : Option ℕ) → slice_index_or most k None ≡ v → IsMostCalls slots k v
     most_by k None e = λ path.
         let far = along 0 path.rest counted.begins.0 path.is_path counted.begins.1 in

@@ -70,6 +70,7 @@ leaves_does f (Branch w c dst src off) s t (a, b, p, q, inr (is_not, is)) = inl 
 leaves_does f (Call h) s t p = inl (refl, helped f h s t p)
 leaves_does f Exit s t p = absurd p
 
+-- what a step does, with or without a counter call, it does along an edge too
 leaves_takes : (f : Setting) (insn : Insn) (s : State) (c : Option CounterCall) (t : State) → Takes f insn s c t → Leaves insn s.slot t.slot
 leaves_takes f insn s None t p = leaves_does f insn s t p
 leaves_takes f (Call h) s (Some c) t p = inl (refl, ap (λ (x : State). x.slot) p.2)

@@ -24,6 +24,7 @@ use Rattle.bq_transfer.specs.After.{IsFoundSide, After}
 use Rattle.bq_insn.proofs.OptionLemmas.{some_none}
 use Rattle.bq_transfer.proofs.CertaintyLemmas.{not_both, pointer_is, given_has, knowing_given}
 
+-- a register that is known is not past the last of the registers
 known_within : (xs : List (Option AbstractValue)) (r : ℕ) (k : AbstractValue)
     → Some k ≡ slice_index_or xs r None → (r < length xs) ⊎ (length xs ≤ r) → r < length xs
 known_within xs r k known (inl within) = within

@@ -148,12 +148,14 @@ module _ (slots : List (Option Insn)) (makes leaves : Option Insn → Bool) wher
       → (makes (Some insn) ≡ true) ⊎ ((leaves (Some insn) ≡ true) × OnEachPath slots makes leaves first slot)
   made_or_left first slot k insn here edge all reached = by (makes (Some insn)) (leaves (Some insn)) refl refl
     where
+      -- along each path to the slot, the instruction makes it hold, or leaves it so where it held before
       held : (rest : List ℕ) → IsPath slots 0 rest → path_end 0 rest ≡ slot
           → (makes (Some insn) || (leaves (Some insn) && held_along slots makes leaves first 0 rest)) ≡ true
       held rest path ends =
           subst (λ (v : Option Insn). (makes v || (leaves v && held_along slots makes leaves first 0 rest)) ≡ true) here
           (each_back first slot k edge all rest path ends)
 
+      -- the instruction makes it hold, or leaves it so where it held on each path before
       by : (m l : Bool) → makes (Some insn) ≡ m → leaves (Some insn) ≡ l
           → (makes (Some insn) ≡ true) ⊎ ((leaves (Some insn) ≡ true) × OnEachPath slots makes leaves first slot)
       by true l e f = inl e

@@ -156,6 +156,7 @@ written_8 = made_before program (writes 0) (leaves 0) false 8 (omega arith) (λ 
 written_10 : IsWrittenOnEachPath program 10 0
 written_10 = made_before program (writes 0) (leaves 0) false 10 (omega arith) (λ from edge. rw (only_before from 10 edge) refl)
 
+-- a slot before another is not the same slot
 apart_slots : (a b : ℕ) → a < b → a ≡ b → ⊥
 apart_slots a b lt same = omega arith
 
