@@ -6,6 +6,7 @@ use Rattle.bq_disc.specs.Queues.{HasDistinctIds}
 use Rattle.bq_disc.specs.Discipline.{Discipline, IsLawful}
 use Rattle.bq_disc.proofs.SetLemmas.{find_task-Contains}
 
+-- a task of a list with distinct ids is found there by its id
 of_case : (o : Option Task) (xs : List Task) (id : ℕ) → HasDistinctIds xs → IfSome o (Contains xs) → id_of o ≡ Some id → find_task id xs ≡ o
 of_case None xs id d h e = cc
 of_case (Some m) xs id d h e =

@@ -1,10 +1,11 @@
--- Ids have 16 bits, so a greater number is no task's.
+-- Ids of tasks have 16 bits, so a greater number names no task.
 use Rattle.std.proofs.Common.{◌≡◌, ℕ, ◌<◌, ◌≤◌, ◌^◌, false, List, [], ◌∷◌, None, refl, arith}
 use Rattle.std.proofs.lemmas.Bool.Decides.{nat_tests}
 use Rattle.bq_disc.specs.Tasks.{Task, has_id, find_task}
 use Rattle.bq_disc.specs.Queues.{HasSmallIds}
 use Rattle.bq_disc.specs.Movable.{is_movable_to}
 
+-- a number of more than 16 bits is not the id of a task, and a search for it in a list of tasks finds none:
 other : (id : ℕ) (t : Task) → t.id < 2 ^ 16 → 2 ^ 16 ≤ id → has_id id t ≡ false
 other id t h k = grind (arith, nat_tests)
 

@@ -1,4 +1,4 @@
--- What stands in a context is bytes, whatever it shows.
+-- Each item of a context is a byte, whatever the context shows.
 use Rattle.std.proofs.Common.{◌≡◌, ℕ, zero, suc, ◌+◌, ◌/◌, ◌^◌, ◌<◌, List, [], ◌∷◌, ◌++◌, Option, Some, None, subst, arith}
 use Rattle.std.proofs.Math.Nat.{mod-lt}
 use Rattle.std.specs.Prelude.{◌%◌, min, length, slice_get, slice_index}
@@ -11,6 +11,7 @@ use Rattle.bq_hooks.specs.Contexts.{pull_header, PlaceFacts, PreemptFacts, PullF
 record AreBytes (xs : List ℕ) : Type 0 where
   all : AllByRecursion (λ b. b < 256) xs
 
+-- two lists of bytes, one after the other, are bytes, in two forms:
 joined : (xs ys : List ℕ) → AllByRecursion (λ b. b < 256) xs → AllByRecursion (λ b. b < 256) ys → AllByRecursion (λ b. b < 256) (xs ++ ys)
 joined [] ys h k = k
 joined (x ∷ xs) ys h k = (h.0, joined xs ys h.1 k)
@@ -19,10 +20,12 @@ infixl 40 ◌then◌
 ◌then◌ : {xs : List ℕ} → {ys : List ℕ} → AreBytes xs → AreBytes ys → AreBytes (xs ++ ys)
 ◌then◌ {xs = xs} {ys = ys} h k = record { all = joined xs ys h.all k.all }
 
+-- pieces that are bytes, one after another, are bytes
 pieces_are : (a k : ℕ) (f : ℕ → List ℕ) → ((i : ℕ) → AreBytes (f i)) → AreBytes (flat_map f (range_with_len a k))
 pieces_are a zero f h = record { all = tt }
 pieces_are a (suc k) f h = h a then pieces_are (a + 1) k f h
 
+-- the bytes of a number are below 256: one of them, any count, four and eight:
 byte_at_fits : (i n : ℕ) → byte_at i n < 256
 byte_at_fits zero n = mod-lt n (omega arith)
 byte_at_fits (suc i) n = mod-lt (n / 256 ^ suc i) (omega arith)
@@ -37,6 +40,7 @@ u32_is n = record { all = number_is 0 4 n }
 u64_is : (n : ℕ) → AreBytes (u64_bytes n)
 u64_is n = record { all = number_is 0 8 n }
 
+-- a task that is shown, and each of the three contexts, is bytes:
 task_is : (absent : ℕ) (o : Option Task) → AreBytes (task_bytes absent o)
 task_is absent None = u32_is absent then u32_is 0 then u64_is 0
 task_is absent (Some t) = u32_is t.id then u32_is t.weight then u64_is t.v

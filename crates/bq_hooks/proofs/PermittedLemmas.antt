@@ -22,10 +22,12 @@ own_place_permitted count loads t h =
     let there = own_place_there count loads t h in
     ap (λ o. may_place count t (unwrap_or o 0)) there.1 ∙ rw (lt-ltb there.0 count there.2, there.3) refl
 
+-- the discipline's own answer about giving way, as a number, is permitted
 preempt_permitted : (own : Bool) → may_preempt (as_number own) ≡ true
 preempt_permitted true = refl
 preempt_permitted false = refl
 
+-- an answer that names a task of the queue that may use the puller, or nobody, is permitted
 pull_by_case : (puller : ℕ) (queue : List Task) (o : Option Task)
     → HasDistinctIds queue → IfSome o (λ t. Contains queue t × (can_use puller t ≡ true))
     → may_pull puller queue (or_nobody (id_of o)) ≡ true
@@ -43,6 +45,7 @@ own_choices_are_permitted = record {
       pull_by_case puller queue (pull_of puller size from queue) d (pull_is_lawful.member puller size from queue);
 }
 
+-- the policy's answer if it is permitted, else a permitted own choice, is permitted
 by_test : (b : Bool) (permitted : ℕ → Bool) (r0 own : ℕ) → permitted r0 ≡ b → permitted own ≡ true →
     permitted (cond {A = Settled} b (record { choice = r0; by = Policy }) (record { choice = own; by = Discipline })).choice ≡ true
 by_test true permitted r0 own e h = e

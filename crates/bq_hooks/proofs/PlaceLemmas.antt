@@ -14,6 +14,7 @@ use Rattle.bq_hooks.specs.OwnPlace.{place_before, former_place, first_place, own
 abbrev pub IsFit : ℕ → ℕ → ℕ → Type 0
 IsFit bound mask p = (p < bound) × (allows mask p ≡ true)
 
+-- the better of two places that fit fits, also where there is only one
 former_fits : (Q : ℕ → Type 0) (loads : List ℕ) (previous : Option ℕ) (p : ℕ) (o : Option ℕ)
     → Q p → IfSome o Q → Q (former_place loads previous p o)
 former_fits Q loads previous p None h k = h
@@ -26,6 +27,7 @@ first_fits Q loads previous [] h = tt
 first_fits Q loads previous (p ∷ ps) h =
     former_fits Q loads previous p (first_place loads previous ps) h.0 (first_fits Q loads previous ps h.1)
 
+-- all of a list still fit after a processor below the bound is added, if the mask allows it
 fit_by_test : (b : Bool) (bound mask p : ℕ) (ps : List ℕ) → allows mask p ≡ b → p < bound
     → AllByRecursion (IsFit bound mask) ps
     → AllByRecursion (IsFit bound mask) (cond b (p ∷ ps) ps)
@@ -39,10 +41,12 @@ those_fit bound mask a (suc n) l =
     fit_by_test (allows mask a) bound mask a (filter (allows mask) (range_with_len (a + 1) n)) refl (omega arith)
     (those_fit bound mask (a + 1) n (omega arith))
 
+-- if a list with an item that a test may add is empty, the test failed and the rest is empty
 none_by_test : (b : Bool) (p : ℕ) (ps : List ℕ) → cond b (p ∷ ps) ps ≡ [] → (b ≡ false) × (ps ≡ [])
 none_by_test true p ps h = cc
 none_by_test false p ps h = (refl, h)
 
+-- a processor that the mask does not allow has a bit of 0 in the mask
 no_bit : (mask p : ℕ) → allows mask p ≡ false → mask / 2 ^ p % 2 ≡ 0
 no_bit mask p h =
     let two : mask / 2 ^ p % 2 < 2 = bit_at-lt mask p in
@@ -58,11 +62,13 @@ no_bits mask a (suc n) h i l k =
       | inr other ↦ no_bits mask (a + 1) n s.1 i (omega arith) (omega arith)
     ]
 
+-- a mask of as many bits as there are processors that allows none of them is 0
 no_mask : (mask count : ℕ) → mask < 2 ^ count → filter (allows mask) (range_with_len 0 count) ≡ [] → mask ≡ 0
 no_mask mask count l h =
     same_from_bits_below count mask 0 l (omega arith)
     (λ i k. no_bits mask 0 count h i (omega arith) (omega arith) ∙ sym (bit_at-zero i))
 
+-- of at least one processor, all of which fit, there is a best place, and it fits
 some_first : (loads : List ℕ) (previous : Option ℕ) (bound mask : ℕ) (ps : List ℕ)
     → AllByRecursion (IsFit bound mask) ps → ps ≢ []
     → (p : ℕ) × (first_place loads previous ps ≡ Some p) × (p < bound) × (allows mask p ≡ true)

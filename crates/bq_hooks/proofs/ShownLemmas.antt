@@ -13,12 +13,14 @@ use Rattle.bq_disc.proofs.SetLemmas.{find_task-Contains}
 abbrev AreFound : List Task → List Task → Type 0
 AreFound queue xs = AllByRecursion (λ (t : Task). find_task t.id queue ≡ Some t) xs
 
+-- tasks of a queue with distinct ids are found there
 found_if : (queue xs : List Task) → HasDistinctIds queue → ((t : Task) → Contains xs t → Contains queue t) → AreFound queue xs
 found_if queue [] d h = tt
 found_if queue (x ∷ xs) d h =
     let here = h x (Contains-first x xs) in
     (find_task-Contains queue x here.0 d here.1 here.2, found_if queue xs d (λ t k. h t (Contains-later x t xs k)))
 
+-- lists of found tasks stay so when joined, filtered, and reversed:
 both_found : (queue xs ys : List Task) → AreFound queue xs → AreFound queue ys → AreFound queue (xs ++ ys)
 both_found queue [] ys h k = k
 both_found queue (x ∷ xs) ys h k = (h.0, both_found queue xs ys h.1 k)

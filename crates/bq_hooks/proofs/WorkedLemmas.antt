@@ -3,6 +3,7 @@ use Rattle.std.proofs.Common.{◌≡◌, ℕ, [], ◌∷◌, Some, None, false, 
 use Rattle.bq_disc.specs.Tasks.{Task}
 use Rattle.bq_hooks.specs.Contexts.{pull_header, place_header, place_bytes_below, place_bytes_first, preempt_bytes, pull_bytes}
 
+-- a task of weight 1024 with a slice of 3 ms and no previous processor, of this id, mask and v
 abbrev task : ℕ → ℕ → ℕ → Task
 task id mask v = record { id = id; weight = 1024; mask = mask; slice = 3000000; v = v; deadline = 0; rel = pos 0; prev = None }
 

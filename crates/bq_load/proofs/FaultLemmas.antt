@@ -27,10 +27,12 @@ use Rattle.bq_load.proofs.SpelledHeaderLemmas.{spelled, number_again, half_again
 
 -- ---- a bad or cut field gives its fault
 
+-- fewer bytes than a number has are cut
 number_cut : (width : ℕ) (bytes : List ℕ) → length bytes < width → read_number width bytes ≡ Err fault.Cut
 unfolding read_number
 number_cut width bytes h = rw (lt-ltb _ _ h) refl
 
+-- fewer than four bytes are cut, and four bytes other than the letters are bad:
 magic_cut : (bytes : List ℕ) → length bytes < 4 → magic_at bytes ≡ Err fault.Cut
 unfolding magic_at
 magic_cut bytes h = rw (lt-ltb _ _ h) refl
@@ -43,6 +45,7 @@ magic_bad field rest four bad =
     let no : bytes_eq field magic ≡ false = false_from_ne_true _ (λ e. bad ((bytes_eq-Decides field magic).0 e)) in
     rw (long, is, no) refl
 
+-- a byte that is no version's number is bad, and a missing byte is a cut:
 version_bad : (b : ℕ) (rest : List ℕ) → ((v : Version) → b ∷ [] ≢ version_number v ∷ []) → version_at (b ∷ rest) ≡ Err fault.Version
 unfolding version_at
 version_bad b rest bad =
@@ -55,6 +58,7 @@ unfolding version_at
 version_cut [] h = refl
 version_cut (b ∷ bytes) h = absurd (omega arith)
 
+-- a byte that names no hook is bad, and a missing byte is a cut:
 hook_bad : (b : ℕ) (rest : List ℕ) → ((h : Hook) → b ∷ [] ≢ hook_byte h ∷ []) → hook_at (b ∷ rest) ≡ Err fault.Hook
 unfolding hook_at
 hook_bad b rest bad =
@@ -83,6 +87,7 @@ two_bytes field rest fits two =
       ap (λ (x : List ℕ). read_number 2 (x ++ rest)) is ∙ half_again (little_number 2 field) rest made.1,
     )
 
+-- two bytes that are no number of maps up to 8 are bad, and fewer than two are cut:
 count_bad : (field rest : List ℕ) → AreBytes field → length field ≡ 2
     → ((count : ℕ) → count ≤ 8 → field ≢ to_le_bytes w16 count)
     → count_at (field ++ rest) ≡ Err fault.Shape
@@ -98,6 +103,7 @@ count_cut bytes h =
     ap (λ (r : Result (ℕ × List ℕ) LoadFault). r >>= λ count. cond (nat_le count.0 8) (Ok count) (Err fault.Shape))
     (number_cut 2 bytes h)
 
+-- four bytes that are no shape's are bad, and fewer than four are cut:
 shape_bad : (field rest : List ℕ) → AreBytes field → length field ≡ 4 → ((s : MapShape) → field ≢ shape_bytes s)
     → shape_at (field ++ rest) ≡ Err fault.Shape
 unfolding shape_at
@@ -161,6 +167,7 @@ slots_cut v h n shapes part is short =
     r >>= λ slots. Ok (record { version = v; hook = h; shapes = take (4 * n) maps; slots = slots.0 }, slots.1))
     (number_cut 4 part short)
 
+-- a field of one byte is that byte
 one_byte : (field : List ℕ) → length field ≡ 1 → (b : ℕ) × (field ≡ b ∷ [])
 one_byte [] h = absurd (omega arith)
 one_byte (b ∷ []) h = (b, refl)
@@ -198,6 +205,7 @@ abbrev IsCutAt : Front → List ℕ → Type 0
 IsCutAt (Headed h) part = header_at (header_bytes h ++ part) ≡ Ok (spelled h, part)
 IsCutAt front part = header_at (front_bytes front ++ part) ≡ Err fault.Cut
 
+-- after good fields, fewer bytes than the next field has are cut; after a header they are left for the program
 cut_at : (front : Front) (part : List ℕ) → AreGoodFields front → length part < next_width front → IsCutAt front part
 unfolding header_at
 cut_at Nothing part good short = ap (λ (r : Result (List ℕ) LoadFault). r >>= after_magic) (magic_cut part short)
@@ -226,21 +234,25 @@ unfolding frame_at
 frame_short h rest good short =
     ap (λ (r : Result (Spelled × List ℕ) LoadFault). r >>= ended) (header_again h rest good) ∙ rw (lt-ltb _ _ short) refl
 
+-- a good header with more behind it than its program has is read as one with bytes after the end
 frame_long : (h : Header) (rest : List ℕ) → IsHeader h → 8 * h.slots < length rest → frame_at (header_bytes h ++ rest) ≡ Err fault.Rest
 unfolding frame_at
 frame_long h rest good long =
     let low : ltb (length rest) (8 * h.slots) ≡ false = le-ltb _ _ (omega arith) in
     ap (λ (r : Result (Spelled × List ℕ) LoadFault). r >>= ended) (header_again h rest good) ∙ rw (low, lt-ltb _ _ long) refl
 
+-- a fault in reading the header is the fault of reading all
 frame_stop : (bytes : List ℕ) (f : LoadFault) → header_at bytes ≡ Err f → frame_at bytes ≡ Err f
 unfolding frame_at
 frame_stop bytes f e = ap (λ (r : Result (Spelled × List ℕ) LoadFault). r >>= ended) e
 
+-- bytes with a bad field are read as having its fault
 bad_again : (bytes : List ℕ) (f : LoadFault) → AreBytes bytes → HasBadField bytes f → header_at bytes ≡ Err f
 bad_again bytes f fits b =
     let after : AreBytes (b.field ++ b.rest) = AreBytes-after (front_bytes b.front) (b.field ++ b.rest) (subst AreBytes b.bytes_are fits) in
     ap header_at b.bytes_are ∙ bad_at b.front b.field b.rest f (AreBytes-front b.field b.rest after) b.good b.whole b.bad
 
+-- good fields, followed by less than the next field has, are read as cut
 cut_again : (front : Front) (part : List ℕ) → AreGoodFields front → length part < next_width front
     → frame_at (front_bytes front ++ part) ≡ Err fault.Cut
 cut_again (Headed h) part good short = frame_short h part good short

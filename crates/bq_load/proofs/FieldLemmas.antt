@@ -56,6 +56,7 @@ pub bind_err : {A B : Type 0} (r : Result A LoadFault) (f : A → Result B LoadF
 bind_err (Ok x) f e h = inr (x, refl, h)
 bind_err (Err d) f e h = inl cc
 
+-- the result of a reading that failed with this fault
 abbrev failed : {A : Type 0} → LoadFault → Result A LoadFault
 failed f = Err f
 
@@ -133,6 +134,7 @@ version_ok (b ∷ bs) v rest e =
           subst (λ (x : Version × List ℕ). b ∷ bs ≡ version_number x.0 ∷ x.1) g.1 (ap (λ (x : ℕ). x ∷ bs) is)
     ]
 
+-- a byte other than 1 and 2 is no version's number
 no_version : (b : ℕ) → b ≢ 1 → b ≢ 2 → (v : Version) → b ∷ [] ≢ version_number v ∷ []
 no_version b one two First e = one cc
 no_version b one two Second e = two cc
@@ -178,6 +180,7 @@ hook_ok (b ∷ bs) h rest e =
       ]
     ]
 
+-- a byte other than 0, 1 and 2 is no hook's byte
 no_hook : (b : ℕ) → b ≢ 0 → b ≢ 1 → b ≢ 2 → (h : Hook) → b ∷ [] ≢ hook_byte h ∷ []
 no_hook b zero' one two Place e = zero' cc
 no_hook b zero' one two Preempt e = one cc
@@ -286,6 +289,7 @@ count_err v h bytes f fits e =
 
 -- ---- shapes
 
+-- the shape of two numbers within the limits
 unfoldable pub shape_of : (size entries : ℕ) → IsShape size entries → MapShape
 shape_of size entries h = record {
   value_size = size;
@@ -328,6 +332,7 @@ is_shape-met size entries h =
     let e : nat_le entries 256 ≡ true = le-leb _ _ h.greatest_entries in
     rw (a, b, c, d, e) refl
 
+-- the two numbers of a shape are within the limits
 unfoldable pub shape_facts : (s : MapShape) → IsShape s.value_size s.entries
 shape_facts s = record {
   least_size = s.least_size;
@@ -378,6 +383,7 @@ IsRefusedShape bytes f =
     ⊎ ((field : List ℕ) × (rest : List ℕ) × (bytes ≡ field ++ rest) × (length field ≡ 4) × (f ≡ fault.Shape)
     × ((s : MapShape) → field ≢ shape_bytes s))
 
+-- the bytes of two numbers that fail the test of a shape are no shape's
 no_shape : (size entries : ℕ) → size < 2 ^ 16 → entries < 2 ^ 16 → is_shape size entries ≡ false
     → (s : MapShape) → to_le_bytes w16 size ++ to_le_bytes w16 entries ≢ shape_bytes s
 no_shape size entries ls le out s e =

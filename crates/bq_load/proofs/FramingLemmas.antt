@@ -98,6 +98,7 @@ fault_is_unread bytes (fault.Refused slot cause) b = b
 
 -- ---- programs that are too short or too long
 
+-- eight bytes for each of no slots, or of more than 4096 slots, are no length of a program
 no_length : (n : ℕ) → (n ≡ 0) ⊎ (4096 < n) → ((8 * n % 8 == 0) && (nat_le 1 (8 * n) && nat_le (8 * n) 32768)) ≡ false
 no_length n h = grind (arith, nat_tests)
 
@@ -122,6 +123,7 @@ bad_length bytes s program frames out = record {
 
 -- ---- images
 
+-- with shapes that have the same bytes, a header has the same bytes
 same_header : (s : Spelled) (shapes others : List MapShape) → shapes_bytes shapes ≡ shapes_bytes others
     → header_bytes (with_shapes s shapes) ≡ header_bytes (with_shapes s others)
 same_header s shapes others same =

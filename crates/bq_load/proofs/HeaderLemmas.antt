@@ -97,6 +97,7 @@ after_magic rest = version_at rest >>= λ version. after_version version
 
 -- ---- a header that is refused
 
+-- what fails after the number of maps, the hook, the version or the letters is a field that is cut or bad:
 refused_maps : (v : Version) (h : Hook) (n : ℕ) (maps : List ℕ) (f : LoadFault)
     → AreBytes maps → n ≤ 8 → after_count v h (n, maps) ≡ Err f → IsRefused (image_opening v h n ++ maps) f
 refused_maps v h n maps f fits few e =
@@ -166,6 +167,7 @@ header_err bytes f fits e =
 
 -- ---- a header that is read
 
+-- what is read after the number of maps, the hook, the version or the letters is the rest of a header:
 read_maps : (v : Version) (h : Hook) (n : ℕ) (maps : List ℕ) (x : Spelled × List ℕ)
     → AreBytes maps → n ≤ 8 → after_count v h (n, maps) ≡ Ok x → HasHeader (image_opening v h n ++ maps) x.0 x.1
 read_maps v h n maps x fits few e =

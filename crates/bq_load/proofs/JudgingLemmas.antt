@@ -186,6 +186,7 @@ header_of_all held piece bytes past s r there h = elim h.only [ inl e ↦ whole 
 
 -- ---- faults that stay
 
+-- the fault of a bad field is one that no further bytes take away
 final_field : (front : Front) (field : List ℕ) (f : LoadFault) → IsBadNext front field f → IsFinal f
 final_field front field fault.Magic bad = tt
 final_field front field fault.Version bad = tt
@@ -277,6 +278,7 @@ pub cut_bounded : (held piece : List ℕ) → AreBytes (take 44 (held ++ piece))
     → length held + length piece < 44
 cut_bounded held piece fits e = omega (arith, (cut_is_all held piece fits e).1, length-append held piece)
 
+-- that bytes are cut is no fault that stays
 cut_is_not_final : (f : LoadFault) → fault.Cut ≡ f → IsFinal f → ⊥
 cut_is_not_final f e final = subst IsFinal (sym e) final
 
@@ -296,6 +298,7 @@ cut_going held piece bytes past f fits e h whole_fits failed =
 
 -- ---- behind a whole header
 
+-- a fault that stays and is found is what reading gives, and then reading does not say that the bytes are cut:
 final_found : (bytes : List ℕ) (f : LoadFault) → IsFinal f → IsFound bytes f → frame_at bytes ≡ Err f
 final_found bytes fault.Magic final b = b
 final_found bytes fault.Version final b = b

@@ -1,4 +1,4 @@
--- Bytes say one thing.
+-- Bytes are at most one image and have at most one first fault, and an image has none.
 use Rattle.std.proofs.Common.{◌≡◌, ℕ, ◌*◌, ◌%◌, ◌≤◌, true, false, List, length, Ok, Err, sym, ap, ◌∙◌, arith}
 use Rattle.std.specs.Prelude.{◌==◌, ◌&&◌, nat_le}
 use Rattle.std.proofs.lemmas.Bool.Decides.{nat_tests}
@@ -39,6 +39,7 @@ pub framed_does_not_fail : (bytes : List ℕ) (h : Header) (program : List ℕ) 
     → IsFramed bytes h program → frame_at bytes ≡ Err f → ⊥
 framed_does_not_fail bytes h program f framed e = not_framed bytes (spelled h, program) f (frame_again bytes h program framed) e
 
+-- bytes with a header and its program of 1 to 4096 slots have no fault of length, and no other that is found:
 whole_program : (bytes : List ℕ) (h : Header) (program : List ℕ) (slot : ℕ)
     → IsFramed bytes h program → 1 ≤ h.slots → h.slots ≤ 4096 → HasFaultyProgram bytes slot Length → ⊥
 whole_program bytes h program slot framed some most b =
@@ -63,6 +64,7 @@ no_image_is_faulty bytes v h shapes program f fits image b =
 same_found : (bytes : List ℕ) (f g : LoadFault) → frame_at bytes ≡ Err f → frame_at bytes ≡ Err g → f ≡ g
 same_found bytes f g e d = cc
 
+-- a fault of the program's length is the only one found, and any two faults that are found are the same:
 of_length : (bytes : List ℕ) (slot : ℕ) (g : LoadFault) → HasFaultyProgram bytes slot Length → IsFound bytes g
     → fault.Decode slot Length ≡ g
 of_length bytes slot (fault.Decode other Length) b d = ap (λ (n : ℕ). fault.Decode n Length) (b.faulty.0 ∙ sym d.faulty.0)

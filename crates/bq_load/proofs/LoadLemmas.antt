@@ -76,6 +76,7 @@ unloaded_program bytes s code (program.At slot cause) parts b = record {
   faulty = b;
 }
 
+-- a refusal at a slot is not that memory ran out
 not_memory : (slot : ℕ) (cause : Cause) → refused.At slot cause ≡ refused.OutOfMemory → ⊥
 not_memory slot cause e = cc
 
@@ -139,6 +140,7 @@ record IsOf (bytes : List ℕ) (s : Spelled) (code : List ℕ) (st : HasStraight
   hook : s.hook ≡ st.hook
   shapes : s.shapes ≡ shapes_bytes st.shapes
 
+-- the parts of a straight image's bytes are those of the image
 is_of : (bytes : List ℕ) (s : Spelled) (code : List ℕ) (st : HasStraightProgram bytes) → HasParts bytes s code → IsOf bytes s code st
 is_of bytes s code st parts =
     let header : Header = record { version = st.version; hook = st.hook; shapes = st.shapes; slots = st.image.slots } in

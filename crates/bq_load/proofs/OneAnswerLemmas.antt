@@ -44,6 +44,7 @@ record Stands (bytes : List ℕ) : Type 0 where
   program : List ℕ
   framed : IsFramed bytes header program
 
+-- where no program is loaded, reading stops at the fault, or a header and its program are there
 by_fault : (bytes : List ℕ) (f : LoadFault) → AreBytes bytes → IsUnloaded bytes f → Stops bytes f ⊎ Stands bytes
 by_fault bytes fault.Magic fits b = inl (record { at = fault_again bytes fault.Magic fits b })
 by_fault bytes fault.Version fits b = inl (record { at = fault_again bytes fault.Version fits b })
@@ -64,6 +65,7 @@ no_faulty bytes insns slot cause b p =
     lengths.no_program_is_refused insns slot cause p.well_formed p.numbers
     (subst (λ (x : List ℕ). IsProgramFault x (At slot cause)) same.1 b.faulty)
 
+-- a program has one fault, and reading stops at one:
 one_faulty : (bytes : List ℕ) (s t : ℕ) (c d : DecodeCause) → HasFaultyProgram bytes s c → HasFaultyProgram bytes t d
     → fault.Decode t d ≡ fault.Decode s c
 one_faulty bytes s t c d a b =
@@ -78,6 +80,7 @@ same_stop bytes f g e d = cc
 abbrev IsOnly : LoadFault → Result Accepted LoadFault → Type 0
 IsOnly f answer = (answer ≡ Err f) ⊎ (answer ≡ Err fault.OutOfMemory)
 
+-- where reading stops at a fault, a fault that is answered is that one
 stopped : (bytes : List ℕ) (f g : LoadFault) → Stops bytes f → Stops bytes g ⊎ Stands bytes → IsOnly f (Err g)
 stopped bytes f g at (inl other) = inl (ap (λ (x : LoadFault). Err x) (same_stop bytes f g at.at other.at))
 stopped bytes f g at (inr there) = absurd (framed_does_not_fail bytes there.header there.program f there.framed at.at)
@@ -92,6 +95,7 @@ at_stop bytes f (Err g) fits at a = stopped bytes f g at (by_fault bytes g fits 
 framed : (bytes : List ℕ) (f : LoadFault) (h : Header) (program : List ℕ) → IsFramed bytes h program → Stops bytes f → ⊥
 framed bytes f h program there at = framed_does_not_fail bytes h program f there at.at
 
+-- bytes from which a program is loaded are an image of its instructions
 as_program : (bytes : List ℕ) (v : Accepted) (l : Loads bytes v) → HasProgram bytes l.insns
 as_program bytes v l =
     record { version = v.version; hook = v.hook; shapes = v.shapes; image = l.image; well_formed = l.well_formed; numbers = l.numbers }
@@ -123,6 +127,7 @@ one_list bytes a b p q =
     let images = one_image bytes p.version q.version p.hook q.hook p.shapes q.shapes (spelling a) (spelling b) p.image q.image in
     one_program a b (well_formed_in_range a p.well_formed) (well_formed_in_range b q.well_formed) p.numbers q.numbers images.3
 
+-- a refusal of a program whose control graph has a first fault names that fault
 one_refusal : (p : Subject) (s t : ℕ) (c : GraphCause) (d : Cause)
     → IsFirstFault p.slots c s → IsVerdictOn p (refused.At t d)
     → fault.Refused t d ≡ fault.Refused s (Graph c)
@@ -138,6 +143,7 @@ moved : (hook : Hook) (version : Version) (shapes : List MapShape) (a b : List I
 moved hook version shapes a b s c same r =
     subst (λ (x : List Insn). IsVerdictOn (subject_of_insns x hook version shapes) (refused.At s c)) same r
 
+-- no program is loaded from bytes whose program is refused for its control graph
 not_faultless : (bytes : List ℕ) (slot : ℕ) (cause : GraphCause) (v : Accepted)
     → HasRefusedProgram bytes (refused.At slot (Graph cause)) → Loads bytes v → ⊥
 not_faultless bytes slot cause v b l =
@@ -189,6 +195,7 @@ one_answer bytes (fault.Refused slot (Graph cause)) answer fits of b a = graph_f
 one_answer bytes (fault.Refused slot (State obligation)) answer fits of b a = absurd of
 one_answer bytes fault.OutOfMemory answer fits of b a = absurd of
 
+-- two numbers that are each the greatest with a property are the same
 one_greatest : (P : ℕ → Type 0) (m n : ℕ) → IsGreatest P m → IsGreatest P n → m ≡ n
 one_greatest P m n a b = let below = a.bounds n b.holds in let above = b.bounds m a.holds in omega (arith, below, above)
 

@@ -41,6 +41,7 @@ failed_stays bytes more fault.OutOfMemory h = absurd h.0
 failed_of : (fed : Fed) (bytes : List ℕ) (f : LoadFault) → fed.failed ≡ Some f → StandsFor fed bytes → HasFailed bytes f
 failed_of fed bytes f e h = subst (λ (o : Option LoadFault). stands fed.held fed.past o bytes) e h
 
+-- a reader that has answered a fault stands for bytes that have this fault
 stands_failed : (fed : Fed) (bytes : List ℕ) (f : LoadFault) → fed.failed ≡ Some f → HasFailed bytes f → StandsFor fed bytes
 stands_failed fed bytes f e h = subst (λ (o : Option LoadFault). stands fed.held fed.past o bytes) (sym e) h
 
@@ -94,6 +95,7 @@ record HasTail (bytes : List ℕ) (slots past : ℕ) (part : List ℕ) : Type 0 
   bytes_are : bytes ≡ header_bytes header ++ tail
   long : length tail ≡ length part + past
 
+-- a header that a reader holds, with bytes counted behind, is the header of all the bytes
 tail_of : (held bytes : List ℕ) (past : ℕ) (s : Spelled) (part : List ℕ)
     → AreBytes held → header_at held ≡ Ok (s, part) → 0 < past → Holds held past bytes
     → HasTail bytes s.slots past part

@@ -12,6 +12,7 @@ pub bind_ok : {A B : Type 0} (r : Result A LoadFault) (f : A → Result B LoadFa
 bind_ok (Ok x) f y e = (x, refl, e)
 bind_ok (Err d) f y e = absurd cc
 
+-- the result of a reading that gave this value
 abbrev done : {A : Type 0} → A → Result A LoadFault
 done x = Ok x
 

@@ -1,4 +1,4 @@
--- Bytes are one header, and one image.
+-- Bytes are at most one header with its program, and at most one list of shapes.
 use Rattle.std.proofs.Common.{◌≡◌, ℕ, ◌*◌, ◌^◌, ◌<◌, ltb, false, List, [], ◌∷◌, ◌++◌, length, Result, Ok, refl, sym, ap, subst, ◌∙◌, arith}
 use Rattle.std.specs.Int.{w16, to_le_bytes}
 use Rattle.std.proofs.Props.{props}
@@ -30,6 +30,7 @@ same_shape s t e f =
     let Q : ℕ → Type 0 = λ n. (h : IsShape t.value_size n) → s ≡ shape_of t.value_size n h in
     subst Q f second (shape_facts t)
 
+-- the size of a value and the number of entries of a shape are below 2^16:
 small_size : (s : MapShape) → s.value_size < 2 ^ 16
 small_size s = omega (arith, s.greatest_size)
 

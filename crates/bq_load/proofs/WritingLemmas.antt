@@ -9,6 +9,7 @@ use Rattle.bq_load.specs.Layout.{Header}
 use Rattle.bq_load.specs.Writing.{written_image}
 use Rattle.bq_load.proofs.HeaderLemmas.{regroup_header}
 
+-- a good length of a program is eight bytes for each of 1 to 4096 slots:
 eights : (n : ℕ) → ((n % 8 == 0) && (nat_le 1 n && nat_le n 32768)) ≡ true → n ≡ 8 * (n / 8)
 eights n h = grind (arith, nat_tests)
 

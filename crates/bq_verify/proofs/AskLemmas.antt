@@ -15,6 +15,7 @@ pub record Asked (state : AbstractState) (insn : Insn) : Type 0 where
   pub needs : IsAsking state helper
   pub other : helper ≢ pos 1
 
+-- the helpers of counters are not helper 1
 other_one : (helper : ℤ) → (helper ≡ pos 100) ⊎ (helper ≡ pos 101) → helper ≢ pos 1
 other_one helper (inl e) one = omega (arith, ints, e, one)
 other_one helper (inr e) one = omega (arith, ints, e, one)

@@ -25,6 +25,7 @@ use Rattle.bq_verify.specs.Straight.{leaves, loads, stores, untouched, writes, H
 use Rattle.bq_verify.specs.Worked.{calls_program, CallingIsStraight}
 use Rattle.bq_verify.proofs.EachSlotLemmas.{each_slot, ◌then◌, holds_along_path, made_before, made_first, goes_next, goes_nowhere, edge_on, path_on, no_jump, not_frame}
 
+-- the slots of the worked program with calls
 abbrev program : List (Option Insn)
 program = spread calls_program
 
@@ -32,6 +33,7 @@ program = spread calls_program
 abbrev before : ℕ → ℕ
 before k = slice_index (0 ∷ 0 ∷ 0 ∷ 1 ∷ 3 ∷ 4 ∷ 5 ∷ 6 ∷ 7 ∷ 8 ∷ 9 ∷ 10 ∷ 11 ∷ 12 ∷ 13 ∷ []) k
 
+-- each edge to a slot comes from the slot before it
 only_before : (from to : ℕ) → IsEdge program from to → from ≡ before to
 only_before from to edge =
     each_slot program (λ from insn. (to : ℕ) → Leaves insn from to → from ≡ before to)
@@ -51,6 +53,7 @@ only_before from to edge =
     then goes_nowhere program before 14 refl
     then tt) from edge.insn edge.here to edge.leaves
 
+-- at most one edge leads to each slot
 one_way : (slot : ℕ) → HasOneWay program slot
 one_way slot a b p q = only_before a slot p ∙ sym (only_before b slot q)
 
@@ -97,10 +100,12 @@ to_13 = path_on program 12 _ refl refl to_12
 to_14 : Path program 0 14
 to_14 = path_on program 13 _ refl refl to_13
 
+-- a call of a helper that exists calls no unknown helper
 a_helper : (a h : ℤ) → is_helper a ≡ true → Call a ≡ Call h → is_helper h ≡ false → ⊥
 a_helper a h known is unknown =
     let same : a ≡ h = cc in let there : is_helper a ≡ false = subst (λ (n : ℤ). is_helper n ≡ false) (sym same) unknown in cc
 
+-- a slot below 15 is not past the end
 inside : (n : ℕ) → n < 15 → 15 ≤ n → ⊥
 inside n lt le = omega arith
 
@@ -111,6 +116,7 @@ goes_forward : (n : ℕ) (insn : Insn) → instruction_at program n ≡ Some ins
 goes_forward n insn here none some to (inl on) = let is = on.1 in omega (arith, is, some)
 goes_forward n insn here none some to (inr jump) = absurd (none-some jump.0 (sym none ∙ jump.1))
 
+-- no edge leads back, neither from the EXIT nor from any other instruction:
 exits : (to : ℕ) → Leaves Exit 14 to → 14 < to
 exits to leaves = absurd (exit_is_last program 14 to refl (record { insn = Exit; here = refl; leaves = leaves }))
 
@@ -148,6 +154,7 @@ few_calls (next ∷ rest) from path =
     let one = one_call (instruction_at program from) in
     omega (arith, step, more, one)
 
+-- each instruction begins below slot 15
 low : (k : ℕ) (insn : Insn) → instruction_at program k ≡ Some insn → k < 15
 low =
     each_slot program (λ k insn. k < 15)
@@ -155,6 +162,7 @@ low =
     then omega arith then omega arith then omega arith then omega arith then omega arith then omega arith
     then omega arith then omega arith then tt)
 
+-- no path to an instruction has sixteen calls of counters
 never_late : (slot count : ℕ) (insn : Insn) → instruction_at program slot ≡ Some insn → CallsOnWay program slot count → 16 ≤ count → ⊥
 never_late slot count insn here way many =
     let few = few_calls way.rest 0 way.is_path in
@@ -163,6 +171,7 @@ never_late slot count insn here way many =
     let lt = low slot insn here in
     omega (arith, few, ends, is, lt, many)
 
+-- the control graph of the program has no fault
 faultless : IsFaultless program
 faultless Jump slot fault =
     each_slot program
@@ -261,9 +270,11 @@ value_7 = (one_way 7, edge_on program 6 _ refl refl, inl (refl, 512, value_6, re
 value_8 : IsPointerFrom program Stack 504 3 8 (7 ∷ 6 ∷ 5 ∷ [])
 value_8 = (one_way 8, edge_on program 7 _ refl refl, inr ((refl, tt), value_7))
 
+-- the last eight bytes of the stack are stored on each path to the update
 stored_8 : (i : ℕ) → 504 ≤ i → i < 512 → IsByteStored program 8 i
 stored_8 i le lt = (Double, neg_ℤ (pos 8), made_first program (stores Double (neg_ℤ (pos 8))) refl 8 (omega arith), (504, refl, le, lt))
 
+-- at the update register 1 names the map, and register 2 points to the stored key
 naming : IsEntryNamed program 8 0
 naming = record {
   names = (7 ∷ 6 ∷ 5 ∷ 4 ∷ 3 ∷ 1 ∷ [], names_8);
@@ -273,9 +284,11 @@ naming = record {
   stored = λ i le lt. stored_8 i le (omega arith);
 }
 
+-- at the update register 4 was loaded with 0
 flags_8 : IsLoaded program 8 4 0
 flags_8 = made_before program (loads 4 0) (untouched 4) false 8 (omega arith) (λ from edge. rw (only_before from 8 edge) refl)
 
+-- the call of helper 2 has what an update needs, if the map's values have at most 8 bytes
 giving : (shape : MapShape) → shape.value_size ≤ 8 → IsGiving program (shape ∷ []) 8 0
 giving shape small = record {
   naming = naming;
@@ -306,6 +319,7 @@ made_then_left slots makes leaves first j k later past made only left rest path 
     rest 0 first path (λ same. absurd (omega (arith, same, later)), λ same. absurd (omega (arith, same, past)))).1
     ends
 
+-- register 2 is written on each path to the first counter call, and register 0 on each path to the EXIT:
 written_11 : IsWrittenOnEachPath program 11 2
 written_11 =
     made_then_left program (writes 2) (leaves 2) false 10 11 (omega arith) (omega arith)
@@ -314,6 +328,7 @@ written_11 =
 written_14 : IsWrittenOnEachPath program 14 0
 written_14 = made_before program (writes 0) (leaves 0) false 14 (omega arith) (λ from edge. rw (only_before from 14 edge) refl)
 
+-- both calls of counters have what they need:
 counting_11 : IsCounting program 11 (pos 100)
 counting_11 = record {
   counter = 5;
@@ -331,12 +346,14 @@ counting_13 = record {
   amount = λ is. absurd (omega (arith, ints, is));
 }
 
+-- a register below 5 is below register 10, and the number of map 0 is below that of maps:
 below_10 : (n : ℕ) → n < 5 → n < 10
 below_10 n lt = omega arith
 
 first_below : 0 < 1
 first_below = omega arith
 
+-- adding -8 to a pointer to the stack's end is a move on the stack
 sum_of : (r at : ℕ) (back : List ℕ) → IsPointerFrom program Stack 512 r at back → IsMoveOnStack program at W64 Add r (Imm (neg_ℤ (pos 8)))
 sum_of r at back from = record {
   whole = refl;

@@ -13,6 +13,7 @@ use Rattle.bq_verify.specs.declared.targets.Targets.{Targets}
 use Rattle.bq_insn.proofs.OptionLemmas.{some_same, some_none}
 use Rattle.bq_verify.proofs.EdgeLemmas.{edge_inside, end_of-push, IsPath-push}
 
+-- after one count is set to a number no less, each count is at least what it was
 raised_at : (old : List (Option ℕ)) (t g k a : ℕ) (b : Bool) → t < length old → IfSome (get_or old t None) (λ n. n ≤ g)
     → get_or old k None ≡ Some a → ((b ≡ true) × (k ≡ t)) ⊎ ((b ≡ false) × (k ≢ t))
     → (n : ℕ) × (get_or (set old t (Some g)) k None ≡ Some n) × (a ≤ n)
@@ -22,6 +23,7 @@ raised_at old t g k a b lt bound e (inl (_, same)) =
     (g, rw (same, get_or-set_same old t (Some g) None lt) refl, le)
 raised_at old t g k a b lt bound e (inr (_, other)) = (a, rw (get_or-set_other old t k (Some g) None other) e, omega arith)
 
+-- after one count is set, each count is an old one, or the new one at that slot
 only_at : (old : List (Option ℕ)) (t g count k v : ℕ) (b : Bool)
     → t < length old → (g ≡ count) ⊎ (get_or old t None ≡ Some g) → get_or (set old t (Some g)) k None ≡ Some v
     → ((b ≡ true) × (k ≡ t)) ⊎ ((b ≡ false) × (k ≢ t))
@@ -48,6 +50,7 @@ raises_set old t g count lt le bound one = record {
   only = λ k v e. only_at old t g count k v _ lt one e (eqb_tells k t);
 }
 
+-- a truth value as a number is at most 1
 if_one : (b : Bool) → (if b then 1 else 0) ≤ 1
 if_one true = omega arith
 if_one false = omega arith
@@ -106,6 +109,7 @@ module _ (slots : List (Option Insn)) where
   module _ (sound : IsGraphSound slots) (slot : ℕ) (targets : Targets) (out : LeadsOut slots slot targets)
       (n count : ℕ) (count_is : count ≡ n + counter_calls_of (instruction_at slots slot)) (old mid new : List (Option ℕ))
       (first : Raises old targets.next count mid) (second : Raises mid targets.jump count new) where
+    -- each target comes later than the slot
     later : (to : ℕ) → IsAmongTargets targets to → slot < to
     later to of = (sound.forward slot to (out.only to of)).0
 
@@ -114,6 +118,7 @@ module _ (slots : List (Option Insn)) where
         → (slice_index_or old k None ≡ Some b) ⊎ (IsAmongTargets targets k × (b ≡ count))
     origin k b e = by_second (second.only k b e)
       where
+        -- a count after the first raise, or after both, is an old one or the new one at a target:
         by_first : (slice_index_or old k None ≡ Some b) ⊎ ((targets.next ≡ Some k) × (b ≡ count))
             → (slice_index_or old k None ≡ Some b) ⊎ (IsAmongTargets targets k × (b ≡ count))
         by_first (inl e') = inl e'
@@ -124,6 +129,7 @@ module _ (slots : List (Option Insn)) where
         by_second (inl e') = by_first (first.only k b e')
         by_second (inr (t, e')) = inr (inr t, e')
 
+    -- the counts up to this slot stay as they were
     low : (k b : ℕ) → k ≤ slot → slice_index_or new k None ≡ Some b → slice_index_or old k None ≡ Some b
     low k b le e = by (origin k b e)
       where
@@ -131,12 +137,14 @@ module _ (slots : List (Option Insn)) where
         by (inl e') = e'
         by (inr (of, e')) = let lt = later k of in absurd (omega arith)
 
+    -- no count falls
     kept : (k a : ℕ) → slice_index_or old k None ≡ Some a → (b : ℕ) × (slice_index_or new k None ≡ Some b) × (a ≤ b)
     kept k a e =
         let one = first.kept k a e in
         let two = second.kept k one.0 one.1 in
         (two.0, two.1, omega (arith, one.2, two.2))
 
+    -- each target has at least the new count
     reached : (to : ℕ) → IsAmongTargets targets to → (b : ℕ) × (slice_index_or new to None ≡ Some b) × (count ≤ b)
     reached to (inr e) = second.raised to e
     reached to (inl e) =
@@ -162,6 +170,7 @@ module _ (slots : List (Option Insn)) where
         let one = reached to (out.each to edge) in
         (one.0, one.1, rw (same, ← count_is) one.2))
       where
+        -- a new count is the counter calls of some path, and at most the number of its slot:
         way_by : (k b : ℕ) → (slice_index_or old k None ≡ Some b) ⊎ (IsAmongTargets targets k × (b ≡ count)) → CallsOnWay slots k b
         way_by k b (inl e) = before.way k b e
         way_by k b (inr (of, e)) = rw (e, count_is) (extend slot k n (before.way slot n here) (out.only k of))
@@ -184,6 +193,7 @@ module _ (slots : List (Option Insn)) where
         let more = along next rest one.0 p.1 one.1 in
         (more.0, more.1, omega (arith, one.2, more.2))
 
+    -- a number at a slot is the most calls on a path to the slot, and a slot without a number has no path
     most_by : (k : ℕ) (v : Option ℕ) → slice_index_or most k None ≡ v → IsMostCalls slots k v
     most_by k None e = λ path.
         let far = along 0 path.rest counted.begins.0 path.is_path counted.begins.1 in

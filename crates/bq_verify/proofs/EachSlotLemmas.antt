@@ -64,6 +64,7 @@ made_before slots makes leaves first slot later made rest path ends =
     let m : makes (instruction_at slots from) ≡ true = made from (subst (λ (n : ℕ). IsEdge slots from n) same edge) in
     rw m refl) rest 0 first path (λ same. absurd (omega arith)) ends
 
+-- what the first instruction makes so, and what holds at each later slot, is so after each slot
 from_first : (slots : List (Option Insn)) (makes : Option Insn → Bool)
     → makes (instruction_at slots 0) ≡ true → (from : ℕ) (held : Bool) → (0 < from → held ≡ true)
     → (makes (instruction_at slots from) || held) ≡ true

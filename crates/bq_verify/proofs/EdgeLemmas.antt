@@ -1,4 +1,4 @@
--- Edges and paths.
+-- Edges of the control graph, the paths along them, and the targets of each instruction.
 use Rattle.std.proofs.Common.{◌≡◌, ℕ, ◌+◌, ◌<◌, ◌≤◌, Bool, true, false, List, [], ◌∷◌, ◌++◌, Option, Some, None, length, refl, arith, sym, ap, subst, ◌⊎◌, inl, inr, ℤ, pos, ◌∙◌}
 use Rattle.std.specs.Prelude.{IfSome, IfNone, if◌then◌else◌}
 use Rattle.std.proofs.lemmas.Bool.{cases_lt}
@@ -82,6 +82,7 @@ exit_is_last slots slot to exits edge =
     exit_leaves slot to (subst (λ (i : Insn). Leaves i slot to) same edge.leaves)
 
 module _ (slots : List (Option Insn)) (slot : ℕ) (insn : Insn) (here : instruction_at slots slot ≡ Some insn) (targets : Targets) where
+  -- the next target is given exactly when control goes on: it is the slot after the instruction, in both directions:
   next_of : (b : Bool) → goes_on insn ≡ b → targets.next ≡ (if goes_on insn then Some (slot + slots_of insn) else None)
       → (to : ℕ) → targets.next ≡ Some to
       → (goes_on insn ≡ true) × (to ≡ slot + slots_of insn)
@@ -97,6 +98,7 @@ module _ (slots : List (Option Insn)) (slot : ℕ) (insn : Insn) (here : instruc
       → targets.next ≡ Some to
   next_from e to g same = rw same (let there : targets.next ≡ Some (slot + slots_of insn) = rw g at e in there)
 
+  -- the jump's target is given exactly when the instruction jumps: it is where the jump leads, in both directions:
   jump_from : (v : Option ℕ) → targets.jump ≡ v
       → IfSome v (λ to. (distance : ℤ) × (distance_of insn ≡ Some distance) × LeadsTo slot distance to)
       → IfNone v (distance_of insn ≡ None) → (to : ℕ) (distance : ℤ) → distance_of insn ≡ Some distance
@@ -117,6 +119,7 @@ module _ (slots : List (Option Insn)) (slot : ℕ) (insn : Insn) (here : instruc
       let same : t ≡ to = some_same _ _ _ refl f in
       (some.0, some.1, subst (λ (n : ℕ). LeadsTo slot some.0 n) same some.2)
 
+  -- each slot to which the instruction leads is a target, and it leads to each target:
   each_by : targets.next ≡ (if goes_on insn then Some (slot + slots_of insn) else None)
       → IfSome targets.jump (λ to. (distance : ℤ) × (distance_of insn ≡ Some distance) × LeadsTo slot distance to)
       → IfNone targets.jump (distance_of insn ≡ None) → (to : ℕ) → Leaves insn slot to
@@ -131,6 +134,7 @@ module _ (slots : List (Option Insn)) (slot : ℕ) (insn : Insn) (here : instruc
   only_by next some to (inl e) = inl (next_of (goes_on insn) refl next to e)
   only_by next some to (inr e) = inr (jump_of targets.jump refl some to e)
 
+  -- an instruction that has no target is an EXIT
   none_by : (b : Bool) → goes_on insn ≡ b → (v : Option ℕ) → targets.jump ≡ v
       → targets.next ≡ (if goes_on insn then Some (slot + slots_of insn) else None) → IfNone v (distance_of insn ≡ None)
       → targets.next ≡ None → v ≡ None

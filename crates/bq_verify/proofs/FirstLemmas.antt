@@ -1,4 +1,4 @@
--- The fault that is named is one.
+-- The first fault of a program has one cause and one slot.
 use Rattle.std.proofs.Common.{◌≡◌, ℕ, zero, suc, ◌<◌, ◌≤◌, List, Option, refl, sym, ap, subst, ◌∙◌, arith, ◌⊎◌, inl, inr}
 use Rattle.std.proofs.lemmas.Bool.{cases_lt}
 use Rattle.bq_insn.specs.declared.Insn.{Insn}
@@ -17,6 +17,7 @@ cause_at (suc (suc (suc (suc zero)))) = Frame
 cause_at (suc (suc (suc (suc (suc zero))))) = Helper
 cause_at (suc (suc (suc (suc (suc (suc n)))))) = Counters
 
+-- the cause of a fault is the one whose check has that place
 at_place : (slots : List (Option Insn)) (a : GraphCause) (j : ℕ) → HasFault slots a j → cause_at (check_place a) ≡ a
 at_place slots Jump j h = refl
 at_place slots NoExit j h = refl
@@ -30,6 +31,7 @@ not_before : (slots : List (Option Insn)) (a b : GraphCause) (j k : ℕ)
     → IsFirstFault slots a j → IsFirstFault slots b k → check_place a < check_place b → ⊥
 not_before slots a b j k first second lt = second.0 a lt j first.1.0
 
+-- two first faults of one cause are at the same slot, and any two first faults belong to the same check:
 same_slot : (slots : List (Option Insn)) (a : GraphCause) (j k : ℕ)
     → IsFirstFault slots a j → IsFirstFault slots a k → (j < k) ⊎ (k ≤ j) → (k < j) ⊎ (j ≤ k) → j ≡ k
 same_slot slots a j k first second (inl lt) back = absurd (second.1.1 j lt first.1.0)

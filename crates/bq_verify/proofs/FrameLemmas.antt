@@ -23,6 +23,7 @@ use Rattle.bq_verify.specs.Control.{SparesFrame}
 abbrev AreInsns : List (Option Insn) → Type 0
 AreInsns slots = (slot : ℕ) (insn : Insn) → instruction_at slots slot ≡ Some insn → is_insn insn ≡ true
 
+-- instructions in range stay so with an empty slot, an instruction in range, or all of its slots before them:
 behind_none : (slots : List (Option Insn)) → AreInsns slots → AreInsns (None ∷ slots)
 behind_none slots rest zero insn here = absurd (some_none _ _ here refl)
 behind_none slots rest (suc k) insn here = rest k insn here
@@ -42,12 +43,14 @@ behind first slots good rest (inr two) =
     subst (λ (n : ℕ). AreInsns ((Some first ∷ replicate n None) ++ slots)) single
     (behind_some first (None ∷ slots) good (behind_none slots rest))
 
+-- the slots of a program whose instructions are in range hold only such instructions
 spread_insns : (insns : List Insn) → list_all is_insn insns ≡ true → AreInsns (spread insns)
 spread_insns [] all = λ k insn here. absurd (some_none _ _ here refl)
 spread_insns (first ∷ rest) all =
     let parts = and_parts (is_insn first) (list_all is_insn rest) all in
     behind first (spread rest) parts.0 (spread_insns rest parts.1) (one_or_two first)
 
+-- a destination that passes the test of its range is at most 10
 small : (d r : ℕ) → nat_le d 10 ≡ true → Some d ≡ Some r → r ≤ 10
 small d r le same =
     let is : d ≡ r = some_same _ _ _ refl same in
@@ -75,6 +78,7 @@ destination_small (Imm64 d v) r good same = small d r good same
 destination_small (MapRef d i) r good same = small d r good same
 destination_small _ r good same = absurd (some_none _ _ same refl)
 
+-- in a program without faults an instruction writes no register from 10 on
 below : (slots : List (Option Insn)) (slot r : ℕ) (insn : Insn)
     → IsFaultless slots → instruction_at slots slot ≡ Some insn → destination_of insn ≡ Some r → r ≤ 10 → (r < 10) ⊎ (10 ≤ r)
     → r < 10

@@ -1,4 +1,4 @@
--- The longest path from each slot.
+-- The height of a slot: the number of instructions on the longest path from it to an EXIT.
 use Rattle.std.proofs.Common.{◌≡◌, ◌≢◌, ℕ, suc, ◌+◌, ◌<◌, ◌≤◌, max, Bool, true, false, List, [], ◌∷◌, Option, Some, None, length, refl, arith, sym, ap, subst, zero-le, ◌⊎◌, inl, inr, ◌∙◌, get_or, set, get_or-set_same, get_or-set_other}
 use Rattle.std.specs.Prelude.{slice_index, slice_set}
 use Rattle.std.proofs.lemmas.Bool.{cases_lt}
@@ -19,11 +19,13 @@ module _ (slots : List (Option Insn)) (sound : IsGraphSound slots) where
       let less = path_rises slots sound.forward k out.rest out.is_path (record { insn = Exit; here = out.exits }) in
       omega (arith, out.count_is)
 
+  -- the length of a path out may be written as any equal number
   recount : (k n m : ℕ) → m ≡ n → PathOut slots k n → PathOut slots k m
   recount k n m same out = record { rest = out.rest; is_path = out.is_path; exits = out.exits; count_is = same ∙ out.count_is }
 
   module _ (slot : ℕ) (targets : Targets) (out : LeadsOut slots slot targets) (heights : List ℕ)
       (measured : Measured slots (slot + 1) heights) where
+    -- the height of a target is the length of its longest path out, and one more is that of a path out from the slot:
     best : (to : ℕ) → IsAmongTargets targets to → IsGreatest (PathOut slots to) (slice_index heights to)
     best to of =
         let later = target_later slots slot targets sound out to of in
@@ -34,6 +36,7 @@ module _ (slots : List (Option Insn)) (sound : IsGraphSound slots) where
         let on = (best to of).holds in
         record { rest = to ∷ on.rest; is_path = (out.only to of, on.is_path); exits = on.exits; count_is = omega (arith, on.count_is) }
 
+    -- the height at a target, or 0 if there is no target, is at most the number of slots
     small : (v : Option ℕ) → ((to : ℕ) → v ≡ Some to → IsAmongTargets targets to) → height_to heights v ≤ length slots
     small None of = omega arith
     small (Some to) of = let short = out_short to _ (best to (of to refl)).holds in omega arith
@@ -42,6 +45,7 @@ module _ (slots : List (Option Insn)) (sound : IsGraphSound slots) where
     pub heights_small : (height_to heights targets.next ≤ length slots) × (height_to heights targets.jump ≤ length slots)
     heights_small = (small targets.next (λ to e. inl e), small targets.jump (λ to e. inr e))
 
+    -- some path out is one longer than the longer of those from the targets
     holds_by : (n j : Option ℕ) → targets.next ≡ n → targets.jump ≡ j
         → PathOut slots slot (1 + max (height_to heights n) (height_to heights j))
     holds_by None None e f = record { rest = []; is_path = tt; exits = out.none e f; count_is = refl }
@@ -54,9 +58,11 @@ module _ (slots : List (Option Insn)) (sound : IsGraphSound slots) where
         by (inl lt) = recount slot _ _ (omega arith) (via b (inr f))
         by (inr le) = recount slot _ _ (omega arith) (via a (inl e))
 
+    -- the height at a target that is given is the one in the list
     height_is : (to : ℕ) (v : Option ℕ) → v ≡ Some to → height_to heights v ≡ slice_index heights to
     height_is to v e = ap (λ (o : Option ℕ). height_to heights o) e
 
+    -- no path out is more than one longer than the longer of those from the targets:
     bound_by : (to n : ℕ) → n ≤ slice_index heights to → IsAmongTargets targets to
         → n ≤ max (height_to heights targets.next) (height_to heights targets.jump)
     bound_by to n le (inl e) = let same = height_is to targets.next e in omega arith
@@ -80,6 +86,7 @@ module _ (slots : List (Option Insn)) (sound : IsGraphSound slots) where
       bounds = λ m path. bounds_by m path.rest path.is_path path.exits path.count_is;
     }
 
+-- after the height of a slot is set to its longest path out, each height from there on is right
 measured_at : (slots : List (Option Insn)) (slot h k : ℕ) (heights : List ℕ) (b : Bool)
     → slot < length heights → Measured slots (slot + 1) heights → (IsStart slots slot → IsGreatest (PathOut slots slot) h)
     → slot ≤ k → IsStart slots k → ((b ≡ true) × (k ≡ slot)) ⊎ ((b ≡ false) × (k ≢ slot))

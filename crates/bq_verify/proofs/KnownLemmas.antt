@@ -70,6 +70,7 @@ leaves_does f (Branch w c dst src off) s t (a, b, p, q, inr (is_not, is)) = inl 
 leaves_does f (Call h) s t p = inl (refl, helped f h s t p)
 leaves_does f Exit s t p = absurd p
 
+-- what a step does, with or without a counter call, it does along an edge too
 leaves_takes : (f : Setting) (insn : Insn) (s : State) (c : Option CounterCall) (t : State) → Takes f insn s c t → Leaves insn s.slot t.slot
 leaves_takes f insn s None t p = leaves_does f insn s t p
 leaves_takes f (Call h) s (Some c) t p = inl (refl, ap (λ (x : State). x.slot) p.2)
@@ -128,6 +129,7 @@ module _ (p : Subject) (sound : IsGraphSound p.slots) (small : p.context < 2 ^ 1
       omega (arith, forward f setting s n before u chain, (sound.forward u.slot t.slot edge).0)
 
   module _ (target : ℕ) (seen : AbstractState) (slot : ℕ) (K L : Setting → State → Type 0) where
+    -- a chain from a known state, at this slot or later, comes to the target only in states that `seen` describes
     at_state : slot < target → PassesOn p slot K L → RestIsCovered p target seen (slot + 1) L
         → (f : Setting) (s : State) (b : Bool) → IsSetting p.slots p.shapes p.context f → slot ≤ s.slot
         → IsStart p.slots s.slot → K f s → ((b ≡ true) × (s.slot ≡ slot)) ⊎ ((b ≡ false) × (s.slot ≢ slot))
@@ -163,6 +165,7 @@ module _ (p : Subject) (sound : IsGraphSound p.slots) (small : p.context < 2 ^ 1
       let there : s.slot ≡ target = ap (λ (x : State). x.slot) (sym is) ∙ here in
       subst (Contains f seen) (sym is) (is_seen (arrives f s setting.shapes_are known) there)
     where
+      -- a known state at the target is one that `seen` describes
       is_seen : IsKnown after seen arrived target f s → s.slot ≡ target → Contains f seen s
       is_seen (inl waits) there =
           absurd (none_waits f s (slice_index_or after target None) empty (waits_at_slot f s after target there waits))
@@ -181,6 +184,7 @@ module _ (p : Subject) (sound : IsGraphSound p.slots) (small : p.context < 2 ^ 1
       let there : s.slot ≡ target = ap (λ (x : State). x.slot) (sym is) ∙ here in
       absurd (is_none (arrives f s setting.shapes_are known) there)
     where
+      -- no known state is at the target
       is_none : IsKnown after seen arrived target f s → s.slot ≡ target → ⊥
       is_none (inl waits) there = none_waits f s (slice_index_or after target None) empty (waits_at_slot f s after target there waits)
       is_none (inr (e, same, contains)) there = both_ways arrived not e
@@ -196,6 +200,7 @@ nowhere shapes = record {
   related = [];
 }
 
+-- it describes no state
 contains_none : (f : Setting) (s : State) → Contains f (nowhere f.shapes) s → ⊥
 unfolding nowhere
 contains_none f s contains =

@@ -123,6 +123,7 @@ module _ (f : Setting) (n : ℕ) where
   step_longer : (s : State) (c : Option CounterCall) (t : State) → Step (shortened f n) s c t → Step f s c t
   step_longer s c t p = record { insn = p.insn; here = p.here; takes = takes_longer p.insn s c t p.takes }
 
+  -- so do an end, a chain of steps, and going on:
   ends_longer : (s : State) (answer : ℕ) (maps : List (List ℕ)) → Ends (shortened f n) s answer maps → Ends f s answer maps
   ends_longer s answer maps p = record { here = p.here; answer_is = p.answer_is; maps_are = p.maps_are }
 

@@ -85,6 +85,7 @@ test_chooses_side f state s slot dst a b src (Some word) right relation is opera
 )
 
 module _ (p : Subject) (slot : ℕ) (state : AbstractState) (K : Setting → State → Type 0) where
+  -- the instruction that a state at the slot runs is the one at the slot in the program
   here_at : (insn : Insn) → instruction_at p.slots slot ≡ Some insn → (f : Setting) (s : State)
       → IsSetting p.slots p.shapes p.context f → s.slot ≡ slot
       → instruction_at f.slots s.slot ≡ Some insn
@@ -149,6 +150,7 @@ module _ (p : Subject) (slot : ℕ) (state : AbstractState) (K : Setting → Sta
         added f (called s x) (ap (λ (n : ℕ). n + 1) same) on.3,
       )))
 
+  -- a branch leads on to a known state, whichever side its test chooses
   parted : (w : Width) (c : Condition) (dst : ℕ) (src : Source) (off : ℤ) (to : ℕ) (f : Setting) (s : State)
       → instruction_at f.slots s.slot ≡ Some (Branch w c dst src off) → LeadsTo s.slot off to
       → (parts : BranchesTo K f s w c dst src to (s.slot + 1)) (v : Bool) → taken w c parts.left parts.right ≡ v
@@ -233,6 +235,7 @@ ends_more f s (suc n) (suc m) made made' le le' (inr (inr (few, each))) =
       λ x small. let e = each x small in (e.0, e.1, e.2, e.3, ends_more f e.1 n m (made + 1) (made' + 1) (omega arith) (omega arith) e.4),
     ))
 
+-- a state that ends now ends within any budget from 1 on, and a state one step before ends within a greater budget:
 ends_now : (f : Setting) (s : State) (n made answer : ℕ) → 1 ≤ n → Ends f s answer s.maps → EndsWithin f s n made
 ends_now f s zero made answer le ends = absurd (omega arith)
 ends_now f s (suc n) made answer le ends = inl (answer, ends)
@@ -294,6 +297,7 @@ module _ (p : Subject) (heights : List ℕ) (made : ℕ → ℕ) (sound : IsGrap
         rest f e.1 setting (omega (arith, later.0)) later.1 e.5,
       ))
 
+  -- each known state, at this slot or later, ends within the height of its slot
   at_state : PassesOn p slot K L → RestIsSafe p heights made (slot + 1) L
       → (f : Setting) (s : State) (b : Bool) → IsSetting p.slots p.shapes p.context f → slot ≤ s.slot → IsStart p.slots s.slot
       → K f s → ((b ≡ true) × (s.slot ≡ slot)) ⊎ ((b ≡ false) × (s.slot ≢ slot))
@@ -326,6 +330,7 @@ module _ (p : Subject) (slot : ℕ) (pending : List (Option (Box AbstractState G
     λ same. absurd (here (arrives f s setting.shapes_are known) same),
   )
     where
+      -- a state known at another slot stays known, and none is known at this one:
       side : IsKnown pending state live slot f s → s.slot ≢ slot → IsKnown pending after false (slot + 1) f s
       side (inl waits) other = inl waits
       side (inr (e, same, contains)) other = absurd (other same)
@@ -341,6 +346,7 @@ module _ (p : Subject) (slot : ℕ) (pending : List (Option (Box AbstractState G
   passes_by new after on kept goes f s setting begins known =
       (λ other. side (arrives f s setting.shapes_are known) other, λ same. here (arrives f s setting.shapes_are known) same)
     where
+      -- a state known at another slot stays known, and one at this slot leads on to a known one:
       side : IsKnown pending state live slot f s → s.slot ≢ slot → IsKnown new after on (slot + 1) f s
       side (inl waits) other = inl (kept f s setting.shapes_are waits)
       side (inr (e, same, contains)) other = absurd (other same)

@@ -24,6 +24,7 @@ use Rattle.bq_transfer.specs.After.{IsFoundSide, After}
 use Rattle.bq_insn.proofs.OptionLemmas.{some_none}
 use Rattle.bq_transfer.proofs.CertaintyLemmas.{not_both, pointer_is, given_has, knowing_given}
 
+-- a register that is known is not past the last of the registers
 known_within : (xs : List (Option AbstractValue)) (r : ℕ) (k : AbstractValue)
     → Some k ≡ slice_index_or xs r None → (r < length xs) ⊎ (length xs ≤ r) → r < length xs
 known_within xs r k known (inl within) = within
@@ -66,6 +67,7 @@ has_tested (IsSetAt i) slot k w c dst src off m found state stands side (inl sto
 has_tested (IsSetAt i) slot k w c dst src off m found state stands side (inr has) = inr (tt, tt, has)
 has_tested (IsPlainAt j) slot k w c dst src off m found state stands side after = inr (tt, tt, after)
 
+-- a fact that is not about a register stays sure when a word is learnt of the register
 knowing_apart : (x : Fact) (state : AbstractState) (dst : ℕ) (word : AbstractValue)
     → IsApartFrom x dst → Has x state → HasLearnt x state dst word
 knowing_apart Never state dst word other has = has
@@ -91,6 +93,7 @@ has_on_tested x state dst m found side there tested (inr (other, lasting, has)) 
     subst (λ (v : Option AbstractValue). HasOnSide x state dst v) (sym tested.is)
     (lasting, knowing_apart x state dst tested.word other has)
 
+-- what is sure once the abstract state knows a word of a register is sure after the word is learnt
 learnt_of : (x : Fact) (state : AbstractState) (dst : ℕ) (k : AbstractValue) → Has x (knowing state dst k) → HasLearnt x state dst k
 learnt_of Never state dst k has = has
 learnt_of (AtRegister s r) state dst k has = has

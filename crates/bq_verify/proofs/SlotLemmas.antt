@@ -43,6 +43,7 @@ spread_long (i ∷ rest) =
       gap,
     )
 
+-- a program that passes the test of its length has from 1 to 4096 slots
 limits : (b : Bool) (n : ℕ) → (b && (nat_le 1 n && nat_le n 4096)) ≡ true → (1 ≤ n) × (n ≤ 4096)
 limits true n h = (grind (arith, nat_tests), grind (arith, nat_tests))
 limits false n h = absurd (let no : ⊥ = cc in no)

@@ -1,4 +1,4 @@
--- Instructions over slots.
+-- The instructions of a program, spread over its slots, follow one after another without a gap.
 use Rattle.std.proofs.Common.{◌≡◌, ℕ, zero, suc, ◌+◌, ◌-◌, ◌<◌, List, [], ◌∷◌, ◌++◌, Option, Some, None, length, refl, arith, sym, subst, ap, ◌⊎◌, inl, inr, ◌∙◌, replicate, append_assoc, take, get_or}
 use Rattle.std.proofs.lemmas.List.{append-nil, take_more}
 use Rattle.bq_insn.specs.declared.Insn.{Insn}
@@ -26,6 +26,7 @@ pub record Begins (slots : List (Option Insn)) : Type 0 where
   pub whole : IsWhole slots
   pub first : 0 < length slots → IsStart slots 0
 
+-- an instruction still begins there when one more slot stands before all
 behind : (v : Option Insn) (slots : List (Option Insn)) (k : ℕ) → IsStart slots k → IsStart (v ∷ slots) (suc k)
 behind v slots k start = record { insn = start.insn; here = start.here }
 
@@ -37,6 +38,7 @@ later_whole v slots whole k insn here lt =
     let same : suc (k + slots_of insn) ≡ suc k + slots_of insn = omega arith in
     subst (λ (n : ℕ). IsStart (v ∷ slots) n) same (behind v slots _ (whole k insn here (omega arith)))
 
+-- slots without a gap stay so with an empty slot or an instruction before them:
 whole_none : (slots : List (Option Insn)) → IsWhole slots → IsWhole (None ∷ slots)
 whole_none slots whole zero insn here lt = absurd (some_none _ _ here refl)
 whole_none slots whole (suc k) insn here lt = later_whole None slots whole k insn here lt
@@ -50,6 +52,7 @@ whole_some first slots whole next zero insn here lt =
     subst (λ (n : ℕ). IsStart (Some first ∷ slots) n) e (next (omega arith))
 whole_some first slots whole next (suc k) insn here lt = later_whole (Some first) slots whole k insn here lt
 
+-- a whole program stays one with an instruction and its empty slots before it
 begins_some : (first : Insn) (slots : List (Option Insn)) → Begins slots → (slots_of first ≡ 1) ⊎ (slots_of first ≡ 2)
     → Begins ((Some first ∷ replicate (slots_of first - 1) None) ++ slots)
 begins_some first slots rest (inl one) =

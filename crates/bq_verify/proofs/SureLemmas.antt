@@ -37,10 +37,12 @@ use Rattle.bq_transfer.proofs.CertaintyLemmas.{exact_at_most}
 use Rattle.bq_verify.specs.Straight.{held_along, OnEachPath, is_destination, writes, leaves, spares, loads, untouched, stores, always, never, IsWrittenOnEachPath, IsStoredOnEachPath, IsLoaded, IsContextLeft, IsWrittenOperand, IsWrittenLeft, IsOnStack, MakesPointer, LeavesPointerIn, IsPointerFrom, IsPointerAt, IsInEntry, IsGoodLoad, IsGoodStore, IsCopyOfEnd, IsMoveOnStack, IsEntryNamed, IsGiving, IsCounting, Needs, IsStraightBefore, IsStraightProgram}
 use Rattle.bq_verify.specs.Sure.{IsFactDue, IsSure}
 
+-- what holds and was not made by an instruction was left by it and held before
 left_on : (a b x : Bool) → a ≡ false → (a || (b && x)) ≡ true → (b ≡ true) × (x ≡ true)
 left_on true b x e h = absurd (let no : ⊥ = cc in no)
 left_on false b x e h = and_parts b x h
 
+-- what the tests of integers, destinations and numbers find is so:
 int_is : (a b : ℤ) → int_eq a b ≡ true → a ≡ b
 int_is a b h = (Decides-int_eq a b).0 h
 
@@ -64,6 +66,7 @@ not_int a b h e =
     let yes' : int_eq a b ≡ true = (Decides-int_eq a b).1 e in
     let off : int_eq a b ≡ false = not-true (int_eq a b) h in let no : ⊥ = cc in no
 
+-- what `writes`, `leaves` and `spares` say of an instruction and a register, it does:
 writes_gives : (insn : Insn) (r : ℕ) → writes r (Some insn) ≡ true → GivesNumber insn r
 writes_gives (Alu w Mov dst (Imm i)) r h = eqb-true dst r h
 writes_gives (Alu w Mov dst (Reg src)) r h = let b = and_parts _ _ h in (eqb-true dst r b.0, not_equal src 10 b.1)
@@ -82,10 +85,12 @@ spares_is : (insn : Insn) (r : ℕ) → spares r (Some insn) ≡ true → Spares
 spares_is (Call helper) r h = let lt : 5 < r = ltb-true 5 r h in omega arith
 spares_is insn r h = register_other (destination_of insn) r h
 
+-- each instruction leaves a pointer of a certain kind as it is
 leaves_pointer : (kind : ValueKind) (insn : Insn) → IsCertain kind → LeavesPointer kind insn
 leaves_pointer kind (Branch w c dst src off) certain = certain
 leaves_pointer kind _ certain = tt
 
+-- an instruction that loads a number gives it; one that leaves a register untouched spares it and does not test it:
 loads_gives : (insn : Insn) (r n : ℕ) → loads r n (Some insn) ≡ true → GivesExact n insn r
 loads_gives (Alu W64 Mov dst (Imm i)) r n h = let b = and_parts _ _ h in (refl, eqb-true dst r b.0, sym (eqb-true (word_of i) n b.1))
 loads_gives _ r n h = absurd (let no : ⊥ = cc in no)
@@ -98,6 +103,7 @@ untouched_tests : (insn : Insn) (r : ℕ) → untouched r (Some insn) ≡ true �
 untouched_tests (Branch w c dst src off) r h = λ same. not_equal dst r h (sym same)
 untouched_tests _ r h = tt
 
+-- a store of this size at this offset from register 10 stores each of these bytes of the stack
 stores_byte : (insn : Insn) (size : Size) (off : ℤ) (i : ℕ) → stores size off (Some insn) ≡ true → IsStackByte size off i
     → StoresByte insn i
 stores_byte (StoreImm s dst o imm) size off i h byte =
@@ -115,6 +121,7 @@ stores_byte (StoreReg s dst o src) size off i h byte =
 stores_byte _ size off i h byte = absurd (let no : ⊥ = cc in no)
 
 module _ (slots : List (Option Insn)) (makes leaves : Option Insn → Bool) where
+  -- what holds after one slot more was made by the last instruction, or left by it and held before
   held-push : (before : Bool) (from : ℕ) (rest : List ℕ) (t : ℕ)
       → held_along slots makes leaves before from (rest ++ t ∷ [])
       ≡ (makes (instruction_at slots (path_end from rest))
@@ -123,6 +130,7 @@ module _ (slots : List (Option Insn)) (makes leaves : Option Insn → Bool) wher
   held-push before from (n ∷ rest) t =
       held-push (makes (instruction_at slots from) || (leaves (instruction_at slots from) && before)) n rest t
 
+  -- what holds on each path to a slot holds on each path that comes there by a given edge
   each_back : (first : Bool) (slot k : ℕ) → IsEdge slots slot k → OnEachPath slots makes leaves first k
       → (rest : List ℕ) → IsPath slots 0 rest → path_end 0 rest ≡ slot
       → (makes (instruction_at slots slot) || (leaves (instruction_at slots slot) && held_along slots makes leaves first 0 rest)) ≡ true
@@ -140,12 +148,14 @@ module _ (slots : List (Option Insn)) (makes leaves : Option Insn → Bool) wher
       → (makes (Some insn) ≡ true) ⊎ ((leaves (Some insn) ≡ true) × OnEachPath slots makes leaves first slot)
   made_or_left first slot k insn here edge all reached = by (makes (Some insn)) (leaves (Some insn)) refl refl
     where
+      -- along each path to the slot, the instruction makes it hold, or leaves it so where it held before
       held : (rest : List ℕ) → IsPath slots 0 rest → path_end 0 rest ≡ slot
           → (makes (Some insn) || (leaves (Some insn) && held_along slots makes leaves first 0 rest)) ≡ true
       held rest path ends =
           subst (λ (v : Option Insn). (makes v || (leaves v && held_along slots makes leaves first 0 rest)) ≡ true) here
           (each_back first slot k edge all rest path ends)
 
+      -- the instruction makes it hold, or leaves it so where it held on each path before
       by : (m l : Bool) → makes (Some insn) ≡ m → leaves (Some insn) ≡ l
           → (makes (Some insn) ≡ true) ⊎ ((leaves (Some insn) ≡ true) × OnEachPath slots makes leaves first slot)
       by true l e f = inl e
@@ -179,13 +189,16 @@ gives_pointer kind o r slot k _ state Was frame known made = absurd made
 -- one slot of a program that is straight up to it
 module _ (p : Subject) (slot : ℕ) (insn : Insn) (state : AbstractState) (here : instruction_at p.slots slot ≡ Some insn)
     (straight : IsStraightBefore p (slot + 1)) (has : (x : Fact) → IsFactDue p.slots x slot → Has x state) where
+  -- it is not so that no path leads to the slot
   reached : (Path p.slots 0 slot → ⊥) → ⊥
   reached none = has Never none
 
+  -- an instruction that does not write register 10 spares it
   frame_spared : (i : Insn) → (destination_of i ≡ Some 10 → ⊥) → Spares i 10
   frame_spared (Call helper) other = let le : 6 ≤ 10 = omega arith in le
   frame_spared _ other = other
 
+  -- at the slot register 10 is the end of the stack, and each pointer that was made is known:
   frame : CertaintyHoldsAt (Pointer Stack 512) state 10
   frame = has (AtRegister (Pointer Stack 512) 10) (inr (inl (refl, refl, refl)))
 
@@ -236,12 +249,14 @@ module _ (p : Subject) (slot : ℕ) (insn : Insn) (state : AbstractState) (here 
       }))
   due_on k edge (AtRegister Scalar r) due = by (made_or_left p.slots (writes r) (leaves r) false slot k insn here edge due reached)
     where
+      -- the instruction wrote the register, or it was written before and is left a number
       by : (writes r (Some insn) ≡ true) ⊎ ((leaves r (Some insn) ≡ true) × IsWrittenOnEachPath p.slots slot r)
           → After (AtRegister Scalar r) slot k insn state
       by (inl made) = inl (writes_gives insn r made)
       by (inr (left, written)) = inr (leaves_is insn r left, has (AtRegister Scalar r) written)
   due_on k edge (AtRegister (Exact n) r) due = by (made_or_left p.slots (loads r n) (untouched r) false slot k insn here edge due reached)
     where
+      -- the instruction loaded the number, or it was loaded before and the register is untouched
       by : (loads r n (Some insn) ≡ true) ⊎ ((untouched r (Some insn) ≡ true) × IsLoaded p.slots slot r n)
           → After (AtRegister (Exact n) r) slot k insn state
       by (inl made) = inl (loads_gives insn r n made)
@@ -249,6 +264,7 @@ module _ (p : Subject) (slot : ℕ) (insn : Insn) (state : AbstractState) (here 
   due_on k edge (AtRegister (Pointer kind o) r) (inl (is, zero, one, kept)) =
       by (made_or_left p.slots never (spares 1) true slot k insn here edge kept reached)
     where
+      -- register 1 was the context before and is left as it was
       by : (never (Some insn) ≡ true) ⊎ ((spares 1 (Some insn) ≡ true) × IsContextLeft p.slots slot)
           → After (AtRegister (Pointer kind o) r) slot k insn state
       by (inl made) = absurd (let no : ⊥ = cc in no)
@@ -272,12 +288,14 @@ module _ (p : Subject) (slot : ℕ) (insn : Insn) (state : AbstractState) (here 
   due_on k edge (IsSetAt i) (size, off, stored, byte) =
       by (made_or_left p.slots (stores size off) always false slot k insn here edge stored reached)
     where
+      -- the instruction stored the bytes, or they were stored before
       by : (stores size off (Some insn) ≡ true) ⊎ ((always (Some insn) ≡ true) × IsStoredOnEachPath p.slots slot size off)
           → After (IsSetAt i) slot k insn state
       by (inl made) = inl (stores_byte insn size off i made byte)
       by (inr (left, before)) = inr (has (IsSetAt i) (size, off, before, byte))
   due_on k edge (IsPlainAt j) due = has (IsPlainAt j) tt
 
+  -- operands that were written on each path are sure to be numbers, the second and the first:
   operand_ready : (src : Source) → IsWrittenOperand p.slots slot src → IsScalarOperand state src
   operand_ready (Imm i) w = tt
   operand_ready (Reg r) w = has (AtRegister Scalar r) w
@@ -286,6 +304,7 @@ module _ (p : Subject) (slot : ℕ) (insn : Insn) (state : AbstractState) (here 
   left_ready Mov dst w = tt
   left_ready _ dst w = has (AtRegister Scalar dst) w
 
+  -- an access by register 10 inside the stack is known to be there:
   frame_placed : (size : Size) (dst : ℕ) (off : ℤ) (at : ℕ) → dst ≡ 10 → pos at ≡ (pos 512 +ℤ off)
       → at + byte_count size ≤ 512
       → IsAccessPlaced p.shapes p.context state size dst off Stack at
@@ -301,6 +320,7 @@ module _ (p : Subject) (slot : ℕ) (insn : Insn) (state : AbstractState) (here 
   on_frame : (size : Size) (dst : ℕ) (off : ℤ) → dst ≡ 10 → IsOnStack size off → IsOnFrame p.shapes p.context state size dst off
   on_frame size dst off ten (at, at_is, inside) = record { at = at; at_is = at_is; placed = frame_placed size dst off at ten at_is inside }
 
+  -- an access inside an entry is known to be there
   entry_placed : (size : Size) (r : ℕ) (off : ℤ) → (entry : IsInEntry p.slots p.shapes slot r size off)
       → IsAccessPlaced p.shapes p.context state size r off (Entry entry.map) entry.at
   entry_placed size r off entry = record {
@@ -312,6 +332,7 @@ module _ (p : Subject) (slot : ℕ) (insn : Insn) (state : AbstractState) (here 
     inside = entry.inside;
   }
 
+  -- a load that has what it needs is ready, and so is a store:
   readable : (size : Size) (src : ℕ) (off : ℤ) → IsGoodLoad p.slots p.shapes p.context slot size src off
       → IsLoadReady p.shapes p.context state size src off
   readable size src off (inl (one, left, at, off_is, inside)) = record {
@@ -351,6 +372,7 @@ module _ (p : Subject) (slot : ℕ) (insn : Insn) (state : AbstractState) (here 
   storable size dst off (inr (other, entry)) =
       inr (record { map = entry.map; at = entry.at; placed = entry_placed size dst off entry; other = other })
 
+  -- registers that name an entry are known to name it
   naming : (map : ℕ) → IsEntryNamed p.slots slot map → IsNamingEntry state map
   naming map n = record {
     names = pointer (Map map) 0 1 n.names;
@@ -364,6 +386,7 @@ module _ (p : Subject) (slot : ℕ) (insn : Insn) (state : AbstractState) (here 
   bounded : (r n most : ℕ) → n ≤ most → IsLoaded p.slots slot r n → IsAtMost most (slice_index_or state.registers r None)
   bounded r n most le loaded = exact_at_most n most (slice_index_or state.registers r None) le (has (AtRegister (Exact n) r) loaded)
 
+  -- an update that has what it needs is ready, and so is a call of a counter:
   updating : (map : ℕ) → IsGiving p.slots p.shapes slot map → IsUpdating p.shapes state map
   updating map g = record {
     names = naming map g.naming;
@@ -379,6 +402,7 @@ module _ (p : Subject) (slot : ℕ) (insn : Insn) (state : AbstractState) (here 
   asking : (helper : ℤ) → IsCounting p.slots slot helper → IsAsking state helper
   asking helper c = (bounded 1 c.counter 63 (let few = c.few in omega (arith, few)) c.loaded, λ is. has (AtRegister Scalar 2) (c.amount is))
 
+  -- operands are ready: numbers, a copy of register 10, or a pointer and the distance by which it moves
   operands : (w : Width) (op : Operation) (dst : ℕ) (src : Source)
       → (IsWrittenLeft op p.slots slot dst × IsWrittenOperand p.slots slot src)
       ⊎ (IsCopyOfEnd w op src ⊎ IsMoveOnStack p.slots slot w op dst src)

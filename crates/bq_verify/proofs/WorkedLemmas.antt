@@ -25,6 +25,7 @@ use Rattle.bq_verify.specs.Straight.{stores, writes, leaves, HasOneWay, IsByteSt
 use Rattle.bq_verify.specs.Worked.{worked, WorkedIsStraight}
 use Rattle.bq_verify.proofs.EachSlotLemmas.{each_slot, ◌then◌, made_before, made_first, goes_next, goes_nowhere, edge_on, path_on, no_jump, not_frame}
 
+-- the slots of the worked program
 abbrev program : List (Option Insn)
 program = spread worked
 
@@ -32,6 +33,7 @@ program = spread worked
 abbrev before : ℕ → ℕ
 before k = slice_index (0 ∷ 0 ∷ 0 ∷ 1 ∷ 3 ∷ 4 ∷ 5 ∷ 6 ∷ 7 ∷ 6 ∷ 9 ∷ []) k
 
+-- the branch at slot 6 leads only to slots that have slot 6 before them
 goes_apart : (to : ℕ) → Leaves (Branch W64 Equal 0 (Imm (pos 0)) (pos 2)) 6 to → 6 ≡ before to
 goes_apart to (inl on) = subst (λ (k : ℕ). 6 ≡ before k) (sym on.1) refl
 goes_apart to (inr jump) =
@@ -39,6 +41,7 @@ goes_apart to (inr jump) =
     let nine : to ≡ 9 = leads_same 6 to 9 (pos 2) (subst (λ (d : ℤ). LeadsTo 6 d to) (sym two) jump.2) refl in
     subst (λ (k : ℕ). 6 ≡ before k) (sym nine) refl
 
+-- each edge to a slot comes from the slot before it
 only_before : (from to : ℕ) → IsEdge program from to → from ≡ before to
 only_before from to edge =
     each_slot program (λ from insn. (to : ℕ) → Leaves insn from to → from ≡ before to)
@@ -92,17 +95,21 @@ to_9 = record {
 to_10 : Path program 0 10
 to_10 = path_on program 9 _ refl refl to_9
 
+-- helper 1, which the program calls, exists
 a_helper : (h : ℤ) → Call (pos 1) ≡ Call h → is_helper h ≡ false → ⊥
 a_helper h is unknown = let one : pos 1 ≡ h = cc in let no : true ≡ false = subst (λ (n : ℤ). is_helper n ≡ false) (sym one) unknown in cc
 
+-- the jump at slot 6 leads to a later slot where an instruction begins
 good_jump : (d : ℤ) → Some (pos 2) ≡ Some d → ((to : ℕ) → LeadsTo 6 d to → 6 < to → IsStart program to → ⊥) → ⊥
 good_jump d jumps nowhere =
     nowhere 9 (subst (λ (e : ℤ). LeadsTo 6 e 9) (same_Some (pos 2) d jumps) refl) (omega arith)
     (record { insn = Alu W64 Mov 0 (Imm (pos 0)); here = refl })
 
+-- a slot below 11 is not past the end
 inside : (n : ℕ) → n < 11 → 11 ≤ n → ⊥
 inside n lt le = omega arith
 
+-- the control graph of the program has no fault
 faultless : IsFaultless program
 faultless Jump slot fault =
     each_slot program
@@ -142,15 +149,18 @@ faultless Counters slot fault =
     (false≢true then false≢true then false≢true then false≢true then false≢true then false≢true then false≢true
     then false≢true then false≢true then false≢true then tt) slot fault.insn fault.here fault.asks
 
+-- register 0 is written on each path to an EXIT, at slots 8 and 10:
 written_8 : IsWrittenOnEachPath program 8 0
 written_8 = made_before program (writes 0) (leaves 0) false 8 (omega arith) (λ from edge. rw (only_before from 8 edge) refl)
 
 written_10 : IsWrittenOnEachPath program 10 0
 written_10 = made_before program (writes 0) (leaves 0) false 10 (omega arith) (λ from edge. rw (only_before from 10 edge) refl)
 
+-- a slot before another is not the same slot
 apart_slots : (a b : ℕ) → a < b → a ≡ b → ⊥
 apart_slots a b lt same = omega arith
 
+-- at most one edge leads to each slot
 one_way : (slot : ℕ) → HasOneWay program slot
 one_way slot a b p q = only_before a slot p ∙ sym (only_before b slot q)
 
@@ -182,12 +192,15 @@ entry_7 = (
   inl (refl, 0, refl, refl, answer_6, (refl, λ leads. apart_slots 7 9 (omega arith) (leads_same 6 7 9 (pos 2) leads refl))),
 )
 
+-- the four bytes of the key are stored on each path to the call
 stored_5 : (i : ℕ) → 508 ≤ i → i < 508 + 4 → IsByteStored program 5 i
 stored_5 i le lt = (Word, neg_ℤ (pos 4), made_first program (stores Word (neg_ℤ (pos 4))) refl 5 (omega arith), (508, refl, le, lt))
 
+-- at the call register 1 names the map, and register 2 points to the stored key
 naming : IsEntryNamed program 5 0
 naming = record { names = (4 ∷ 3 ∷ 1 ∷ [], names_5); at = 508; points = (4 ∷ 3 ∷ [], points_5); inside = omega arith; stored = stored_5 }
 
+-- registers 0, 1 and 2 are below register 10:
 zero_low : 0 < 10
 zero_low = omega arith
 
@@ -198,6 +211,7 @@ two_low : 2 < 10
 two_low = omega arith
 
 module _ (shape : MapShape) where
+  -- the eight bytes that slot 7 loads are in the entry
   in_entry : IsInEntry program (shape ∷ []) 7 0 Double (pos 0)
   in_entry = record {
     map = 0;
