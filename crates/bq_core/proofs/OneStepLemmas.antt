@@ -130,7 +130,7 @@ module _ (d : Discipline) where
       subst (λ (c : List CounterCall). AnswerAlike x.calls c) f
       (subst (λ (c : List CounterCall). AnswerAlike c calls') e alike)
 
-  -- if the counters answer alike, two Ticks from one processor have one reply, leave one processor and ask the same, and two Drains too
+  -- if the counters answer alike, two Ticks of one processor, and two Drains, have one reply, leave one processor and ask the same
   ticks_one : (processor now : ℕ) (p : Processor) (calls calls' : List CounterCall) (r r' : Reply) (q q' : Processor)
       → Ticks (by_programs d) processor now p calls r q → Ticks (by_programs d) processor now p calls' r' q'
       → AnswerAlike calls calls'
