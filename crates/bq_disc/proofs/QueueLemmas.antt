@@ -1,4 +1,4 @@
--- What a queue keeps when a task comes or goes.
+-- What a queue keeps when a task comes or goes: distinct ids and ids of 16 bits; and that it is longer or shorter by one.
 use Rattle.std.proofs.Common.{◌≡◌, ℕ, suc, ◌+◌, ◌<◌, ◌≤◌, ◌^◌, Bool, true, false, cond, ◌||◌, eqb, List, [], ◌∷◌, length, Option, Some, None, refl, ap, ◌∙◌, arith, eqb-true}
 use Rattle.std.specs.Prelude.{IsSome}
 use Rattle.std.specs.List.{list_any, AllByRecursion, IsDistinct}

@@ -29,7 +29,7 @@ anyhow (Enter t ∷ ss) = (tt, anyhow ss)
 anyhow (Leave k ∷ ss) = (tt, anyhow ss)
 anyhow (Mark ∷ ss) = (tt, anyhow ss)
 
--- under CFS each task reaches 1,000,000 beyond its v: the task that runs is beyond that of no other
+-- under CFS each task reaches 1,000,000 beyond its v: the rule lets none run that is beyond what another reaches
 cfs_reach : IsReach cfs (λ t. t.v + 1000000) Anyhow
 cfs_reach = record {
   keeps = λ t x e h. tt;
@@ -62,7 +62,7 @@ due_of_entered (Enter t ∷ ss) h = (record { low = h.0.0; high = h.0.1 }, due_o
 due_of_entered (Leave k ∷ ss) h = (tt, due_of_entered ss h)
 due_of_entered (Mark ∷ ss) h = (tt, due_of_entered ss h)
 
--- under EEVDF each task reaches its deadline: the task that runs is beyond that of no other
+-- under EEVDF each task reaches its deadline: the rule lets none run that is beyond another's deadline
 eevdf_reach : IsReach eevdf (λ t. t.deadline) IsDue
 eevdf_reach = record {
   keeps = charged_due;

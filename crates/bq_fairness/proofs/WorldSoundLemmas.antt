@@ -243,7 +243,7 @@ weights_by_test (w ∷ ws) e =
     let ends = and_parts (nat_le 15 w) (nat_le w 88761) parts.0 in
     ((leb-true 15 w ends.0, leb-true w 88761 ends.1), weights_by_test ws parts.1)
 
--- each number of the table of weights is a weight, and so is what stands at a place of it
+-- each number of the table of weights is a weight, and so is the one at each place of it
 all_weights : AllByRecursion IsWeight weights
 all_weights = weights_by_test weights refl
 

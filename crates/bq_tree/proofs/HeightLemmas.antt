@@ -1,4 +1,4 @@
--- How high a balanced tree is, at most.
+-- How high a balanced tree is, at most: 14 for 1,024 nodes, 22 for 65,536.
 use Rattle.std.proofs.Common.{◌≡◌, ℕ, zero, suc, ◌+◌, ◌-◌, ◌*◌, ◌<◌, ◌≤◌, ◌^◌, max, Bool, true, false, nat_lt, nat_le, ◌∷◌, length, length-append, Option, Some, None, Box, Global, refl, arith}
 use Rattle.std.proofs.Math.Pow.{pow_mono}
 use Rattle.std.proofs.Math.Nat.{pow-suc}

@@ -1,4 +1,4 @@
--- The table of times, and what is known of a task by its id.
+-- The table of times knows the v of each task, so what is found or taken at (v, id) is the task of that id.
 use Rattle.std.proofs.Common.{◌≡◌, ℕ, ◌<◌, Bool, true, false, cond, eqb, List, [], ◌∷◌, ◌++◌, Option, Some, None, IfSome, refl, ap, sym, ◌∙◌, slice_index, arith}
 use Rattle.std.proofs.lemmas.Bool.Decides.{nat_tests}
 use Rattle.bq_disc.specs.Tasks.{Task, has_id, find_task, without, inserted, runs_before}
